@@ -1,0 +1,20 @@
+-- What the calls on a stream of bytes do: how many bytes they take, and what that leaves.
+use Rattle.std.specs.Prelude.{◌≡◌, ℕ, ◌<◌, ◌≤◌, List, [], ◌++◌, length, take, Result, IfOk, MatchResult}
+
+-- A read gives first bytes of those that were left, and none only at their end or where the buffer is empty. One that
+-- failed took nothing.
+abbrev pub ReadTakes : {E : Type 0} → List ℕ → Result ℕ E → List ℕ → List ℕ → Type 0
+ReadTakes old result buffer new = MatchResult result (λ n. (old ≡ take n buffer ++ new) × (n ≡ 0 → 0 < length buffer → old ≡ [])) (λ _. new ≡ old)
+
+-- a write takes at least one byte of a piece that is not empty, and no more than there are
+abbrev pub WriteTakes : {E : Type 0} → Result ℕ E → List ℕ → Type 0
+WriteTakes result piece = IfOk result (λ n. (n ≤ length piece) × (0 < length piece → 0 < n))
+
+-- a write added the bytes that it took, and one that failed added none
+abbrev pub WriteAdds : {E : Type 0} → List ℕ → Result ℕ E → List ℕ → List ℕ → Type 0
+WriteAdds old result piece new = MatchResult result (λ n. new ≡ old ++ take n piece) (λ _. new ≡ old)
+
+-- first bytes of the piece were added, and not all
+abbrev pub AddsPart : List ℕ → List ℕ → List ℕ → Type 0
+AddsPart old piece new = (n : ℕ) × (n < length piece) × (new ≡ old ++ take n piece)
+

@@ -1,0 +1,65 @@
+ghost use Rattle.std.specs.Prelude.{◌≡◌, ℕ, ◌≤◌, List, ◌++◌, length, Bool, IsTrue, IfOk, OnOk, OnErr};
+ghost use Rattle.fault_counts.specs.Faults.{HasCause};
+ghost use Rattle.host_files.specs.Streams.{ReadTakes, WriteTakes, WriteAdds, AddsPart};
+
+/// The answer of a call that a stream could not carry out. Its count of faults has risen.
+#[derive(Clone, Copy, Debug, PartialEq, Eq)]
+pub struct Failed;
+
+/// Bytes to read, in order.
+pub trait Source {
+    /// Whether it tells its bytes.
+    ghost tells: { Bool };
+
+    /// The bytes that are left.
+    ghost left: { Self → List ℕ };
+
+    /// How often a call has failed.
+    ghost fault_count: { Self → ℕ };
+
+    /// Puts the next bytes first into `buf`, and answers how many. 0 means the end, where `buf` is not empty.
+    fn read(&mut self, buf: &mut [u8]) -> Result<usize, Failed>
+        ensures bound { IfOk result (λ n. n ≤ length buf.new) }
+        ensures bytes { IsTrue tells → ReadTakes (left self.old) result buf.new (left self.new) }
+        ensures cause { HasCause (fault_count self.old) (fault_count self.new) result };
+
+    /// How often a call has failed. It stands still at its type's end.
+    fn faults(&self) -> u64
+        ensures { result ≡ fault_count self.now };
+}
+
+/// A place to write bytes to, in order.
+pub trait Sink {
+    /// Whether it tells its bytes.
+    ghost tells: { Bool };
+
+    /// The bytes that were written.
+    ghost written: { Self → List ℕ };
+
+    /// How often a call has failed.
+    ghost fault_count: { Self → ℕ };
+
+    /// Takes the first bytes of the piece, and answers how many: at least one, where there is one.
+    fn write(&mut self, bytes: &[u8]) -> Result<usize, Failed>
+        ensures takes { WriteTakes result bytes.now }
+        ensures adds { IsTrue tells → WriteAdds (written self.old) result bytes.now (written self.new) }
+        ensures cause { HasCause (fault_count self.old) (fault_count self.new) result };
+
+    /// How often a call has failed. It stands still at its type's end.
+    fn faults(&self) -> u64
+        ensures { result ≡ fault_count self.now };
+}
+
+/// Writes all the bytes. A sink that fails has taken the first of them and not all.
+pub fn put_all<S: Sink>(sink: &mut S, bytes: &[u8]) -> Result<(), Failed>
+    ensures all { IsTrue S.tells → OnOk result (S.written sink.new ≡ S.written sink.old ++ bytes.now) }
+    ensures part { IsTrue S.tells → OnErr result (AddsPart (S.written sink.old) bytes.now (S.written sink.new)) }
+    ensures cause { HasCause (S.fault_count sink.old) (S.fault_count sink.new) result }
+{
+    let mut done = 0;
+    while done < bytes.len() {
+        let count = sink.write(&bytes[done..])?;
+        done += count;
+    }
+    Ok(())
+}

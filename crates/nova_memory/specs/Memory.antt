@@ -1,0 +1,24 @@
+-- The memory of a Nova: a list of 32768 words and a size. A place at or past the size reads 0, and a write there does
+-- nothing.
+use Rattle.std.specs.Prelude.{ℕ, ◌^◌, List, replicate, slice_index, slice_set, nat_lt, if◌then◌else◌}
+
+-- the words, of which those from the size on don't count
+pub record MemoryState : Type 0 where
+  pub words : List ℕ
+  pub size : ℕ
+
+-- the word that stands at an address
+abbrev pub get : MemoryState → ℕ → ℕ
+get m a = if nat_lt a m.size then slice_index m.words a else 0
+
+-- the memory after that word was put at an address
+abbrev pub put : MemoryState → ℕ → ℕ → MemoryState
+put m a v = if nat_lt a m.size then record m { words = slice_set m.words a v } else m
+
+-- the whole of a new machine's memory
+unfoldable pub blank_words : List ℕ
+blank_words = replicate (2 ^ 15) 0
+
+-- what a new machine holds: 32768 words of 0
+abbrev pub blank : MemoryState
+blank = record { words = blank_words; size = 2 ^ 15 }
