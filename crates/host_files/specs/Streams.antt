@@ -1,10 +1,16 @@
 -- What the calls on a stream of bytes do: how many bytes they take, and what that leaves.
-use Rattle.std.specs.Prelude.{◌≡◌, ℕ, ◌<◌, ◌≤◌, List, [], ◌++◌, length, take, Result, IfOk, MatchResult}
+use Rattle.std.specs.Prelude.{◌≡◌, ℕ, ◌<◌, ◌≤◌, List, [], ◌∷◌, ◌++◌, length, take, Option, Some, None, Result, Ok, Err, IfOk, MatchResult}
 
 -- A read gives first bytes of those that were left, and none only at their end or where the buffer is empty. One that
 -- failed took nothing.
 abbrev pub ReadTakes : {E : Type 0} → List ℕ → Result ℕ E → List ℕ → List ℕ → Type 0
 ReadTakes old result buffer new = MatchResult result (λ n. (old ≡ take n buffer ++ new) × (n ≡ 0 → 0 < length buffer → old ≡ [])) (λ _. new ≡ old)
+
+-- the next byte was taken, or there is none left, or the read failed and took nothing
+abbrev pub NextByte : {E : Type 0} → List ℕ → Result (Option ℕ) E → List ℕ → Type 0
+NextByte old (Ok (Some b)) new = old ≡ b ∷ new
+NextByte old (Ok None) new = (old ≡ []) × (new ≡ [])
+NextByte old (Err _) new = new ≡ old
 
 -- a write takes at least one byte of a piece that is not empty, and no more than there are
 abbrev pub WriteTakes : {E : Type 0} → Result ℕ E → List ℕ → Type 0
@@ -17,4 +23,3 @@ WriteAdds old result piece new = MatchResult result (λ n. new ≡ old ++ take n
 -- first bytes of the piece were added, and not all
 abbrev pub AddsPart : List ℕ → List ℕ → List ℕ → Type 0
 AddsPart old piece new = (n : ℕ) × (n < length piece) × (new ≡ old ++ take n piece)
-

@@ -5,4 +5,4 @@
 pub mod streams;
 
 pub use std::alloc::AllocError as OutOfMemory;
-pub use streams::{Failed, Sink, Source, put_all};
+pub use streams::{Failed, Sink, Source, next_byte, put_all};

@@ -1,6 +1,6 @@
 ghost use Rattle.std.specs.Prelude.{◌≡◌, ℕ, ◌≤◌, List, ◌++◌, length, Bool, IsTrue, IfOk, OnOk, OnErr};
 ghost use Rattle.fault_counts.specs.Faults.{HasCause};
-ghost use Rattle.host_files.specs.Streams.{ReadTakes, WriteTakes, WriteAdds, AddsPart};
+ghost use Rattle.host_files.specs.Streams.{ReadTakes, NextByte, WriteTakes, WriteAdds, AddsPart};
 
 /// The answer of a call that a stream could not carry out. Its count of faults has risen.
 #[derive(Clone, Copy, Debug, PartialEq, Eq)]
@@ -62,4 +62,14 @@ pub fn put_all<S: Sink>(sink: &mut S, bytes: &[u8]) -> Result<(), Failed>
         done += count;
     }
     Ok(())
+}
+
+/// Reads one byte. `None` means the end.
+pub fn next_byte<C: Source>(input: &mut C) -> Result<Option<u8>, Failed>
+    ensures takes { IsTrue C.tells → NextByte (C.left input.old) result (C.left input.new) }
+    ensures cause { HasCause (C.fault_count input.old) (C.fault_count input.new) result }
+{
+    let mut buf = [0];
+    let count = input.read(&mut buf)?;
+    Ok(if count == 0 { None } else { Some(buf[0]) })
 }
