@@ -1,0 +1,34 @@
+-- What a session does across its edge, in order. Each event carries the state in which it comes, so that an early end
+-- can be read off the list. `S` is the type of that state.
+use Rattle.std.specs.Prelude.{ℕ, ◌+◌, List, [], ◌∷◌, ◌++◌}
+
+-- A text that is printed, or reads of that many bytes, where to find the end of the input counts as one.
+pub data Event (S : Type 0) : Type 0 where
+  Prints : List ℕ → S → Event S
+  Reads : ℕ → S → Event S
+
+-- how a session is over
+pub record Ended (S : Type 0) : Type 0 where
+  pub status : ℕ
+  pub state : S
+
+-- all that a session does where nothing fails
+pub record Trace (S : Type 0) : Type 0 where
+  pub events : List (Event S)
+  pub ended : Ended S
+
+-- the trace that begins with these events
+abbrev pub after_events : {S : Type 0} → List (Event S) → Trace S → Trace S
+after_events events t = record { events = events ++ t.events; ended = t.ended }
+
+-- all the text that is printed
+abbrev pub text_of : {S : Type 0} → List (Event S) → List ℕ
+text_of [] = []
+text_of (Prints text at ∷ more) = text ++ text_of more
+text_of (Reads count at ∷ more) = text_of more
+
+-- how many reads are made
+abbrev pub reads_of : {S : Type 0} → List (Event S) → ℕ
+reads_of [] = 0
+reads_of (Prints text at ∷ more) = reads_of more
+reads_of (Reads count at ∷ more) = count + reads_of more
