@@ -1,11 +1,17 @@
 -- The memory of a Nova: a list of 32768 words and a size. A place at or past the size reads 0, and a write there does
 -- nothing.
-use Rattle.std.specs.Prelude.{ℕ, ◌^◌, List, replicate, slice_index, slice_set, nat_lt, if◌then◌else◌}
+use Rattle.std.specs.Prelude.{◌≡◌, ℕ, ◌^◌, ◌<◌, ◌≤◌, List, All, length, replicate, slice_index, slice_set, nat_lt, if◌then◌else◌}
 
 -- the words, of which those from the size on don't count
 pub record MemoryState : Type 0 where
   pub words : List ℕ
   pub size : ℕ
+
+-- what holds of every memory
+pub record IsMemory (m : MemoryState) : Type 0 where
+  pub whole : length m.words ≡ 2 ^ 15
+  pub words : All (λ w. w < 2 ^ 16) m.words
+  pub size : m.size ≤ 2 ^ 15
 
 -- the word that stands at an address
 abbrev pub get : MemoryState → ℕ → ℕ

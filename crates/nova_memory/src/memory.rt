@@ -1,4 +1,5 @@
-ghost use Rattle.std.specs.Prelude.{◌≡◌, ◌<◌, ◌^◌, IfOk};
+ghost use Rattle.std.specs.Prelude.{◌≡◌, ℕ, ◌<◌, ◌^◌, IfOk};
+ghost use Rattle.nova_memory.specs.Memory.{blank_words};
 
 use nova_word::{Addr, Word};
 use std::alloc::{AllocError, Global};
@@ -12,32 +13,41 @@ pub struct Memory {
 }
 
 impl Model for Memory {
-    ghost use Rattle.std.specs.Prelude.{ℕ, ◌^◌, ◌≤◌, List};
-    ghost use Rattle.nova_memory.specs.Memory.{MemoryState};
+    ghost use Rattle.nova_memory.specs.Memory.{MemoryState, IsMemory};
 
     ghost Value = { MemoryState };
 
     ghost view = { λ m. record { words = m.words.value; size = m.size } };
 
-    ghost invariant = { λ m. m.size ≤ 2 ^ 15 };
+    ghost invariant = { λ m. IsMemory (record { words = m.words.value; size = m.size }) };
 }
 
 impl Memory {
-    ghost use Rattle.nova_memory.specs.Memory.{get, put, blank};
+    ghost use Rattle.nova_memory.specs.Memory.{IsMemory, get, put, blank};
 
     /// A memory of 32768 words of 0.
     pub fn new(alloc: Global) -> Result<Memory, AllocError>
-        ensures { IfOk result (λ m. m ≡ blank) }
+        ensures blank { IfOk result (λ m. m ≡ blank) }
+        ensures zeros { IfOk result (λ m. (a : ℕ) → get m a ≡ 0) }
     {
         Ok(Memory {
-            words: Box::new(alloc, [0; 32768])?,
+            words: Box::new(alloc, zeros())?,
             size: 32768,
         })
     }
 
+    /// How many words the machine has, at most 32768.
+    pub fn size(&self) -> u16
+        ensures size { result ≡ self.now.size }
+        ensures valid { IsMemory self.now }
+    {
+        self.size
+    }
+
     /// The word at an address: 0 where the machine has no memory there.
     pub fn read(&self, at: Addr) -> Word
-        ensures { result ≡ get self.now at }
+        ensures word { result ≡ get self.now at }
+        ensures range { result < 2 ^ 16 }
     {
         let place = at.number();
         if place < self.size {
@@ -56,4 +66,12 @@ impl Memory {
             self.words[usize::from(place)] = w.0;
         }
     }
+}
+
+/// 32768 words of 0.
+#[tactic(auto, unfolding(crate::specs::Memory::blank_words))]
+fn zeros() -> [u16; 32768]
+    ensures { result ≡ blank_words }
+{
+    [0; 32768]
 }
