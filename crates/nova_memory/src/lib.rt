@@ -1,7 +1,9 @@
-//! The memory of a Nova: 32768 words of 16 bits.
+//! The memory of a Nova: 32768 words of 16 bits, and the effective address of a memory reference.
 #![tactic(auto)]
 
+pub mod address;
 pub mod memory;
 
+pub use address::ChainLimit;
 pub use memory::Memory;
 pub use std::alloc::AllocError as OutOfMemory;

@@ -1,5 +1,5 @@
 -- Numbers as texts of digits, in octal and decimal.
-use Rattle.std.specs.Prelude.{◌≡◌, ◌≢◌, ℕ, ◌+◌, ◌-◌, ◌*◌, ◌/◌, ◌%◌, ◌<◌, ◌≤◌, zero, suc, List, [], ◌∷◌, ◌++◌, length, All, take, slice_index, Result, Ok, Err}
+use Rattle.std.specs.Prelude.{◌≡◌, ℕ, ◌+◌, ◌-◌, ◌*◌, ◌/◌, ◌%◌, ◌^◌, ◌<◌, ◌≤◌, zero, suc, List, [], ◌∷◌, ◌++◌, length, All, take, slice_index, Result, Ok, Err}
 use Rattle.nova_word.specs.declared.numbers.NumberFault.{NumberFault}
 use Rattle.nova_word.specs.declared.numbers.NumberFault.TheVariants.{Empty, BadDigit, TooLarge}
 
@@ -39,3 +39,12 @@ ReadsNumber base largest text (Ok n) = IsNumber base text n × (n ≤ largest)
 ReadsNumber base largest text (Err Empty) = text ≡ []
 ReadsNumber base largest text (Err (BadDigit place)) = IsFirstBad base text place
 ReadsNumber base largest text (Err TooLarge) = (n : ℕ) × IsNumber base text n × (largest < n)
+
+-- the digits of a number are as many as were asked for, and where they are enough they stand for it
+pub record DigitsReadBack : Type 0 where
+  pub as_many : (count n : ℕ) → length (octal_digits count n) ≡ count
+  pub number : (count n : ℕ) → 0 < count → n < 8 ^ count → IsNumber 8 (octal_digits count n) n
+
+-- no text has two answers
+abbrev pub HasOneAnswer : ℕ → ℕ → Type 0
+HasOneAnswer base largest = (text : List ℕ) (a b : Result ℕ NumberFault) → ReadsNumber base largest text a → ReadsNumber base largest text b → a ≡ b

@@ -4,5 +4,7 @@
 pub mod numbers;
 pub mod words;
 
-pub use numbers::{NumberFault, read_decimal, read_octal, write_octal};
+pub use numbers::{
+    NumberFault, digits_read_back, read_decimal, read_octal, texts_have_one_answer, write_octal,
+};
 pub use words::{Addr, Word};

@@ -1,5 +1,5 @@
-ghost use Rattle.std.specs.Prelude.{◌≡◌, ◌+◌, ◌^◌, ◌<◌, ◌≤◌, ◌++◌, ◌-◌, drop};
-ghost use Rattle.nova_word.specs.Numbers.{octal_digits, ReadsNumber};
+ghost use Rattle.std.specs.Prelude.{◌≡◌, ℕ, ◌+◌, ◌^◌, ◌<◌, ◌≤◌, ◌++◌, ◌-◌, drop, All, MatchOption};
+ghost use Rattle.nova_word.specs.Numbers.{octal_digits, value_of, IsDigit, IsFirstBad, ReadsNumber, DigitsReadBack, HasOneAnswer};
 
 /// Why a text is no number.
 #[derive(Clone, Copy, Debug, PartialEq, Eq)]
@@ -28,25 +28,85 @@ pub fn write_octal(n: u32, digits: usize, out: &mut [u8; 12]) -> usize
 }
 
 /// The number of a text of octal digits, up to 2^32 - 1.
+///
+/// Leading zeros are taken. The leftmost fault is answered; a number that is too long for any type is
+/// `TooLarge`.
 pub fn read_octal(text: &[u8]) -> Result<u32, NumberFault>
     ensures { ReadsNumber 8 (2 ^ 32 - 1) text.now result }
 {
-    if text.is_empty() {
-        return Err(NumberFault::Empty);
-    }
-    let mut n = 0u32;
-    for b in text {
-        n = n.wrapping_mul(8).wrapping_add(u32::from(*b & 7));
-    }
-    Ok(n)
+    let n = read_number(8, u64::from(u32::MAX), text)?;
+    Ok(n as u32)
 }
 
 /// The number of a text of decimal digits, up to 2^63.
+///
+/// Leading zeros are taken. The leftmost fault is answered; a number that is too long for any type is
+/// `TooLarge`.
 pub fn read_decimal(text: &[u8]) -> Result<u64, NumberFault>
     ensures { ReadsNumber 10 (2 ^ 63) text.now result }
+{
+    read_number(10, 1 << 63, text)
+}
+
+// The number of a text of digits of a base, up to the largest that is taken.
+fn read_number(base: u64, largest: u64, text: &[u8]) -> Result<u64, NumberFault>
+    requires base { (0 < base) × (base ≤ 10) }
+    requires largest { largest ≤ 2 ^ 63 }
+    ensures { ReadsNumber base largest text.now result }
 {
     if text.is_empty() {
         return Err(NumberFault::Empty);
     }
-    Ok(0)
+    if let Some(place) = first_bad_digit(base, text) {
+        return Err(NumberFault::BadDigit(place));
+    }
+    value_up_to(base, largest, text).ok_or(NumberFault::TooLarge)
 }
+
+// The place of the first byte that is no digit of the base.
+fn first_bad_digit(base: u64, text: &[u8]) -> Option<usize>
+    requires { base ≤ 10 }
+    ensures { MatchOption result (All (IsDigit base) text.now) (IsFirstBad base text.now) }
+{
+    for (place, b) in text.iter().enumerate() {
+        if *b < b'0' || u64::from(*b - b'0') >= base {
+            return Some(place);
+        }
+    }
+    None
+}
+
+// The number of a text of digits, where it is not above the largest.
+fn value_up_to(base: u64, largest: u64, text: &[u8]) -> Option<u64>
+    requires base { (0 < base) × (base ≤ 10) }
+    requires largest { largest ≤ 2 ^ 63 }
+    requires digits { All (IsDigit base) text.now }
+    ensures { MatchOption
+        result
+        (largest < value_of base text.now)
+        (λ n. (value_of base text.now ≡ n) × (n ≤ largest)) }
+{
+    let mut n = 0u64;
+    for b in text {
+        let longer = u128::from(base) * u128::from(n) + u128::from(*b - b'0');
+        if longer > u128::from(largest) {
+            return None;
+        }
+        n = longer as u64;
+    }
+    Some(n)
+}
+
+/// The law that ties `write_octal` to `read_octal`: as many digits as were asked for, and where they are
+/// enough for the number, they read back as it.
+pub fn digits_read_back()
+    ensures { DigitsReadBack }
+{}
+
+/// The law that a text has one answer: what a reader answers leaves no other answer.
+pub fn texts_have_one_answer()
+    ensures { (base largest : ℕ) → HasOneAnswer base largest }
+{}
+
+#[cfg(test)]
+mod tests;

@@ -62,3 +62,6 @@ impl Addr {
         Addr(((u32::from(self.0) + u32::from(n)) % 32768) as u16)
     }
 }
+
+#[cfg(test)]
+mod tests;

@@ -1,0 +1,5 @@
+pub mod Machine
+pub mod Registers
+pub mod Instruction
+pub mod Turn
+pub mod Run

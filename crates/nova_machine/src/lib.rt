@@ -1,0 +1,15 @@
+//! The machine: its registers, memory and time, one turn, and a run of turns.
+#![tactic(auto)]
+
+pub mod cpu;
+mod instruction;
+
+pub mod machine;
+pub mod registers;
+mod run;
+mod turn;
+
+pub use cpu::Cpu;
+pub use machine::{Machine, RunLimit, Stop, Turn};
+pub use registers::{CpuReg, RegFault};
+pub use std::alloc::AllocError as OutOfMemory;

@@ -1,0 +1,118 @@
+ghost use Rattle.std.specs.Prelude.{◌≡◌, ◌≤◌, ◌<◌, ◌^◌, ◌↔◌, IfOk, IsOk, OnOk, OnErr};
+ghost use Rattle.nova_memory.specs.Memory.{put};
+ghost use Rattle.nova_machine.specs.Run.{last_time};
+
+use crate::cpu::Cpu;
+use crate::registers::{CpuReg, RegFault};
+use nova_memory::Memory;
+use nova_word::{Addr, Word};
+use std::alloc::{AllocError, Global};
+use std::marker::Model;
+
+/// Why a run ended.
+#[derive(Clone, Copy, Debug, PartialEq, Eq)]
+pub enum Stop {
+    /// The count of a STEP was reached.
+    Stepped,
+    /// The limit of instructions was reached, or the end of time.
+    Limit,
+    /// The word at PC is not executed by this version of the program.
+    NotBuilt,
+}
+
+/// What a turn came to.
+#[derive(Clone, Copy, Debug, PartialEq, Eq)]
+pub enum Turn {
+    Executed,
+    Stopped(Stop),
+}
+
+/// How many instructions a run executes at the most, and whether it is called a step where it has.
+#[derive(Clone, Copy, Debug, PartialEq, Eq)]
+pub struct RunLimit {
+    pub count: u64,
+    pub step: bool,
+}
+
+/// A Nova: its registers, its memory, and its time in instructions since the session began, at most 2^60.
+#[derive(Drop)]
+pub struct Machine {
+    pub(crate) cpu: Cpu,
+    pub(crate) memory: Memory,
+    pub(crate) time: u64,
+}
+
+impl Model for Machine {
+    ghost use Rattle.std.specs.Prelude.{◌≤◌};
+    ghost use Rattle.nova_machine.specs.Machine.{MachineState};
+    ghost use Rattle.nova_machine.specs.Run.{last_time};
+
+    ghost Value = { MachineState };
+
+    ghost view = { λ m. record { cpu = m.cpu; memory = m.memory; time = m.time } };
+
+    ghost invariant = { λ m. m.time ≤ last_time };
+}
+
+impl Machine {
+    ghost use Rattle.nova_machine.specs.Machine.{new_machine};
+    ghost use Rattle.nova_machine.specs.Registers.{register_of, with_register, largest_of};
+
+    /// A machine whose registers and memory are 0, at time 0.
+    #[tactic(auto, unfolding(crate::specs::Machine::new_machine))]
+    pub fn new(alloc: Global) -> Result<Machine, AllocError>
+        ensures { IfOk result (λ m. m ≡ new_machine) }
+    {
+        Ok(Machine {
+            cpu: Cpu {
+                accumulators: [Word(0), Word(0), Word(0), Word(0)],
+                carry: false,
+                pc: Addr::of_word(Word(0)),
+            },
+            memory: Memory::new(alloc)?,
+            time: 0,
+        })
+    }
+
+    /// How many instructions were executed since the session began.
+    pub fn time(&self) -> u64
+        ensures { result ≡ self.now.time }
+    {
+        self.time
+    }
+
+    /// The machine's memory.
+    pub fn memory(&self) -> &Memory
+        ensures { result.now ≡ self.now.memory }
+    {
+        &self.memory
+    }
+
+    /// Puts a word into memory, as a person at the console does.
+    pub fn deposit(&mut self, at: Addr, word: Word)
+        ensures { self.new ≡ record self.old { memory = put self.old.memory at word } }
+    {
+        self.memory.write(at, word);
+    }
+
+    /// The value of a register.
+    pub fn cpu_reg(&self, register: CpuReg) -> u32
+        ensures value { result ≡ register_of self.now.cpu register }
+        ensures range { result ≤ largest_of register }
+    {
+        u32::from(self.cpu.register(register))
+    }
+
+    /// Sets a register. A value above its largest is refused, and then nothing has changed.
+    pub fn set_cpu_reg(&mut self, register: CpuReg, value: u32) -> Result<(), RegFault>
+        ensures set { OnOk result (self.new ≡ record self.old { cpu = with_register self.old.cpu register value }) }
+        ensures fits { IsOk result ↔ (value ≤ largest_of register) }
+        ensures refused { OnErr result (self.new ≡ self.old) }
+    {
+        if value > register.largest() {
+            return Err(RegFault::OutOfRange);
+        }
+        self.cpu.set(register, value as u16);
+        Ok(())
+    }
+}

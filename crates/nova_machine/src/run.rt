@@ -1,0 +1,49 @@
+ghost use Rattle.std.specs.Prelude.{◌≡◌};
+
+use crate::machine::{Machine, RunLimit, Stop, Turn};
+
+/// The end of time, in instructions.
+const LAST_TIME: u64 = 1 << 60;
+
+impl RunLimit {
+    ghost use Rattle.nova_machine.specs.Run.{expired};
+
+    /// The stop of a run that has reached its count.
+    fn expired(self) -> Stop
+        ensures { result ≡ expired self.step }
+    {
+        if self.step { Stop::Stepped } else { Stop::Limit }
+    }
+}
+
+impl Machine {
+    ghost use Rattle.nova_machine.specs.Turn.{answer_of};
+    ghost use Rattle.nova_machine.specs.Run.{next_turn, run};
+
+    /// Makes turns until one stops, the count of the limit is reached, or time ends.
+    pub fn run(&mut self, limit: RunLimit) -> Stop
+        ensures machine { self.new ≡ (run limit.step limit.count self.old).machine }
+        ensures stop { result ≡ (run limit.step limit.count self.old).stop }
+    {
+        for _turn in 0..limit.count {
+            match self.next_turn() {
+                Turn::Executed => (),
+                Turn::Stopped(stop) => return stop,
+            }
+        }
+        limit.expired()
+    }
+
+    /// A turn, where time has not ended.
+    #[tactic(auto, unfolding(crate::specs::Run::next_turn))]
+    fn next_turn(&mut self) -> Turn
+        ensures machine { self.new ≡ (next_turn self.old).machine }
+        ensures answer { result ≡ answer_of (next_turn self.old).stop }
+    {
+        if self.time == LAST_TIME {
+            Turn::Stopped(Stop::Limit)
+        } else {
+            self.turn()
+        }
+    }
+}

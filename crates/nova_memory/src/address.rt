@@ -1,0 +1,105 @@
+ghost use Rattle.std.specs.Prelude.{◌≡◌, ℕ, ◌^◌, ◌<◌, ◌≤◌, IfOk};
+ghost use Rattle.std.specs.Result.{result_ok};
+ghost use Rattle.nova_memory.specs.Memory.{get, put};
+ghost use Rattle.nova_memory.specs.Address.{IsAutoIndex, displaced, indexed, changed, chain, address};
+
+use crate::memory::Memory;
+use nova_word::{Addr, Word};
+
+/// The 16th word of an indirect chain still has bit 0 set.
+#[derive(Clone, Copy, Debug, PartialEq, Eq)]
+pub struct ChainLimit;
+
+impl Memory {
+    /// The effective address of the memory reference `word`, which stands at `pc`.
+    ///
+    /// Each level of an indirect chain that passes 20 to 27 (octal) adds one to the word there, each that passes 30 to 37
+    /// takes one from it. Words that were changed stay so after `ChainLimit`.
+    #[tactic(auto, unfolding(crate::specs::Address::address))]
+    pub fn address(&mut self, word: Word, pc: Addr, acs: [Word; 4]) -> Result<Addr, ChainLimit>
+        ensures memory { self.new ≡ (address self.old word pc acs).memory }
+        ensures address { result_ok result ≡ (address self.old word pc acs).address }
+        ensures range { IfOk result (λ a. a < 2 ^ 15) }
+
+        // No word outside 20 to 37 (octal) changes, and the size never does.
+        ensures elsewhere { (a : ℕ) → ¬ IsAutoIndex a → get self.new a ≡ get self.old a }
+        ensures size { self.new.size ≡ self.old.size }
+    {
+        let at = indexed(word, pc, acs);
+        if (word.0 >> 10) & 1 == 1 {
+            self.chain(at)
+        } else {
+            Ok(at)
+        }
+    }
+
+    /// Follows an indirect reference through up to 16 levels.
+    fn chain(&mut self, from: Addr) -> Result<Addr, ChainLimit>
+        ensures memory { self.new ≡ (chain 16 self.old from).memory }
+        ensures address { result_ok result ≡ (chain 16 self.old from).address }
+        ensures range { IfOk result (λ a. a < 2 ^ 15) }
+    {
+        let mut at = from;
+        for _level in 0..16u8 {
+            let word = self.follow(at);
+            match Addr::new(word.0) {
+                Some(end) => return Ok(end),
+                None => at = Addr::of_word(word),
+            }
+        }
+        Err(ChainLimit)
+    }
+
+    /// The word through which an indirect reference passes there, changed and stored.
+    fn follow(&mut self, at: Addr) -> Word
+        ensures word { result ≡ changed at (get self.old at) }
+        ensures memory { self.new ≡ put self.old at (changed at (get self.old at)) }
+    {
+        let word = self.read(at);
+        let next = changed(at, word);
+        if next != word {
+            self.write(at, next);
+        }
+        next
+    }
+}
+
+/// The address that a memory reference names before it is followed.
+#[tactic(auto, unfolding(crate::specs::Address::indexed))]
+fn indexed(word: Word, pc: Addr, acs: [Word; 4]) -> Addr
+    ensures { result ≡ indexed word pc acs }
+{
+    let displacement = word.0 & 0o377;
+    match (word.0 >> 8) & 3 {
+        0 => Addr::of_word(Word(displacement)),
+        1 => displaced(Word(pc.number()), displacement),
+        index => displaced(acs[usize::from(index)], displacement),
+    }
+}
+
+/// A base plus a signed displacement of 8 bits, around the end of memory.
+fn displaced(base: Word, displacement: u16) -> Addr
+    requires { displacement < 2 ^ 8 }
+    ensures { result ≡ displaced base displacement }
+{
+    let base = Addr::of_word(base);
+    if displacement < 0o200 {
+        base.plus(displacement)
+    } else {
+        base.plus(32768 - (0o400 - displacement))
+    }
+}
+
+/// What an indirect reference through an address makes of the word there.
+fn changed(at: Addr, word: Word) -> Word
+    ensures { result ≡ changed at word }
+{
+    match at.number() {
+        0o20..=0o27 => Word(word.0.wrapping_add(1)),
+        0o30..=0o37 => Word(word.0.wrapping_sub(1)),
+        _ => word,
+    }
+}
+
+#[cfg(test)]
+mod tests;

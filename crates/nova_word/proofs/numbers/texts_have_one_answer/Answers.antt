@@ -1,0 +1,5 @@
+use Rattle.nova_word.proofs.NumberLemmas.{one_answer}
+use Rattle.nova_word.proofs.numbers.texts_have_one_answer.Goals as goal
+
+pub returns : goal.returns
+returns c = one_answer
