@@ -88,6 +88,13 @@ impl Machine {
         &self.memory
     }
 
+    /// The address of the next instruction.
+    pub fn pc(&self) -> Addr
+        ensures { result ≡ self.now.cpu.pc }
+    {
+        self.cpu.pc
+    }
+
     /// Puts a word into memory, as a person at the console does.
     pub fn deposit(&mut self, at: Addr, word: Word)
         ensures { self.new ≡ record self.old { memory = put self.old.memory at word } }

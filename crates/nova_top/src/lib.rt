@@ -1,0 +1,11 @@
+//! The top of the control program: from words, an input and a console to a status and a machine.
+#![tactic(auto)]
+
+pub mod command;
+pub mod grammar;
+mod line_buffer;
+mod line_reader;
+mod effect;
+mod text;
+
+pub use command::{Command, Place};

@@ -1,0 +1,122 @@
+ghost use Rattle.std.specs.Prelude.{◌≡◌, ◌≤◌, ◌<◌, ◌^◌, [], true, IsTrue};
+ghost use Rattle.fault_counts.specs.Faults.{Rose};
+ghost use Rattle.nova_top.specs.Reading.{is_due};
+
+use crate::line_buffer::{KEPT, LineBuffer};
+use host_files::{Source, next_byte};
+use std::marker::Model;
+
+/// What a reading of a line came to.
+#[derive(Clone, Copy, Debug, PartialEq, Eq)]
+pub enum Reading {
+    /// A line of at most 512 bytes.
+    Line,
+    /// A longer line. Its bytes were read, and are gone.
+    TooLong,
+    /// The input has ended.
+    End,
+    /// A unit of the budget was due, and none was left.
+    Unpaid,
+    /// The input failed.
+    Failed,
+}
+
+/// Reads lines byte by byte, so that nothing behind the line that is being done has been read.
+#[derive(Drop)]
+pub struct LineReader {
+    line: LineBuffer,
+    open_: bool,
+}
+
+impl Model for LineReader {
+    ghost use Rattle.nova_top.specs.Reading.{ReaderState};
+
+    ghost Value = { ReaderState };
+
+    ghost view = { λ r. record { line = r.line; open_ = r.open_ } };
+}
+
+impl LineReader {
+    ghost use Rattle.nova_top.specs.Reading.{IsReading, Pays, Finishes};
+
+    pub fn new() -> LineReader
+        ensures { result ≡ record { line = []; open_ = true } }
+    {
+        LineReader {
+            line: LineBuffer::new(),
+            open_: true,
+        }
+    }
+
+    /// The line that was read last, without its LF and a CR before that.
+    pub fn line(&self) -> &[u8]
+        ensures { result.now ≡ self.now.line }
+    {
+        self.line.as_slice()
+    }
+
+    /// Reads the next line, and pays for it while it is read: a unit with its first byte, and one more as bytes 1024,
+    /// 1536 and so on come in.
+    pub fn read_line<C: Source>(&mut self, input: &mut C, budget: &mut u64) -> Reading
+        requires { budget.old ≤ 2 ^ 32 }
+        ensures reads { IsTrue C.tells → IsReading budget.old self.old.open_ (C.left input.old) result budget.new self.new (C.left input.new) }
+        ensures pays { Pays budget.old result budget.new }
+        ensures later { C.fault_count input.old ≤ C.fault_count input.new }
+        ensures cause { result ≡ Reading.Failed → Rose (C.fault_count input.old) (C.fault_count input.new) }
+    {
+        self.line.clear();
+        if !self.open_ {
+            return Reading::End;
+        }
+        let mut count = 0u64;
+        loop {
+            let Ok(next) = next_byte(input) else {
+                return Reading::Failed;
+            };
+            let Some(b) = next else {
+                self.open_ = false;
+                return self.finish(count, false);
+            };
+            if is_due(count, b) {
+                if *budget == 0 {
+                    return Reading::Unpaid;
+                }
+                *budget -= 1;
+            }
+            if b == b'\n' {
+                return self.finish(count, true);
+            }
+            self.line.keep(b);
+            count += 1;
+        }
+    }
+
+    /// Ends a line of that many bytes, or the input where it has none and no LF was read.
+    fn finish(&mut self, count: u64, lf: bool) -> Reading
+        ensures line { Finishes count lf self.old.line result self.new.line }
+        ensures open_ { self.new.open_ ≡ self.old.open_ }
+    {
+        if count == 0 && !lf {
+            return Reading::End;
+        }
+        if count > KEPT as u64 {
+            return Reading::TooLong;
+        }
+        if lf {
+            self.line.drop_cr();
+        }
+        if self.line.len() == KEPT {
+            Reading::TooLong
+        } else {
+            Reading::Line
+        }
+    }
+}
+
+/// Whether the next byte of a line makes a unit due, where that many bytes stand before it.
+fn is_due(count: u64, b: u8) -> bool
+    requires { count < 2 ^ 50 }
+    ensures { result ≡ is_due count b }
+{
+    count == 0 || b != b'\n' && count + 1 >= 1024 && (count + 1) % 512 == 0
+}
