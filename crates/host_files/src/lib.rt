@@ -2,7 +2,12 @@
 //! whoever runs a machine inside a program of his own.
 #![tactic(auto)]
 
+pub mod byte_sink;
+pub mod byte_source;
+mod calls;
 pub mod streams;
 
+pub use byte_sink::ByteSink;
+pub use byte_source::ByteSource;
 pub use std::alloc::AllocError as OutOfMemory;
 pub use streams::{Failed, Sink, Source, next_byte, put_all};
