@@ -6,7 +6,7 @@ ghost use Rattle.host_files.specs.ByteSink.{SinkWrites};
 
 use crate::calls::Calls;
 use crate::streams::{Failed, Sink};
-use std::alloc::{AllocError, Global};
+use std::alloc::{AllocError as OutOfMemory, Global};
 use std::marker::Model;
 
 /// A sink of bytes in memory, with room for so many. Its writes are numbered from 0, and those that were named fail.
@@ -30,7 +30,7 @@ impl Model for ByteSink {
 
 impl ByteSink {
     /// An empty sink with room for so many bytes, none of whose writes is to fail. It takes the memory for them at once.
-    pub fn with_room(alloc: Global, room: usize) -> Result<ByteSink, AllocError>
+    pub fn with_room(alloc: Global, room: usize) -> Result<ByteSink, OutOfMemory>
         ensures { IfOk result (λ s. s ≡ record { written = []; room_left = room; calls = no_calls }) }
     {
         Ok(ByteSink {
@@ -40,9 +40,9 @@ impl ByteSink {
         })
     }
 
-    /// Names a write that is to fail. A number that was named before or has passed changes nothing, and neither does a
-    /// call that finds no memory.
-    pub fn fail_call(&mut self, number: u64) -> Result<(), AllocError>
+    /// Names a write that is to fail, by its number: a write of an empty piece counts too. A number that was named
+    /// before, or whose write has passed, changes nothing, and neither does a call that finds no memory.
+    pub fn fail_call(&mut self, number: u64) -> Result<(), OutOfMemory>
         ensures ok { OnOk result (self.new ≡ record self.old { calls = with_named self.old.calls number }) }
         ensures refused { OnErr result (self.new ≡ self.old) }
     {

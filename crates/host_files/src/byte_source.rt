@@ -6,7 +6,7 @@ ghost use Rattle.host_files.specs.ByteSource.{SourceReads};
 
 use crate::calls::Calls;
 use crate::streams::{Failed, Source};
-use std::alloc::{AllocError, Global};
+use std::alloc::{AllocError as OutOfMemory, Global};
 use std::marker::Model;
 
 /// A source of bytes in memory. Its reads are numbered from 0, and those that were named fail.
@@ -30,7 +30,7 @@ impl Model for ByteSource {
 
 impl ByteSource {
     /// A source of these bytes, none of whose reads is to fail.
-    pub fn new(alloc: Global, bytes: &[u8]) -> Result<ByteSource, AllocError>
+    pub fn new(alloc: Global, bytes: &[u8]) -> Result<ByteSource, OutOfMemory>
         ensures { IfOk result (λ s. s ≡ record { left = bytes.now; calls = no_calls }) }
     {
         Ok(ByteSource {
@@ -40,9 +40,9 @@ impl ByteSource {
         })
     }
 
-    /// Names a read that is to fail. A number that was named before or has passed changes nothing, and neither does a
-    /// call that finds no memory.
-    pub fn fail_call(&mut self, number: u64) -> Result<(), AllocError>
+    /// Names a read that is to fail, by its number: a read into an empty buffer counts too. A number that was named
+    /// before, or whose read has passed, changes nothing, and neither does a call that finds no memory.
+    pub fn fail_call(&mut self, number: u64) -> Result<(), OutOfMemory>
         ensures ok { OnOk result (self.new ≡ record self.old { calls = with_named self.old.calls number }) }
         ensures refused { OnErr result (self.new ≡ self.old) }
     {

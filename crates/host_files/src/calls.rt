@@ -4,7 +4,7 @@ ghost use Rattle.fault_counts.specs.Faults.{raised, HasCause};
 
 use crate::streams::Failed;
 use fault_counts::raised_count;
-use std::alloc::{AllocError, Global};
+use std::alloc::{AllocError as OutOfMemory, Global};
 use std::marker::Model;
 
 /// The calls on an object in memory, numbered from 0, and which of them are to fail.
@@ -35,8 +35,8 @@ impl Calls {
         }
     }
 
-    /// Names a call that is to fail. A refused name leaves everything as it was.
-    pub fn fail_call(&mut self, number: u64) -> Result<(), AllocError>
+    /// Names a call that is to fail. Where there is no memory, nothing changes.
+    pub fn fail_call(&mut self, number: u64) -> Result<(), OutOfMemory>
         ensures ok { OnOk result (self.new ≡ with_named self.old number) }
         ensures refused { OnErr result (self.new ≡ self.old) }
     {

@@ -1,5 +1,5 @@
 //! What the program reads from and writes to: streams of bytes here, with versions of them in memory for tests and for
-//! whoever runs a machine inside a program of his own.
+//! whoever runs a machine inside a program of their own.
 #![tactic(auto)]
 
 pub mod byte_sink;
