@@ -1,12 +1,12 @@
 -- What the calls on a stream of bytes do: how many bytes they take, and what that leaves.
 use Rattle.std.specs.Prelude.{◌≡◌, ℕ, ◌<◌, ◌≤◌, List, [], ◌∷◌, ◌++◌, length, take, Option, Some, None, Result, Ok, Err, IfOk, MatchResult}
 
--- A read gives first bytes of those that were left, and none only at their end or where the buffer is empty. One that
--- failed took nothing.
+-- A read puts the first of the bytes that were left into the front of the buffer. It gives none only where none was left
+-- or the buffer is empty. A read that failed took nothing.
 abbrev pub ReadTakes : {E : Type 0} → List ℕ → Result ℕ E → List ℕ → List ℕ → Type 0
 ReadTakes old result buffer new = MatchResult result (λ n. (old ≡ take n buffer ++ new) × (n ≡ 0 → 0 < length buffer → old ≡ [])) (λ _. new ≡ old)
 
--- the next byte was taken, or there is none left, or the read failed and took nothing
+-- the next byte was taken, or none was left, or the read failed and took nothing
 abbrev pub NextByte : {E : Type 0} → List ℕ → Result (Option ℕ) E → List ℕ → Type 0
 NextByte old (Ok (Some b)) new = old ≡ b ∷ new
 NextByte old (Ok None) new = (old ≡ []) × (new ≡ [])

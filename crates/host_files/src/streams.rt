@@ -2,55 +2,57 @@ ghost use Rattle.std.specs.Prelude.{◌≡◌, ℕ, ◌≤◌, List, ◌++◌, l
 ghost use Rattle.fault_counts.specs.Faults.{HasCause};
 ghost use Rattle.host_files.specs.Streams.{ReadTakes, NextByte, WriteTakes, WriteAdds, AddsPart};
 
-/// The answer of a call that a stream could not carry out. Its count of faults has risen.
+/// The answer of a call that a stream could not carry out. The stream's count of faults has risen.
 #[derive(Clone, Copy, Debug, PartialEq, Eq)]
 pub struct Failed;
 
 /// Bytes to read, in order.
 pub trait Source {
-    /// Whether it tells its bytes.
+    /// Whether contracts can name its bytes: those of one in memory, and not those of a real one.
     ghost tells: { Bool };
 
-    /// The bytes that are left.
+    /// The bytes that are left, where it tells them.
     ghost left: { Self → List ℕ };
 
     /// How often a call has failed.
     ghost fault_count: { Self → ℕ };
 
-    /// Puts the next bytes first into `buf`, and answers how many. 0 means the end, where `buf` is not empty.
+    /// Reads the next bytes into the front of `buf`, and answers how many. Where `buf` is not empty, 0 means the end. A
+    /// read that fails takes nothing.
     fn read(&mut self, buf: &mut [u8]) -> Result<usize, Failed>
         ensures bound { IfOk result (λ n. n ≤ length buf.new) }
         ensures bytes { IsTrue tells → ReadTakes (left self.old) result buf.new (left self.new) }
         ensures cause { HasCause (fault_count self.old) (fault_count self.new) result };
 
-    /// How often a call has failed. It stands still at its type's end.
+    /// How often a call has failed. The count stands still at its type's end.
     fn faults(&self) -> u64
         ensures { result ≡ fault_count self.now };
 }
 
 /// A place to write bytes to, in order.
 pub trait Sink {
-    /// Whether it tells its bytes.
+    /// Whether contracts can name its bytes: those of one in memory, and not those of a real one.
     ghost tells: { Bool };
 
-    /// The bytes that were written.
+    /// The bytes that were written, where it tells them.
     ghost written: { Self → List ℕ };
 
     /// How often a call has failed.
     ghost fault_count: { Self → ℕ };
 
-    /// Takes the first bytes of the piece, and answers how many: at least one, where there is one.
+    /// Writes first bytes of the piece, and answers how many: at least one, where there is one. A write that fails writes
+    /// none.
     fn write(&mut self, bytes: &[u8]) -> Result<usize, Failed>
         ensures takes { WriteTakes result bytes.now }
         ensures adds { IsTrue tells → WriteAdds (written self.old) result bytes.now (written self.new) }
         ensures cause { HasCause (fault_count self.old) (fault_count self.new) result };
 
-    /// How often a call has failed. It stands still at its type's end.
+    /// How often a call has failed. The count stands still at its type's end.
     fn faults(&self) -> u64
         ensures { result ≡ fault_count self.now };
 }
 
-/// Writes all the bytes. A sink that fails has taken the first of them and not all.
+/// Writes all of the bytes. Where a write fails, a first part of them was written, and not all.
 pub fn put_all<S: Sink>(sink: &mut S, bytes: &[u8]) -> Result<(), Failed>
     ensures all { IsTrue S.tells → OnOk result (S.written sink.new ≡ S.written sink.old ++ bytes.now) }
     ensures part { IsTrue S.tells → OnErr result (AddsPart (S.written sink.old) bytes.now (S.written sink.new)) }
@@ -64,7 +66,7 @@ pub fn put_all<S: Sink>(sink: &mut S, bytes: &[u8]) -> Result<(), Failed>
     Ok(())
 }
 
-/// Reads one byte. `None` means the end.
+/// Reads one byte. `None` means the end. A read that fails takes nothing.
 pub fn next_byte<C: Source>(input: &mut C) -> Result<Option<u8>, Failed>
     ensures takes { IsTrue C.tells → NextByte (C.left input.old) result (C.left input.new) }
     ensures cause { HasCause (C.fault_count input.old) (C.fault_count input.new) result }
@@ -73,3 +75,6 @@ pub fn next_byte<C: Source>(input: &mut C) -> Result<Option<u8>, Failed>
     let count = input.read(&mut buf)?;
     Ok(if count == 0 { None } else { Some(buf[0]) })
 }
+
+#[cfg(test)]
+mod tests;
