@@ -1,2 +1,5 @@
 pub mod GrammarLemmas
 pub mod OctalLemmas
+pub mod ReadingLemmas
+pub mod SessionLemmas
+pub mod LineLemmas

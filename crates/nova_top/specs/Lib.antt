@@ -5,3 +5,5 @@ pub mod Lines
 pub mod Reading
 pub mod Session
 pub mod Outside
+pub mod Loop
+pub mod Ends

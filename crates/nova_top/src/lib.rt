@@ -2,9 +2,11 @@
 #![tactic(auto)]
 
 pub mod command;
+mod command_loop;
 pub mod grammar;
 mod line_buffer;
 mod line_reader;
+mod progress;
 mod effect;
 mod text;
 
