@@ -6,6 +6,7 @@ mod command_loop;
 pub mod grammar;
 mod line_buffer;
 mod line_reader;
+mod perform;
 mod progress;
 mod effect;
 mod text;
