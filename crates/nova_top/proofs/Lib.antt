@@ -3,3 +3,5 @@ pub mod OctalLemmas
 pub mod ReadingLemmas
 pub mod SessionLemmas
 pub mod LineLemmas
+pub mod WholeLemmas
+pub mod OutsideLemmas

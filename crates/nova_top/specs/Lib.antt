@@ -9,3 +9,4 @@ pub mod Outside
 pub mod Loop
 pub mod Ends
 pub mod Laws
+pub mod Program

@@ -1,5 +1,7 @@
 -- All that is handed to the program, and what it comes to.
-use Rattle.std.specs.Prelude.{ℕ, Bool, true, false, List, [], ◌∷◌, ◌++◌, codes, Option, Some, None, bytes_eq, if◌then◌else◌}
+use Rattle.std.specs.Prelude.{ℕ, Bool, true, false, List, [], ◌∷◌, ◌++◌, codes, Option, Some, None, bytes_eq, map, string_bytes, if◌then◌else◌}
+use Rattle.std.specs.declared.string.String.{String}
+use Rattle.std.specs.declared.alloc.Global.{Global}
 use Rattle.event_trace.specs.Events.{Event, Prints, Ended, Trace, map_trace}
 use Rattle.event_trace.specs.Cut.{Outcome, cut_trace}
 use Rattle.nova_top.specs.Core.{Core, new_core}
@@ -17,10 +19,14 @@ pub record Outside : Type 0 where
 abbrev pub usage : List ℕ
 usage = codes "usage: nova [-q] [-k keys] [-l instructions] [-m commands] [-g number] [script [arguments]]" ++ 10 ∷ []
 
+-- the word that turns the prompt off
+abbrev pub quiet_of : List ℕ → Option Bool
+quiet_of word = if bytes_eq word (codes "-q") then Some false else None
+
 -- whether the prompt is on, where the words are in their grammar: none, or the single word -q
 unfoldable pub prompt_of : List (List ℕ) → Option Bool
 prompt_of [] = Some true
-prompt_of (word ∷ []) = if bytes_eq word (codes "-q") then Some false else None
+prompt_of (word ∷ []) = quiet_of word
 prompt_of (word ∷ more) = None
 
 -- a new session
@@ -40,3 +46,7 @@ whole_trace words input = trace_for (prompt_of words) input
 -- there is one
 unfoldable pub outcome : Outside → Outcome (Option Core)
 outcome o = cut_trace o.takes o.gives (whole_trace o.words o.input)
+
+-- the bytes of the words
+abbrev pub texts_of : List (String Global) → List (List ℕ)
+texts_of words = map (λ word. string_bytes word) words

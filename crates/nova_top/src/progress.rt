@@ -15,6 +15,24 @@ pub enum Finish {
     Input,
 }
 
+impl Finish {
+    ghost use Rattle.std.specs.Prelude.{◌≡◌};
+    ghost use Rattle.nova_top.specs.Ends.{status_of};
+
+    /// The exit status of the process.
+    pub fn status(self) -> u8
+        ensures { result ≡ status_of self }
+    {
+        match self {
+            Finish::Exit(status) => status,
+            Finish::EndOfInput => 0,
+            Finish::Commands => 104,
+            Finish::Console => 102,
+            Finish::Input => 106,
+        }
+    }
+}
+
 /// Whether a session goes on behind a text.
 #[derive(Clone, Copy, Debug, PartialEq, Eq)]
 pub enum Progress {
