@@ -1,8 +1,9 @@
--- One instruction, by cases on its word as a number (How to Use the Nova Computers, "Memory Reference Instructions").
-use Rattle.std.specs.Prelude.{ℕ, ◌+◌, ◌-◌, ◌%◌, ◌^◌, ◌==◌, Bool, true, false, List, [], ◌∷◌, slice_index, slice_set, nat_lt, if◌then◌else◌}
+-- One instruction, by cases on its word as a number (How to Use the Nova Computers, "Memory Reference Instructions" and
+-- "Arithmetic and Logical Instructions").
+use Rattle.std.specs.Prelude.{ℕ, ◌+◌, ◌-◌, ◌%◌, ◌^◌, ◌==◌, Bool, true, false, List, [], ◌∷◌, slice_index, slice_set, if◌then◌else◌}
 use Rattle.nova_word.specs.Bits.{bits}
 use Rattle.nova_memory.specs.Memory.{MemoryState, get, put}
-use Rattle.nova_memory.specs.Address.{indexed}
+use Rattle.nova_alu.specs.Arithmetic.{loaded_accumulators, loaded_carry, skips_next}
 use Rattle.nova_machine.specs.declared.cpu.Cpu.{Cpu}
 use Rattle.nova_machine.specs.Machine.{MachineState}
 
@@ -48,3 +49,10 @@ memory_reference word address m =
     if bits 0 2 word == 0 then without_accumulator (bits 3 4 word) address m
     else if bits 0 2 word == 1 then load (bits 3 4 word) address m
     else store (bits 3 4 word) address m
+
+-- an arithmetic or logical instruction
+unfoldable pub arithmetic : ℕ → MachineState → MachineState
+arithmetic word m =
+    let acs = m.cpu.accumulators in
+    let carry = m.cpu.carry in
+    record m { cpu = advanced (skips_next word acs carry) (record m.cpu { accumulators = loaded_accumulators word acs carry; carry = loaded_carry word acs carry }) }

@@ -1,5 +1,7 @@
 pub mod Machine
 pub mod Registers
 pub mod Instruction
+pub mod InputOutput
 pub mod Turn
 pub mod Run
+pub mod Lending

@@ -1,14 +1,15 @@
 -- One step of the machine: the word at PC is fetched and executed.
-use Rattle.std.specs.Prelude.{ℕ, ◌+◌, ◌==◌, ◌&&◌, Bool, Option, Some, None, nat_lt, if◌then◌else◌}
+use Rattle.std.specs.Prelude.{ℕ, ◌+◌, ◌==◌, Bool, false, Option, Some, None, nat_lt, if◌then◌else◌}
 use Rattle.nova_word.specs.Bits.{bits}
 use Rattle.nova_memory.specs.Memory.{get}
-use Rattle.nova_memory.specs.Address.{indexed}
+use Rattle.nova_memory.specs.Address.{Reference, address}
 use Rattle.nova_machine.specs.declared.machine.Stop.{Stop}
-use Rattle.nova_machine.specs.declared.machine.Stop.TheVariants.{NotBuilt}
+use Rattle.nova_machine.specs.declared.machine.Stop.TheVariants.{Halt, ChainLimit, NotBuilt}
 use Rattle.nova_machine.specs.declared.machine.Turn.{Turn}
 use Rattle.nova_machine.specs.declared.machine.Turn.TheVariants.{Executed, Stopped}
 use Rattle.nova_machine.specs.Machine.{MachineState}
-use Rattle.nova_machine.specs.Instruction.{memory_reference}
+use Rattle.nova_machine.specs.Instruction.{advanced, memory_reference, arithmetic}
+use Rattle.nova_machine.specs.InputOutput.{multiply_divide}
 
 -- the machine after a turn, and its stop, if it stopped
 pub record Turned : Type 0 where
@@ -20,19 +21,47 @@ abbrev pub answer_of : Option Stop → Turn
 answer_of None = Executed
 answer_of (Some stop) = Stopped stop
 
+abbrev pub goes_on : MachineState → Turned
+goes_on m = record { machine = m; stop = None }
+
+abbrev pub stops : Stop → MachineState → Turned
+stops stop m = record { machine = m; stop = Some stop }
+
 -- time has grown by one instruction
 unfoldable pub ticked : MachineState → MachineState
 ticked m = record m { time = m.time + 1 }
 
--- the words that are executed: memory references without an indirect level
-unfoldable pub is_built : ℕ → Bool
-is_built word = nat_lt word 0o60000 && (bits 5 5 word == 0)
+-- a memory reference at its effective address, if its chain ends. Where it does not, the machine is as it was, but for
+-- the words that the chain changed.
+abbrev pub refer_to : ℕ → Option ℕ → MachineState → Turned
+refer_to word None m = stops ChainLimit m
+refer_to word (Some address) m = goes_on (memory_reference word address (ticked m))
 
--- the turn of a word: it is executed, or stops with the machine as it was
+-- a memory reference: its effective address is formed first
+unfoldable pub refer : ℕ → MachineState → Turned
+refer word m =
+    let reference = address m.memory word m.cpu.pc m.cpu.accumulators in
+    refer_to word reference.address (record m { memory = reference.memory })
+
+-- HALT, which stops behind itself
+unfoldable pub halt : MachineState → Turned
+halt m = stops Halt (record (ticked m) { cpu = advanced false m.cpu })
+
+-- a word of input and output, by its device in bits 10 to 15: those to device 1 and HALT are executed, and every other
+-- one stops with the machine as it was
+unfoldable pub transfer : ℕ → MachineState → Turned
+transfer word m =
+    if bits 10 15 word == 1 then goes_on (multiply_divide word (ticked m))
+    else if word == 0o63077 then halt m
+    else stops NotBuilt m
+
+-- the instruction of a word
 unfoldable pub execute : ℕ → MachineState → Turned
 execute word m =
-    if is_built word then record { machine = memory_reference word (indexed word m.cpu.pc m.cpu.accumulators) (ticked m); stop = None }
-    else record { machine = m; stop = Some NotBuilt }
+    if nat_lt word 0o60000 then refer word m
+    else if nat_lt word 0o100000 then transfer word m
+    else goes_on (arithmetic word (ticked m))
 
+-- A turn: the word at PC is executed.
 unfoldable pub turn : MachineState → Turned
 turn m = execute (get m.memory m.cpu.pc) m

@@ -26,6 +26,7 @@ impl Cpu {
             CpuReg::Ac1 => number_of(self.accumulators[1]),
             CpuReg::Ac2 => number_of(self.accumulators[2]),
             CpuReg::Ac3 => number_of(self.accumulators[3]),
+            CpuReg::C => u16::from(self.carry),
             CpuReg::Pc => self.pc.number(),
         }
     }
@@ -40,6 +41,7 @@ impl Cpu {
             CpuReg::Ac1 => self.accumulators[1] = Word(value),
             CpuReg::Ac2 => self.accumulators[2] = Word(value),
             CpuReg::Ac3 => self.accumulators[3] = Word(value),
+            CpuReg::C => self.carry = value == 1,
             CpuReg::Pc => self.pc = Addr::of_word(Word(value)),
         }
     }

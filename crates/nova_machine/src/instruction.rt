@@ -4,6 +4,7 @@ ghost use Rattle.nova_memory.specs.Memory.{get};
 
 use crate::cpu::Cpu;
 use crate::machine::Machine;
+use nova_alu::{Arith, arith};
 use nova_word::{Addr, Word};
 
 impl Cpu {
@@ -11,7 +12,7 @@ impl Cpu {
 
     /// Goes on behind the instruction, and over the next one where it skips.
     #[tactic(auto, unfolding(crate::specs::Instruction::advanced))]
-    fn advance(&mut self, skips: bool)
+    pub(crate) fn advance(&mut self, skips: bool)
         ensures { self.new ≡ advanced skips self.old }
     {
         let next = self.pc.plus(1);
@@ -20,7 +21,7 @@ impl Cpu {
 }
 
 impl Machine {
-    ghost use Rattle.nova_machine.specs.Instruction.{jump, jump_to_subroutine, store_and_skip, load, store, without_accumulator, memory_reference};
+    ghost use Rattle.nova_machine.specs.Instruction.{jump, jump_to_subroutine, store_and_skip, load, store, without_accumulator, memory_reference, arithmetic};
 
     #[tactic(auto, unfolding(crate::specs::Instruction::jump))]
     fn jump(&mut self, address: Addr)
@@ -94,5 +95,16 @@ impl Machine {
             1 => self.load(usize::from(function), address),
             _ => self.store(usize::from(function), address),
         }
+    }
+
+    /// Executes an arithmetic or logical instruction.
+    #[tactic(auto, unfolding(crate::specs::Instruction::arithmetic))]
+    pub(crate) fn arithmetic(&mut self, word: Word)
+        ensures { self.new ≡ arithmetic word self.old }
+    {
+        let Arith { acs, carry, skip } = arith(word, self.cpu.accumulators, self.cpu.carry);
+        self.cpu.accumulators = acs;
+        self.cpu.carry = carry;
+        self.cpu.advance(skip);
     }
 }

@@ -2,8 +2,8 @@
 #![tactic(auto)]
 
 pub mod cpu;
+mod input_output;
 mod instruction;
-
 pub mod machine;
 pub mod registers;
 mod run;

@@ -12,11 +12,16 @@ use std::marker::Model;
 /// Why a run ended.
 #[derive(Clone, Copy, Debug, PartialEq, Eq)]
 pub enum Stop {
+    /// HALT was executed.
+    Halt,
+    /// The 16th word of an indirect chain still had bit 0 set. The instruction was not executed, and the words that the
+    /// chain changed stay so.
+    ChainLimit,
     /// The count of a STEP was reached.
     Stepped,
     /// The limit of instructions was reached, or the end of time.
     Limit,
-    /// The word at PC is not executed by this version of the program.
+    /// The word at PC is not executed by this version of the program. The machine is as it was before that turn.
     NotBuilt,
 }
 
@@ -56,6 +61,8 @@ impl Model for Machine {
 
 impl Machine {
     ghost use Rattle.nova_machine.specs.Machine.{new_machine};
+    ghost use Rattle.std.specs.Borrow.{sem};
+    ghost use Rattle.nova_machine.specs.Lending.{LendsMemory};
     ghost use Rattle.nova_machine.specs.Registers.{register_of, with_register, largest_of};
 
     /// A machine whose registers and memory are 0, at time 0.
@@ -86,6 +93,14 @@ impl Machine {
         ensures { result.now ≡ self.now.memory }
     {
         &self.memory
+    }
+
+    /// The machine's memory, to be changed as a person at the console or a loader does.
+    pub fn memory_mut(&mut self) -> &mut Memory
+        ensures* writes_back { sem 𝓛 (LendsMemory self.entry result) }
+        ensures value { result.now ≡ self.old.memory }
+    {
+        &mut self.memory
     }
 
     /// The address of the next instruction.

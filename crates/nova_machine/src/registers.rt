@@ -7,6 +7,8 @@ pub enum CpuReg {
     Ac1,
     Ac2,
     Ac3,
+    /// Carry, which is 0 or 1.
+    C,
     Pc,
 }
 
@@ -19,6 +21,7 @@ impl CpuReg {
         ensures word { result < 2 ^ 16 }
     {
         match self {
+            CpuReg::C => 1,
             CpuReg::Pc => 0o77777,
             _ => 0o177777,
         }

@@ -25,8 +25,8 @@ impl Machine {
         ensures machine { self.new ≡ (run limit.step limit.count self.old).machine }
         ensures stop { result ≡ (run limit.step limit.count self.old).stop }
     {
-        for _turn in 0..limit.count {
-            match self.next_turn() {
+        for turn in 0..limit.count {
+            match self.next_turn(turn == 0) {
                 Turn::Executed => (),
                 Turn::Stopped(stop) => return stop,
             }
@@ -36,14 +36,14 @@ impl Machine {
 
     /// A turn, where time has not ended.
     #[tactic(auto, unfolding(crate::specs::Run::next_turn))]
-    fn next_turn(&mut self) -> Turn
+    fn next_turn(&mut self, first: bool) -> Turn
         ensures machine { self.new ≡ (next_turn self.old).machine }
         ensures answer { result ≡ answer_of (next_turn self.old).stop }
     {
         if self.time == LAST_TIME {
             Turn::Stopped(Stop::Limit)
         } else {
-            self.turn()
+            self.turn(first)
         }
     }
 }

@@ -1,46 +1,89 @@
-ghost use Rattle.std.specs.Prelude.{◌≡◌, ◌<◌, ◌^◌, IsTrue};
+ghost use Rattle.std.specs.Prelude.{◌≡◌, ◌<◌, ◌≤◌, ◌^◌};
 ghost use Rattle.nova_machine.specs.Run.{last_time};
-ghost use Rattle.nova_machine.specs.Turn.{is_built};
 
 use crate::machine::{Machine, Stop, Turn};
+use nova_memory::ChainLimit;
 use nova_word::Word;
 
 impl Machine {
-    ghost use Rattle.nova_machine.specs.Turn.{answer_of, execute, turn};
+    ghost use Rattle.nova_machine.specs.Turn.{answer_of, refer, halt, transfer, execute, turn};
 
-    /// Fetches the word at PC and executes it. A stop as `NotBuilt` leaves the machine as it was.
+    /// Fetches the word at PC and executes it, which takes one instruction of time. After a stop as `ChainLimit` or
+    /// `NotBuilt` the registers and the time are as they were.
+    ///
+    /// `first` says whether this is the first turn of a run. Nothing depends on it yet: it is for breakpoints, which the
+    /// first turn passes.
     #[tactic(auto, unfolding(crate::specs::Turn::turn))]
-    pub fn turn(&mut self) -> Turn
+    pub fn turn(&mut self, first: bool) -> Turn
         requires { self.old.time < last_time }
         ensures machine { self.new ≡ (turn self.old).machine }
         ensures answer { result ≡ answer_of (turn self.old).stop }
     {
+        let _passes_breakpoint = first;
         let word = self.memory.read(self.cpu.pc);
         self.execute(word)
     }
 
-    #[tactic(auto, unfolding(crate::specs::Turn::execute, crate::specs::Turn::ticked, crate::specs::Turn::is_built, nova_memory::specs::Address::address))]
+    #[tactic(auto, unfolding(crate::specs::Turn::execute, crate::specs::Turn::ticked))]
     fn execute(&mut self, word: Word) -> Turn
         requires { self.old.time < last_time }
         ensures machine { self.new ≡ (execute word self.old).machine }
         ensures answer { result ≡ answer_of (execute word self.old).stop }
     {
-        if !is_built(word) {
-            return Turn::Stopped(Stop::NotBuilt);
+        if word.0 < 0o60000 {
+            self.refer(word)
+        } else if word.0 < 0o100000 {
+            self.transfer(word)
+        } else {
+            self.time += 1;
+            self.arithmetic(word);
+            Turn::Executed
         }
-        let Ok(address) = self.memory.address(word, self.cpu.pc, self.cpu.accumulators) else {
-            return Turn::Stopped(Stop::NotBuilt);
-        };
-        self.time += 1;
-        self.memory_reference(word.0, address);
-        Turn::Executed
     }
-}
 
-/// Whether a word is executed: a memory reference without an indirect level.
-#[tactic(auto, unfolding(crate::specs::Turn::is_built))]
-fn is_built(word: Word) -> bool
-    ensures { result ≡ is_built word }
-{
-    word.0 < 0o60000 && (word.0 >> 10) & 1 == 0
+    /// Executes a memory reference.
+    #[tactic(auto, unfolding(crate::specs::Turn::refer, crate::specs::Turn::ticked))]
+    fn refer(&mut self, word: Word) -> Turn
+        requires { self.old.time < last_time }
+        ensures machine { self.new ≡ (refer word self.old).machine }
+        ensures answer { result ≡ answer_of (refer word self.old).stop }
+    {
+        match self.memory.address(word, self.cpu.pc, self.cpu.accumulators) {
+            Err(ChainLimit) => Turn::Stopped(Stop::ChainLimit),
+            Ok(address) => {
+                self.time += 1;
+                self.memory_reference(word.0, address);
+                Turn::Executed
+            }
+        }
+    }
+
+    /// Executes a word of input and output.
+    #[tactic(auto, unfolding(crate::specs::Turn::transfer, crate::specs::Turn::ticked))]
+    fn transfer(&mut self, word: Word) -> Turn
+        requires { self.old.time < last_time }
+        ensures machine { self.new ≡ (transfer word self.old).machine }
+        ensures answer { result ≡ answer_of (transfer word self.old).stop }
+    {
+        if word.0 % 64 == 1 {
+            self.time += 1;
+            self.multiply_divide(word.0);
+            Turn::Executed
+        } else if word.0 == 0o63077 {
+            self.halt()
+        } else {
+            Turn::Stopped(Stop::NotBuilt)
+        }
+    }
+
+    #[tactic(auto, unfolding(crate::specs::Turn::halt, crate::specs::Turn::ticked))]
+    fn halt(&mut self) -> Turn
+        requires { self.old.time < last_time }
+        ensures machine { self.new ≡ (halt self.old).machine }
+        ensures answer { result ≡ answer_of (halt self.old).stop }
+    {
+        self.time += 1;
+        self.cpu.advance(false);
+        Turn::Stopped(Stop::Halt)
+    }
 }

@@ -1,0 +1,14 @@
+//! The arithmetic of the Nova: the arithmetic and logical instructions, multiplication and division.
+#![tactic(auto)]
+
+pub mod arithmetic;
+mod carries;
+mod functions;
+pub mod multiply_divide;
+pub mod outcome;
+mod shifts;
+mod skips;
+
+pub use arithmetic::arith;
+pub use multiply_divide::{Divided, divide, multiply};
+pub use outcome::Arith;

@@ -1,0 +1,108 @@
+ghost use Rattle.std.specs.Prelude.{◌≡◌, ◌^◌, ◌<◌, All, slice_index};
+ghost use Rattle.nova_alu.specs.MultiplyDivide.{divided, double_word, multiplied, divide_overflows, product};
+
+use nova_word::Word;
+
+/// What DIV leaves.
+#[derive(Clone, Copy, Debug, PartialEq, Eq)]
+pub struct Divided {
+    /// AC0 to AC3.
+    pub acs: [Word; 4],
+    /// Carry: the quotient would not have fitted a word, and nothing else changed.
+    pub carry: bool,
+}
+
+/// Executes MUL: AC1 times AC2 plus AC0, unsigned, with its high word in AC0 and its low one in AC1.
+#[inline]
+#[tactic(auto, unfolding(crate::specs::MultiplyDivide::multiplied, crate::specs::MultiplyDivide::divided))]
+pub fn multiply(acs: [Word; 4]) -> [Word; 4]
+    ensures accumulators { result ≡ multiplied acs }
+    ensures words { All (λ n. n < 2 ^ 16) result }
+
+    // What follows from it: AC0 and AC1 hold the whole product, and DIV undoes MUL where the addend is below AC2.
+    ensures whole { double_word result ≡ product acs }
+    ensures undone { slice_index acs 0 < slice_index acs 2 → divided result ≡ acs }
+{
+    let [addend, multiplicand, multiplier, other] = acs;
+    let product = u32::from(multiplicand.0) * u32::from(multiplier.0) + u32::from(addend.0);
+    [
+        Word((product / 65536) as u16),
+        Word((product % 65536) as u16),
+        multiplier,
+        other,
+    ]
+}
+
+/// Executes DIV: the unsigned number in AC0 (high) and AC1 is divided by AC2, with the quotient in AC1 and the remainder
+/// in AC0. Where the quotient would not fit a word, Carry is 1 and the accumulators stay; else Carry is 0.
+#[inline]
+#[tactic(auto, unfolding(crate::specs::MultiplyDivide::multiplied, crate::specs::MultiplyDivide::divided))]
+pub fn divide(acs: [Word; 4]) -> Divided
+    ensures accumulators { result.acs ≡ divided acs }
+    ensures carry { result.carry ≡ divide_overflows acs }
+    ensures words { All (λ n. n < 2 ^ 16) result.acs }
+
+    // What follows from these, where the quotient fits: the remainder is below the divisor, quotient times divisor plus
+    // remainder is the dividend, and so MUL undoes DIV.
+    ensures remainder { slice_index acs 0 < slice_index acs 2 → slice_index result.acs 0 < slice_index acs 2 }
+    ensures quotient { slice_index acs 0 < slice_index acs 2 → product result.acs ≡ double_word acs }
+    ensures undone { slice_index acs 0 < slice_index acs 2 → multiplied result.acs ≡ acs }
+{
+    let [high, low, divisor, other] = acs;
+    if high.0 >= divisor.0 {
+        return Divided { acs, carry: true };
+    }
+    let dividend = u32::from(high.0) * 65536 + u32::from(low.0);
+    let by = u32::from(divisor.0);
+    Divided {
+        acs: [
+            Word((dividend % by) as u16),
+            Word((dividend / by) as u16),
+            divisor,
+            other,
+        ],
+        carry: false,
+    }
+}
+
+#[cfg(test)]
+mod tests {
+    use super::{divide, multiply};
+    use nova_word::Word;
+
+    fn words(numbers: [u16; 4]) -> [Word; 4] {
+        let [ac0, ac1, ac2, ac3] = numbers;
+        [Word(ac0), Word(ac1), Word(ac2), Word(ac3)]
+    }
+
+    #[test]
+    fn products_and_quotients_of_the_manual(rt: HostRuntime) {
+        let products = [
+            (
+                [0o177777, 0o177777, 0o177777, 8],
+                [0o177777, 0, 0o177777, 8],
+            ),
+            ([5, 0, 0o177777, 8], [0, 5, 0o177777, 8]),
+            ([1, 0o000400, 0o000400, 8], [1, 1, 0o000400, 8]),
+        ];
+        for (acs, want) in products {
+            assert_eq!(rt; multiply(words(acs)), words(want));
+        }
+        let quotients = [
+            ([5, 3, 5, 8], [5, 3, 5, 8], true),
+            ([1, 0, 2, 8], [0, 0o100000, 2, 8], false),
+            ([0, 17, 5, 8], [2, 3, 5, 8], false),
+            ([0, 17, 0, 8], [0, 17, 0, 8], true),
+            (
+                [0o177776, 0o177777, 0o177777, 8],
+                [0o177776, 0o177777, 0o177777, 8],
+                false,
+            ),
+        ];
+        for (acs, want, carry) in quotients {
+            let got = divide(words(acs));
+            assert_eq!(rt; got.acs, words(want));
+            assert_eq!(rt; got.carry, carry);
+        }
+    }
+}
