@@ -1,20 +1,21 @@
 -- The function of the grammar against its relation.
-use Rattle.std.proofs.Common.{◌≡◌, ◌↔◌, ◌⊎◌, ⊎_elim, inl, inr, ℕ, ◌+◌, ◌-◌, ◌<◌, ◌≤◌, Bool, true, false, cond, not, ◌&&◌, ◌==◌, nat_le, nat_lt, nat_eq, List, [], ◌∷◌, ◌++◌, length, take, drop, get_or, refl, ap, sym, ◌∙◌, subst, arith, rules, Option, Some, None, codes, length-append, length-drop, append_assoc}
+use Rattle.std.proofs.Common.{◌≡◌, ◌↔◌, ◌⊎◌, ⊎_elim, inl, inr, ℕ, ◌+◌, ◌-◌, ◌^◌, ◌<◌, ◌≤◌, Bool, true, false, cond, not, ◌&&◌, ◌==◌, nat_le, nat_lt, nat_eq, List, [], ◌∷◌, ◌++◌, length, take, drop, get_or, refl, ap, sym, ◌∙◌, subst, arith, rules, Option, Some, None, codes, length-append, length-drop, append_assoc}
 use Rattle.std.specs.Option.{option_map, option_and_then, IfSome, IfNone}
 use Rattle.std.specs.List.{All, list_all, AllPass, before_first, after_first, position, position_or_len, prefix_len, starts_with}
 use Rattle.std.specs.Str.{bytes_eq}
-use Rattle.std.proofs.lemmas.Bool.{and_parts, and_from, leb-true, le-leb, ltb-true, ltb-false, lt-ltb, eqb-true, ne_eqb, not_from_false, cases_Bool, cond-true}
+use Rattle.std.proofs.lemmas.Bool.{and_parts, and_from, leb-true, le-leb, lt-leb, ltb-true, ltb-false, lt-ltb, eqb-true, ne_eqb, not_from_false, cases_Bool, cond-true}
 use Rattle.std.proofs.lemmas.Slice.Eq.{bytes_eq-Decides}
 use Rattle.std.proofs.lemmas.List.{take_at, drop_at, take-append-drop}
 use Rattle.std.proofs.lemmas.List.Sums.{AllPass-from_list_all, list_all-from_AllPass, split_at_first, passes_at_first, prefix_len-le-length}
 use Rattle.nova_word.specs.Numbers.{IsNumber, IsDigit, value_of}
 use Rattle.nova_machine.specs.declared.registers.CpuReg.{CpuReg}
-use Rattle.nova_machine.specs.declared.registers.CpuReg.TheVariants.{Ac0, Ac1, Ac2, Ac3, Pc}
+use Rattle.nova_machine.specs.declared.registers.CpuReg.TheVariants.{Ac0, Ac1, Ac2, Ac3, C, Pc}
 use Rattle.nova_top.specs.declared.command.Place.{Place}
 use Rattle.nova_top.specs.declared.command.Place.TheVariants.{At, Register}
 use Rattle.nova_top.specs.declared.command.Command.{Command}
-use Rattle.nova_top.specs.declared.command.Command.TheVariants.{Nothing, Deposit, Examine, Step, Exit}
-use Rattle.nova_top.specs.CommandGrammar.{Parses, IsPlace, IsValue, FitsItsPlace, largest_at, command_of, place_of, value_up_to, deposit_of, deposit_at, is_octal, is_octal_digit, register_name}
+use Rattle.nova_top.specs.declared.command.Command.TheVariants.{Nothing, Deposit, Examine, Run, Go, Cont, Step, ShowTime, Exit}
+use Rattle.nova_top.specs.Lines.{longest_line}
+use Rattle.nova_top.specs.CommandGrammar.{Parses, HasForm, IsPlace, IsAddress, IsValue, IsCount, FitsItsPlace, largest_at, command_of, fixed_of, operated_of, or_else, place_of, octal_up_to, value_up_to, count_of, deposit_of, deposit_at, is_octal, is_number, is_digit, register_name}
 
 -- a choice of two options gave a value: by which branch
 chosen : {A : Type 0} (b : Bool) (x rest : Option A) (y : A) → cond b x rest ≡ Some y → ((b ≡ true) × (x ≡ Some y)) ⊎ ((b ≡ false) × (rest ≡ Some y))
@@ -24,27 +25,35 @@ chosen false x rest y h = inr (refl, h)
 some-equal : {A : Type 0} {x y : A} → Some x ≡ Some y → x ≡ y
 some-equal h = cc
 
-digit-sound : (b : ℕ) → is_octal_digit b ≡ true → IsDigit 8 b
-digit-sound b h = let parts = and_parts (nat_le 48 b) (nat_lt b 56) h in (leb-true 48 b parts.0, ltb-true b 56 parts.1)
+digit-sound : (base b : ℕ) → is_digit base b ≡ true → IsDigit base b
+digit-sound base b h =
+    let parts = and_parts (nat_le 48 b) (nat_lt b (48 + base)) h in
+    (leb-true 48 b parts.0, ltb-true b (48 + base) parts.1)
 
-digit-complete : (b : ℕ) → IsDigit 8 b → is_octal_digit b ≡ true
-digit-complete b h = and_from (nat_le 48 b) (nat_lt b 56) (le-leb 48 b h.0) (lt-ltb b 56 h.1)
+digit-complete : (base b : ℕ) → IsDigit base b → is_digit base b ≡ true
+digit-complete base b h = and_from (nat_le 48 b) (nat_lt b (48 + base)) (le-leb 48 b h.0) (lt-ltb b (48 + base) h.1)
+
+pub is_number-sound : (base : ℕ) (text : List ℕ) → is_number base text ≡ true → IsNumber base text (value_of base text)
+is_number-sound base text h =
+    let parts = and_parts (nat_lt 0 (length text)) (list_all (is_digit base) text) h in
+    let digits = AllPass-from_list_all (is_digit base) text parts.1 in
+    record { some = ltb-true 0 (length text) parts.0; digits = λ k d l. digit-sound base _ (digits k d l); value = refl }
+
+pub is_number-complete : (base : ℕ) (text : List ℕ) (n : ℕ) → IsNumber base text n → is_number base text ≡ true
+is_number-complete base text n number =
+    and_from (nat_lt 0 (length text)) (list_all (is_digit base) text) (lt-ltb 0 (length text) number.some)
+      (list_all-from_AllPass (is_digit base) text (λ k d l. digit-complete base _ (number.digits k d l)))
 
 pub is_octal-sound : (most : ℕ) (text : List ℕ) → is_octal most text ≡ true → IsNumber 8 text (value_of 8 text) × (length text ≤ most)
 unfolding is_octal
 is_octal-sound most text h =
-    let outer = and_parts (nat_lt 0 (length text) && list_all is_octal_digit text) (nat_le (length text) most) h in
-    let inner = and_parts (nat_lt 0 (length text)) (list_all is_octal_digit text) outer.0 in
-    let digits = AllPass-from_list_all is_octal_digit text inner.1 in
-    (record { some = ltb-true 0 (length text) inner.0; digits = λ k d l. digit-sound _ (digits k d l); value = refl }, leb-true (length text) most outer.1)
+    let parts = and_parts (is_number 8 text) (nat_le (length text) most) h in
+    (is_number-sound 8 text parts.0, leb-true (length text) most parts.1)
 
 pub is_octal-complete : (most : ℕ) (text : List ℕ) (n : ℕ) → IsNumber 8 text n → length text ≤ most → is_octal most text ≡ true
 unfolding is_octal
 is_octal-complete most text n number short =
-    and_from (nat_lt 0 (length text) && list_all is_octal_digit text) (nat_le (length text) most)
-    (and_from (nat_lt 0 (length text)) (list_all is_octal_digit text) (lt-ltb 0 (length text) number.some)
-    (list_all-from_AllPass is_octal_digit text (λ k d l. digit-complete _ (number.digits k d l))))
-    (le-leb (length text) most short)
+    and_from (is_number 8 text) (nat_le (length text) most) (is_number-complete 8 text n number) (le-leb (length text) most short)
 
 -- a text that begins with a digit is no name of a register
 no-name : (b : ℕ) (text more : List ℕ) (letter : ℕ) → b < 56 → 56 ≤ letter → bytes_eq (b ∷ text) (letter ∷ more) ≡ false
@@ -55,7 +64,7 @@ unfolding place_of
 place-complete-number [] n number short = absurd (omega (arith, number.some))
 place-complete-number (b ∷ text) n number short =
     let low : b < 56 = (number.digits 0 0 (omega arith)).1 in
-    rw (no-name b text (67 ∷ 48 ∷ []) 65 low (omega arith), no-name b text (67 ∷ 49 ∷ []) 65 low (omega arith), no-name b text (67 ∷ 50 ∷ []) 65 low (omega arith), no-name b text (67 ∷ 51 ∷ []) 65 low (omega arith), no-name b text (67 ∷ []) 80 low (omega arith), is_octal-complete 5 (b ∷ text) n number short)
+    rw (no-name b text (67 ∷ 48 ∷ []) 65 low (omega arith), no-name b text (67 ∷ 49 ∷ []) 65 low (omega arith), no-name b text (67 ∷ 50 ∷ []) 65 low (omega arith), no-name b text (67 ∷ 51 ∷ []) 65 low (omega arith), no-name b text [] 67 low (omega arith), no-name b text (67 ∷ []) 80 low (omega arith), is_octal-complete 5 (b ∷ text) n number short)
     (ap (λ k. Some (At k)) number.value)
 
 pub place-complete : (text : List ℕ) (place : Place) → IsPlace text place → place_of text ≡ Some place
@@ -65,6 +74,7 @@ place-complete text (Register Ac0) h = rw h refl
 place-complete text (Register Ac1) h = rw h refl
 place-complete text (Register Ac2) h = rw h refl
 place-complete text (Register Ac3) h = rw h refl
+place-complete text (Register C) h = rw h refl
 place-complete text (Register Pc) h = rw h refl
 
 named : (text name : List ℕ) → bytes_eq text name ≡ true → text ≡ name
@@ -89,7 +99,8 @@ pub place-sound : (text : List ℕ) (place : Place) → place_of text ≡ Some p
 unfolding place_of
 place-sound text place h =
     place-sound-name text (codes "AC0") Ac0 _ place refl h (λ h. place-sound-name text (codes "AC1") Ac1 _ place refl h (λ h. place-sound-name text (codes "AC2") Ac2 _ place refl h
-    (λ h. place-sound-name text (codes "AC3") Ac3 _ place refl h (λ h. place-sound-name text (codes "PC") Pc _ place refl h (λ h. place-sound-number text place h)))))
+    (λ h. place-sound-name text (codes "AC3") Ac3 _ place refl h (λ h. place-sound-name text (codes "C") C _ place refl h (λ h. place-sound-name text (codes "PC") Pc _ place refl h
+    (λ h. place-sound-number text place h))))))
 
 pub value-sound : (largest : ℕ) (text : List ℕ) (value : ℕ) → value_up_to largest text ≡ Some value → IsValue largest text value
 unfolding value_up_to
@@ -125,6 +136,7 @@ black-place text (Register Ac0) h = rw h refl
 black-place text (Register Ac1) h = rw h refl
 black-place text (Register Ac2) h = rw h refl
 black-place text (Register Ac3) h = rw h refl
+black-place text (Register C) h = rw h refl
 black-place text (Register Pc) h = rw h refl
 
 before-blank : (text digits : List ℕ) → list_all (λ b. not (b == 32)) text ≡ true → before_first (λ b. b == 32) (text ++ 32 ∷ digits) ≡ text
@@ -174,49 +186,125 @@ front-sound front line h =
     let same = (bytes_eq-Decides front (take (length front) line)).0 h in
     sym (take-append-drop (length front) line) ∙ ap (λ l. l ++ drop (length front) line) (sym same)
 
-not-empty : (line : List ℕ) → 0 < length line → nat_eq (length line) 0 ≡ false
-not-empty line some = ne_eqb (length line) 0 (λ e. omega (arith, e, some))
+-- the number of a count
+pub count-sound : (text : List ℕ) (count : ℕ) → count_of text ≡ Some count → IsCount text count
+unfolding count_of
+count-sound text count h =
+    ⊎_elim
+      (λ (yes : ((is_number 10 text && (nat_le 1 (value_of 10 text) && nat_le (value_of 10 text) (2 ^ 48))) ≡ true) × (Some (value_of 10 text) ≡ Some count)).
+        let parts = and_parts (is_number 10 text) (nat_le 1 (value_of 10 text) && nat_le (value_of 10 text) (2 ^ 48)) yes.0 in
+        let range = and_parts (nat_le 1 (value_of 10 text)) (nat_le (value_of 10 text) (2 ^ 48)) parts.1 in
+        subst (λ c. IsCount text c) (some-equal yes.1) (is_number-sound 10 text parts.0, leb-true 1 (value_of 10 text) range.0, leb-true (value_of 10 text) (2 ^ 48) range.1))
+      (λ (no : ((is_number 10 text && (nat_le 1 (value_of 10 text) && nat_le (value_of 10 text) (2 ^ 48))) ≡ false) × (None ≡ Some count)). absurd (cc))
+      (chosen (is_number 10 text && (nat_le 1 (value_of 10 text) && nat_le (value_of 10 text) (2 ^ 48))) (Some (value_of 10 text)) None count h)
+
+pub count-complete : (text : List ℕ) (count : ℕ) → IsCount text count → count_of text ≡ Some count
+unfolding count_of
+count-complete text count h =
+    let low : 1 ≤ value_of 10 text = omega (arith, h.0.value, h.1) in
+    let high : value_of 10 text ≤ 2 ^ 48 = omega (arith, h.0.value, h.2) in
+    rw (is_number-complete 10 text count h.0, le-leb 1 (value_of 10 text) low, le-leb (value_of 10 text) (2 ^ 48) high) (ap (λ v. Some v) h.0.value)
+
+-- the number of an address
+pub address-sound : (text : List ℕ) (address : ℕ) → octal_up_to 5 text ≡ Some address → IsAddress text address
+unfolding octal_up_to
+address-sound text address h =
+    ⊎_elim
+      (λ (yes : (is_octal 5 text ≡ true) × (Some (value_of 8 text) ≡ Some address)). subst (λ a. IsAddress text a) (some-equal yes.1) (is_octal-sound 5 text yes.0))
+      (λ (no : (is_octal 5 text ≡ false) × (None ≡ Some address)). absurd (cc))
+      (chosen (is_octal 5 text) (Some (value_of 8 text)) None address h)
+
+pub address-complete : (text : List ℕ) (address : ℕ) → IsAddress text address → octal_up_to 5 text ≡ Some address
+unfolding octal_up_to
+address-complete text address h = rw (is_octal-complete 5 text address h.0 h.1) (ap (λ v. Some v) h.0.value)
+
+-- a line that is one of the forms gives its command
+form-complete : (line : List ℕ) (command : Command) → HasForm line command → or_else (fixed_of line) (operated_of line) ≡ Some command
+unfolding fixed_of operated_of
+form-complete line Nothing h = rw h refl
+form-complete line (Run None) h = rw h refl
+form-complete line (Go None) h = rw h refl
+form-complete line Cont h = rw h refl
+form-complete line (Step None) h = rw h refl
+form-complete line ShowTime h = rw h refl
+form-complete line Exit h = rw h refl
+form-complete line (Examine place) (text, is, names) = rw is (ap (option_map (λ place. Examine place)) (place-complete text place names))
+form-complete line (Deposit place value) (text, digits, is, names, stands) = rw is (deposit-complete text digits place value names stands)
+form-complete line (Run (Some address)) (text, is, stands) = rw is (ap (option_map (λ address. Run (Some address))) (address-complete text address stands))
+form-complete line (Go (Some address)) (text, is, stands) = rw is (ap (option_map (λ address. Go (Some address))) (address-complete text address stands))
+form-complete line (Step (Some count)) (text, is, stands) = rw is (ap (option_map (λ count. Step (Some count))) (count-complete text count stands))
 
 pub command-complete : (line : List ℕ) (command : Command) → Parses line command → command_of line ≡ Some command
 unfolding command_of
-command-complete line Nothing h = rw h refl
-command-complete line Step h = rw h refl
-command-complete line Exit h = rw h refl
-command-complete line (Examine place) (text, is, names) =
-    rw (is, not-empty (codes "EXAMINE " ++ text) (omega (arith, length-append (codes "EXAMINE ") text)))
-    (ap (option_map (λ place. Examine place)) (place-complete text place names))
-command-complete line (Deposit place value) (text, digits, is, names, stands) =
-    rw (is, not-empty (codes "DEPOSIT " ++ (text ++ 32 ∷ digits)) (omega (arith, length-append (codes "DEPOSIT ") (text ++ 32 ∷ digits))))
-    (deposit-complete text digits place value names stands)
+command-complete line command h = rw (le-leb (length line) longest_line h.0) (form-complete line command h.1)
 
-examine-sound : (line : List ℕ) (command : Command) → starts_with nat_eq line (codes "EXAMINE ") ≡ true → option_map (λ place. Examine place) (place_of (drop 8 line)) ≡ Some command → Parses line command
+examine-sound : (line : List ℕ) (command : Command) → starts_with nat_eq line (codes "EXAMINE ") ≡ true → option_map (λ place. Examine place) (place_of (drop 8 line)) ≡ Some command → HasForm line command
 examine-sound line command front h =
     let parts = mapped (λ place. Examine place) (place_of (drop 8 line)) command h in
-    subst (λ c. Parses line c) parts.2 (drop 8 line, front-sound (codes "EXAMINE ") line front, place-sound (drop 8 line) parts.0 parts.1)
+    subst (λ c. HasForm line c) parts.2 (drop 8 line, front-sound (codes "EXAMINE ") line front, place-sound (drop 8 line) parts.0 parts.1)
 
-deposits-sound : (line : List ℕ) (command : Command) → starts_with nat_eq line (codes "DEPOSIT ") ≡ true → deposit_of (drop 8 line) ≡ Some command → Parses line command
+deposits-sound : (line : List ℕ) (command : Command) → starts_with nat_eq line (codes "DEPOSIT ") ≡ true → deposit_of (drop 8 line) ≡ Some command → HasForm line command
 deposits-sound line command front h =
     let (text, digits, place, value, is, names, stands, result) = deposit-sound (drop 8 line) command h in
-    subst (λ c. Parses line c) (sym result) (text, digits, front-sound (codes "DEPOSIT ") line front ∙ ap (λ l. codes "DEPOSIT " ++ l) is, names, stands)
+    subst (λ c. HasForm line c) (sym result) (text, digits, front-sound (codes "DEPOSIT ") line front ∙ ap (λ l. codes "DEPOSIT " ++ l) is, names, stands)
+
+run-sound : (line : List ℕ) (command : Command) → starts_with nat_eq line (codes "RUN ") ≡ true → option_map (λ address. Run (Some address)) (octal_up_to 5 (drop 4 line)) ≡ Some command → HasForm line command
+run-sound line command front h =
+    let parts = mapped (λ address. Run (Some address)) (octal_up_to 5 (drop 4 line)) command h in
+    subst (λ c. HasForm line c) parts.2 (drop 4 line, front-sound (codes "RUN ") line front, address-sound (drop 4 line) parts.0 parts.1)
+
+go-sound : (line : List ℕ) (command : Command) → starts_with nat_eq line (codes "GO ") ≡ true → option_map (λ address. Go (Some address)) (octal_up_to 5 (drop 3 line)) ≡ Some command → HasForm line command
+go-sound line command front h =
+    let parts = mapped (λ address. Go (Some address)) (octal_up_to 5 (drop 3 line)) command h in
+    subst (λ c. HasForm line c) parts.2 (drop 3 line, front-sound (codes "GO ") line front, address-sound (drop 3 line) parts.0 parts.1)
+
+step-sound : (line : List ℕ) (command : Command) → starts_with nat_eq line (codes "STEP ") ≡ true → option_map (λ count. Step (Some count)) (count_of (drop 5 line)) ≡ Some command → HasForm line command
+step-sound line command front h =
+    let parts = mapped (λ count. Step (Some count)) (count_of (drop 5 line)) command h in
+    subst (λ c. HasForm line c) parts.2 (drop 5 line, front-sound (codes "STEP ") line front, count-sound (drop 5 line) parts.0 parts.1)
 
 -- a choice of two, each of which is a command of the line
-choice-sound : (line : List ℕ) (command : Command) (b : Bool) (x rest : Option Command) → (b ≡ true → x ≡ Some command → Parses line command)
-    → (rest ≡ Some command → Parses line command) → cond b x rest ≡ Some command → Parses line command
+choice-sound : (line : List ℕ) (command : Command) (b : Bool) (x rest : Option Command) → (b ≡ true → x ≡ Some command → HasForm line command)
+    → (rest ≡ Some command → HasForm line command) → cond b x rest ≡ Some command → HasForm line command
 choice-sound line command b x rest here there h =
     ⊎_elim (λ (yes : (b ≡ true) × (x ≡ Some command)). here yes.0 yes.1) (λ (no : (b ≡ false) × (rest ≡ Some command)). there no.1) (chosen b x rest command h)
 
-empty-line : (line : List ℕ) → nat_eq (length line) 0 ≡ true → line ≡ []
-empty-line [] h = refl
-empty-line (b ∷ line) h = absurd (omega (arith, eqb-true (length (b ∷ line)) 0 h))
+-- a line that is a name is its command
+name-sound : (line name : List ℕ) (named_command command : Command) → HasForm name named_command → bytes_eq line name ≡ true → Some named_command ≡ Some command → HasForm line command
+name-sound line name named_command command h b x = subst (λ l. HasForm l command) (sym (named line name b)) (subst (λ c. HasForm name c) (some-equal x) h)
+
+fixed-sound : (line : List ℕ) (command : Command) → fixed_of line ≡ Some command → HasForm line command
+unfolding fixed_of
+fixed-sound line command =
+    choice-sound line command _ _ _ (name-sound line [] Nothing command refl)
+      (choice-sound line command _ _ _ (name-sound line (codes "RUN") (Run None) command refl)
+        (choice-sound line command _ _ _ (name-sound line (codes "GO") (Go None) command refl)
+          (choice-sound line command _ _ _ (name-sound line (codes "CONT") Cont command refl)
+            (choice-sound line command _ _ _ (name-sound line (codes "STEP") (Step None) command refl)
+              (choice-sound line command _ _ _ (name-sound line (codes "SHOW TIME") ShowTime command refl)
+                (choice-sound line command _ _ _ (name-sound line (codes "EXIT") Exit command refl) (λ x. absurd (cc))))))))
+
+operated-sound : (line : List ℕ) (command : Command) → operated_of line ≡ Some command → HasForm line command
+unfolding operated_of
+operated-sound line command =
+    choice-sound line command _ _ _ (examine-sound line command)
+      (choice-sound line command _ _ _ (deposits-sound line command)
+        (choice-sound line command _ _ _ (run-sound line command)
+          (choice-sound line command _ _ _ (go-sound line command)
+            (choice-sound line command _ _ _ (step-sound line command) (λ x. absurd (cc))))))
+
+either-sound : (line : List ℕ) (command : Command) (fixed : Option Command) → fixed_of line ≡ fixed → or_else fixed (operated_of line) ≡ Some command → HasForm line command
+either-sound line command None e h = operated-sound line command h
+either-sound line command (Some found) e h = fixed-sound line command (e ∙ h)
 
 pub command-sound : (line : List ℕ) (command : Command) → command_of line ≡ Some command → Parses line command
 unfolding command_of
-command-sound line command =
-    choice-sound line command _ _ _ (λ b x. subst (λ c. Parses line c) (some-equal x) (empty-line line b))
-    (choice-sound line command _ _ _ (λ b x. subst (λ c. Parses line c) (some-equal x) (named line (codes "STEP") b))
-    (choice-sound line command _ _ _ (λ b x. subst (λ c. Parses line c) (some-equal x) (named line (codes "EXIT") b))
-    (choice-sound line command _ _ _ (examine-sound line command)
-    (choice-sound line command _ _ _ (deposits-sound line command) (λ x. absurd (cc))))))
+command-sound line command h =
+    ⊎_elim
+      (λ (yes : (nat_le (length line) longest_line ≡ true) × (or_else (fixed_of line) (operated_of line) ≡ Some command)).
+        (leb-true (length line) longest_line yes.0, either-sound line command (fixed_of line) refl yes.1))
+      (λ (no : (nat_le (length line) longest_line ≡ false) × (None ≡ Some command)). absurd (cc))
+      (chosen (nat_le (length line) longest_line) (or_else (fixed_of line) (operated_of line)) None command h)
 
 pub one-command : (line : List ℕ) (one other : Command) → Parses line one → Parses line other → one ≡ other
 one-command line one other h k = some-equal (sym (command-complete line one h) ∙ command-complete line other k)
@@ -240,39 +328,26 @@ no-blank text none =
     omega (arith, ltb-false (position_or_len (λ b. b == 32) text) (length text) not_here, prefix_len-le-length (λ b. not (b == 32)) text))
     (cases_Bool (nat_lt (position_or_len (λ b. b == 32) text) (length text)))
 
-parsed-fits : (line : List ℕ) (command : Command) → Parses line command → FitsItsPlace (Some command)
-parsed-fits line Nothing h = tt
-parsed-fits line Step h = tt
-parsed-fits line Exit h = tt
-parsed-fits line (Examine place) h = tt
-parsed-fits line (Deposit place value) (text, digits, is, names, stands) = stands.2
+-- each command of the grammar fits its place
+form-fits : (line : List ℕ) (command : Command) → HasForm line command → FitsItsPlace (Some command)
+form-fits line Nothing h = tt
+form-fits line (Run None) h = tt
+form-fits line (Run (Some address)) h = tt
+form-fits line (Go None) h = tt
+form-fits line (Go (Some address)) h = tt
+form-fits line Cont h = tt
+form-fits line (Step None) h = tt
+form-fits line (Step (Some count)) h = tt
+form-fits line ShowTime h = tt
+form-fits line Exit h = tt
+form-fits line (Examine place) h = tt
+form-fits line (Deposit place value) (text, digits, is, names, stands) = stands.2
 
 pub command-fits : (line : List ℕ) (result : Option Command) → result ≡ command_of line → FitsItsPlace result
 command-fits line None h = tt
-command-fits line (Some command) h = parsed-fits line command (command-sound line command (sym h))
-
-place-short : (text : List ℕ) (place : Place) → IsPlace text place → length text ≤ 5
-place-short text (At n) h = h.1
-place-short text (Register Ac0) h = rw h (omega arith)
-place-short text (Register Ac1) h = rw h (omega arith)
-place-short text (Register Ac2) h = rw h (omega arith)
-place-short text (Register Ac3) h = rw h (omega arith)
-place-short text (Register Pc) h = rw h (omega arith)
-
-none-from : {A : Type 0} (o : Option A) → ((x : A) → o ≡ Some x → ⊥) → o ≡ None
-none-from None h = refl
-none-from (Some x) h = absurd (h x refl)
-
--- a command has few bytes
-parsed-short : (line : List ℕ) (command : Command) → Parses line command → length line ≤ 20
-parsed-short line Nothing h = rw h (omega arith)
-parsed-short line Step h = rw h (omega arith)
-parsed-short line Exit h = rw h (omega arith)
-parsed-short line (Examine place) (text, is, names) =
-    omega (arith, ap length is, length-append (codes "EXAMINE ") text, place-short text place names)
-parsed-short line (Deposit place value) (text, digits, is, names, stands) =
-    omega (arith, ap length is, length-append (codes "DEPOSIT ") (text ++ 32 ∷ digits), length-append text (32 ∷ digits), place-short text place names, stands.1)
+command-fits line (Some command) h = form-fits line command (command-sound line command (sym h)).1
 
 -- a longer line is no command
-pub long-line : (line : List ℕ) → 20 < length line → command_of line ≡ None
-long-line line long = none-from (command_of line) (λ command h. absurd (omega (arith, parsed-short line command (command-sound line command h), long)))
+pub long-line : (line : List ℕ) → longest_line < length line → command_of line ≡ None
+unfolding command_of
+long-line line long = rw (lt-leb (length line) longest_line long) refl

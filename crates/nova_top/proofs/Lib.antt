@@ -5,3 +5,4 @@ pub mod SessionLemmas
 pub mod LineLemmas
 pub mod WholeLemmas
 pub mod OutsideLemmas
+pub mod WordsLemmas

@@ -8,18 +8,18 @@ use Rattle.std.proofs.Math.Nat.{mul-le-mul_right, pow-succ', pow-le-pow_right}
 use Rattle.nova_word.specs.declared.numbers.NumberFault.{NumberFault}
 use Rattle.nova_word.specs.Numbers.{IsNumber, IsDigit, ReadsNumber, value_of, value_after}
 use Rattle.nova_word.proofs.NumberLemmas.{one_answer}
-use Rattle.nova_top.specs.CommandGrammar.{is_octal, is_octal_digit, octal_up_to}
-use Rattle.nova_top.proofs.GrammarLemmas.{is_octal-sound, is_octal-complete}
+use Rattle.nova_top.specs.CommandGrammar.{is_octal, is_number, is_digit, octal_up_to, count_of}
+use Rattle.nova_top.proofs.GrammarLemmas.{is_octal-sound, is_octal-complete, count-sound, is_number-complete}
 
 one-more-digit : (value before digit power : ℕ) → digit ≤ 7 → value < (8 * before + digit + 1) * power → value < (before + 1) * (8 * power)
 one-more-digit value before digit power small h =
     let grows : (8 * before + digit + 1) * power ≤ (8 * (before + 1)) * power = mul-le-mul_right power (omega (arith, small)) in
     omega (arith, h, grows)
 
-value-bound : (before : ℕ) (text : List ℕ) → list_all is_octal_digit text ≡ true → value_after 8 before text < (before + 1) * 8 ^ length text
+value-bound : (before : ℕ) (text : List ℕ) → list_all (is_digit 8) text ≡ true → value_after 8 before text < (before + 1) * 8 ^ length text
 value-bound before [] digits = omega arith
 value-bound before (b ∷ more) digits =
-    let parts = and_parts (is_octal_digit b) (list_all is_octal_digit more) digits in
+    let parts = and_parts (is_digit 8 b) (list_all (is_digit 8) more) digits in
     let low = ltb-true b 56 (and_parts (nat_le 48 b) (nat_lt b 56) parts.0).1 in
     let rest = value-bound (8 * before + (b - 48)) more parts.1 in
     rw pow-succ' (one-more-digit (value_after 8 (8 * before + (b - 48)) more) before (b - 48) (8 ^ length more) (omega (arith, low)) rest)
@@ -30,8 +30,8 @@ power k most short = pow-le-pow_right (omega arith) short
 pub octal-small : (most : ℕ) (text : List ℕ) → is_octal most text ≡ true → value_of 8 text < 8 ^ most
 unfolding is_octal
 octal-small most text h =
-    let outer = and_parts (nat_lt 0 (length text) && list_all is_octal_digit text) (nat_le (length text) most) h in
-    let inner = and_parts (nat_lt 0 (length text)) (list_all is_octal_digit text) outer.0 in
+    let outer = and_parts (is_number 8 text) (nat_le (length text) most) h in
+    let inner = and_parts (nat_lt 0 (length text)) (list_all (is_digit 8) text) outer.0 in
     omega (arith, value-bound 0 text inner.1, power (length text) most (leb-true (length text) most outer.1))
 
 -- a longer text is no such number
@@ -70,3 +70,20 @@ octal-read most text (Err fault) few short h =
     absurd (cc))
     (λ (no : is_octal most text ≡ false). rw no refl)
     (cases_Bool (is_octal most text))
+
+-- what the reader of decimal numbers answers of a count
+pub count-read : (text : List ℕ) (count : ℕ) → ReadsNumber 10 (2 ^ 63) text (Ok count) → count_of text ≡ (if nat_le 1 count && nat_le count (2 ^ 48) then Some count else None)
+unfolding count_of
+count-read text count h =
+    let value : value_of 10 text ≡ count = h.0.value in
+    rw (is_number-complete 10 text count h.0, value) refl
+
+pub count-unread : (text : List ℕ) (fault : NumberFault) → ReadsNumber 10 (2 ^ 63) text (Err fault) → count_of text ≡ None
+count-unread text fault h = none-from (count_of text) (λ count e.
+    let stands = count-sound text count e in
+    let same : Ok count ≡ Err fault = one_answer 10 (2 ^ 63) text (Ok count) (Err fault) (stands.0, omega (arith, stands.2)) h in
+    absurd (cc))
+  where
+  none-from : {A : Type 0} (o : Option A) → ((x : A) → o ≡ Some x → ⊥) → o ≡ None
+  none-from None h = refl
+  none-from (Some x) h = absurd (h x refl)

@@ -9,21 +9,22 @@ use Rattle.host_files.specs.Streams.{AddsPart}
 use Rattle.nova_machine.specs.Machine.{MachineState, new_machine}
 use Rattle.nova_top.specs.declared.progress.Finish.{Finish}
 use Rattle.nova_top.specs.declared.progress.Finish.TheVariants.{Exit, EndOfInput, Commands, Console, Input}
+use Rattle.nova_top.specs.declared.options.Options.{Options}
 use Rattle.nova_top.specs.Core.{Core, core_of, new_core}
 use Rattle.nova_top.specs.Lines.{reads_left}
 use Rattle.nova_top.specs.Session.{Session, trace}
-use Rattle.nova_top.specs.Outside.{Outside, usage, prompt_of, opening, trace_for, whole_trace, outcome}
+use Rattle.nova_top.specs.Outside.{Outside, usage, options_of, opening, trace_for, whole_trace, outcome}
 use Rattle.nova_top.specs.Perform.{beginning}
 use Rattle.nova_top.specs.Loop.{IsExitStatus}
-use Rattle.nova_top.specs.Ends.{EndsAs, LetsThrough, IsSession, IsOutcome, IsComplete, FinishCause, status_of, core_in}
+use Rattle.nova_top.specs.Ends.{EndsAs, LetsThrough, IsSession, IsOutcome, IsComplete, FinishCause, status_of, machine_in}
 use Rattle.nova_top.specs.Program.{IsUsage, UsageCause}
 use Rattle.nova_top.specs.Laws.{IsWholeOutcome}
 
 -- the outcome by what the words say
-outcome-words : (words : List (List ℕ)) (input : List ℕ) (takes gives : ℕ) (prompt : Option Bool) → prompt_of words ≡ prompt
-    → outcome (record { words = words; input = input; takes = takes; gives = gives }) ≡ cut_trace takes gives (trace_for prompt input)
+outcome-words : (words : List (List ℕ)) (input : List ℕ) (takes gives : ℕ) (options : Option Options) → options_of words ≡ options
+    → outcome (record { words = words; input = input; takes = takes; gives = gives }) ≡ cut_trace takes gives (trace_for options input)
 unfolding outcome whole_trace
-outcome-words words input takes gives prompt e = ap (λ p. cut_trace takes gives (trace_for p input)) e
+outcome-words words input takes gives options e = ap (λ p. cut_trace takes gives (trace_for p input)) e
 
 usage-cut : (input : List ℕ) (gives : ℕ) → cut_trace (length usage) gives (trace_for None input) ≡ ends 100 usage 0 None
 unfolding trace_for
@@ -35,7 +36,7 @@ usage-refused : (input : List ℕ) (n gives : ℕ) → n < length usage → cut_
 unfolding trace_for
 usage-refused input n gives short = cut-refused usage None [] (record { status = 100; state = None }) n gives short
 
-pub usage-outcome : (words : List (List ℕ)) (input before after : List ℕ) (status : ℕ) (machine : Option MachineState) → prompt_of words ≡ None → machine ≡ None → IsUsage status before after
+pub usage-outcome : (words : List (List ℕ)) (input before after : List ℕ) (status : ℕ) (machine : Option MachineState) → options_of words ≡ None → machine ≡ None → IsUsage status before after
     → IsOutcome words input input before after status machine
 usage-outcome words input before after status machine e none (inl h) =
     record {
@@ -46,8 +47,9 @@ usage-outcome words input before after status machine e none (inl h) =
       no_failed_read = λ _. refl;
       written = h.1;
       rest = refl;
-      is = outcome-words words input (length usage) (length input + 1) None e ∙ usage-cut input (length input + 1) ∙ ap (λ s. ends s usage 0 None) (sym h.0)
-          ∙ ap (λ m. ends status usage 0 (core_in m)) (sym none);
+      state = None;
+      machine_is = none;
+      is = outcome-words words input (length usage) (length input + 1) None e ∙ usage-cut input (length input + 1) ∙ ap (λ s. ends s usage 0 None) (sym h.0);
     }
 usage-outcome words input before after status machine e none (inr h) =
     let n = h.1.0 in
@@ -59,18 +61,19 @@ usage-outcome words input before after status machine e none (inr h) =
       no_failed_read = λ _. refl;
       written = h.1.2;
       rest = refl;
+      state = None;
+      machine_is = none;
       is = outcome-words words input (length (take n usage)) (length input + 1) None e
           ∙ ap (λ k. cut_trace k (length input + 1) (trace_for None input)) (length-take-le n usage (omega (arith, h.1.1)))
-          ∙ usage-refused input n (length input + 1) h.1.1 ∙ ap (λ s. ends s (take n usage) 0 None) (sym h.0)
-          ∙ ap (λ m. ends status (take n usage) 0 (core_in m)) (sym none);
+          ∙ usage-refused input n (length input + 1) h.1.1 ∙ ap (λ s. ends s (take n usage) 0 None) (sym h.0);
     }
 
 -- a session's cut with a core in each state
-session-cut : (prompt : Bool) (input : List ℕ) (takes gives status made : ℕ) (taken : List ℕ) (core : Core) → cut_trace takes gives (trace (opening prompt input)) ≡ ends status taken made core
-    → cut_trace takes gives (trace_for (Some prompt) input) ≡ ends status taken made (Some core)
+session-cut : (options : Options) (input : List ℕ) (takes gives status made : ℕ) (taken : List ℕ) (core : Core) → cut_trace takes gives (trace (opening options input)) ≡ ends status taken made core
+    → cut_trace takes gives (trace_for (Some options) input) ≡ ends status taken made (Some core)
 unfolding trace_for
-session-cut prompt input takes gives status made taken core e =
-    cut-map (λ core. Some core) (trace (opening prompt input)).events (trace (opening prompt input)).ended takes gives ∙ ap (map_outcome (λ core. Some core)) e
+session-cut options input takes gives status made taken core e =
+    cut-map (λ core. Some core) (trace (opening options input)).events (trace (opening options input)).ended takes gives ∙ ap (map_outcome (λ core. Some core)) e
 
 failed-lets : (finish : Finish) (gives made all : ℕ) → LetsThrough finish gives made all → IsExitStatus finish → status_of finish ≡ 106 → gives ≡ made
 failed-lets (Exit status) gives made all h small s = absurd (omega (arith, small, s))
@@ -86,27 +89,29 @@ other-lets Commands gives made all h s = h
 other-lets Console gives made all h s = h
 other-lets Input gives made all h s = absurd (s refl)
 
-opening-input : (prompt : Bool) (input : List ℕ) → (opening prompt input).input ≡ input
+opening-input : (options : Options) (input : List ℕ) → (opening options input).input ≡ input
 unfolding beginning
-opening-input prompt input = refl
+opening-input options input = refl
 
-opening-reads : (prompt : Bool) (input : List ℕ) → reads_left (opening prompt input).open_ (opening prompt input).input ≡ length input + 1
+opening-reads : (options : Options) (input : List ℕ) → reads_left (opening options input).open_ (opening options input).input ≡ length input + 1
 unfolding beginning
-opening-reads prompt input = refl
+opening-reads options input = refl
 
-pub session-outcome : (words : List (List ℕ)) (prompt : Bool) (input left before after : List ℕ) (finish : Finish) (now : MachineState) → prompt_of words ≡ Some prompt → IsExitStatus finish
-    → IsSession (opening prompt input) finish (core_of now) left before after → IsOutcome words input left before after (status_of finish) (Some now)
-session-outcome words prompt input left before after finish now e small s =
+pub session-outcome : (words : List (List ℕ)) (options : Options) (input left before after : List ℕ) (finish : Finish) (now : MachineState) → options_of words ≡ Some options → IsExitStatus finish
+    → IsSession (opening options input) finish (core_of now options.limit) left before after → IsOutcome words input left before after (status_of finish) (Some now)
+session-outcome words options input left before after finish now e small s =
     record {
       taken = s.end.taken;
       gives = s.gives;
       made = s.made;
       failed_read = failed-lets finish s.gives s.made _ s.lets_through small;
-      no_failed_read = λ other. other-lets finish s.gives s.made _ s.lets_through other ∙ opening-reads prompt input;
+      no_failed_read = λ other. other-lets finish s.gives s.made _ s.lets_through other ∙ opening-reads options input;
       written = s.end.written;
-      rest = s.rest ∙ ap (drop s.made) (opening-input prompt input);
-      is = outcome-words words input (length s.end.taken) s.gives (Some prompt) e
-          ∙ session-cut prompt input (length s.end.taken) s.gives (status_of finish) s.made s.end.taken (core_of now) s.end.outcome;
+      rest = s.rest ∙ ap (drop s.made) (opening-input options input);
+      state = Some (core_of now options.limit);
+      machine_is = refl;
+      is = outcome-words words input (length s.end.taken) s.gives (Some options) e
+        ∙ session-cut options input (length s.end.taken) s.gives (status_of finish) s.made s.end.taken (core_of now options.limit) s.end.outcome
     }
 
 -- the laws, at the outcome
@@ -133,22 +138,22 @@ complete words input left before after status machine console read o =
     let w = whole-outcome (record { words = words; input = input; takes = length o.taken; gives = o.gives }) (λ e. console (sym same ∙ e)) (λ e. read (sym same ∙ e)) in
     record {
       status_is = sym same ∙ w.status;
-      machine_is = sym (ap (λ o. o.state) is) ∙ w.state;
+      machine_is = o.machine_is ∙ ap machine_in (sym (ap (λ o. o.state) is) ∙ w.state);
       printed = o.written ∙ ap (λ t. before ++ t) (sym (ap (λ o. o.console) is) ∙ w.console);
     }
 
 -- what the two halves of the program give, at the names of the code
-pub usage-answer : (words : List (List ℕ)) (answer : Option Bool) (input before after : List ℕ) (status : ℕ) (machine : Option MachineState) → answer ≡ prompt_of words → answer ≡ None
+pub usage-answer : (words : List (List ℕ)) (answer : Option Options) (input before after : List ℕ) (status : ℕ) (machine : Option MachineState) → answer ≡ options_of words → answer ≡ None
     → machine ≡ None → IsUsage status before after → IsOutcome words input input before after status machine
 usage-answer words answer input before after status machine e none m u = usage-outcome words input before after status machine (sym e ∙ none) m u
 
-pub session-answer : (words : List (List ℕ)) (answer : Option Bool) (prompt : Bool) (new : MachineState) (input left before after : List ℕ) (status : ℕ) (machine : Option MachineState) (finish : Finish) (now : MachineState)
-    → answer ≡ prompt_of words → answer ≡ Some prompt → new ≡ new_machine → IsExitStatus finish → status ≡ status_of finish → machine ≡ Some now
-    → IsSession (beginning (core_of new) prompt input) finish (core_of now) left before after → IsOutcome words input left before after status machine
+pub session-answer : (words : List (List ℕ)) (answer : Option Options) (options : Options) (new : MachineState) (input left before after : List ℕ) (status : ℕ) (machine : Option MachineState) (finish : Finish) (now : MachineState)
+    → answer ≡ options_of words → answer ≡ Some options → new ≡ new_machine → IsExitStatus finish → status ≡ status_of finish → machine ≡ Some now
+    → IsSession (beginning (core_of new options.limit) options.prompt input) finish (core_of now options.limit) left before after → IsOutcome words input left before after status machine
 unfolding new_core
-session-answer words answer prompt new input left before after status machine finish now e some is small s m session =
-    let begun = subst (λ n. IsSession (beginning (core_of n) prompt input) finish (core_of now) left before after) is session in
-    let outcome = session-outcome words prompt input left before after finish now (sym e ∙ some) small begun in
+session-answer words answer options new input left before after status machine finish now e some is small s m session =
+    let begun = subst (λ n. IsSession (beginning (core_of n options.limit) options.prompt input) finish (core_of now options.limit) left before after) is session in
+    let outcome = session-outcome words options input left before after finish now (sym e ∙ some) small begun in
     subst (λ m. IsOutcome words input left before after status m) (sym m) (subst (λ n. IsOutcome words input left before after n (Some now)) (sym s) outcome)
 
 -- a finish that is neither fault has neither status

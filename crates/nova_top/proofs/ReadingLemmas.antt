@@ -7,9 +7,9 @@ use Rattle.std.proofs.lemmas.List.{drop_at, drop_all, length_push, length-take-l
 use Rattle.std.proofs.lemmas.List.Sums.{take_while-cons}
 use Rattle.nova_top.specs.declared.line_reader.Reading.{Reading}
 use Rattle.nova_top.specs.declared.line_reader.Reading.TheVariants.{Line, TooLong, End, Unpaid, Failed}
-use Rattle.nova_top.specs.Lines.{Due, InputEnds, Comes, due, reads_due, reads_left, unpaid_reads, units, first_line, has_lf, line_of, without_cr}
+use Rattle.nova_top.specs.Lines.{longest_line, Due, InputEnds, Comes, due, reads_due, reads_left, unpaid_reads, units, first_line, has_lf, line_of, without_cr}
 use Rattle.nova_top.specs.Lines as lines
-use Rattle.nova_top.specs.Reading.{ReaderState, AreRead, IsReading, Finishes, Pays, is_due, units_for, ended_line, longest_line}
+use Rattle.nova_top.specs.Reading.{ReaderState, AreRead, IsReading, Finishes, Pays, is_due, units_for, ended_line}
 
 -- the units that are paid behind so many bytes of a line
 abbrev pub spent : ℕ → ℕ

@@ -10,12 +10,13 @@ use Rattle.nova_top.specs.declared.progress.Finish.TheVariants.{Exit, EndOfInput
 use Rattle.nova_top.specs.declared.progress.Progress.{Progress}
 use Rattle.nova_top.specs.declared.progress.Progress.TheVariants.{GoesOn, IsOver}
 use Rattle.nova_machine.specs.Machine.{MachineState}
-use Rattle.nova_top.specs.Core.{Core, core_of}
+use Rattle.nova_top.specs.Core.{Core}
 use Rattle.nova_top.specs.Lines.{reads_left}
 use Rattle.nova_top.specs.Reading.{AreRead}
 use Rattle.nova_top.specs.Session.{Session, Going, step, trace, ComesTo}
+use Rattle.nova_top.specs.declared.options.Options.{Options}
 use Rattle.nova_top.specs.Loop.{IsExitStatus}
-use Rattle.nova_top.specs.Outside.{Outside, outcome, opening, prompt_of, whole_trace}
+use Rattle.nova_top.specs.Outside.{Outside, outcome, opening, options_of, whole_trace}
 
 -- the status of a finish
 abbrev pub status_of : Finish → ℕ
@@ -79,9 +80,9 @@ pub record IsSession (start : Session) (finish : Finish) (core : Core) (left bef
   pub rest : left ≡ drop made start.input
   pub end : EndsAs (trace start) (status_of finish) gives made before after core
 
--- the core of a machine, where there is one
-abbrev pub core_in : Option MachineState → Option Core
-core_in machine = option_map core_of machine
+-- the machine of a core, where there is one
+abbrev pub machine_in : Option Core → Option MachineState
+machine_in core = option_map (λ core. core.machine) core
 
 -- The end of the program is that of the definition, for the bytes that the console took and the reads that the input
 -- let through: those that were made, at status 106, and else all that there can be. The bytes of the input that were
@@ -94,7 +95,9 @@ pub record IsOutcome (words : List (List ℕ)) (input left before after : List �
   pub no_failed_read : status ≢ 106 → gives ≡ length input + 1
   pub written : after ≡ before ++ taken
   pub rest : left ≡ drop made input
-  pub is : outcome (record { words = words; input = input; takes = length taken; gives = gives }) ≡ ends status taken made (core_in machine)
+  pub state : Option Core
+  pub machine_is : machine ≡ machine_in state
+  pub is : outcome (record { words = words; input = input; takes = length taken; gives = gives }) ≡ ends status taken made state
 
 -- Memory ran out in a text of the session: the texts before it were done, the console has what they printed and a first
 -- part of what that one prints, the machine is as they left it, and no byte behind that text was consumed.
@@ -106,7 +109,7 @@ pub record StopsInside (start : Session) (machine : Option MachineState) (left t
   pub rest : List ℕ
   pub made : ℕ
   pub done : ComesTo texts start events now
-  pub machine_is : core_in machine ≡ Some now.core
+  pub machine_is : machine ≡ Some now.core.machine
   pub console : taken ≡ text_of events ++ part
   pub defined : text_of (step now).events ≡ part ++ rest
   pub reads : made ≤ reads_of events + reads_of (step now).events
@@ -114,31 +117,31 @@ pub record StopsInside (start : Session) (machine : Option MachineState) (left t
 
 -- Memory ran out: before there was a machine, when nothing had been printed or read, or in a text of the session.
 pub record IsCutShort (words : List (List ℕ)) (input left before after : List ℕ) (machine : Option MachineState) : Type 0 where
-  pub prompt : Bool
-  pub words_are : prompt_of words ≡ Some prompt
+  pub options : Options
+  pub words_are : options_of words ≡ Some options
   pub taken : List ℕ
   pub written : after ≡ before ++ taken
-  pub cut : ((machine ≡ None) × (taken ≡ []) × (left ≡ input)) ⊎ StopsInside (opening prompt input) machine left taken
+  pub cut : ((machine ≡ None) × (taken ≡ []) × (left ≡ input)) ⊎ StopsInside (opening options input) machine left taken
 
 -- Each status has its cause, told or not: 100 comes exactly where the words are outside their grammar, yielding only to
 -- 102; 102 and 106 only where the console's and the input's count rose; and there is no other status than these.
 pub record StatusCause (words : List (List ℕ)) (status sink sink_now source source_now : ℕ) : Type 0 where
   pub sink_later : sink ≤ sink_now
   pub source_later : source ≤ source_now
-  pub usage : status ≡ 100 → prompt_of words ≡ None
-  pub bad_words : prompt_of words ≡ None → (status ≡ 100) ⊎ (status ≡ 102)
+  pub usage : status ≡ 100 → options_of words ≡ None
+  pub bad_words : options_of words ≡ None → (status ≡ 100) ⊎ (status ≡ 102)
   pub console : status ≡ 102 → Rose sink sink_now
   pub input : status ≡ 106 → Rose source source_now
   pub listed : (status < 100) ⊎ (status ≡ 100) ⊎ (status ≡ 102) ⊎ (status ≡ 103) ⊎ (status ≡ 104) ⊎ (status ≡ 106)
 
 -- there is no machine where the words are outside their grammar, and else only where memory ran out there may be none
 pub record MachineThere (words : List (List ℕ)) (status : ℕ) (machine : Option MachineState) : Type 0 where
-  pub none : prompt_of words ≡ None → machine ≡ None
-  pub some : (prompt : Bool) → prompt_of words ≡ Some prompt → status ≢ 103 → IsSome machine
+  pub none : options_of words ≡ None → machine ≡ None
+  pub some : (options : Options) → options_of words ≡ Some options → status ≢ 103 → IsSome machine
 
 -- Without a failing call, and with memory, the status and the machine are those of the whole trace, all of whose text
 -- was printed.
 pub record IsComplete (words : List (List ℕ)) (input before after : List ℕ) (status : ℕ) (machine : Option MachineState) : Type 0 where
   pub status_is : status ≡ (whole_trace words input).ended.status
-  pub machine_is : core_in machine ≡ (whole_trace words input).ended.state
+  pub machine_is : machine ≡ machine_in (whole_trace words input).ended.state
   pub printed : after ≡ before ++ text_of (whole_trace words input).events

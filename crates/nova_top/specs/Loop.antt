@@ -2,17 +2,21 @@
 use Rattle.std.specs.Prelude.{◌≡◌, ℕ, ◌<◌, ◌≤◌, Bool, true, false, List, ◌++◌}
 use Rattle.host_files.specs.Streams.{AddsPart}
 use Rattle.fault_counts.specs.Faults.{Rose}
-use Rattle.nova_machine.specs.Machine.{MachineState}
 use Rattle.nova_top.specs.declared.progress.CommandLoop.{CommandLoop}
 use Rattle.nova_top.specs.declared.progress.Finish.{Finish}
 use Rattle.nova_top.specs.declared.progress.Finish.TheVariants.{Exit, EndOfInput, Commands, Console, Input}
 use Rattle.nova_top.specs.declared.progress.Progress.{Progress}
 use Rattle.nova_top.specs.declared.progress.Progress.TheVariants.{GoesOn, IsOver}
-use Rattle.nova_top.specs.Core.{core_of}
+use Rattle.nova_top.specs.declared.session.Session as sessions
+use Rattle.nova_top.specs.Core.{Core, core_of}
 use Rattle.nova_top.specs.Session.{Session}
 
-abbrev pub session_of : MachineState → CommandLoop → List ℕ → Session
-session_of machine l input = record { core = core_of machine; budget = l.budget; input = input; open_ = l.reader.open_; prompt = l.prompt }
+-- the core of what the commands work on
+abbrev pub session_core : sessions.Session → Core
+session_core session = core_of session.machine session.limit
+
+abbrev pub session_of : sessions.Session → CommandLoop → List ℕ → Session
+session_of session l input = record { core = session_core session; budget = l.budget; input = input; open_ = l.reader.open_; prompt = l.prompt }
 
 -- what a command's text comes to on the console: it was printed, or a byte of it refused
 abbrev pub IsAnswer : List ℕ → Bool → Progress → List ℕ → List ℕ → Type 0

@@ -1,9 +1,12 @@
 -- All that is handed to the program, and what it comes to.
-use Rattle.std.specs.Prelude.{ℕ, Bool, true, false, List, [], ◌∷◌, ◌++◌, codes, Option, Some, None, bytes_eq, map, string_bytes, if◌then◌else◌}
+use Rattle.std.specs.Prelude.{ℕ, ◌^◌, ◌&&◌, Bool, true, false, not, nat_eq, is_none, unwrap_or, option_map, option_and_then, slice_index, List, [], ◌∷◌, ◌++◌, codes, Option, Some, None, bytes_eq, map, string_bytes, if◌then◌else◌}
 use Rattle.std.specs.declared.string.String.{String}
 use Rattle.std.specs.declared.alloc.Global.{Global}
 use Rattle.event_trace.specs.Events.{Event, Prints, Ended, Trace, map_trace}
 use Rattle.event_trace.specs.Cut.{Outcome, cut_trace}
+use Rattle.nova_top.specs.declared.options.Options.{Options}
+use Rattle.nova_top.specs.declared.options.Choices.{Choices}
+use Rattle.nova_top.specs.CommandGrammar.{count_of}
 use Rattle.nova_top.specs.Core.{Core, new_core}
 use Rattle.nova_top.specs.Session.{Session, trace}
 use Rattle.nova_top.specs.Perform.{beginning}
@@ -19,28 +22,47 @@ pub record Outside : Type 0 where
 abbrev pub usage : List ℕ
 usage = codes "usage: nova [-q] [-k keys] [-l instructions] [-m commands] [-g number] [script [arguments]]" ++ 10 ∷ []
 
--- the word that turns the prompt off
-abbrev pub quiet_of : List ℕ → Option Bool
-quiet_of word = if bytes_eq word (codes "-q") then Some false else None
+-- how many instructions a run may execute where the words don't say
+abbrev pub usual_limit : ℕ
+usual_limit = 2 ^ 48
 
--- whether the prompt is on, where the words are in their grammar: none, or the single word -q
-unfoldable pub prompt_of : List (List ℕ) → Option Bool
-prompt_of [] = Some true
-prompt_of (word ∷ []) = quiet_of word
-prompt_of (word ∷ more) = None
+-- a number among the words has no leading zero; a limit is from 1 to 2 ^ 48
+unfoldable pub limit_of : List ℕ → Option ℕ
+limit_of word = if nat_eq (slice_index word 0) 48 then None else count_of word
+
+-- what one more word chooses: `-q`, or `-l` with a limit in the next word, each at most once
+unfoldable pub next_choice : Choices → List ℕ → Option Choices
+next_choice c word =
+    if c.wants_limit then option_map (λ n. record { quiet = c.quiet; limit = Some n; wants_limit = false }) (limit_of word)
+    else if bytes_eq word (codes "-q") && not c.quiet then Some (record { quiet = true; limit = c.limit; wants_limit = false })
+    else if bytes_eq word (codes "-l") && is_none c.limit then Some (record { quiet = c.quiet; limit = c.limit; wants_limit = true })
+    else None
+
+-- what all words chose, where none is missing
+unfoldable pub all_chosen : Choices → Option Options
+all_chosen c = if c.wants_limit then None else Some (record { prompt = not c.quiet; limit = unwrap_or c.limit usual_limit })
+
+-- the options of the words behind those that chose this, in any order
+unfoldable pub options_from : Choices → List (List ℕ) → Option Options
+options_from c [] = all_chosen c
+options_from c (word ∷ more) = option_and_then (λ c. options_from c more) (next_choice c word)
+
+-- what the words choose, where they are in their grammar
+unfoldable pub options_of : List (List ℕ) → Option Options
+options_of words = options_from (record { quiet = false; limit = None; wants_limit = false }) words
 
 -- a new session
-abbrev pub opening : Bool → List ℕ → Session
-opening prompt input = beginning new_core prompt input
+abbrev pub opening : Options → List ℕ → Session
+opening options input = beginning (new_core options.limit) options.prompt input
 
 -- Before there is a core the state is none. Words outside their grammar are answered by the usage text.
-unfoldable pub trace_for : Option Bool → List ℕ → Trace (Option Core)
+unfoldable pub trace_for : Option Options → List ℕ → Trace (Option Core)
 trace_for None input = record { events = Prints usage None ∷ []; ended = record { status = 100; state = None } }
-trace_for (Some prompt) input = map_trace (λ core. Some core) (trace (opening prompt input))
+trace_for (Some options) input = map_trace (λ core. Some core) (trace (opening options input))
 
 -- all that the program does with those words and that input, where nothing fails
 unfoldable pub whole_trace : List (List ℕ) → List ℕ → Trace (Option Core)
-whole_trace words input = trace_for (prompt_of words) input
+whole_trace words input = trace_for (options_of words) input
 
 -- what all that is handed in comes to: the status, what the console has, how many reads were made, and the core, if
 -- there is one

@@ -2,7 +2,7 @@
 use Rattle.std.specs.Prelude.{◌≡◌, ◌⊎◌, ◌==◌, ◌&&◌, ◌||◌, ℕ, ◌+◌, ◌-◌, ◌%◌, ◌<◌, ◌≤◌, Bool, false, not, nat_le, List, length, drop, if◌then◌else◌}
 use Rattle.nova_top.specs.declared.line_reader.Reading.{Reading}
 use Rattle.nova_top.specs.declared.line_reader.Reading.TheVariants.{Line, TooLong, End, Unpaid, Failed}
-use Rattle.nova_top.specs.Lines.{InputEnds, Comes, due, reads_due, reads_left, units, first_line, has_lf, without_cr}
+use Rattle.nova_top.specs.Lines.{longest_line, InputEnds, Comes, due, reads_due, reads_left, units, first_line, has_lf, without_cr}
 use Rattle.nova_top.specs.Lines as lines
 
 -- the line that was read last, and whether the input's end is still to be read
@@ -14,10 +14,6 @@ pub record ReaderState : Type 0 where
 pub record AreRead (made : ℕ) (open_ : Bool) (input : List ℕ) (open_now : Bool) (left : List ℕ) : Type 0 where
   pub rest : left ≡ drop made input
   pub count : reads_left open_ input ≡ made + reads_left open_now left
-
--- how many bytes a line has at most that a reader hands on
-abbrev pub longest_line : ℕ
-longest_line = 512
 
 -- A reading under a budget: the next line with what it costs, the end, a unit that is not there, or a read that failed.
 -- Each made exactly its reads.

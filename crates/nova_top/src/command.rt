@@ -33,7 +33,15 @@ pub enum Command {
     Nothing,
     Deposit(Place, Word),
     Examine(Place),
-    Step,
+    /// A reset, and a run from PC or from that address.
+    Run(Option<Addr>),
+    /// A run from PC or from that address.
+    Go(Option<Addr>),
+    /// A run from PC.
+    Cont,
+    /// A run of that many instructions, or of one.
+    Step(Option<u64>),
+    ShowTime,
     Exit,
 }
 
@@ -47,6 +55,7 @@ pub fn register_name(register: CpuReg) -> &'static [u8]
         CpuReg::Ac1 => b"AC1",
         CpuReg::Ac2 => b"AC2",
         CpuReg::Ac3 => b"AC3",
+        CpuReg::C => b"C",
         CpuReg::Pc => b"PC",
     }
 }

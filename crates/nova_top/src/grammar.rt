@@ -1,12 +1,18 @@
-ghost use Rattle.std.specs.Prelude.{◌≡◌, ◌==◌, ◌+◌, ◌≤◌, ◌<◌, ◌^◌, length, drop, position, nat_eq, true, false, option_map, MatchOption, IfSome, IfNone};
+ghost use Rattle.std.specs.Prelude.{◌≡◌, ◌==◌, ◌+◌, ◌≤◌, ◌<◌, ◌^◌, length, drop, position, nat_eq, nat_le, ◌&&◌, if◌then◌else◌, true, false, option_map, MatchOption, IfSome, IfNone};
 ghost use Rattle.std.specs.List.{position_or_len, starts_with};
 ghost use Rattle.nova_top.specs.declared.command.Command.{Command};
-ghost use Rattle.nova_top.specs.declared.command.Command.TheVariants.{Examine};
-ghost use Rattle.nova_top.specs.CommandGrammar.{Parses, FitsItsPlace, IsCommandOf, IsOneCommand, octal_up_to, place_of, value_up_to, deposit_of, command_of};
+ghost use Rattle.nova_top.specs.declared.command.Command.TheVariants.{Examine, Run, Go, Step};
+ghost use Rattle.nova_top.specs.CommandGrammar.{Parses, FitsItsPlace, IsCommandOf, IsOneCommand, octal_up_to, place_of, value_up_to, count_of, deposit_of, fixed_of, operated_of, command_of};
 
 use crate::command::{Command, Place};
 use nova_machine::CpuReg;
-use nova_word::{Addr, Word, read_octal};
+use nova_word::{Addr, Word, read_decimal, read_octal};
+
+/// How many bytes a command line has at most.
+const LONGEST_LINE: usize = 512;
+
+/// The largest count of a STEP, and the largest limit of a run.
+pub const MOST_INSTRUCTIONS: u64 = 1 << 48;
 
 /// The command of a line, or none where it is no command.
 pub fn read_command(line: &[u8]) -> Option<Command>
@@ -22,22 +28,125 @@ pub fn read_command(line: &[u8]) -> Option<Command>
 fn command_in(line: &[u8]) -> Option<Command>
     ensures { result ≡ command_of line.now }
 {
-    if line.is_empty() {
+    if line.len() > LONGEST_LINE {
+        return None;
+    }
+    match read_fixed(line) {
+        Some(command) => Some(command),
+        None => read_operated(line),
+    }
+}
+
+/// A command without an operand.
+#[tactic(auto, unfolding(crate::specs::CommandGrammar::fixed_of))]
+fn read_fixed(line: &[u8]) -> Option<Command>
+    ensures { result ≡ fixed_of line.now }
+{
+    if line == b"".as_slice() {
         return Some(Command::Nothing);
     }
+    if line == b"RUN".as_slice() {
+        return Some(Command::Run(None));
+    }
+    if line == b"GO".as_slice() {
+        return Some(Command::Go(None));
+    }
+    if line == b"CONT".as_slice() {
+        return Some(Command::Cont);
+    }
     if line == b"STEP".as_slice() {
-        return Some(Command::Step);
+        return Some(Command::Step(None));
+    }
+    if line == b"SHOW TIME".as_slice() {
+        return Some(Command::ShowTime);
     }
     if line == b"EXIT".as_slice() {
         return Some(Command::Exit);
     }
+    None
+}
+
+/// A command with operands.
+#[tactic(auto, unfolding(crate::specs::CommandGrammar::operated_of))]
+fn read_operated(line: &[u8]) -> Option<Command>
+    ensures { result ≡ operated_of line.now }
+{
     if let Some(text) = operands(line, b"EXAMINE ".as_slice()) {
         return read_examine(text);
     }
     if let Some(text) = operands(line, b"DEPOSIT ".as_slice()) {
         return read_deposit(text);
     }
+    if let Some(text) = operands(line, b"RUN ".as_slice()) {
+        return read_run(text);
+    }
+    if let Some(text) = operands(line, b"GO ".as_slice()) {
+        return read_go(text);
+    }
+    if let Some(text) = operands(line, b"STEP ".as_slice()) {
+        return read_step(text);
+    }
     None
+}
+
+/// What stands behind the name of a RUN: an address.
+fn read_run(text: &[u8]) -> Option<Command>
+    ensures { result ≡ option_map (λ address. Run (Some address)) (octal_up_to 5 text.now) }
+{
+    match read_address(text) {
+        Some(address) => Some(Command::Run(Some(address))),
+        None => None,
+    }
+}
+
+/// What stands behind the name of a GO: an address.
+fn read_go(text: &[u8]) -> Option<Command>
+    ensures { result ≡ option_map (λ address. Go (Some address)) (octal_up_to 5 text.now) }
+{
+    match read_address(text) {
+        Some(address) => Some(Command::Go(Some(address))),
+        None => None,
+    }
+}
+
+/// What stands behind the name of a STEP: a count.
+fn read_step(text: &[u8]) -> Option<Command>
+    ensures { result ≡ option_map (λ count. Step (Some count)) (count_of text.now) }
+{
+    match read_count(text) {
+        Some(count) => Some(Command::Step(Some(count))),
+        None => None,
+    }
+}
+
+/// An address of 1 to 5 octal digits.
+fn read_address(text: &[u8]) -> Option<Addr>
+    ensures { result ≡ octal_up_to 5 text.now }
+{
+    match read_digits(5, text) {
+        Some(number) => Some(Addr::of_word(Word(number as u16))),
+        None => None,
+    }
+}
+
+/// A decimal count of instructions, from 1 to 2^48.
+pub fn read_count(text: &[u8]) -> Option<u64>
+    ensures { result ≡ count_of text.now }
+{
+    match read_decimal(text) {
+        Ok(count) => if_count(count),
+        Err(_) => None,
+    }
+}
+
+fn if_count(count: u64) -> Option<u64>
+    ensures { result ≡ (if nat_le 1 count && nat_le count (2 ^ 48) then Some count else None) }
+{
+    if 1 <= count && count <= MOST_INSTRUCTIONS {
+        Some(count)
+    } else {
+        None
+    }
 }
 
 /// What stands behind a name at the front of a line.
@@ -88,6 +197,9 @@ fn read_place(text: &[u8]) -> Option<Place>
     }
     if text == b"AC3".as_slice() {
         return Some(Place::Register(CpuReg::Ac3));
+    }
+    if text == b"C".as_slice() {
+        return Some(Place::Register(CpuReg::C));
     }
     if text == b"PC".as_slice() {
         return Some(Place::Register(CpuReg::Pc));

@@ -10,7 +10,9 @@ mod line_buffer;
 mod line_reader;
 mod perform;
 pub mod program;
+mod options;
 mod progress;
+mod session;
 mod text;
 mod words;
 

@@ -8,7 +8,9 @@ ghost use Rattle.nova_top.specs.Program.{IsUsage, UsageCause, SessionEnds};
 
 use crate::perform::perform;
 use crate::progress::Finish;
-use crate::words::prompt_of;
+use crate::session::Session;
+use crate::options::Options;
+use crate::words::options_of;
 use host_files::{Sink, Source, put_all};
 use nova_machine::Machine;
 use std::alloc::Global;
@@ -39,7 +41,7 @@ pub fn simulate<C: Source, S: Sink>(
     ensures cause { StatusCause (texts_of words.now) result.status (S.fault_count output.old) (S.fault_count output.new) (C.fault_count input.old) (C.fault_count input.new) }
     ensures machine { MachineThere (texts_of words.now) result.status result.machine }
 {
-    let Some(prompt) = prompt_of(words) else {
+    let Some(options) = options_of(words) else {
         return usage(output);
     };
     let Ok(machine) = Machine::new(alloc) else {
@@ -48,7 +50,7 @@ pub fn simulate<C: Source, S: Sink>(
             machine: None,
         };
     };
-    session(machine, prompt, input, output)
+    session(machine, options, input, output)
 }
 
 /// Answers words outside their grammar.
@@ -70,14 +72,18 @@ fn usage<S: Sink>(output: &mut S) -> Ending
 /// A session with a new machine.
 fn session<C: Source, S: Sink>(
     machine: Machine,
-    prompt: bool,
+    options: Options,
     input: &mut C,
     output: &mut S,
 ) -> Ending
-    ensures ended { SessionEnds result.status result.machine (λ finish now. IsTrue C.tells → IsTrue S.tells → IsSession (beginning (core_of machine) prompt (C.left input.old)) finish (core_of now) (C.left input.new) (S.written output.old) (S.written output.new)) (λ finish. FinishCause finish (S.fault_count output.old) (S.fault_count output.new) (C.fault_count input.old) (C.fault_count input.new)) }
+    ensures ended { SessionEnds result.status result.machine (λ finish now. IsTrue C.tells → IsTrue S.tells → IsSession (beginning (core_of machine options.limit) options.prompt (C.left input.old)) finish (core_of now options.limit) (C.left input.new) (S.written output.old) (S.written output.new)) (λ finish. FinishCause finish (S.fault_count output.old) (S.fault_count output.new) (C.fault_count input.old) (C.fault_count input.new)) }
 {
-    let mut machine = machine;
-    let finish = perform(&mut machine, prompt, input, output);
+    let mut session = Session {
+        machine,
+        limit: options.limit,
+    };
+    let finish = perform(&mut session, options.prompt, input, output);
+    let Session { machine, limit: _ } = session;
     Ending {
         status: finish.status(),
         machine: Some(machine),

@@ -1,16 +1,16 @@
-use Rattle.std.proofs.Common.{◌≤◌, IsTrue}
-use Rattle.nova_top.specs.Core.{core_of}
+use Rattle.std.proofs.Common.{◌≡◌, ◌≤◌, IsTrue}
 use Rattle.nova_top.specs.Perform.{beginning}
-use Rattle.nova_top.specs.Loop.{session_of}
+use Rattle.nova_top.specs.Loop.{session_core, session_of}
 use Rattle.nova_top.proofs.WholeLemmas.{Reached}
 use Rattle.nova_top.proofs.perform.perform.Given as goal
 
 abbrev pub invariant-lines : goal.invariant-lines
 invariant-lines g l = record {
   enough : l.lines.budget ≤ 4294967296;
+  limit : l.session.limit ≡ l.fn.session.limit;
   told : IsTrue g.C.Source.tells → IsTrue g.S.Sink.tells → Reached
-      (beginning (core_of l.fn.machine) l.fn.prompt (g.C.Source.left l.fn.input))
-      (session_of l.machine l.lines (g.C.Source.left l.input))
+      (beginning (session_core l.fn.session) l.fn.prompt (g.C.Source.left l.fn.input))
+      (session_of l.session l.lines (g.C.Source.left l.input))
       (g.S.Sink.written l.fn.output) (g.S.Sink.written l.output);
   source : g.C.Source.fault_count l.fn.input ≤ g.C.Source.fault_count l.input;
   sink : g.S.Sink.fault_count l.fn.output ≤ g.S.Sink.fault_count l.output;

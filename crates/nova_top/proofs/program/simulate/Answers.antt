@@ -6,8 +6,8 @@ use Rattle.nova_top.proofs.program.simulate.Goals as goal
 
 pub returns-in_default-clause-outcome : goal.returns-in_default-clause-outcome
 returns-in_default-clause-outcome g c = λ source sink memory.
-    usage-answer (texts_of c.args.words.now) c.prompt_of.result (g.C.Source.left c.args.input.now) (g.S.Sink.written c.args.output.now) (g.S.Sink.written c.usage.new.output)
-    c.usage.result.status c.usage.result.machine c.prompt_of.ensures c.in_default.is c.usage.ensures.machine (c.usage.ensures.told sink)
+    usage-answer (texts_of c.args.words.now) c.options_of.result (g.C.Source.left c.args.input.now) (g.S.Sink.written c.args.output.now) (g.S.Sink.written c.usage.new.output)
+    c.usage.result.status c.usage.result.machine c.options_of.ensures c.in_default.is c.usage.ensures.machine (c.usage.ensures.told sink)
 
 pub returns-in_default-clause-complete : goal.returns-in_default-clause-complete
 returns-in_default-clause-complete g c = λ source sink memory quiet fed.
@@ -18,9 +18,9 @@ returns-in_default-clause-complete g c = λ source sink memory quiet fed.
 pub returns-clause-outcome : goal.returns-clause-outcome
 returns-clause-outcome g c = λ source sink memory.
     let (finish, now, status, machine, told, cause) = c.session.ensures.ended in
-    session-answer (texts_of c.args.words.now) c.prompt_of.result c.in-Some.prompt c.in-Ok.machine (g.C.Source.left c.args.input.now) (g.C.Source.left c.session.new.input)
+    session-answer (texts_of c.args.words.now) c.options_of.result c.in-Some.options c.in-Ok.machine (g.C.Source.left c.args.input.now) (g.C.Source.left c.session.new.input)
     (g.S.Sink.written c.args.output.now) (g.S.Sink.written c.session.new.output) c.session.result.status c.session.result.machine finish now
-    c.prompt_of.ensures c.in-Some.is c.in-Ok.ensures cause.exit status machine (told source sink)
+    c.options_of.ensures c.in-Some.is c.in-Ok.ensures cause.exit status machine (told source sink)
 
 pub returns-clause-complete : goal.returns-clause-complete
 returns-clause-complete g c = λ source sink memory quiet fed.

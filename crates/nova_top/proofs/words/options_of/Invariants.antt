@@ -1,0 +1,7 @@
+use Rattle.std.proofs.Common.{◌≡◌, drop}
+use Rattle.nova_top.specs.Outside.{options_of, options_from, texts_of}
+use Rattle.nova_top.proofs.words.options_of.Given as goal
+
+-- what is left of the words chooses what all of them choose
+abbrev pub invariant-loop-word : goal.invariant-loop-word
+invariant-loop-word l = options_of (texts_of l.words) ≡ options_from l.choices (texts_of (drop l.word-index l.words))
