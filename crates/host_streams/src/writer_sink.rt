@@ -90,3 +90,6 @@ fn write_retrying<W: Write>(writer: &mut W, bytes: &[u8]) -> io::Result<usize>
     }
     writer.write(bytes)
 }
+
+#[cfg(test)]
+mod tests;
