@@ -2,8 +2,8 @@
 use Rattle.std.proofs.Common.{ℕ, ◌≡◌, ◌≢◌, ◌+◌, ◌-◌, ◌<◌, ◌≤◌, nat_le, false, true, List, [], ◌∷◌, ◌++◌, length, take, drop, refl, ap, sym, ◌∙◌, append_assoc, append-nil, add_assoc, zero-add, add-zero, arith, length-append, length-take-le, ⊎_elim}
 use Rattle.std.proofs.lemmas.Bool.{cases_lt}
 use Rattle.std.proofs.lemmas.List.{take-append-drop}
-use Rattle.event_trace.specs.Events.{Event, Prints, Reads, Ended, Trace, text_of, reads_of}
-use Rattle.event_trace.specs.Cut.{Outcome, ends, behind, cut, cut_trace}
+use Rattle.event_trace.specs.Events.{Event, Prints, Reads, Ended, Trace, text_of, reads_of, map_events, map_ended, map_trace}
+use Rattle.event_trace.specs.Cut.{Outcome, ends, behind, cut, cut_trace, map_outcome}
 use Rattle.event_trace.specs.Laws.{SameWithMoreRoom, TakesFirstPart, IsWhole, WholeWithoutFaults}
 
 yes-le : (m n : ℕ) → m ≤ n → nat_le m n ≡ true
@@ -160,3 +160,26 @@ cut-whole done ended gives =
       ∙ cut-after done [] ended 0 gives
       ∙ ap (λ t. ends ended.status t (reads_of done + 0) ended.state) (append-nil (text_of done))
       ∙ ap (λ r. ends ended.status (text_of done) r ended.state) (add-zero (reads_of done))
+
+-- a cut speaks of no state but hands one on
+pub cut-map : {S T : Type 0} (f : S → T) (events : List (Event S)) (ended : Ended S) (takes gives : ℕ)
+    → cut takes gives (map_events f events) (map_ended f ended) ≡ map_outcome f (cut takes gives events ended)
+cut-map f [] ended takes gives = refl
+cut-map f (Prints text at ∷ more) ended takes gives =
+    ⊎_elim
+      (λ (short : takes < length text).
+        cut-refused text (f at) (map_events f more) (map_ended f ended) takes gives short ∙ ap (map_outcome f) (sym (cut-refused text at more ended takes gives short)))
+      (λ (fits : length text ≤ takes).
+        cut-printed text (f at) (map_events f more) (map_ended f ended) takes gives fits
+          ∙ ap (behind text 0) (cut-map f more ended (takes - length text) gives)
+          ∙ ap (map_outcome f) (sym (cut-printed text at more ended takes gives fits)))
+      (cases_lt takes (length text))
+cut-map f (Reads count at ∷ more) ended takes gives =
+    ⊎_elim
+      (λ (short : gives < count).
+        cut-failed count (f at) (map_events f more) (map_ended f ended) takes gives short ∙ ap (map_outcome f) (sym (cut-failed count at more ended takes gives short)))
+      (λ (fits : count ≤ gives).
+        cut-read count (f at) (map_events f more) (map_ended f ended) takes gives fits
+          ∙ ap (behind [] count) (cut-map f more ended takes (gives - count))
+          ∙ ap (map_outcome f) (sym (cut-read count at more ended takes gives fits)))
+      (cases_lt gives count)

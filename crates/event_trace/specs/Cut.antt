@@ -13,6 +13,10 @@ pub record Outcome (S : Type 0) : Type 0 where
 abbrev pub ends : {S : Type 0} → ℕ → List ℕ → ℕ → S → Outcome S
 ends status console reads state = record { status = status; console = console; reads = reads; state = state }
 
+-- the same with another state
+abbrev pub map_outcome : {S T : Type 0} → (S → T) → Outcome S → Outcome T
+map_outcome f o = ends o.status o.console o.reads (f o.state)
+
 -- the outcome behind a text that was printed whole, and reads that were made
 abbrev pub behind : {S : Type 0} → List ℕ → ℕ → Outcome S → Outcome S
 behind text reads o = ends o.status (text ++ o.console) (reads + o.reads) o.state

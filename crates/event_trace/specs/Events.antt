@@ -32,3 +32,15 @@ abbrev pub reads_of : {S : Type 0} → List (Event S) → ℕ
 reads_of [] = 0
 reads_of (Prints text at ∷ more) = reads_of more
 reads_of (Reads count at ∷ more) = count + reads_of more
+
+-- the same with another state in each place
+abbrev pub map_events : {S T : Type 0} → (S → T) → List (Event S) → List (Event T)
+map_events f [] = []
+map_events f (Prints text at ∷ more) = Prints text (f at) ∷ map_events f more
+map_events f (Reads count at ∷ more) = Reads count (f at) ∷ map_events f more
+
+abbrev pub map_ended : {S T : Type 0} → (S → T) → Ended S → Ended T
+map_ended f ended = record { status = ended.status; state = f ended.state }
+
+abbrev pub map_trace : {S T : Type 0} → (S → T) → Trace S → Trace T
+map_trace f t = record { events = map_events f t.events; ended = map_ended f t.ended }

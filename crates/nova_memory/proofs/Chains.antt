@@ -1,10 +1,10 @@
 -- One level of an indirect chain.
-use Rattle.std.proofs.Common.{◌≡◌, ℕ, ◌-◌, ◌+◌, ◌%◌, ◌^◌, ◌<◌, ◌≤◌, zero, suc, Some, None, refl, sym, ◌∙◌, inl, inr, arith}
+use Rattle.std.proofs.Common.{◌≡◌, ℕ, ◌+◌, ◌%◌, ◌^◌, ◌<◌, ◌≤◌, zero, suc, Some, None, refl, ◌∙◌, inl, inr, arith}
 use Rattle.std.proofs.lemmas.Grind.{common_steps}
 use Rattle.std.proofs.lemmas.Bool.{cases_lt}
 use Rattle.std.proofs.lemmas.Bool.Decides.{nat_tests}
 use Rattle.nova_memory.specs.Memory.{MemoryState, get, put}
-use Rattle.nova_memory.specs.Address.{Reference, IsAutoIndex, changed, chain}
+use Rattle.nova_memory.specs.Address.{IsAutoIndex, changed, chain}
 
 pub chain-none : (left : ℕ) (m : MemoryState) (a : ℕ) → left ≡ 0 → chain left m a ≡ record { memory = m; address = None }
 unfolding chain

@@ -2,16 +2,17 @@
 -- nothing.
 use Rattle.std.specs.Prelude.{◌≡◌, ℕ, ◌^◌, ◌<◌, ◌≤◌, List, All, length, replicate, slice_index, slice_set, nat_lt, if◌then◌else◌}
 
--- the words, of which those from the size on don't count
+-- the words, and how many of them the machine has
 pub record MemoryState : Type 0 where
   pub words : List ℕ
   pub size : ℕ
 
--- what holds of every memory
+-- what holds of every memory: it has its words, each of 16 bits, and those from the size on are 0
 pub record IsMemory (m : MemoryState) : Type 0 where
   pub whole : length m.words ≡ 2 ^ 15
   pub words : All (λ w. w < 2 ^ 16) m.words
   pub size : m.size ≤ 2 ^ 15
+  pub beyond : (a : ℕ) → m.size ≤ a → slice_index m.words a ≡ 0
 
 -- the word that stands at an address
 abbrev pub get : MemoryState → ℕ → ℕ

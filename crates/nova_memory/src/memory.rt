@@ -49,12 +49,8 @@ impl Memory {
         ensures word { result ≡ get self.now at }
         ensures range { result < 2 ^ 16 }
     {
-        let place = at.number();
-        if place < self.size {
-            Word(self.words[usize::from(place)])
-        } else {
-            Word(0)
-        }
+        // The words from the size on are 0.
+        Word(self.words[usize::from(at.number())])
     }
 
     /// Puts a word at an address. It does nothing where the machine has no memory there.
@@ -77,41 +73,4 @@ fn zeros() -> [u16; 32768]
 }
 
 #[cfg(test)]
-mod tests {
-    use super::*;
-    use std::test::Fail;
-
-    fn at(n: u16) -> Addr {
-        Addr::of_word(Word(n))
-    }
-
-    #[test]
-    fn a_word_stays_where_it_is_put(rt: HostRuntime) -> Result<(), Fail> {
-        let mut memory = Memory::new(rt.alloc())?;
-        assert_eq!(rt; memory.size(), 32768);
-        for (n, word) in [(0, 0o123456), (0o20, 1), (0o77777, 0o177777)] {
-            assert_eq!(rt; memory.read(at(n)), Word(0), "new, at {n:o}");
-            memory.write(at(n), Word(word));
-            assert_eq!(rt; memory.read(at(n)), Word(word), "at {n:o}");
-            assert_eq!(rt; memory.read(at(n ^ 1)), Word(0), "beside {n:o}");
-        }
-        Ok(())
-    }
-
-    #[test]
-    fn a_place_past_the_size_holds_0(rt: HostRuntime) -> Result<(), Fail> {
-        let mut memory = Memory::new(rt.alloc())?;
-        memory.write(at(0o10000), Word(0o100123));
-        memory.size = 4096;
-        for n in [0o7777, 0o10000, 0o77777] {
-            memory.write(at(n), Word(5));
-        }
-        assert_eq!(rt; memory.size(), 4096);
-        assert_eq!(rt; memory.read(at(0o7777)), Word(5));
-        assert_eq!(rt; memory.read(at(0o10000)), Word(0));
-        assert_eq!(rt; memory.read(at(0o77777)), Word(0));
-        let through = memory.address(Word(0o2400), at(0o10000), [Word(0); 4]);
-        assert_eq!(rt; through, Ok(at(0)), "an indirect reference through 10000");
-        Ok(())
-    }
-}
+mod tests;

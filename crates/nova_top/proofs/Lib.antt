@@ -1,2 +1,7 @@
 pub mod GrammarLemmas
 pub mod OctalLemmas
+pub mod ReadingLemmas
+pub mod SessionLemmas
+pub mod LineLemmas
+pub mod WholeLemmas
+pub mod OutsideLemmas

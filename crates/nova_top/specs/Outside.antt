@@ -1,9 +1,12 @@
 -- All that is handed to the program, and what it comes to.
-use Rattle.std.specs.Prelude.{ℕ, ◌^◌, Bool, true, false, List, [], ◌∷◌, ◌++◌, codes, Option, Some, None, bytes_eq, if◌then◌else◌}
-use Rattle.event_trace.specs.Events.{Event, Prints, Ended, Trace}
-use Rattle.event_trace.specs.Cut.{Outcome, ends, cut_trace}
+use Rattle.std.specs.Prelude.{ℕ, Bool, true, false, List, [], ◌∷◌, ◌++◌, codes, Option, Some, None, bytes_eq, map, string_bytes, if◌then◌else◌}
+use Rattle.std.specs.declared.string.String.{String}
+use Rattle.std.specs.declared.alloc.Global.{Global}
+use Rattle.event_trace.specs.Events.{Event, Prints, Ended, Trace, map_trace}
+use Rattle.event_trace.specs.Cut.{Outcome, cut_trace}
 use Rattle.nova_top.specs.Core.{Core, new_core}
 use Rattle.nova_top.specs.Session.{Session, trace}
+use Rattle.nova_top.specs.Perform.{beginning}
 
 -- The words and the input; how many bytes the console takes; and how many reads the input lets through before one
 -- fails, where to find its end counts as one.
@@ -16,32 +19,34 @@ pub record Outside : Type 0 where
 abbrev pub usage : List ℕ
 usage = codes "usage: nova [-q] [-k keys] [-l instructions] [-m commands] [-g number] [script [arguments]]" ++ 10 ∷ []
 
--- the budget of a session
-abbrev pub whole_budget : ℕ
-whole_budget = 2 ^ 32
+-- the word that turns the prompt off
+abbrev pub quiet_of : List ℕ → Option Bool
+quiet_of word = if bytes_eq word (codes "-q") then Some false else None
 
 -- whether the prompt is on, where the words are in their grammar: none, or the single word -q
 unfoldable pub prompt_of : List (List ℕ) → Option Bool
 prompt_of [] = Some true
-prompt_of (word ∷ []) = if bytes_eq word (codes "-q") then Some false else None
+prompt_of (word ∷ []) = quiet_of word
 prompt_of (word ∷ more) = None
 
--- a session before its first line
-unfoldable pub opening : Bool → List ℕ → Session
-opening prompt input = record { core = new_core; budget = whole_budget; input = input; open_ = true; prompt = prompt }
+-- a new session
+abbrev pub opening : Bool → List ℕ → Session
+opening prompt input = beginning new_core prompt input
 
--- a session's trace has a core in each state; before there is one the state is none
-abbrev pub some_core : Outcome Core → Outcome (Option Core)
-some_core o = ends o.status o.console o.reads (Some o.state)
+-- Before there is a core the state is none. Words outside their grammar are answered by the usage text.
+unfoldable pub trace_for : Option Bool → List ℕ → Trace (Option Core)
+trace_for None input = record { events = Prints usage None ∷ []; ended = record { status = 100; state = None } }
+trace_for (Some prompt) input = map_trace (λ core. Some core) (trace (opening prompt input))
 
-abbrev pub usage_trace : Trace (Option Core)
-usage_trace = record { events = Prints usage None ∷ []; ended = record { status = 100; state = None } }
-
-unfoldable pub outcome_for : Option Bool → Outside → Outcome (Option Core)
-outcome_for None o = cut_trace o.takes o.gives usage_trace
-outcome_for (Some prompt) o = some_core (cut_trace o.takes o.gives (trace (opening prompt o.input)))
+-- all that the program does with those words and that input, where nothing fails
+unfoldable pub whole_trace : List (List ℕ) → List ℕ → Trace (Option Core)
+whole_trace words input = trace_for (prompt_of words) input
 
 -- what all that is handed in comes to: the status, what the console has, how many reads were made, and the core, if
 -- there is one
 unfoldable pub outcome : Outside → Outcome (Option Core)
-outcome o = outcome_for (prompt_of o.words) o
+outcome o = cut_trace o.takes o.gives (whole_trace o.words o.input)
+
+-- the bytes of the words
+abbrev pub texts_of : List (String Global) → List (List ℕ)
+texts_of words = map (λ word. string_bytes word) words

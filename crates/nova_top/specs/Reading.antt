@@ -42,6 +42,10 @@ Pays budget reading now = now ≤ budget
 abbrev pub is_due : ℕ → ℕ → Bool
 is_due count b = (count == 0) || (not (b == 10) && nat_le 1024 (count + 1) && ((count + 1) % 512 == 0))
 
+-- how many units that byte makes due
+abbrev pub units_for : ℕ → ℕ → ℕ
+units_for count b = if is_due count b then 1 else 0
+
 -- the line of which these bytes were kept, at its end
 abbrev pub ended_line : Bool → List ℕ → List ℕ
 ended_line lf line = if lf then without_cr line else line

@@ -2,10 +2,19 @@
 #![tactic(auto)]
 
 pub mod command;
+mod command_loop;
 pub mod grammar;
+pub mod laws;
 mod line_buffer;
 mod line_reader;
+mod perform;
+mod progress;
 mod effect;
+pub mod program;
 mod text;
+mod words;
 
 pub use command::{Command, Place};
+pub use grammar::{commands_are_those_of_the_grammar, no_line_is_two_commands, read_command};
+pub use laws::{console_takes_first_part, more_room_same_end, whole_without_faults};
+pub use program::{Ending, simulate};

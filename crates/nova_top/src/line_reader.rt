@@ -1,6 +1,6 @@
-ghost use Rattle.std.specs.Prelude.{◌≡◌, ◌≤◌, ◌<◌, ◌^◌, [], true, IsTrue};
+ghost use Rattle.std.specs.Prelude.{◌≡◌, ◌+◌, ◌≤◌, ◌<◌, ◌^◌, [], true, false, IsTrue};
 ghost use Rattle.fault_counts.specs.Faults.{Rose};
-ghost use Rattle.nova_top.specs.Reading.{is_due};
+ghost use Rattle.nova_top.specs.Reading.{is_due, units_for};
 
 use crate::line_buffer::{KEPT, LineBuffer};
 use host_files::{Source, next_byte};
@@ -64,10 +64,23 @@ impl LineReader {
         ensures later { C.fault_count input.old ≤ C.fault_count input.new }
         ensures cause { result ≡ Reading.Failed → Rose (C.fault_count input.old) (C.fault_count input.new) }
     {
-        self.line.clear();
-        if !self.open_ {
-            return Reading::End;
+        if self.open_ {
+            self.read_open_line(input, budget)
+        } else {
+            Reading::End
         }
+    }
+
+    /// The same, where the end has not been read.
+    fn read_open_line<C: Source>(&mut self, input: &mut C, budget: &mut u64) -> Reading
+        requires budget { budget.old ≤ 2 ^ 32 }
+        requires open_ { self.old.open_ ≡ true }
+        ensures reads { IsTrue C.tells → IsReading budget.old true (C.left input.old) result budget.new self.new (C.left input.new) }
+        ensures pays { Pays budget.old result budget.new }
+        ensures later { C.fault_count input.old ≤ C.fault_count input.new }
+        ensures cause { result ≡ Reading.Failed → Rose (C.fault_count input.old) (C.fault_count input.new) }
+    {
+        self.line.clear();
         let mut count = 0u64;
         loop {
             let Ok(next) = next_byte(input) else {
@@ -77,11 +90,8 @@ impl LineReader {
                 self.open_ = false;
                 return self.finish(count, false);
             };
-            if is_due(count, b) {
-                if *budget == 0 {
-                    return Reading::Unpaid;
-                }
-                *budget -= 1;
+            if !pay(budget, count, b) {
+                return Reading::Unpaid;
             }
             if b == b'\n' {
                 return self.finish(count, true);
@@ -111,6 +121,22 @@ impl LineReader {
             Reading::Line
         }
     }
+}
+
+/// Pays for the next byte of a line, where it makes a unit due. Answers whether it is paid.
+fn pay(budget: &mut u64, count: u64, b: u8) -> bool
+    requires { count < 2 ^ 50 }
+    ensures paid { result ≡ true → budget.new + units_for count b ≡ budget.old }
+    ensures unpaid { result ≡ false → (budget.old ≡ 0) × (is_due count b ≡ true) × (budget.new ≡ budget.old) }
+{
+    if !is_due(count, b) {
+        return true;
+    }
+    if *budget == 0 {
+        return false;
+    }
+    *budget -= 1;
+    true
 }
 
 /// Whether the next byte of a line makes a unit due, where that many bytes stand before it.

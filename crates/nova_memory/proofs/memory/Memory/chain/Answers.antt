@@ -1,4 +1,4 @@
-use Rattle.std.proofs.Common.{◌≡◌, ℕ, ◌+◌, ◌-◌, ◌∙◌, Some, sym, ap, arith}
+use Rattle.std.proofs.Common.{ℕ, ◌+◌, ◌-◌, ◌∙◌, Some, sym, ap, arith}
 use Rattle.nova_memory.specs.Address.{Reference}
 use Rattle.nova_memory.proofs.Chains.{chain-none, chain-end, chain-next}
 use Rattle.nova_memory.proofs.memory.Memory.chain.Goals as goal

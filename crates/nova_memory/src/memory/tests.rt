@@ -1,0 +1,35 @@
+use super::*;
+use std::test::Fail;
+
+fn at(n: u16) -> Addr {
+    Addr::of_word(Word(n))
+}
+
+#[test]
+fn a_word_stays_where_it_is_put(rt: HostRuntime) -> Result<(), Fail> {
+    let mut memory = Memory::new(rt.alloc())?;
+    assert_eq!(rt; memory.size(), 32768);
+    for (n, word) in [(0, 0o123456), (0o20, 1), (0o77777, 0o177777)] {
+        assert_eq!(rt; memory.read(at(n)), Word(0), "new, at {n:o}");
+        memory.write(at(n), Word(word));
+        assert_eq!(rt; memory.read(at(n)), Word(word), "at {n:o}");
+        assert_eq!(rt; memory.read(at(n ^ 1)), Word(0), "beside {n:o}");
+    }
+    Ok(())
+}
+
+#[test]
+fn a_place_past_the_size_holds_0(rt: HostRuntime) -> Result<(), Fail> {
+    let mut memory = Memory::new(rt.alloc())?;
+    memory.size = 4096;
+    for n in [0o7777, 0o10000, 0o77777] {
+        memory.write(at(n), Word(5));
+    }
+    assert_eq!(rt; memory.size(), 4096);
+    assert_eq!(rt; memory.read(at(0o7777)), Word(5));
+    assert_eq!(rt; memory.read(at(0o10000)), Word(0));
+    assert_eq!(rt; memory.read(at(0o77777)), Word(0));
+    let through = memory.address(Word(0o2400), at(0o10000), [Word(0); 4]);
+    assert_eq!(rt; through, Ok(at(0)), "an indirect reference through 10000");
+    Ok(())
+}

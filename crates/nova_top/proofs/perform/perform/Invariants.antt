@@ -1,0 +1,20 @@
+use Rattle.std.proofs.Common.{◌≤◌, IsTrue}
+use Rattle.nova_top.specs.Core.{core_of}
+use Rattle.nova_top.specs.Perform.{beginning}
+use Rattle.nova_top.specs.Loop.{session_of}
+use Rattle.nova_top.proofs.WholeLemmas.{Reached}
+use Rattle.nova_top.proofs.perform.perform.Given as goal
+
+abbrev pub invariant-lines : goal.invariant-lines
+invariant-lines g l = record {
+  enough : l.lines.budget ≤ 4294967296;
+  told : IsTrue g.C.Source.tells → IsTrue g.S.Sink.tells → Reached
+      (beginning (core_of l.fn.machine) l.fn.prompt (g.C.Source.left l.fn.input))
+      (session_of l.machine l.lines (g.C.Source.left l.input))
+      (g.S.Sink.written l.fn.output) (g.S.Sink.written l.output);
+  source : g.C.Source.fault_count l.fn.input ≤ g.C.Source.fault_count l.input;
+  sink : g.S.Sink.fault_count l.fn.output ≤ g.S.Sink.fault_count l.output;
+}
+
+abbrev pub decreases-lines : goal.decreases-lines
+decreases-lines g l = l.lines.budget

@@ -1,0 +1,40 @@
+-- The session that the command loop stands in.
+use Rattle.std.specs.Prelude.{◌≡◌, ℕ, ◌<◌, ◌≤◌, Bool, true, false, List, ◌++◌}
+use Rattle.host_files.specs.Streams.{AddsPart}
+use Rattle.fault_counts.specs.Faults.{Rose}
+use Rattle.nova_machine.specs.Machine.{MachineState}
+use Rattle.nova_top.specs.declared.progress.CommandLoop.{CommandLoop}
+use Rattle.nova_top.specs.declared.progress.Finish.{Finish}
+use Rattle.nova_top.specs.declared.progress.Finish.TheVariants.{Exit, EndOfInput, Commands, Console, Input}
+use Rattle.nova_top.specs.declared.progress.Progress.{Progress}
+use Rattle.nova_top.specs.declared.progress.Progress.TheVariants.{GoesOn, IsOver}
+use Rattle.nova_top.specs.Core.{core_of}
+use Rattle.nova_top.specs.Session.{Session}
+
+abbrev pub session_of : MachineState → CommandLoop → List ℕ → Session
+session_of machine l input = record { core = core_of machine; budget = l.budget; input = input; open_ = l.reader.open_; prompt = l.prompt }
+
+-- what a command's text comes to on the console: it was printed, or a byte of it refused
+abbrev pub IsAnswer : List ℕ → Bool → Progress → List ℕ → List ℕ → Type 0
+IsAnswer text exits GoesOn before after = (exits ≡ false) × (after ≡ before ++ text)
+IsAnswer text exits (IsOver (Exit status)) before after = (exits ≡ true) × (status ≡ 0) × (after ≡ before ++ text)
+IsAnswer text exits (IsOver Console) before after = AddsPart before text after
+IsAnswer text exits (IsOver EndOfInput) before after = ⊥
+IsAnswer text exits (IsOver Commands) before after = ⊥
+IsAnswer text exits (IsOver Input) before after = ⊥
+
+-- a command's only fault is the console's
+abbrev pub AnswerCause : Progress → ℕ → ℕ → Type 0
+AnswerCause (IsOver Console) sink sink_now = Rose sink sink_now × (sink ≤ sink_now)
+AnswerCause (IsOver Input) sink sink_now = ⊥
+AnswerCause (IsOver finish) sink sink_now = sink ≤ sink_now
+AnswerCause GoesOn sink sink_now = sink ≤ sink_now
+
+-- the status of EXIT is below 100
+abbrev pub IsExitStatus : Finish → Type 0
+IsExitStatus (Exit status) = status < 100
+IsExitStatus finish = Unit {0}
+
+abbrev pub IsSmallExit : Progress → Type 0
+IsSmallExit (IsOver finish) = IsExitStatus finish
+IsSmallExit GoesOn = Unit {0}

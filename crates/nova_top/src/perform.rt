@@ -1,0 +1,36 @@
+ghost use Rattle.std.specs.Prelude.{IsTrue};
+ghost use Rattle.nova_top.specs.Core.{core_of};
+ghost use Rattle.nova_top.specs.Perform.{beginning};
+ghost use Rattle.nova_top.specs.Ends.{IsSession, FinishCause};
+
+use crate::command_loop::next_line;
+use crate::line_reader::LineReader;
+use crate::progress::{CommandLoop, Finish, Progress};
+use host_files::{Sink, Source};
+use nova_machine::Machine;
+
+/// How many lines a session may have: each costs a unit, and a long one more.
+pub const WHOLE_BUDGET: u64 = 1 << 32;
+
+/// Does all lines of the input, until the session is over.
+pub fn perform<C: Source, S: Sink>(
+    machine: &mut Machine,
+    prompt: bool,
+    input: &mut C,
+    output: &mut S,
+) -> Finish
+    ensures told { IsTrue C.tells → IsTrue S.tells → IsSession (beginning (core_of machine.old) prompt (C.left input.old)) result (core_of machine.new) (C.left input.new) (S.written output.old) (S.written output.new) }
+    ensures cause { FinishCause result (S.fault_count output.old) (S.fault_count output.new) (C.fault_count input.old) (C.fault_count input.new) }
+{
+    let mut lines = CommandLoop {
+        reader: LineReader::new(),
+        budget: WHOLE_BUDGET,
+        prompt,
+    };
+    'lines: loop {
+        match next_line(machine, &mut lines, input, output) {
+            Progress::GoesOn => (),
+            Progress::IsOver(finish) => return finish,
+        }
+    }
+}

@@ -1,0 +1,84 @@
+ghost use Rattle.std.specs.Prelude.{◌≡◌, ◌≢◌, None, IsTrue};
+ghost use Rattle.fault_counts.specs.Faults.{Rose};
+ghost use Rattle.nova_top.specs.Core.{core_of};
+ghost use Rattle.nova_top.specs.Perform.{beginning};
+ghost use Rattle.nova_top.specs.Outside.{texts_of};
+ghost use Rattle.nova_top.specs.Ends.{IsOutcome, IsCutShort, StatusCause, MachineThere, IsComplete, IsSession, FinishCause};
+ghost use Rattle.nova_top.specs.Program.{IsUsage, UsageCause, SessionEnds};
+
+use crate::perform::perform;
+use crate::progress::Finish;
+use crate::words::prompt_of;
+use host_files::{Sink, Source, put_all};
+use nova_machine::Machine;
+use std::alloc::Global;
+
+/// The line that answers words outside their grammar.
+const USAGE: &[u8] = b"usage: nova [-q] [-k keys] [-l instructions] [-m commands] [-g number] [script [arguments]]\n";
+
+/// How the program ended.
+#[derive(Drop)]
+pub struct Ending {
+    /// The exit status of the process: 0, 100, 102, 103, 104 or 106.
+    pub status: u8,
+    /// The machine as it was left, where there was one.
+    pub machine: Option<Machine>,
+}
+
+/// The whole program, over the words, the input and the console that are handed in.
+pub fn simulate<C: Source, S: Sink>(
+    alloc: Global,
+    words: &[String],
+    input: &mut C,
+    output: &mut S,
+) -> Ending
+    ensures outcome { IsTrue C.tells → IsTrue S.tells → result.status ≢ 103 → IsOutcome (texts_of words.now) (C.left input.old) (C.left input.new) (S.written output.old) (S.written output.new) result.status result.machine }
+    ensures memory { IsTrue C.tells → IsTrue S.tells → result.status ≡ 103 → IsCutShort (texts_of words.now) (C.left input.old) (C.left input.new) (S.written output.old) (S.written output.new) result.machine }
+    ensures complete { IsTrue C.tells → IsTrue S.tells → result.status ≢ 103 → (Rose (S.fault_count output.old) (S.fault_count output.new) → ⊥) → (Rose (C.fault_count input.old) (C.fault_count input.new) → ⊥) → IsComplete (texts_of words.now) (C.left input.old) (S.written output.old) (S.written output.new) result.status result.machine }
+    ensures cause { StatusCause (texts_of words.now) result.status (S.fault_count output.old) (S.fault_count output.new) (C.fault_count input.old) (C.fault_count input.new) }
+    ensures machine { MachineThere (texts_of words.now) result.status result.machine }
+{
+    let Some(prompt) = prompt_of(words) else {
+        return usage(output);
+    };
+    let Ok(machine) = Machine::new(alloc) else {
+        return Ending {
+            status: 103,
+            machine: None,
+        };
+    };
+    session(machine, prompt, input, output)
+}
+
+/// Answers words outside their grammar.
+fn usage<S: Sink>(output: &mut S) -> Ending
+    ensures told { IsTrue S.tells → IsUsage result.status (S.written output.old) (S.written output.new) }
+    ensures cause { UsageCause result.status (S.fault_count output.old) (S.fault_count output.new) }
+    ensures machine { result.machine ≡ None }
+{
+    let status = match put_all(output, USAGE) {
+        Ok(()) => 100,
+        Err(_) => 102,
+    };
+    Ending {
+        status,
+        machine: None,
+    }
+}
+
+/// A session with a new machine.
+fn session<C: Source, S: Sink>(
+    machine: Machine,
+    prompt: bool,
+    input: &mut C,
+    output: &mut S,
+) -> Ending
+    ensures ended { SessionEnds result.status result.machine (λ finish now. IsTrue C.tells → IsTrue S.tells → IsSession (beginning (core_of machine) prompt (C.left input.old)) finish (core_of now) (C.left input.new) (S.written output.old) (S.written output.new)) (λ finish. FinishCause finish (S.fault_count output.old) (S.fault_count output.new) (C.fault_count input.old) (C.fault_count input.new)) }
+{
+    let mut machine = machine;
+    let finish = perform(&mut machine, prompt, input, output);
+    Ending {
+        status: finish.status(),
+        machine: Some(machine),
+    }
+}
