@@ -3,11 +3,10 @@
 //! writes nothing to standard error.
 #![tactic(auto)]
 
-mod standin;
 mod words;
 
 use host_streams::{ReaderSource, WriterSink};
-use standin::simulate;
+use nova_top::simulate;
 use std::alloc::AllocError as OutOfMemory;
 use std::env::Env;
 use std::io;
