@@ -3,6 +3,9 @@
 //! writes nothing to standard error.
 #![tactic(auto)]
 
+ghost use Rattle.std.specs.Prelude.{◌≡◌, ◌⊎◌, None, IfOk};
+ghost use Rattle.nova_top.specs.Outside.{prompt_of, texts_of};
+
 mod words;
 
 use host_streams::{ReaderSource, WriterSink};
@@ -22,11 +25,19 @@ fn main(rt: HostRuntime) -> ExitCode {
     }
 }
 
-/// Runs a session over the runtime's words and standard streams.
+/// Runs a session over the runtime's words and standard streams, and answers its status.
 fn session_status<R: Env + Input + Print + AllocGlobal>(rt: &R) -> Result<u8, OutOfMemory> {
     let words = words::command_line(rt)?;
+    session(rt, words.as_slice())
+}
+
+/// Runs a session over these words and the runtime's standard streams, and answers its status.
+fn session<R: Input + Print + AllocGlobal>(rt: &R, words: &[String]) -> Result<u8, OutOfMemory>
+    ensures usage { IfOk result (λ status. status ≡ 100 → prompt_of (texts_of words.now) ≡ None) }
+    ensures bad_words { prompt_of (texts_of words.now) ≡ None → IfOk result (λ status. (status ≡ 100) ⊎ (status ≡ 102)) }
+{
     let mut input = ReaderSource::new(rt.alloc(), rt.reader())?;
     let mut output = WriterSink::new(io::writer(rt));
-    let ending = simulate(rt.alloc(), words.as_slice(), &mut input, &mut output);
+    let ending = simulate(rt.alloc(), words, &mut input, &mut output);
     Ok(ending.status)
 }
