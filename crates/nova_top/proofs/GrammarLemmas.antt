@@ -42,9 +42,9 @@ pub is_octal-complete : (most : ℕ) (text : List ℕ) (n : ℕ) → IsNumber 8 
 unfolding is_octal
 is_octal-complete most text n number short =
     and_from (nat_lt 0 (length text) && list_all is_octal_digit text) (nat_le (length text) most)
-      (and_from (nat_lt 0 (length text)) (list_all is_octal_digit text) (lt-ltb 0 (length text) number.some)
-        (list_all-from_AllPass is_octal_digit text (λ k d l. digit-complete _ (number.digits k d l))))
-      (le-leb (length text) most short)
+    (and_from (nat_lt 0 (length text)) (list_all is_octal_digit text) (lt-ltb 0 (length text) number.some)
+    (list_all-from_AllPass is_octal_digit text (λ k d l. digit-complete _ (number.digits k d l))))
+    (le-leb (length text) most short)
 
 -- a text that begins with a digit is no name of a register
 no-name : (b : ℕ) (text more : List ℕ) (letter : ℕ) → b < 56 → 56 ≤ letter → bytes_eq (b ∷ text) (letter ∷ more) ≡ false
@@ -56,7 +56,7 @@ place-complete-number [] n number short = absurd (omega (arith, number.some))
 place-complete-number (b ∷ text) n number short =
     let low : b < 56 = (number.digits 0 0 (omega arith)).1 in
     rw (no-name b text (67 ∷ 48 ∷ []) 65 low (omega arith), no-name b text (67 ∷ 49 ∷ []) 65 low (omega arith), no-name b text (67 ∷ 50 ∷ []) 65 low (omega arith), no-name b text (67 ∷ 51 ∷ []) 65 low (omega arith), no-name b text (67 ∷ []) 80 low (omega arith), is_octal-complete 5 (b ∷ text) n number short)
-      (ap (λ k. Some (At k)) number.value)
+    (ap (λ k. Some (At k)) number.value)
 
 pub place-complete : (text : List ℕ) (place : Place) → IsPlace text place → place_of text ≡ Some place
 unfolding place_of
@@ -73,34 +73,34 @@ named text name h = (bytes_eq-Decides text name).0 h
 place-sound-number : (text : List ℕ) (place : Place) → cond (is_octal 5 text) (Some (At (value_of 8 text))) None ≡ Some place → IsPlace text place
 place-sound-number text place h =
     ⊎_elim
-      (λ (yes : (is_octal 5 text ≡ true) × (Some (At (value_of 8 text)) ≡ Some place)). subst (λ p. IsPlace text p) (some-equal yes.1) (is_octal-sound 5 text yes.0))
-      (λ (no : (is_octal 5 text ≡ false) × (None ≡ Some place)). absurd (cc))
-      (chosen (is_octal 5 text) (Some (At (value_of 8 text))) None place h)
+    (λ (yes : (is_octal 5 text ≡ true) × (Some (At (value_of 8 text)) ≡ Some place)). subst (λ p. IsPlace text p) (some-equal yes.1) (is_octal-sound 5 text yes.0))
+    (λ (no : (is_octal 5 text ≡ false) × (None ≡ Some place)). absurd (cc))
+    (chosen (is_octal 5 text) (Some (At (value_of 8 text))) None place h)
 
 place-sound-name : (text name : List ℕ) (register : CpuReg) (rest : Option Place) (place : Place) → name ≡ register_name register
     → cond (bytes_eq text name) (Some (Register register)) rest ≡ Some place → (rest ≡ Some place → IsPlace text place) → IsPlace text place
 place-sound-name text name register rest place is h goes_on =
     ⊎_elim
-      (λ (yes : (bytes_eq text name ≡ true) × (Some (Register register) ≡ Some place)). subst (λ p. IsPlace text p) (some-equal yes.1) (named text name yes.0 ∙ is))
-      (λ (no : (bytes_eq text name ≡ false) × (rest ≡ Some place)). goes_on no.1)
-      (chosen (bytes_eq text name) (Some (Register register)) rest place h)
+    (λ (yes : (bytes_eq text name ≡ true) × (Some (Register register) ≡ Some place)). subst (λ p. IsPlace text p) (some-equal yes.1) (named text name yes.0 ∙ is))
+    (λ (no : (bytes_eq text name ≡ false) × (rest ≡ Some place)). goes_on no.1)
+    (chosen (bytes_eq text name) (Some (Register register)) rest place h)
 
 pub place-sound : (text : List ℕ) (place : Place) → place_of text ≡ Some place → IsPlace text place
 unfolding place_of
 place-sound text place h =
     place-sound-name text (codes "AC0") Ac0 _ place refl h (λ h. place-sound-name text (codes "AC1") Ac1 _ place refl h (λ h. place-sound-name text (codes "AC2") Ac2 _ place refl h
-      (λ h. place-sound-name text (codes "AC3") Ac3 _ place refl h (λ h. place-sound-name text (codes "PC") Pc _ place refl h (λ h. place-sound-number text place h)))))
+    (λ h. place-sound-name text (codes "AC3") Ac3 _ place refl h (λ h. place-sound-name text (codes "PC") Pc _ place refl h (λ h. place-sound-number text place h)))))
 
 pub value-sound : (largest : ℕ) (text : List ℕ) (value : ℕ) → value_up_to largest text ≡ Some value → IsValue largest text value
 unfolding value_up_to
 value-sound largest text value h =
     ⊎_elim
-      (λ (yes : ((is_octal 6 text && nat_le (value_of 8 text) largest) ≡ true) × (Some (value_of 8 text) ≡ Some value)).
-        let parts = and_parts (is_octal 6 text) (nat_le (value_of 8 text) largest) yes.0 in
-        let number = is_octal-sound 6 text parts.0 in
-        subst (λ v. IsValue largest text v) (some-equal yes.1) (number.0, number.1, leb-true (value_of 8 text) largest parts.1))
-      (λ (no : ((is_octal 6 text && nat_le (value_of 8 text) largest) ≡ false) × (None ≡ Some value)). absurd (cc))
-      (chosen (is_octal 6 text && nat_le (value_of 8 text) largest) (Some (value_of 8 text)) None value h)
+    (λ (yes : ((is_octal 6 text && nat_le (value_of 8 text) largest) ≡ true) × (Some (value_of 8 text) ≡ Some value)).
+    let parts = and_parts (is_octal 6 text) (nat_le (value_of 8 text) largest) yes.0 in
+    let number = is_octal-sound 6 text parts.0 in
+    subst (λ v. IsValue largest text v) (some-equal yes.1) (number.0, number.1, leb-true (value_of 8 text) largest parts.1))
+    (λ (no : ((is_octal 6 text && nat_le (value_of 8 text) largest) ≡ false) × (None ≡ Some value)). absurd (cc))
+    (chosen (is_octal 6 text && nat_le (value_of 8 text) largest) (Some (value_of 8 text)) None value h)
 
 pub value-complete : (largest : ℕ) (text : List ℕ) (value : ℕ) → IsValue largest text value → value_up_to largest text ≡ Some value
 unfolding value_up_to
@@ -133,8 +133,8 @@ before-blank text digits h = take_at text (32 ∷ digits) (prefix_len (λ b. not
 after-blank : (text digits : List ℕ) → list_all (λ b. not (b == 32)) text ≡ true → after_first (λ b. b == 32) (text ++ 32 ∷ digits) ≡ digits
 after-blank text digits h =
     ap (λ n. drop (n + 1) (text ++ 32 ∷ digits)) (first-blank text digits h)
-      ∙ ap (λ l. drop (length text + 1) l) (sym (append_assoc text (32 ∷ []) digits))
-      ∙ drop_at (text ++ 32 ∷ []) digits (length text + 1) (length-append text (32 ∷ []))
+    ∙ ap (λ l. drop (length text + 1) l) (sym (append_assoc text (32 ∷ []) digits))
+    ∙ drop_at (text ++ 32 ∷ []) digits (length text + 1) (length-append text (32 ∷ []))
 
 mapped : {A B : Type 0} (f : A → B) (o : Option A) (y : B) → option_map f o ≡ Some y → (x : A) × (o ≡ Some x) × (f x ≡ y)
 mapped f None y h = absurd (cc)
@@ -150,14 +150,14 @@ unfolding deposit_of deposit_at
 deposit-complete text digits place value p v =
     let black = black-place text place p in
     rw (before-blank text digits black, after-blank text digits black, place-complete text place p)
-      (ap (option_map (λ value. Deposit place value)) (value-complete (largest_at place) digits value v))
+    (ap (option_map (λ value. Deposit place value)) (value-complete (largest_at place) digits value v))
 
 -- a line of which a blank stands somewhere
 split-blank : (line : List ℕ) → 0 < length (after_first (λ b. b == 32) line) → line ≡ before_first (λ b. b == 32) line ++ 32 ∷ after_first (λ b. b == 32) line
 split-blank line some =
     let within : position_or_len (λ b. b == 32) line < length line = omega (arith, length-drop (position_or_len (λ b. b == 32) line + 1) line, some) in
     split_at_first (λ b. b == 32) line 0 within
-      ∙ ap (λ b. before_first (λ b. b == 32) line ++ b ∷ after_first (λ b. b == 32) line) (eqb-true _ 32 (passes_at_first (λ b. b == 32) line 0 within))
+    ∙ ap (λ b. before_first (λ b. b == 32) line ++ b ∷ after_first (λ b. b == 32) line) (eqb-true _ 32 (passes_at_first (λ b. b == 32) line 0 within))
 
 pub deposit-sound : (rest : List ℕ) (command : Command) → deposit_of rest ≡ Some command
     → (text : List ℕ) × (digits : List ℕ) × (place : Place) × (value : ℕ) × (rest ≡ text ++ 32 ∷ digits) × IsPlace text place × IsValue (largest_at place) digits value × (command ≡ Deposit place value)
@@ -184,10 +184,10 @@ command-complete line Step h = rw h refl
 command-complete line Exit h = rw h refl
 command-complete line (Examine place) (text, is, names) =
     rw (is, not-empty (codes "EXAMINE " ++ text) (omega (arith, length-append (codes "EXAMINE ") text)))
-      (ap (option_map (λ place. Examine place)) (place-complete text place names))
+    (ap (option_map (λ place. Examine place)) (place-complete text place names))
 command-complete line (Deposit place value) (text, digits, is, names, stands) =
     rw (is, not-empty (codes "DEPOSIT " ++ (text ++ 32 ∷ digits)) (omega (arith, length-append (codes "DEPOSIT ") (text ++ 32 ∷ digits))))
-      (deposit-complete text digits place value names stands)
+    (deposit-complete text digits place value names stands)
 
 examine-sound : (line : List ℕ) (command : Command) → starts_with nat_eq line (codes "EXAMINE ") ≡ true → option_map (λ place. Examine place) (place_of (drop 8 line)) ≡ Some command → Parses line command
 examine-sound line command front h =
@@ -213,10 +213,10 @@ pub command-sound : (line : List ℕ) (command : Command) → command_of line �
 unfolding command_of
 command-sound line command =
     choice-sound line command _ _ _ (λ b x. subst (λ c. Parses line c) (some-equal x) (empty-line line b))
-      (choice-sound line command _ _ _ (λ b x. subst (λ c. Parses line c) (some-equal x) (named line (codes "STEP") b))
-        (choice-sound line command _ _ _ (λ b x. subst (λ c. Parses line c) (some-equal x) (named line (codes "EXIT") b))
-          (choice-sound line command _ _ _ (examine-sound line command)
-            (choice-sound line command _ _ _ (deposits-sound line command) (λ x. absurd (cc))))))
+    (choice-sound line command _ _ _ (λ b x. subst (λ c. Parses line c) (some-equal x) (named line (codes "STEP") b))
+    (choice-sound line command _ _ _ (λ b x. subst (λ c. Parses line c) (some-equal x) (named line (codes "EXIT") b))
+    (choice-sound line command _ _ _ (examine-sound line command)
+    (choice-sound line command _ _ _ (deposits-sound line command) (λ x. absurd (cc))))))
 
 pub one-command : (line : List ℕ) (one other : Command) → Parses line one → Parses line other → one ≡ other
 one-command line one other h k = some-equal (sym (command-complete line one h) ∙ command-complete line other k)
@@ -234,11 +234,11 @@ command-refused line None h = λ command parses. let found = h ∙ command-compl
 pub no-blank : (text : List ℕ) → position (λ b. b == 32) text ≡ None → length text ≡ position_or_len (λ b. b == 32) text
 no-blank text none =
     ⊎_elim
-      (λ (here : nat_lt (position_or_len (λ b. b == 32) text) (length text) ≡ true).
-        let found = sym none ∙ cond-true (nat_lt (position_or_len (λ b. b == 32) text) (length text)) (Some (position_or_len (λ b. b == 32) text)) None here in absurd (cc))
-      (λ (not_here : nat_lt (position_or_len (λ b. b == 32) text) (length text) ≡ false).
-        omega (arith, ltb-false (position_or_len (λ b. b == 32) text) (length text) not_here, prefix_len-le-length (λ b. not (b == 32)) text))
-      (cases_Bool (nat_lt (position_or_len (λ b. b == 32) text) (length text)))
+    (λ (here : nat_lt (position_or_len (λ b. b == 32) text) (length text) ≡ true).
+    let found = sym none ∙ cond-true (nat_lt (position_or_len (λ b. b == 32) text) (length text)) (Some (position_or_len (λ b. b == 32) text)) None here in absurd (cc))
+    (λ (not_here : nat_lt (position_or_len (λ b. b == 32) text) (length text) ≡ false).
+    omega (arith, ltb-false (position_or_len (λ b. b == 32) text) (length text) not_here, prefix_len-le-length (λ b. not (b == 32)) text))
+    (cases_Bool (nat_lt (position_or_len (λ b. b == 32) text) (length text)))
 
 parsed-fits : (line : List ℕ) (command : Command) → Parses line command → FitsItsPlace (Some command)
 parsed-fits line Nothing h = tt

@@ -40,8 +40,8 @@ refused-cut s n gives short =
     let b = trace-asks s in
     let size = length-take-le n (prompt_text s.prompt) (omega (arith, short)) in
     ap (cut_trace (length (take n (prompt_text s.prompt))) gives) b.is
-      ∙ ap (λ m. cut m gives (Prints (prompt_text s.prompt) s.core ∷ Reads (reads_due s.budget s.open_ s.input) s.core ∷ [] ++ b.more) b.ended) size
-      ∙ cut-refused (prompt_text s.prompt) s.core (Reads (reads_due s.budget s.open_ s.input) s.core ∷ [] ++ b.more) b.ended n gives short
+    ∙ ap (λ m. cut m gives (Prints (prompt_text s.prompt) s.core ∷ Reads (reads_due s.budget s.open_ s.input) s.core ∷ [] ++ b.more) b.ended) size
+    ∙ cut-refused (prompt_text s.prompt) s.core (Reads (reads_due s.budget s.open_ s.input) s.core ∷ [] ++ b.more) b.ended n gives short
 
 pub prompt-refused : (old : Session) (before after : List ℕ) → AddsPart before (prompt_text old.prompt) after → Finishes old Console old before after
 prompt-refused old before after (n, short, written) = record {
@@ -49,7 +49,7 @@ prompt-refused old before after (n, short, written) = record {
   made = 0;
   lets_through = refl;
   reads = none-read old.open_ old.input;
-  end = record { taken = take n (prompt_text old.prompt); written = written; outcome = refused-cut old n (reads_left old.open_ old.input) short }
+  end = record { taken = take n (prompt_text old.prompt); written = written; outcome = refused-cut old n (reads_left old.open_ old.input) short };
 }
 
 -- all of it went through: the prompt and the reads of the next line
@@ -58,11 +58,11 @@ asked-cut : (s : Session) (status gives : ℕ) (core : Core) → trace s ≡ rec
 asked-cut s status gives core is enough =
     let more : gives ≡ reads_of (asking s) + (gives - reads_due s.budget s.open_ s.input) = omega (arith, asking-reads s, enough) in
     ap (cut_trace (length (prompt_text s.prompt)) gives) is
-      ∙ ap (λ t. cut (length t) gives (asking s) (record { status = status; state = core })) (sym (asking-text s))
-      ∙ ap (λ n. cut (length (text_of (asking s))) n (asking s) (record { status = status; state = core })) more
-      ∙ cut-whole (asking s) (record { status = status; state = core }) (gives - reads_due s.budget s.open_ s.input)
-      ∙ ap (λ t. ends status t (reads_of (asking s)) core) (asking-text s)
-      ∙ ap (λ n. ends status (prompt_text s.prompt) n core) (asking-reads s)
+    ∙ ap (λ t. cut (length t) gives (asking s) (record { status = status; state = core })) (sym (asking-text s))
+    ∙ ap (λ n. cut (length (text_of (asking s))) n (asking s) (record { status = status; state = core })) more
+    ∙ cut-whole (asking s) (record { status = status; state = core }) (gives - reads_due s.budget s.open_ s.input)
+    ∙ ap (λ t. ends status t (reads_of (asking s)) core) (asking-text s)
+    ∙ ap (λ n. ends status (prompt_text s.prompt) n core) (asking-reads s)
 
 -- the reads that were made are among those that can be made
 read-within : (made : ℕ) (open_ : Bool) (input : List ℕ) (open_now : Bool) (left : List ℕ) → AreRead made open_ input open_now left → made ≤ reads_left open_ input
@@ -79,7 +79,7 @@ input-ended old new before after e core reads written =
       made = reads_due old.budget old.open_ old.input;
       lets_through = refl;
       reads = reads;
-      end = record { taken = prompt_text old.prompt; written = written; outcome = all ∙ ap (ends 0 (prompt_text old.prompt) (reads_due old.budget old.open_ old.input)) (sym core) }
+      end = record { taken = prompt_text old.prompt; written = written; outcome = all ∙ ap (ends 0 (prompt_text old.prompt) (reads_due old.budget old.open_ old.input)) (sym core) };
     }
 
 pub unit-missing : (old new : Session) (before after : List ℕ) → due old.budget old.open_ old.input ≡ Unpaid → new.core ≡ old.core
@@ -93,7 +93,7 @@ unit-missing old new before after e core reads written =
       made = reads_due old.budget old.open_ old.input;
       lets_through = refl;
       reads = reads;
-      end = record { taken = prompt_text old.prompt; written = written; outcome = all ∙ ap (ends 104 (prompt_text old.prompt) (reads_due old.budget old.open_ old.input)) (sym core) }
+      end = record { taken = prompt_text old.prompt; written = written; outcome = all ∙ ap (ends 104 (prompt_text old.prompt) (reads_due old.budget old.open_ old.input)) (sym core) };
     }
 
 -- a read fails behind the prompt
@@ -102,11 +102,11 @@ unfolding asking
 failed-cut s made short =
     let b = trace-asks s in
     ap (cut_trace (length (prompt_text s.prompt)) made) b.is
-      ∙ ap (λ t. cut (length t) made (Prints (prompt_text s.prompt) s.core ∷ Reads (reads_due s.budget s.open_ s.input) s.core ∷ [] ++ b.more) b.ended) (sym (append-nil (prompt_text s.prompt)))
-      ∙ ap (λ n. cut (length (prompt_text s.prompt ++ [])) n (Prints (prompt_text s.prompt) s.core ∷ Reads (reads_due s.budget s.open_ s.input) s.core ∷ [] ++ b.more) b.ended) (sym (zero-add made))
-      ∙ cut-failed-after (Prints (prompt_text s.prompt) s.core ∷ []) (reads_due s.budget s.open_ s.input) s.core b.more b.ended made short
-      ∙ ap (λ t. ends 106 t (0 + made) s.core) (append-nil (prompt_text s.prompt))
-      ∙ ap (λ n. ends 106 (prompt_text s.prompt) n s.core) (zero-add made)
+    ∙ ap (λ t. cut (length t) made (Prints (prompt_text s.prompt) s.core ∷ Reads (reads_due s.budget s.open_ s.input) s.core ∷ [] ++ b.more) b.ended) (sym (append-nil (prompt_text s.prompt)))
+    ∙ ap (λ n. cut (length (prompt_text s.prompt ++ [])) n (Prints (prompt_text s.prompt) s.core ∷ Reads (reads_due s.budget s.open_ s.input) s.core ∷ [] ++ b.more) b.ended) (sym (zero-add made))
+    ∙ cut-failed-after (Prints (prompt_text s.prompt) s.core ∷ []) (reads_due s.budget s.open_ s.input) s.core b.more b.ended made short
+    ∙ ap (λ t. ends 106 t (0 + made) s.core) (append-nil (prompt_text s.prompt))
+    ∙ ap (λ n. ends 106 (prompt_text s.prompt) n s.core) (zero-add made)
 
 pub input-failed : (old new : Session) (before after : List ℕ) (made : ℕ) → made < reads_due old.budget old.open_ old.input → new.core ≡ old.core
     → AreRead made old.open_ old.input new.open_ new.input → after ≡ before ++ prompt_text old.prompt → Finishes old Input new before after
@@ -115,7 +115,7 @@ input-failed old new before after made short core reads written = record {
   made = made;
   lets_through = refl;
   reads = reads;
-  end = record { taken = prompt_text old.prompt; written = written; outcome = failed-cut old made short ∙ ap (ends 106 (prompt_text old.prompt) made) (sym core) }
+  end = record { taken = prompt_text old.prompt; written = written; outcome = failed-cut old made short ∙ ap (ends 106 (prompt_text old.prompt) made) (sym core) };
 }
 
 -- the text and the reads of a line with its command
@@ -123,15 +123,15 @@ line-text : (s : Session) (command : Option Command) → text_of (command_step s
 unfolding command_step
 line-text s command =
     text_of-append (asking s) (Prints (does s.core command).text (does s.core command).core ∷ [])
-      ∙ ap (λ t. t ++ ((does s.core command).text ++ [])) (asking-text s)
-      ∙ ap (λ t. prompt_text s.prompt ++ t) (append-nil (does s.core command).text)
+    ∙ ap (λ t. t ++ ((does s.core command).text ++ [])) (asking-text s)
+    ∙ ap (λ t. prompt_text s.prompt ++ t) (append-nil (does s.core command).text)
 
 line-reads : (s : Session) (command : Option Command) → reads_of (command_step s command).events ≡ reads_due s.budget s.open_ s.input
 unfolding command_step
 line-reads s command =
     reads_of-append (asking s) (Prints (does s.core command).text (does s.core command).core ∷ [])
-      ∙ add-zero (reads_of (asking s))
-      ∙ asking-reads s
+    ∙ add-zero (reads_of (asking s))
+    ∙ asking-reads s
 
 -- a line that comes takes its bytes, and its LF or the end
 comes-reads : (budget : ℕ) (open_ : Bool) (input line : List ℕ) → due budget open_ input ≡ Comes line → reads_due budget open_ input ≡ length (first_line input) + 1
@@ -143,10 +143,10 @@ comes-reads budget false input line e = absurd (cc)
 session-equal : (s t : Session) → s.core ≡ t.core → s.budget ≡ t.budget → s.input ≡ t.input → s.open_ ≡ t.open_ → s.prompt ≡ t.prompt → s ≡ t
 session-equal s t core budget input open_ prompt =
     ap (λ c. record { core = c; budget = s.budget; input = s.input; open_ = s.open_; prompt = s.prompt }) core
-      ∙ ap (λ b. record { core = t.core; budget = b; input = s.input; open_ = s.open_; prompt = s.prompt }) budget
-      ∙ ap (λ i. record { core = t.core; budget = t.budget; input = i; open_ = s.open_; prompt = s.prompt }) input
-      ∙ ap (λ o. record { core = t.core; budget = t.budget; input = t.input; open_ = o; prompt = s.prompt }) open_
-      ∙ ap (λ p. record { core = t.core; budget = t.budget; input = t.input; open_ = t.open_; prompt = p }) prompt
+    ∙ ap (λ b. record { core = t.core; budget = b; input = s.input; open_ = s.open_; prompt = s.prompt }) budget
+    ∙ ap (λ i. record { core = t.core; budget = t.budget; input = i; open_ = s.open_; prompt = s.prompt }) input
+    ∙ ap (λ o. record { core = t.core; budget = t.budget; input = t.input; open_ = o; prompt = s.prompt }) open_
+    ∙ ap (λ p. record { core = t.core; budget = t.budget; input = t.input; open_ = t.open_; prompt = p }) prompt
 
 -- a session behind a line, as the code leaves it
 pub record IsBehind (old : Session) (command : Option Command) (new : Session) : Type 0 where
@@ -160,7 +160,7 @@ behind-is : (old new : Session) (line : List ℕ) (command : Option Command) →
 unfolding behind_line
 behind-is old new line command e b =
     session-equal (behind_line old (does old.core command).core) new (sym b.core) (sym b.budget)
-      (sym (b.reads.rest ∙ ap (λ n. drop n old.input) (comes-reads old.budget old.open_ old.input line e))) (sym b.open_) (sym b.prompt)
+    (sym (b.reads.rest ∙ ap (λ n. drop n old.input) (comes-reads old.budget old.open_ old.input line e))) (sym b.open_) (sym b.prompt)
 
 command-next : (s : Session) (command : Option Command) (exits : Bool) → is_exit command ≡ exits → (command_step s command).next ≡ next_after exits (behind_line s (does s.core command).core)
 unfolding command_step
@@ -174,7 +174,7 @@ behind-core s core = refl
 command-refused-cut : (s : Session) (line : List ℕ) (command : Option Command) (n gives : ℕ) → due s.budget s.open_ s.input ≡ Comes line → command_of line ≡ command
     → n < length (does s.core command).text → reads_due s.budget s.open_ s.input ≤ gives
     → cut_trace (length (prompt_text s.prompt ++ take n (does s.core command).text)) gives (trace s)
-        ≡ ends 102 (prompt_text s.prompt ++ take n (does s.core command).text) (reads_due s.budget s.open_ s.input) (does s.core command).core
+    ≡ ends 102 (prompt_text s.prompt ++ take n (does s.core command).text) (reads_due s.budget s.open_ s.input) (does s.core command).core
 unfolding command_step
 command-refused-cut s line command n gives e c short enough =
     let b = trace-begins s in
@@ -183,13 +183,13 @@ command-refused-cut s line command n gives e c short enough =
     let events = ap (λ s. s.events) (step-line s line command e c) in
     let more : gives ≡ reads_of (asking s) + (gives - reads_due s.budget s.open_ s.input) = omega (arith, asking-reads s, enough) in
     ap (cut_trace (length shown) gives) b.is
-      ∙ ap (λ l. cut (length shown) gives (l ++ b.more) b.ended) events
-      ∙ ap (λ l. cut (length shown) gives l b.ended) (append_assoc (asking s) (Prints reply.text reply.core ∷ []) b.more)
-      ∙ ap (λ n. cut (length shown) n (asking s ++ Prints reply.text reply.core ∷ b.more) b.ended) more
-      ∙ ap (λ t. cut (length (t ++ take n reply.text)) (reads_of (asking s) + (gives - reads_due s.budget s.open_ s.input)) (asking s ++ Prints reply.text reply.core ∷ b.more) b.ended) (sym (asking-text s))
-      ∙ cut-refused-after (asking s) reply.text reply.core b.more b.ended n (gives - reads_due s.budget s.open_ s.input) short
-      ∙ ap (λ t. ends 102 (t ++ take n reply.text) (reads_of (asking s)) reply.core) (asking-text s)
-      ∙ ap (λ n. ends 102 shown n reply.core) (asking-reads s)
+    ∙ ap (λ l. cut (length shown) gives (l ++ b.more) b.ended) events
+    ∙ ap (λ l. cut (length shown) gives l b.ended) (append_assoc (asking s) (Prints reply.text reply.core ∷ []) b.more)
+    ∙ ap (λ n. cut (length shown) n (asking s ++ Prints reply.text reply.core ∷ b.more) b.ended) more
+    ∙ ap (λ t. cut (length (t ++ take n reply.text)) (reads_of (asking s) + (gives - reads_due s.budget s.open_ s.input)) (asking s ++ Prints reply.text reply.core ∷ b.more) b.ended) (sym (asking-text s))
+    ∙ cut-refused-after (asking s) reply.text reply.core b.more b.ended n (gives - reads_due s.budget s.open_ s.input) short
+    ∙ ap (λ t. ends 102 (t ++ take n reply.text) (reads_of (asking s)) reply.core) (asking-text s)
+    ∙ ap (λ n. ends 102 shown n reply.core) (asking-reads s)
 
 -- the session is over behind its command
 command-whole-cut : (s : Session) (status gives : ℕ) (core : Core) (command : Option Command) → trace s ≡ record { events = (command_step s command).events; ended = record { status = status; state = core } }
@@ -200,11 +200,11 @@ command-whole-cut s status gives core command is enough =
     let shown = prompt_text s.prompt ++ (does s.core command).text in
     let more : gives ≡ reads_of events + (gives - reads_due s.budget s.open_ s.input) = omega (arith, line-reads s command, enough) in
     ap (cut_trace (length shown) gives) is
-      ∙ ap (λ t. cut (length t) gives events (record { status = status; state = core })) (sym (line-text s command))
-      ∙ ap (λ n. cut (length (text_of events)) n events (record { status = status; state = core })) more
-      ∙ cut-whole events (record { status = status; state = core }) (gives - reads_due s.budget s.open_ s.input)
-      ∙ ap (λ t. ends status t (reads_of events) core) (line-text s command)
-      ∙ ap (λ n. ends status shown n core) (line-reads s command)
+    ∙ ap (λ t. cut (length t) gives events (record { status = status; state = core })) (sym (line-text s command))
+    ∙ ap (λ n. cut (length (text_of events)) n events (record { status = status; state = core })) more
+    ∙ cut-whole events (record { status = status; state = core }) (gives - reads_due s.budget s.open_ s.input)
+    ∙ ap (λ t. ends status t (reads_of events) core) (line-text s command)
+    ∙ ap (λ n. ends status shown n core) (line-reads s command)
 
 pub answered : (old new : Session) (line : List ℕ) (command : Option Command) (result : Progress) (before mid after : List ℕ) → due old.budget old.open_ old.input ≡ Comes line → command_of line ≡ command
     → IsBehind old command new → mid ≡ before ++ prompt_text old.prompt → IsAnswer (does old.core command).text (is_exit command) result mid after → Progresses old result new before after
@@ -213,14 +213,14 @@ answered old new line command GoesOn before mid after e c b asked a =
     record {
       next = ap (λ s. s.next) is ∙ command-next old command false a.0 ∙ ap Going (behind-is old new line command e b);
       written = a.1 ∙ ap (λ t. t ++ (does old.core command).text) asked ∙ append_assoc before (prompt_text old.prompt) (does old.core command).text
-        ∙ ap (λ t. before ++ t) (sym (ap (λ s. text_of s.events) is ∙ line-text old command));
-      reads = subst (λ n. AreRead n old.open_ old.input new.open_ new.input) (sym (ap (λ s. reads_of s.events) is ∙ line-reads old command)) b.reads
+          ∙ ap (λ t. before ++ t) (sym (ap (λ s. text_of s.events) is ∙ line-text old command));
+      reads = subst (λ n. AreRead n old.open_ old.input new.open_ new.input) (sym (ap (λ s. reads_of s.events) is ∙ line-reads old command)) b.reads;
     }
 answered old new line command (IsOver (Exit status)) before mid after e c b asked a =
     let is = step-line old line command e c in
     let core = (does old.core command).core in
     let over = trace-over old 0 core (ap (λ s. s.next) is ∙ command-next old command true a.0 ∙ ap (Over 0) (behind-core old core))
-          ∙ ap (λ s. record { events = s.events; ended = record { status = 0; state = core } }) is in
+    ∙ ap (λ s. record { events = s.events; ended = record { status = 0; state = core } }) is in
     let whole = command-whole-cut old 0 (reads_left old.open_ old.input) core command over (read-within _ old.open_ old.input new.open_ new.input b.reads) in
     record {
       gives = reads_left old.open_ old.input;
@@ -231,8 +231,8 @@ answered old new line command (IsOver (Exit status)) before mid after e c b aske
         taken = prompt_text old.prompt ++ (does old.core command).text;
         written = a.2 ∙ ap (λ t. t ++ (does old.core command).text) asked ∙ append_assoc before (prompt_text old.prompt) (does old.core command).text;
         outcome = whole ∙ ap (ends 0 (prompt_text old.prompt ++ (does old.core command).text) (reads_due old.budget old.open_ old.input)) (sym b.core)
-          ∙ ap (λ n. ends n (prompt_text old.prompt ++ (does old.core command).text) (reads_due old.budget old.open_ old.input) new.core) (sym a.1)
-      }
+            ∙ ap (λ n. ends n (prompt_text old.prompt ++ (does old.core command).text) (reads_due old.budget old.open_ old.input) new.core) (sym a.1);
+      };
     }
 answered old new line command (IsOver Console) before mid after e c b asked (n, short, written) =
     let refused = command-refused-cut old line command n (reads_left old.open_ old.input) e c short (read-within _ old.open_ old.input new.open_ new.input b.reads) in
@@ -244,8 +244,8 @@ answered old new line command (IsOver Console) before mid after e c b asked (n, 
       end = record {
         taken = prompt_text old.prompt ++ take n (does old.core command).text;
         written = written ∙ ap (λ t. t ++ take n (does old.core command).text) asked ∙ append_assoc before (prompt_text old.prompt) (take n (does old.core command).text);
-        outcome = refused ∙ ap (ends 102 (prompt_text old.prompt ++ take n (does old.core command).text) (reads_due old.budget old.open_ old.input)) (sym b.core)
-      }
+        outcome = refused ∙ ap (ends 102 (prompt_text old.prompt ++ take n (does old.core command).text) (reads_due old.budget old.open_ old.input)) (sym b.core);
+      };
     }
 answered old new line command (IsOver EndOfInput) before mid after e c b asked a = absurd a
 answered old new line command (IsOver Commands) before mid after e c b asked a = absurd a

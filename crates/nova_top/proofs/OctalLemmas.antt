@@ -46,14 +46,14 @@ unfolding octal_up_to
 octal-range most text None h = tt
 octal-range most text (Some n) h =
     ⊎_elim
-      (λ (yes : is_octal most text ≡ true).
-        let same : Some n ≡ Some (value_of 8 text) = h ∙ cond-true (is_octal most text) (Some (value_of 8 text)) None yes in
-        let small = octal-small most text yes in
-        let equal : n ≡ value_of 8 text = cc in
-        omega (arith, equal, small))
-      (λ (no : is_octal most text ≡ false).
-        let same : Some n ≡ None = h ∙ cond-false (is_octal most text) (Some (value_of 8 text)) None no in absurd (cc))
-      (cases_Bool (is_octal most text))
+    (λ (yes : is_octal most text ≡ true).
+    let same : Some n ≡ Some (value_of 8 text) = h ∙ cond-true (is_octal most text) (Some (value_of 8 text)) None yes in
+    let small = octal-small most text yes in
+    let equal : n ≡ value_of 8 text = cc in
+    omega (arith, equal, small))
+    (λ (no : is_octal most text ≡ false).
+    let same : Some n ≡ None = h ∙ cond-false (is_octal most text) (Some (value_of 8 text)) None no in absurd (cc))
+    (cases_Bool (is_octal most text))
 
 -- what the reader of octal numbers answers of such a text
 pub octal-read : (most : ℕ) (text : List ℕ) (r : Result ℕ NumberFault) → most ≤ 6 → length text ≤ most → ReadsNumber 8 (2 ^ 32 - 1) text r
@@ -62,11 +62,11 @@ unfolding octal_up_to
 octal-read most text (Ok n) few short h = rw (is_octal-complete most text n h.0 short) (ap (λ v. Some v) (sym h.0.value))
 octal-read most text (Err fault) few short h =
     ⊎_elim
-      (λ (yes : is_octal most text ≡ true).
-        let number = is_octal-sound most text yes in
-        let small = octal-small most text yes in
-        let limit = power most 6 few in
-        let same : Ok (value_of 8 text) ≡ Err fault = one_answer 8 (2 ^ 32 - 1) text (Ok (value_of 8 text)) (Err fault) (number.0, omega (arith, small, limit)) h in
-        absurd (cc))
-      (λ (no : is_octal most text ≡ false). rw no refl)
-      (cases_Bool (is_octal most text))
+    (λ (yes : is_octal most text ≡ true).
+    let number = is_octal-sound most text yes in
+    let small = octal-small most text yes in
+    let limit = power most 6 few in
+    let same : Ok (value_of 8 text) ≡ Err fault = one_answer 8 (2 ^ 32 - 1) text (Ok (value_of 8 text)) (Err fault) (number.0, omega (arith, small, limit)) h in
+    absurd (cc))
+    (λ (no : is_octal most text ≡ false). rw no refl)
+    (cases_Bool (is_octal most text))

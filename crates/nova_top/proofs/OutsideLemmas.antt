@@ -29,7 +29,7 @@ usage-cut : (input : List ℕ) (gives : ℕ) → cut_trace (length usage) gives 
 unfolding trace_for
 usage-cut input gives =
     cut-printed usage None [] (record { status = 100; state = None }) (length usage) gives (omega arith)
-      ∙ ap (λ t. ends 100 t 0 None) (append-nil usage)
+    ∙ ap (λ t. ends 100 t 0 None) (append-nil usage)
 
 usage-refused : (input : List ℕ) (n gives : ℕ) → n < length usage → cut_trace n gives (trace_for None input) ≡ ends 102 (take n usage) 0 None
 unfolding trace_for
@@ -47,7 +47,7 @@ usage-outcome words input before after status machine e none (inl h) =
       written = h.1;
       rest = refl;
       is = outcome-words words input (length usage) (length input + 1) None e ∙ usage-cut input (length input + 1) ∙ ap (λ s. ends s usage 0 None) (sym h.0)
-        ∙ ap (λ m. ends status usage 0 (core_in m)) (sym none)
+          ∙ ap (λ m. ends status usage 0 (core_in m)) (sym none);
     }
 usage-outcome words input before after status machine e none (inr h) =
     let n = h.1.0 in
@@ -60,9 +60,9 @@ usage-outcome words input before after status machine e none (inr h) =
       written = h.1.2;
       rest = refl;
       is = outcome-words words input (length (take n usage)) (length input + 1) None e
-        ∙ ap (λ k. cut_trace k (length input + 1) (trace_for None input)) (length-take-le n usage (omega (arith, h.1.1)))
-        ∙ usage-refused input n (length input + 1) h.1.1 ∙ ap (λ s. ends s (take n usage) 0 None) (sym h.0)
-        ∙ ap (λ m. ends status (take n usage) 0 (core_in m)) (sym none)
+          ∙ ap (λ k. cut_trace k (length input + 1) (trace_for None input)) (length-take-le n usage (omega (arith, h.1.1)))
+          ∙ usage-refused input n (length input + 1) h.1.1 ∙ ap (λ s. ends s (take n usage) 0 None) (sym h.0)
+          ∙ ap (λ m. ends status (take n usage) 0 (core_in m)) (sym none);
     }
 
 -- a session's cut with a core in each state
@@ -106,7 +106,7 @@ session-outcome words prompt input left before after finish now e small s =
       written = s.end.written;
       rest = s.rest ∙ ap (drop s.made) (opening-input prompt input);
       is = outcome-words words input (length s.end.taken) s.gives (Some prompt) e
-        ∙ session-cut prompt input (length s.end.taken) s.gives (status_of finish) s.made s.end.taken (core_of now) s.end.outcome
+          ∙ session-cut prompt input (length s.end.taken) s.gives (status_of finish) s.made s.end.taken (core_of now) s.end.outcome;
     }
 
 -- the laws, at the outcome
@@ -134,7 +134,7 @@ complete words input left before after status machine console read o =
     record {
       status_is = sym same ∙ w.status;
       machine_is = sym (ap (λ o. o.state) is) ∙ w.state;
-      printed = o.written ∙ ap (λ t. before ++ t) (sym (ap (λ o. o.console) is) ∙ w.console)
+      printed = o.written ∙ ap (λ t. before ++ t) (sym (ap (λ o. o.console) is) ∙ w.console);
     }
 
 -- what the two halves of the program give, at the names of the code

@@ -40,11 +40,11 @@ so-far-more input rest line line_now b count s other keeps = record {
   whole = s.whole ∙ sym (append_assoc s.seen (b ∷ []) rest);
   front = s.front ∙ ap (λ l. s.seen ++ l) (first_line-more b rest other) ∙ sym (append_assoc s.seen (b ∷ []) (first_line rest));
   kept = λ few.
-    let size = length_push s.seen b in
-    let is : line ≡ s.seen = s.kept (omega (arith, few, size)) in
-    let room : nat_lt (length line) 513 ≡ true = lt-ltb (length line) 513 (omega (arith, few, size, ap length is)) in
-    keeps ∙ cond-true (nat_lt (length line) 513) (line ++ b ∷ []) line room ∙ ap (λ l. l ++ b ∷ []) is;
-  size = omega (arith, length_push s.seen b, s.size)
+      let size = length_push s.seen b in
+      let is : line ≡ s.seen = s.kept (omega (arith, few, size)) in
+      let room : nat_lt (length line) 513 ≡ true = lt-ltb (length line) 513 (omega (arith, few, size, ap length is)) in
+      keeps ∙ cond-true (nat_lt (length line) 513) (line ++ b ∷ []) line room ∙ ap (λ l. l ++ b ∷ []) is;
+  size = omega (arith, length_push s.seen b, s.size);
 }
 
 pub spent-lf : (count : ℕ) → spent count + units_for count 10 ≡ units count
@@ -57,7 +57,7 @@ spent-more count b other = grind (arith, nat_tests)
 read-some : (seen left : List ℕ) → AreRead (length seen) true (seen ++ left) true left
 read-some seen left = record {
   rest = sym (drop_at seen left (length seen) refl);
-  count = omega (arith, length-append seen left)
+  count = omega (arith, length-append seen left);
 }
 
 seen-read : (input left line : List ℕ) (count : ℕ) → SoFar input left line count → AreRead count true input true left
@@ -74,7 +74,7 @@ byte-read input rest line b count s =
 end-read : (input line : List ℕ) (count : ℕ) → SoFar input [] line count → AreRead (count + 1) true input false []
 end-read input line count s = record {
   rest = sym (drop_all (count + 1) input (omega (arith, ap length s.whole, ap length (append-nil s.seen), s.size)));
-  count = omega (arith, ap length s.whole, ap length (append-nil s.seen), s.size)
+  count = omega (arith, ap length s.whole, ap length (append-nil s.seen), s.size);
 }
 
 pub closed-read : (input : List ℕ) → AreRead 0 false input false input
@@ -119,9 +119,9 @@ line-end input lf = rw lf refl
 without_cr-length : (line : List ℕ) → length line ≤ length (without_cr line) + 1
 without_cr-length line =
     cond_both (not (nat_eq (length line) 0) && (slice_index line (length line - 1) == 13)) (take (length line - 1) line) line
-      (λ l. length line ≤ length l + 1)
-      (λ _. omega (arith, length-take-le (length line - 1) line (omega arith)))
-      (λ _. omega arith)
+    (λ l. length line ≤ length l + 1)
+    (λ _. omega (arith, length-take-le (length line - 1) line (omega arith)))
+    (λ _. omega arith)
 
 ended-lf : (line : List ℕ) → ended_line true line ≡ without_cr line
 ended-lf line = refl
@@ -135,11 +135,12 @@ reading-lf input rest kept count budget budget_now Line reader s paid f on =
     let lf = lf-there input rest kept count s in
     let keeps : kept ≡ s.seen = s.kept (omega (arith, f.0, s.size)) in
     let line : line_of input ≡ reader.line = line-lf input lf ∙ ap without_cr (front-is input (10 ∷ rest) kept count s refl) ∙ ap without_cr (sym keeps) ∙ sym f.2 in
-    let reads : reads_due budget true input ≡ count + 1 = reads_due-line budget input fits ∙ ap (λ n. n + 1) size in
-    (due-line budget input (some-input 10 input rest kept count s) fits ∙ ap Comes line,
-     omega (arith, paid, ap units size),
-     on ∙ sym lf,
-     subst (λ n. AreRead n true input reader.open_ rest) (sym reads) (subst (λ o. AreRead (count + 1) true input o rest) (sym on) (byte-read input rest kept 10 count s)))
+    let reads : reads_due budget true input ≡ count + 1 = reads_due-line budget input fits ∙ ap (λ n. n + 1) size in (
+      due-line budget input (some-input 10 input rest kept count s) fits ∙ ap Comes line,
+      omega (arith, paid, ap units size),
+      on ∙ sym lf,
+      subst (λ n. AreRead n true input reader.open_ rest) (sym reads) (subst (λ o. AreRead (count + 1) true input o rest) (sym on) (byte-read input rest kept 10 count s)),
+    )
 reading-lf input rest kept count budget budget_now TooLong reader s paid f on =
     let size = front-size input (10 ∷ rest) kept count s refl in
     let fits : units (length (first_line input)) ≤ budget = omega (arith, paid, ap units size) in
@@ -147,15 +148,16 @@ reading-lf input rest kept count budget budget_now TooLong reader s paid f on =
     let line : line_of input ≡ without_cr s.seen = line-lf input lf ∙ ap without_cr (front-is input (10 ∷ rest) kept count s refl) in
     let reads : reads_due budget true input ≡ count + 1 = reads_due-line budget input fits ∙ ap (λ n. n + 1) size in
     let long : longest_line < length (without_cr s.seen) = ⊎_elim
-          (λ (many : 513 < count). omega (arith, many, without_cr-length s.seen, s.size))
-          (λ (few : (count ≤ 513) × (longest_line < length (without_cr kept))). omega (arith, few.1, ap (λ l. length (without_cr l)) (s.kept (omega (arith, few.0, s.size)))))
-          f in
-    (line_of input,
-     due-line budget input (some-input 10 input rest kept count s) fits,
-     omega (arith, long, ap length line),
-     omega (arith, paid, ap units size),
-     on ∙ sym lf,
-     subst (λ n. AreRead n true input reader.open_ rest) (sym reads) (subst (λ o. AreRead (count + 1) true input o rest) (sym on) (byte-read input rest kept 10 count s)))
+    (λ (many : 513 < count). omega (arith, many, without_cr-length s.seen, s.size))
+    (λ (few : (count ≤ 513) × (longest_line < length (without_cr kept))). omega (arith, few.1, ap (λ l. length (without_cr l)) (s.kept (omega (arith, few.0, s.size)))))
+    f in (
+      line_of input,
+      due-line budget input (some-input 10 input rest kept count s) fits,
+      omega (arith, long, ap length line),
+      omega (arith, paid, ap units size),
+      on ∙ sym lf,
+      subst (λ n. AreRead n true input reader.open_ rest) (sym reads) (subst (λ o. AreRead (count + 1) true input o rest) (sym on) (byte-read input rest kept 10 count s)),
+    )
 reading-lf input rest kept count budget budget_now End reader s paid f on = let wrong : true ≡ false = f.1 in absurd (cc)
 reading-lf input rest kept count budget budget_now Unpaid reader s paid f on = absurd f
 reading-lf input rest kept count budget budget_now Failed reader s paid f on = absurd f
@@ -164,9 +166,9 @@ reading-lf input rest kept count budget budget_now Failed reader s paid f on = a
 end-of-input : (budget : ℕ) (input : List ℕ) → input ≡ [] → (due budget true input ≡ InputEnds) × AreRead (reads_due budget true input) true input false []
 end-of-input budget input none = rw none (refl, subst (λ n. AreRead n true [] false []) (sym (or_reads (nat_le (units 0) budget))) (record { rest = refl; count = omega arith }))
   where
-  or_reads : (b : Bool) → (if b || nat_eq 0 0 then 1 else unpaid_reads budget) ≡ 1
-  or_reads true = refl
-  or_reads false = refl
+    or_reads : (b : Bool) → (if b || nat_eq 0 0 then 1 else unpaid_reads budget) ≡ 1
+    or_reads true = refl
+    or_reads false = refl
 
 spent-some : (count : ℕ) → 0 < count → spent count ≡ units count
 spent-some count some = let test = ne_eqb count 0 (λ e. omega (arith, e, some)) in rw test refl
@@ -186,33 +188,35 @@ reading-end input kept count budget budget_now Line reader s paid f closed =
     let keeps : kept ≡ s.seen = s.kept (omega (arith, f.0, s.size)) in
     let line : line_of input ≡ reader.line = line-end input lf ∙ front-is input [] kept count s refl ∙ sym keeps ∙ sym f.2 in
     let some = ne_eqb (length input) 0 (λ e. omega (arith, e, f.1 refl, ap length s.whole, length-append s.seen [], s.size)) in
-    let reads : reads_due budget true input ≡ count + 1 = reads_due-line budget input fits ∙ ap (λ n. n + 1) size in
-    (due-line budget input some fits ∙ ap Comes line,
-     omega (arith, paid, costs, ap units size),
-     closed ∙ sym lf,
-     subst (λ n. AreRead n true input reader.open_ []) (sym reads) (subst (λ o. AreRead (count + 1) true input o []) (sym closed) (end-read input kept count s)))
+    let reads : reads_due budget true input ≡ count + 1 = reads_due-line budget input fits ∙ ap (λ n. n + 1) size in (
+      due-line budget input some fits ∙ ap Comes line,
+      omega (arith, paid, costs, ap units size),
+      closed ∙ sym lf,
+      subst (λ n. AreRead n true input reader.open_ []) (sym reads) (subst (λ o. AreRead (count + 1) true input o []) (sym closed) (end-read input kept count s)),
+    )
 reading-end input kept count budget budget_now TooLong reader s paid f closed =
     let size = front-size input [] kept count s refl in
     let some_count : 0 < count = ⊎_elim
-          (λ (many : 513 < count). omega (arith, many))
-          (λ (few : (count ≤ 513) × (longest_line < length kept)). omega (arith, few.1, ap length (s.kept (omega (arith, few.0, s.size))), s.size))
-          f in
+    (λ (many : 513 < count). omega (arith, many))
+    (λ (few : (count ≤ 513) × (longest_line < length kept)). omega (arith, few.1, ap length (s.kept (omega (arith, few.0, s.size))), s.size))
+    f in
     let costs = spent-some count some_count in
     let fits : units (length (first_line input)) ≤ budget = omega (arith, paid, costs, ap units size) in
     let lf = lf-not-there input kept count s in
     let line : line_of input ≡ s.seen = line-end input lf ∙ front-is input [] kept count s refl in
     let some = ne_eqb (length input) 0 (λ e. omega (arith, e, some_count, ap length s.whole, length-append s.seen [], s.size)) in
     let long : longest_line < length s.seen = ⊎_elim
-          (λ (many : 513 < count). omega (arith, many, s.size))
-          (λ (few : (count ≤ 513) × (longest_line < length kept)). omega (arith, few.1, ap length (s.kept (omega (arith, few.0, s.size)))))
-          f in
-    let reads : reads_due budget true input ≡ count + 1 = reads_due-line budget input fits ∙ ap (λ n. n + 1) size in
-    (line_of input,
-     due-line budget input some fits,
-     omega (arith, long, ap length line),
-     omega (arith, paid, costs, ap units size),
-     closed ∙ sym lf,
-     subst (λ n. AreRead n true input reader.open_ []) (sym reads) (subst (λ o. AreRead (count + 1) true input o []) (sym closed) (end-read input kept count s)))
+    (λ (many : 513 < count). omega (arith, many, s.size))
+    (λ (few : (count ≤ 513) × (longest_line < length kept)). omega (arith, few.1, ap length (s.kept (omega (arith, few.0, s.size)))))
+    f in
+    let reads : reads_due budget true input ≡ count + 1 = reads_due-line budget input fits ∙ ap (λ n. n + 1) size in (
+      line_of input,
+      due-line budget input some fits,
+      omega (arith, long, ap length line),
+      omega (arith, paid, costs, ap units size),
+      closed ∙ sym lf,
+      subst (λ n. AreRead n true input reader.open_ []) (sym reads) (subst (λ o. AreRead (count + 1) true input o []) (sym closed) (end-read input kept count s)),
+    )
 reading-end input kept count budget budget_now End reader s paid f closed =
     let none : input ≡ [] = s.whole ∙ append-nil s.seen ∙ nothing-seen s.seen (omega (arith, s.size, f.0)) in
     subst (λ o. (due budget true input ≡ InputEnds) × AreRead (reads_due budget true input) true input o []) (sym closed) (end-of-input budget input none)
@@ -223,12 +227,12 @@ reading-end input kept count budget budget_now Failed reader s paid f closed = a
 due-cases : (count b : ℕ) → is_due count b ≡ true → (count ≡ 0) ⊎ ((b ≡ 10 → ⊥) × (1024 ≤ count + 1) × ((count + 1) % 512 ≡ 0))
 due-cases count b h =
     ⊎_elim
-      (λ (first : (count == 0) ≡ true). inl (eqb-true count 0 first))
-      (λ (later : (not (b == 10) && nat_le 1024 (count + 1) && ((count + 1) % 512 == 0)) ≡ true).
-        let outer = and_parts (not (b == 10) && nat_le 1024 (count + 1)) ((count + 1) % 512 == 0) later in
-        let inner = and_parts (not (b == 10)) (nat_le 1024 (count + 1)) outer.0 in
-        inr (eqb-false b 10 (not-true (b == 10) inner.0), leb-true 1024 (count + 1) inner.1, eqb-true ((count + 1) % 512) 0 outer.1))
-      (or_cases (count == 0) (not (b == 10) && nat_le 1024 (count + 1) && ((count + 1) % 512 == 0)) h)
+    (λ (first : (count == 0) ≡ true). inl (eqb-true count 0 first))
+    (λ (later : (not (b == 10) && nat_le 1024 (count + 1) && ((count + 1) % 512 == 0)) ≡ true).
+    let outer = and_parts (not (b == 10) && nat_le 1024 (count + 1)) ((count + 1) % 512 == 0) later in
+    let inner = and_parts (not (b == 10)) (nat_le 1024 (count + 1)) outer.0 in
+    inr (eqb-false b 10 (not-true (b == 10) inner.0), leb-true 1024 (count + 1) inner.1, eqb-true ((count + 1) % 512) 0 outer.1))
+    (or_cases (count == 0) (not (b == 10) && nat_le 1024 (count + 1) && ((count + 1) % 512 == 0)) h)
 
 -- a line in which that many bytes were seen is no shorter
 front-longer : (input left kept : List ℕ) (count : ℕ) → SoFar input left kept count → count + length (first_line left) ≡ length (first_line input)
@@ -251,37 +255,39 @@ reading-unpaid input rest kept b count budget s paid h =
     let some = some-input b input rest kept count s in
     let longer = front-longer input (b ∷ rest) kept count s in
     ⊎_elim
-      (λ (first : count ≡ 0).
-        let none : budget ≡ 0 = sym paid ∙ ap spent first in
-        let is = unpaid-is budget input some (omega (arith, none)) in
-        (is.0, subst (λ n. AreRead n true input true rest) (omega (arith, first) ∙ sym (is.1 ∙ unpaid-first budget none)) (byte-read input rest kept b count s)))
-      (λ (later : (b ≡ 10 → ⊥) × (1024 ≤ count + 1) × ((count + 1) % 512 ≡ 0)).
-        let costs : budget ≡ max 1 (count / 512) = sym paid ∙ spent-some count (omega (arith, later.1)) in
-        let front = ap length (first_line-more b rest later.0) in
-        let is = unpaid-is budget input some (omega (arith, costs, later.1, later.2, longer, front)) in
-        let reads : count + 1 ≡ reads_due budget true input = omega (arith, costs, later.1, later.2) ∙ sym (is.1 ∙ unpaid-later budget (omega (arith, costs))) in
-        (is.0, subst (λ n. AreRead n true input true rest) reads (byte-read input rest kept b count s)))
-      (due-cases count b h)
+    (λ (first : count ≡ 0).
+    let none : budget ≡ 0 = sym paid ∙ ap spent first in
+    let is = unpaid-is budget input some (omega (arith, none)) in
+    (is.0, subst (λ n. AreRead n true input true rest) (omega (arith, first) ∙ sym (is.1 ∙ unpaid-first budget none)) (byte-read input rest kept b count s)))
+    (λ (later : (b ≡ 10 → ⊥) × (1024 ≤ count + 1) × ((count + 1) % 512 ≡ 0)).
+    let costs : budget ≡ max 1 (count / 512) = sym paid ∙ spent-some count (omega (arith, later.1)) in
+    let front = ap length (first_line-more b rest later.0) in
+    let is = unpaid-is budget input some (omega (arith, costs, later.1, later.2, longer, front)) in
+    let reads : count + 1 ≡ reads_due budget true input = omega (arith, costs, later.1, later.2) ∙ sym (is.1 ∙ unpaid-later budget (omega (arith, costs))) in
+    (is.0, subst (λ n. AreRead n true input true rest) reads (byte-read input rest kept b count s)))
+    (due-cases count b h)
 
 -- a read failed before the line was whole
 pub reading-failed : (input left kept : List ℕ) (count budget budget_now : ℕ) → SoFar input left kept count → budget_now + spent count ≡ budget
     → (made : ℕ) × (made < reads_due budget true input) × AreRead made true input true left
 reading-failed input left kept count budget budget_now s paid =
-    let longer = front-longer input left kept count s in
-    (count,
-     cond_both (nat_le (units (length (first_line input))) budget || nat_eq (length input) 0) (length (first_line input) + 1) (unpaid_reads budget) (λ n. count < n)
-       (λ _. omega (arith, longer))
-       (λ _. cond_both (budget == 0) 1 (512 * (budget + 1)) (λ n. count < n)
-         (λ none. unspent count (omega (arith, paid, eqb-true budget 0 none)))
-         (λ _. cheap count budget (omega (arith, paid)))),
-     seen-read input left kept count s)
+    let longer = front-longer input left kept count s in (
+      count,
+      cond_both (nat_le (units (length (first_line input))) budget || nat_eq (length input) 0) (length (first_line input) + 1) (unpaid_reads budget) (λ n. count < n)
+          (λ _. omega (arith, longer))
+          (λ _. cond_both (budget == 0) 1 (512 * (budget + 1)) (λ n. count < n)
+          (λ none. unspent count (omega (arith, paid, eqb-true budget 0 none)))
+          (λ _. cheap count budget (omega (arith, paid)))),
+      seen-read input left kept count s,
+    )
   where
-  unspent : (count : ℕ) → spent count ≤ 0 → count < 1
-  unspent zero h = omega arith
-  unspent (suc count) h = omega (arith, spent-some (suc count) (omega arith), h)
-  cheap : (count budget : ℕ) → spent count ≤ budget → count < 512 * (budget + 1)
-  cheap zero budget h = omega arith
-  cheap (suc count) budget h = omega (arith, spent-some (suc count) (omega arith), h)
+    unspent : (count : ℕ) → spent count ≤ 0 → count < 1
+    unspent zero h = omega arith
+    unspent (suc count) h = omega (arith, spent-some (suc count) (omega arith), h)
+
+    cheap : (count budget : ℕ) → spent count ≤ budget → count < 512 * (budget + 1)
+    cheap zero budget h = omega arith
+    cheap (suc count) budget h = omega (arith, spent-some (suc count) (omega arith), h)
 
 -- a line costs a unit at least
 pub pays-lf : (count budget budget_now : ℕ) (kept line : List ℕ) (result : Reading) → budget_now + units count ≡ budget → Finishes count true kept result line → Pays budget result budget_now
@@ -309,7 +315,7 @@ pub read-end : (input left left_now kept kept_now : List ℕ) (count budget budg
     → IsReading budget true input result budget_now reader left_now
 read-end input left left_now kept kept_now count budget budget_now result reader s ends same paid f closed =
     subst (λ l. IsReading budget true input result budget_now reader l) (sym ends.1)
-      (reading-end input kept count budget budget_now result reader (subst (λ l. SoFar input l kept count) ends.0 s) paid (subst (λ k. Finishes count false k result reader.line) same f) closed)
+    (reading-end input kept count budget budget_now result reader (subst (λ l. SoFar input l kept count) ends.0 s) paid (subst (λ k. Finishes count false k result reader.line) same f) closed)
 
 pub read-lf : (input left left_now kept : List ℕ) (b count budget budget_then budget_now : ℕ) (result : Reading) (reader : ReaderState) → SoFar input left kept count
     → left ≡ b ∷ left_now → b ≡ 10 → budget_now + units_for count b ≡ budget_then → budget_then + spent count ≡ budget → Finishes count true kept result reader.line → reader.open_ ≡ true
@@ -317,7 +323,7 @@ pub read-lf : (input left left_now kept : List ℕ) (b count budget budget_then 
 read-lf input left left_now kept b count budget budget_then budget_now result reader s is lf costs paid f on =
     let costs10 : budget_now + units_for count 10 ≡ budget_then = subst (λ b. budget_now + units_for count b ≡ budget_then) lf costs in
     reading-lf input left_now kept count budget budget_now result reader (subst (λ l. SoFar input l kept count) (is ∙ ap (λ b. b ∷ left_now) lf) s)
-      (omega (arith, spent-lf count, costs10, paid)) f on
+    (omega (arith, spent-lf count, costs10, paid)) f on
 
 pub read-unpaid : (input left left_now kept : List ℕ) (b count budget budget_now : ℕ) → SoFar input left kept count → left ≡ b ∷ left_now → budget_now + spent count ≡ budget
     → budget_now ≡ 0 → is_due count b ≡ true → (due budget true input ≡ lines.Unpaid) × AreRead (reads_due budget true input) true input true left_now

@@ -18,12 +18,12 @@ going-equal h = cc
 pub due-paid : (budget : ℕ) (open_ : Bool) (input line : List ℕ) → due budget open_ input ≡ Comes line → units (length (first_line input)) ≤ budget
 due-paid budget open_ input line =
     cond_both (not open_ || nat_eq (length input) 0) InputEnds (if nat_le (units (length (first_line input))) budget then Comes (line_of input) else Unpaid)
-      (λ d. d ≡ Comes line → units (length (first_line input)) ≤ budget)
-      (λ _ h. absurd (cc))
-      (λ _. cond_both (nat_le (units (length (first_line input))) budget) (Comes (line_of input)) Unpaid
-        (λ d. d ≡ Comes line → units (length (first_line input)) ≤ budget)
-        (λ fits _. leb-true (units (length (first_line input))) budget fits)
-        (λ _ h. absurd (cc)))
+    (λ d. d ≡ Comes line → units (length (first_line input)) ≤ budget)
+    (λ _ h. absurd (cc))
+    (λ _. cond_both (nat_le (units (length (first_line input))) budget) (Comes (line_of input)) Unpaid
+    (λ d. d ≡ Comes line → units (length (first_line input)) ≤ budget)
+    (λ fits _. leb-true (units (length (first_line input))) budget fits)
+    (λ _ h. absurd (cc)))
 
 behind-budget : (s : Session) (core : Core) → (behind_line s core).budget ≡ s.budget - units (length (first_line s.input))
 unfolding behind_line
@@ -56,13 +56,13 @@ texts-same zero m s a b = absurd (omega (arith, a))
 texts-same (suc n) zero s a b = absurd (omega (arith, b))
 texts-same (suc n) (suc m) s a b =
     after-step-same (step s).events (step s).next (λ t. texts n t) (λ t. texts m t)
-      (λ t e. texts-same n m t (omega (arith, going-pays s t e, a)) (omega (arith, going-pays s t e, b)))
+    (λ t e. texts-same n m t (omega (arith, going-pays s t e, a)) (omega (arith, going-pays s t e, b)))
 
 pub trace-going : (s t : Session) → (step s).next ≡ Going t → trace s ≡ after_events (step s).events (trace t)
 unfolding texts trace
 trace-going s t e =
     ap (λ next. after_step (step s).events next (λ t. texts s.budget t)) e
-      ∙ ap (after_events (step s).events) (texts-same s.budget (suc t.budget) t (going-pays s t e) (omega arith))
+    ∙ ap (after_events (step s).events) (texts-same s.budget (suc t.budget) t (going-pays s t e) (omega arith))
 
 pub trace-over : (s : Session) (status : ℕ) (core : Core) → (step s).next ≡ Over status core
     → trace s ≡ record { events = (step s).events; ended = record { status = status; state = core } }
@@ -79,8 +79,9 @@ pub record Begins (s : Session) (events : List (Event Core)) : Type 0 where
 next-begins : (s : Session) (next : Next) → (step s).next ≡ next → Begins s (step s).events
 next-begins s (Going t) e = record { more = (trace t).events; ended = (trace t).ended; is = trace-going s t e }
 next-begins s (Over status core) e = record {
-  more = []; ended = record { status = status; state = core };
-  is = trace-over s status core e ∙ ap (λ events. record { events = events; ended = record { status = status; state = core } }) (sym (append-nil (step s).events))
+  more = [];
+  ended = record { status = status; state = core };
+  is = trace-over s status core e ∙ ap (λ events. record { events = events; ended = record { status = status; state = core } }) (sym (append-nil (step s).events));
 }
 
 pub trace-begins : (s : Session) → Begins s (step s).events
@@ -95,8 +96,9 @@ due-asks s (Comes line) = (_, refl)
 
 begins-shorter : (s : Session) (events front more : List (Event Core)) → Begins s events → events ≡ front ++ more → Begins s front
 begins-shorter s events front more b e = record {
-  more = more ++ b.more; ended = b.ended;
-  is = b.is ∙ ap (λ l. record { events = l ++ b.more; ended = b.ended }) e ∙ ap (λ l. record { events = l; ended = b.ended }) (append_assoc front more b.more)
+  more = more ++ b.more;
+  ended = b.ended;
+  is = b.is ∙ ap (λ l. record { events = l ++ b.more; ended = b.ended }) e ∙ ap (λ l. record { events = l; ended = b.ended }) (append_assoc front more b.more);
 }
 
 pub trace-asks : (s : Session) → Begins s (asking s)

@@ -27,13 +27,13 @@ reached-none start before = record {
   done = [];
   so_far = refl;
   written = sym (append-nil before);
-  reads = record { rest = refl; count = sym (zero-add (reads_left start.open_ start.input)) }
+  reads = record { rest = refl; count = sym (zero-add (reads_left start.open_ start.input)) };
 }
 
 reads-behind : (m n : ℕ) (o1 o2 o3 : Bool) (i1 i2 i3 : List ℕ) → AreRead m o1 i1 o2 i2 → AreRead n o2 i2 o3 i3 → AreRead (m + n) o1 i1 o3 i3
 reads-behind m n o1 o2 o3 i1 i2 i3 a b = record {
   rest = b.rest ∙ ap (drop n) a.rest ∙ drop-drop n m i1;
-  count = omega (arith, a.count, b.count)
+  count = omega (arith, a.count, b.count);
 }
 
 pub reached-more : (start now next : Session) (before mid after : List ℕ) → Reached start now before mid → GoesPast now next mid after → Reached start next before after
@@ -41,9 +41,9 @@ reached-more start now next before mid after r g = record {
   done = r.done ++ (step now).events;
   so_far = r.so_far ∙ ap (after_events r.done) (trace-going now next g.next) ∙ sym (after_events-append r.done (step now).events (trace next));
   written = g.written ∙ ap (λ t. t ++ text_of (step now).events) r.written ∙ append_assoc before (text_of r.done) (text_of (step now).events)
-    ∙ ap (λ t. before ++ t) (sym (text_of-append r.done (step now).events));
+      ∙ ap (λ t. before ++ t) (sym (text_of-append r.done (step now).events));
   reads = subst (λ n. AreRead n start.open_ start.input next.open_ next.input) (sym (reads_of-append r.done (step now).events))
-    (reads-behind (reads_of r.done) (reads_of (step now).events) start.open_ now.open_ next.open_ start.input now.input next.input r.reads g.reads)
+      (reads-behind (reads_of r.done) (reads_of (step now).events) start.open_ now.open_ next.open_ start.input now.input next.input r.reads g.reads);
 }
 
 -- what the input lets through from its start
@@ -67,10 +67,10 @@ session-over start now new finish before mid after r f =
         taken = taken;
         written = f.end.written ∙ ap (λ t. t ++ f.end.taken) r.written ∙ append_assoc before (text_of r.done) f.end.taken;
         outcome = ap (cut_trace (length taken) (reads_of r.done + f.gives)) r.so_far
-          ∙ ap (λ n. cut n (reads_of r.done + f.gives) (r.done ++ (trace now).events) (trace now).ended) size
-          ∙ cut-after r.done (trace now).events (trace now).ended (length f.end.taken) f.gives
-          ∙ ap (behind (text_of r.done) (reads_of r.done)) f.end.outcome
-      }
+            ∙ ap (λ n. cut n (reads_of r.done + f.gives) (r.done ++ (trace now).events) (trace now).ended) size
+            ∙ cut-after r.done (trace now).events (trace now).ended (length f.end.taken) f.gives
+            ∙ ap (behind (text_of r.done) (reads_of r.done)) f.end.outcome;
+      };
     }
 
 pub causes-behind : (finish : Finish) (sink sink_mid sink_now source source_mid source_now : ℕ) → sink ≤ sink_mid → source ≤ source_mid → FinishCause finish sink_mid sink_now source_mid source_now
@@ -80,5 +80,5 @@ causes-behind finish sink sink_mid sink_now source source_mid source_now a b c =
   source_later = omega (arith, b, c.source_later);
   console = λ e. omega (arith, a, c.console e);
   input = λ e. omega (arith, b, c.input e);
-  exit = c.exit
+  exit = c.exit;
 }

@@ -24,10 +24,10 @@ longest_line = 512
 abbrev pub IsReading : ℕ → Bool → List ℕ → Reading → ℕ → ReaderState → List ℕ → Type 0
 IsReading budget open_ input Line budget_now reader left =
     (due budget open_ input ≡ Comes reader.line) × (budget_now ≡ budget - units (length (first_line input))) × (reader.open_ ≡ has_lf input)
-      × AreRead (reads_due budget open_ input) open_ input reader.open_ left
+    × AreRead (reads_due budget open_ input) open_ input reader.open_ left
 IsReading budget open_ input TooLong budget_now reader left =
     (line : List ℕ) × (due budget open_ input ≡ Comes line) × (longest_line < length line) × (budget_now ≡ budget - units (length (first_line input)))
-      × (reader.open_ ≡ has_lf input) × AreRead (reads_due budget open_ input) open_ input reader.open_ left
+    × (reader.open_ ≡ has_lf input) × AreRead (reads_due budget open_ input) open_ input reader.open_ left
 IsReading budget open_ input End budget_now reader left = (due budget open_ input ≡ InputEnds) × AreRead (reads_due budget open_ input) open_ input reader.open_ left
 IsReading budget open_ input Unpaid budget_now reader left = (due budget open_ input ≡ lines.Unpaid) × AreRead (reads_due budget open_ input) open_ input reader.open_ left
 IsReading budget open_ input Failed budget_now reader left = (made : ℕ) × (made < reads_due budget open_ input) × AreRead made open_ input reader.open_ left

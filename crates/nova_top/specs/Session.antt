@@ -40,7 +40,7 @@ behind_line s core = record {
   budget = s.budget - units (length (first_line s.input));
   input = drop (length (first_line s.input) + 1) s.input;
   open_ = has_lf s.input;
-  prompt = s.prompt
+  prompt = s.prompt;
 }
 
 abbrev pub next_after : Bool → Session → Next
@@ -51,7 +51,7 @@ next_after false s = Going s
 unfoldable pub command_step : Session → Option Command → Step
 command_step s command = let reply = does s.core command in record {
   events = asking s ++ Prints reply.text reply.core ∷ [];
-  next = next_after (is_exit command) (behind_line s reply.core)
+  next = next_after (is_exit command) (behind_line s reply.core);
 }
 
 unfoldable pub step_due : Session → Due → Step

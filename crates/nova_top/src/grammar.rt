@@ -153,11 +153,9 @@ fn read_digits(most: usize, text: &[u8]) -> Option<u32>
 /// The law that no line is two commands.
 pub fn no_line_is_two_commands()
     ensures { IsOneCommand }
-{
-}
+{}
 
 /// The law that ties the function of the definitions to the grammar.
 pub fn commands_are_those_of_the_grammar()
     ensures { IsCommandOf }
-{
-}
+{}

@@ -3,17 +3,14 @@ ghost use Rattle.nova_top.specs.Laws.{MoreRoomSameEnd, TakesFirstPart, WholeWith
 /// The law that a console that takes more comes to the same end, where none of its bytes was refused.
 pub fn more_room_same_end()
     ensures { MoreRoomSameEnd }
-{
-}
+{}
 
 /// The law that what the console took is a first part of what the program prints where nothing fails.
 pub fn console_takes_first_part()
     ensures { TakesFirstPart }
-{
-}
+{}
 
 /// The law that without a failing call the outcome is that of the whole trace.
 pub fn whole_without_faults()
     ensures { WholeWithoutFaults }
-{
-}
+{}

@@ -3,14 +3,14 @@
 
 pub mod command;
 mod command_loop;
+mod effect;
 pub mod grammar;
 pub mod laws;
 mod line_buffer;
 mod line_reader;
 mod perform;
-mod progress;
-mod effect;
 pub mod program;
+mod progress;
 mod text;
 mod words;
 

@@ -14,7 +14,8 @@ use nova_machine::Machine;
 use std::alloc::Global;
 
 /// The line that answers words outside their grammar.
-const USAGE: &[u8] = b"usage: nova [-q] [-k keys] [-l instructions] [-m commands] [-g number] [script [arguments]]\n";
+const USAGE: &[u8] =
+    b"usage: nova [-q] [-k keys] [-l instructions] [-m commands] [-g number] [script [arguments]]\n";
 
 /// How the program ended.
 #[derive(Drop)]
@@ -82,3 +83,6 @@ fn session<C: Source, S: Sink>(
         machine: Some(machine),
     }
 }
+
+#[cfg(test)]
+mod tests;

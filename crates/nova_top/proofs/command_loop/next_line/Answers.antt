@@ -13,51 +13,51 @@ pub returns-in-Line-clause-told : goal.returns-in-Line-clause-told
 returns-in-Line-clause-told g c = λ source sink.
     let reads = c.in-Line.ensures.reads source in
     answered (session_of c.args.machine.now c.args.lines.now (g.C.Source.left c.args.input.now))
-      (session_of c.answer.new.machine (record { reader = c.read_line.new.self; budget = c.read_line.new.budget; prompt = c.args.lines.now.prompt }) (g.C.Source.left c.read_line.new.input))
-      c.read_line.new.self.line c.read_command-command.result c.answer.result
-      (g.S.Sink.written c.args.output.now) (g.S.Sink.written c.ask.new.output) (g.S.Sink.written c.answer.new.output)
-      reads.0 (ap command_of (sym c.line.ensures) ∙ sym c.read_command-command.ensures.value)
-      (record { core = c.answer.ensures.machine; budget = reads.1; open_ = reads.2; prompt = refl; reads = reads.3 })
-      (c.in-Ok.ensures.printed sink) (c.answer.ensures.told sink)
+    (session_of c.answer.new.machine (record { reader = c.read_line.new.self; budget = c.read_line.new.budget; prompt = c.args.lines.now.prompt }) (g.C.Source.left c.read_line.new.input))
+    c.read_line.new.self.line c.read_command-command.result c.answer.result
+    (g.S.Sink.written c.args.output.now) (g.S.Sink.written c.ask.new.output) (g.S.Sink.written c.answer.new.output)
+    reads.0 (ap command_of (sym c.line.ensures) ∙ sym c.read_command-command.ensures.value)
+    (record { core = c.answer.ensures.machine; budget = reads.1; open_ = reads.2; prompt = refl; reads = reads.3 })
+    (c.in-Ok.ensures.printed sink) (c.answer.ensures.told sink)
 
 pub returns-in-Line-clause-cause : goal.returns-in-Line-clause-cause
 returns-in-Line-clause-cause g c =
     answer-causes c.answer.result (g.S.Sink.fault_count c.args.output.now) (g.S.Sink.fault_count c.ask.new.output) (g.S.Sink.fault_count c.answer.new.output)
-      (g.C.Source.fault_count c.args.input.now) (g.C.Source.fault_count c.read_line.new.input) c.in-Ok.ensures.cause.later c.in-Line.ensures.later c.answer.ensures.cause c.answer.ensures.exit
+    (g.C.Source.fault_count c.args.input.now) (g.C.Source.fault_count c.read_line.new.input) c.in-Ok.ensures.cause.later c.in-Line.ensures.later c.answer.ensures.cause c.answer.ensures.exit
 
 pub returns-in-TooLong-clause-told : goal.returns-in-TooLong-clause-told
 returns-in-TooLong-clause-told g c = λ source sink.
     let reads = c.in-TooLong.ensures.reads source in
     answered (session_of c.args.machine.now c.args.lines.now (g.C.Source.left c.args.input.now))
-      (session_of c.answer-in-TooLong.new.machine (record { reader = c.read_line.new.self; budget = c.read_line.new.budget; prompt = c.args.lines.now.prompt }) (g.C.Source.left c.read_line.new.input))
-      reads.0 None c.answer-in-TooLong.result
-      (g.S.Sink.written c.args.output.now) (g.S.Sink.written c.ask.new.output) (g.S.Sink.written c.answer-in-TooLong.new.output)
-      reads.1 (long-line reads.0 (omega (arith, reads.2)))
-      (record { core = c.answer-in-TooLong.ensures.machine; budget = reads.3; open_ = reads.4; prompt = refl; reads = reads.5 })
-      (c.in-Ok.ensures.printed sink) (c.answer-in-TooLong.ensures.told sink)
+    (session_of c.answer-in-TooLong.new.machine (record { reader = c.read_line.new.self; budget = c.read_line.new.budget; prompt = c.args.lines.now.prompt }) (g.C.Source.left c.read_line.new.input))
+    reads.0 None c.answer-in-TooLong.result
+    (g.S.Sink.written c.args.output.now) (g.S.Sink.written c.ask.new.output) (g.S.Sink.written c.answer-in-TooLong.new.output)
+    reads.1 (long-line reads.0 (omega (arith, reads.2)))
+    (record { core = c.answer-in-TooLong.ensures.machine; budget = reads.3; open_ = reads.4; prompt = refl; reads = reads.5 })
+    (c.in-Ok.ensures.printed sink) (c.answer-in-TooLong.ensures.told sink)
 
 pub returns-in-TooLong-clause-cause : goal.returns-in-TooLong-clause-cause
 returns-in-TooLong-clause-cause g c =
     answer-causes c.answer-in-TooLong.result (g.S.Sink.fault_count c.args.output.now) (g.S.Sink.fault_count c.ask.new.output) (g.S.Sink.fault_count c.answer-in-TooLong.new.output)
-      (g.C.Source.fault_count c.args.input.now) (g.C.Source.fault_count c.read_line.new.input) c.in-Ok.ensures.cause.later c.in-TooLong.ensures.later c.answer-in-TooLong.ensures.cause c.answer-in-TooLong.ensures.exit
+    (g.C.Source.fault_count c.args.input.now) (g.C.Source.fault_count c.read_line.new.input) c.in-Ok.ensures.cause.later c.in-TooLong.ensures.later c.answer-in-TooLong.ensures.cause c.answer-in-TooLong.ensures.exit
 
 pub returns-in-End-clause-told : goal.returns-in-End-clause-told
 returns-in-End-clause-told g c = λ source sink.
     let reads = c.in-End.ensures.reads source in
     input-ended (session_of c.args.machine.now c.args.lines.now (g.C.Source.left c.args.input.now))
-      (session_of c.args.machine.now (record { reader = c.read_line.new.self; budget = c.read_line.new.budget; prompt = c.args.lines.now.prompt }) (g.C.Source.left c.read_line.new.input))
-      (g.S.Sink.written c.args.output.now) (g.S.Sink.written c.ask.new.output) reads.0 refl reads.1 (c.in-Ok.ensures.printed sink)
+    (session_of c.args.machine.now (record { reader = c.read_line.new.self; budget = c.read_line.new.budget; prompt = c.args.lines.now.prompt }) (g.C.Source.left c.read_line.new.input))
+    (g.S.Sink.written c.args.output.now) (g.S.Sink.written c.ask.new.output) reads.0 refl reads.1 (c.in-Ok.ensures.printed sink)
 
 pub returns-in-Unpaid-clause-told : goal.returns-in-Unpaid-clause-told
 returns-in-Unpaid-clause-told g c = λ source sink.
     let reads = c.in-Unpaid.ensures.reads source in
     unit-missing (session_of c.args.machine.now c.args.lines.now (g.C.Source.left c.args.input.now))
-      (session_of c.args.machine.now (record { reader = c.read_line.new.self; budget = c.read_line.new.budget; prompt = c.args.lines.now.prompt }) (g.C.Source.left c.read_line.new.input))
-      (g.S.Sink.written c.args.output.now) (g.S.Sink.written c.ask.new.output) reads.0 refl reads.1 (c.in-Ok.ensures.printed sink)
+    (session_of c.args.machine.now (record { reader = c.read_line.new.self; budget = c.read_line.new.budget; prompt = c.args.lines.now.prompt }) (g.C.Source.left c.read_line.new.input))
+    (g.S.Sink.written c.args.output.now) (g.S.Sink.written c.ask.new.output) reads.0 refl reads.1 (c.in-Ok.ensures.printed sink)
 
 pub returns-in-Failed-clause-told : goal.returns-in-Failed-clause-told
 returns-in-Failed-clause-told g c = λ source sink.
     let reads = c.in-Failed.ensures.reads source in
     input-failed (session_of c.args.machine.now c.args.lines.now (g.C.Source.left c.args.input.now))
-      (session_of c.args.machine.now (record { reader = c.read_line.new.self; budget = c.read_line.new.budget; prompt = c.args.lines.now.prompt }) (g.C.Source.left c.read_line.new.input))
-      (g.S.Sink.written c.args.output.now) (g.S.Sink.written c.ask.new.output) reads.0 reads.1 refl reads.2 (c.in-Ok.ensures.printed sink)
+    (session_of c.args.machine.now (record { reader = c.read_line.new.self; budget = c.read_line.new.budget; prompt = c.args.lines.now.prompt }) (g.C.Source.left c.read_line.new.input))
+    (g.S.Sink.written c.args.output.now) (g.S.Sink.written c.ask.new.output) reads.0 reads.1 refl reads.2 (c.in-Ok.ensures.printed sink)

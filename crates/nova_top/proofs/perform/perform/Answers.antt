@@ -11,29 +11,29 @@ lines-init g c = record {
   enough = omega arith;
   told = λ source sink. rw c.new.ensures (reached-none (beginning (core_of c.args.machine.now) c.args.prompt (g.C.Source.left c.args.input.now)) (g.S.Sink.written c.args.output.now));
   source = omega arith;
-  sink = omega arith
+  sink = omega arith;
 }
 
 pub lines-preserved : goal.lines-preserved
 lines-preserved g c = record {
   enough = omega (arith, c.lines.invariant.enough, c.in-GoesOn.ensures.pays);
   told = λ source sink. reached-more (beginning (core_of c.args.machine.now) c.args.prompt (g.C.Source.left c.args.input.now))
-    (session_of c.lines.machine c.lines.lines (g.C.Source.left c.lines.input)) (session_of c.next_line.new.machine c.next_line.new.lines (g.C.Source.left c.next_line.new.input))
-    (g.S.Sink.written c.args.output.now) (g.S.Sink.written c.lines.output) (g.S.Sink.written c.next_line.new.output)
-    (c.lines.invariant.told source sink) (c.in-GoesOn.ensures.told source sink);
+      (session_of c.lines.machine c.lines.lines (g.C.Source.left c.lines.input)) (session_of c.next_line.new.machine c.next_line.new.lines (g.C.Source.left c.next_line.new.input))
+      (g.S.Sink.written c.args.output.now) (g.S.Sink.written c.lines.output) (g.S.Sink.written c.next_line.new.output)
+      (c.lines.invariant.told source sink) (c.in-GoesOn.ensures.told source sink);
   source = omega (arith, c.lines.invariant.source, c.in-GoesOn.ensures.cause.1);
-  sink = omega (arith, c.lines.invariant.sink, c.in-GoesOn.ensures.cause.0)
+  sink = omega (arith, c.lines.invariant.sink, c.in-GoesOn.ensures.cause.0);
 }
 
 pub returns-in-IsOver-clause-told : goal.returns-in-IsOver-clause-told
 returns-in-IsOver-clause-told g c = λ source sink.
     session-over (beginning (core_of c.args.machine.now) c.args.prompt (g.C.Source.left c.args.input.now))
-      (session_of c.lines.machine c.lines.lines (g.C.Source.left c.lines.input)) (session_of c.next_line.new.machine c.next_line.new.lines (g.C.Source.left c.next_line.new.input))
-      c.in-IsOver.finish (g.S.Sink.written c.args.output.now) (g.S.Sink.written c.lines.output) (g.S.Sink.written c.next_line.new.output)
-      (c.lines.invariant.told source sink) (c.in-IsOver.ensures.told source sink)
+    (session_of c.lines.machine c.lines.lines (g.C.Source.left c.lines.input)) (session_of c.next_line.new.machine c.next_line.new.lines (g.C.Source.left c.next_line.new.input))
+    c.in-IsOver.finish (g.S.Sink.written c.args.output.now) (g.S.Sink.written c.lines.output) (g.S.Sink.written c.next_line.new.output)
+    (c.lines.invariant.told source sink) (c.in-IsOver.ensures.told source sink)
 
 pub returns-in-IsOver-clause-cause : goal.returns-in-IsOver-clause-cause
 returns-in-IsOver-clause-cause g c =
     causes-behind c.in-IsOver.finish (g.S.Sink.fault_count c.args.output.now) (g.S.Sink.fault_count c.lines.output) (g.S.Sink.fault_count c.next_line.new.output)
-      (g.C.Source.fault_count c.args.input.now) (g.C.Source.fault_count c.lines.input) (g.C.Source.fault_count c.next_line.new.input)
-      c.lines.invariant.sink c.lines.invariant.source c.in-IsOver.ensures.cause
+    (g.C.Source.fault_count c.args.input.now) (g.C.Source.fault_count c.lines.input) (g.C.Source.fault_count c.next_line.new.input)
+    c.lines.invariant.sink c.lines.invariant.source c.in-IsOver.ensures.cause

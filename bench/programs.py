@@ -1,0 +1,50 @@
+"""The two programs that bench/speed and bench/agree run: ours, and the `dgnova`
+of SIMH (Debian package `simh`, version 3.8-1)."""
+
+import os
+import shutil
+import subprocess
+import sys
+import tempfile
+
+ROOT = os.path.dirname(os.path.dirname(os.path.abspath(__file__)))
+NOVA = os.path.join(ROOT, "crates", "nova", "out", "nova")
+ANY_NUMBER = 1 << 48  # the largest count of instructions that -l takes
+
+# A plain Nova: no stack and no byte instructions, multiply and divide present,
+# 15-bit addresses. `SET CPU NOVA` would not do: SIMH takes it for NOVA3.
+DGNOVA_SET = ["SET CPU NONE", "SET CPU MDV", "SET CPU 32K"]
+
+
+def add_arguments(parser):
+    parser.add_argument("nova", nargs="?", default=NOVA, help="our program (default: %(default)s)")
+    parser.add_argument("--dgnova", default="dgnova", help="SIMH's program (default: %(default)s)")
+
+
+def must_exist(arguments):
+    for program in (arguments.nova, arguments.dgnova):
+        if shutil.which(program) is None:
+            hint = " (apt-get install simh)" if program == arguments.dgnova else " (make it with ./nova)"
+            sys.exit(f"{program}: not found{hint}")
+
+
+def run_nova(program, lines, seconds=600):
+    """What our program prints for these command lines, given on standard input."""
+    text = "\n".join(lines + ["EXIT", ""])
+    done = subprocess.run([program, "-q", "-l", str(ANY_NUMBER)], input=text,
+                          capture_output=True, text=True, timeout=seconds)
+    if done.returncode != 0:
+        sys.exit(f"{program} ended with status {done.returncode}: {done.stdout[-300:]}{done.stderr[-300:]}")
+    return done.stdout
+
+
+def run_dgnova(program, lines, seconds=600):
+    """What dgnova prints for these command lines, given in a script file: its
+    teletype polls standard input while the machine runs, and would take
+    commands away that stand there."""
+    with tempfile.NamedTemporaryFile("w", suffix=".sim") as script:
+        script.write("\n".join(DGNOVA_SET + lines + ["EXIT", ""]))
+        script.flush()
+        done = subprocess.run([program, script.name], stdin=subprocess.DEVNULL,
+                              capture_output=True, text=True, timeout=seconds)
+    return done.stdout

@@ -1,0 +1,225 @@
+use super::*;
+use host_files::{ByteSink, ByteSource};
+use std::alloc::AllocError;
+use std::test::Fail;
+
+/// What a user would see: the status, and what the console has.
+#[derive(Drop)]
+struct Seen {
+    status: u8,
+    console: Vec<u8>,
+    left: Vec<u8>,
+    machine: bool,
+}
+
+/// Runs the program on memory objects: a console with that room, and an input whose named read fails.
+fn run(
+    alloc: Global,
+    words: &[&str],
+    lines: &[u8],
+    room: usize,
+    failing_read: Option<u64>,
+) -> Result<Seen, AllocError> {
+    let mut texts = Vec::new(alloc);
+    for word in words {
+        texts.push(String::from_str(alloc, word)?)?;
+    }
+    let mut input = ByteSource::new(alloc, lines)?;
+    if let Some(number) = failing_read {
+        input.fail_call(number)?;
+    }
+    let mut output = ByteSink::with_room(alloc, room)?;
+    let ending = simulate(alloc, texts.as_slice(), &mut input, &mut output);
+    let mut rest = [0; 4096];
+    let left = input.read(&mut rest).unwrap_or(0);
+    Ok(Seen {
+        status: ending.status,
+        console: Vec::from_slice(alloc, output.bytes())?,
+        left: Vec::from_slice(alloc, &rest[..left.min(4096)])?,
+        machine: ending.machine.is_some(),
+    })
+}
+
+const FIRST_RUN: &[u8] =
+    b"DEPOSIT 40 7\nDEPOSIT 100 20040\nDEPOSIT PC 100\nSTEP\nEXAMINE AC0\nEXIT\n";
+
+const FIRST_RUN_PRINTS: &[u8] = b"\nStep expired, PC: 00101 (000000)\nAC0:\t000007\n";
+
+#[test]
+fn sessions_print_and_end_as_the_tables_say(rt: HostRuntime) -> Result<(), Fail> {
+    let quiet = ["-q"];
+    let cases: [(&[u8], &[u8], u8); 17] = [
+        (FIRST_RUN, FIRST_RUN_PRINTS, 0),
+        (b"", b"", 0),
+        (b"\n\n", b"", 0),
+        // the last line may lack its end, and a CR before an LF is dropped
+        (
+            b"DEPOSIT 40 7\r\nDEPOSIT 100 20040\r\nDEPOSIT PC 100\n\nSTEP\nEXAMINE AC0",
+            FIRST_RUN_PRINTS,
+            0,
+        ),
+        (b"EXIT\r", b"Not built\n", 0),
+        // nothing behind EXIT is done
+        (b"EXIT\nEXAMINE AC0\n", b"", 0),
+        (
+            b"FOO\nexamine ac0\nEXAMINE  AC0\nEXAMINE AC0 \nSTEP 1\n",
+            b"Not built\nNot built\nNot built\nNot built\nNot built\n",
+            0,
+        ),
+        (
+            b"DEPOSIT 100000 1\nDEPOSIT 077777 1\nDEPOSIT 8 1\nDEPOSIT 1 200000\nDEPOSIT 1 0000001\n",
+            b"Not built\nNot built\nNot built\nNot built\nNot built\n",
+            0,
+        ),
+        (
+            b"DEPOSIT 77777 177777\nEXAMINE 77777\nEXAMINE 0\n",
+            b"77777:\t177777\n00000:\t000000\n",
+            0,
+        ),
+        (
+            b"DEPOSIT PC 77777\nEXAMINE PC\nDEPOSIT PC 100000\nEXAMINE PC\n",
+            b"PC:\t77777\nNot built\nPC:\t77777\n",
+            0,
+        ),
+        (
+            b"DEPOSIT AC3 177777\nEXAMINE AC3\nEXAMINE AC2\n",
+            b"AC3:\t177777\nAC2:\t000000\n",
+            0,
+        ),
+        // ISZ skips where the sum is 0, around the end of memory
+        (
+            b"DEPOSIT 77776 10000\nDEPOSIT 0 177777\nDEPOSIT PC 77776\nSTEP\nEXAMINE 0\n",
+            b"\nStep expired, PC: 00000 (000000)\n00000:\t000000\n",
+            0,
+        ),
+        // JSR forms its address before AC3 changes
+        (
+            b"DEPOSIT AC3 200\nDEPOSIT 100 5401\nDEPOSIT PC 100\nSTEP\nEXAMINE AC3\n",
+            b"\nStep expired, PC: 00201 (000000)\nAC3:\t000101\n",
+            0,
+        ),
+        // a word of 060000 or more stops, with the machine as it was
+        (
+            b"DEPOSIT 100 60000\nDEPOSIT PC 100\nSTEP\nEXAMINE PC\n",
+            b"\nNot built, PC: 00100 (060000)\nPC:\t00100\n",
+            0,
+        ),
+        (
+            b"DEPOSIT 100 177777\nDEPOSIT PC 100\nSTEP\n",
+            b"\nNot built, PC: 00100 (177777)\n",
+            0,
+        ),
+        // so does an indirect level
+        (
+            b"DEPOSIT 100 22040\nDEPOSIT PC 100\nSTEP\n",
+            b"\nNot built, PC: 00100 (022040)\n",
+            0,
+        ),
+        // a displacement is signed on an index: LDA 0,-1,2
+        (
+            b"DEPOSIT AC2 200\nDEPOSIT 177 5\nDEPOSIT 100 21377\nDEPOSIT PC 100\nSTEP\nEXAMINE AC0\n",
+            b"\nStep expired, PC: 00101 (000000)\nAC0:\t000005\n",
+            0,
+        ),
+    ];
+    for (lines, prints, status) in cases {
+        let seen = run(rt.alloc(), &quiet, lines, 4096, None)?;
+        assert_eq!(rt; seen.console.as_slice(), prints);
+        assert_eq!(rt; seen.status, status);
+    }
+    Ok(())
+}
+
+#[test]
+fn the_prompt_comes_before_each_line(rt: HostRuntime) -> Result<(), Fail> {
+    let seen = run(rt.alloc(), &[], b"", 4096, None)?;
+    assert_eq!(rt; seen.console.as_slice(), b"sim> ".as_slice());
+    assert_eq!(rt; seen.status, 0);
+    let seen = run(rt.alloc(), &[], b"\nEXAMINE PC", 4096, None)?;
+    assert_eq!(rt;
+        seen.console.as_slice(),
+        b"sim> sim> PC:\t00000\nsim> ".as_slice()
+    );
+    assert_eq!(rt; seen.status, 0);
+    Ok(())
+}
+
+#[test]
+fn words_outside_the_grammar_print_the_usage(rt: HostRuntime) -> Result<(), Fail> {
+    let none: [&str; 1] = ["-x"];
+    let twice: [&str; 2] = ["-q", "-q"];
+    let empty: [&str; 1] = [""];
+    let words: [&[&str]; 3] = [&none, &twice, &empty];
+    for word in words {
+        let seen = run(rt.alloc(), word, FIRST_RUN, 4096, None)?;
+        assert_eq!(rt; seen.status, 100);
+        assert_eq!(rt;
+            seen.console.as_slice(),
+            b"usage: nova [-q] [-k keys] [-l instructions] [-m commands] [-g number] [script [arguments]]\n".as_slice()
+        );
+        assert!(rt; !seen.machine);
+        assert_eq!(rt; seen.left.as_slice(), FIRST_RUN, "nothing was read");
+    }
+    let seen = run(rt.alloc(), &none, b"", 6, None)?;
+    assert_eq!(rt; seen.status, 102, "a console fault prevails");
+    assert_eq!(rt; seen.console.as_slice(), b"usage:".as_slice());
+    Ok(())
+}
+
+#[test]
+fn a_full_console_ends_the_session_where_it_is(rt: HostRuntime) -> Result<(), Fail> {
+    let quiet = ["-q"];
+    for room in 0..FIRST_RUN_PRINTS.len() {
+        let seen = run(rt.alloc(), &quiet, FIRST_RUN, room, None)?;
+        assert_eq!(rt; seen.status, 102, "room {room}");
+        assert_eq!(rt; seen.console.as_slice(), &FIRST_RUN_PRINTS[..room]);
+        assert!(rt; seen.machine);
+    }
+    let seen = run(rt.alloc(), &quiet, FIRST_RUN, FIRST_RUN_PRINTS.len(), None)?;
+    assert_eq!(rt; seen.status, 0);
+    Ok(())
+}
+
+#[test]
+fn a_failing_read_ends_the_session_behind_the_whole_lines(rt: HostRuntime) -> Result<(), Fail> {
+    let quiet = ["-q"];
+    let lines = b"EXAMINE PC\nEXAMINE AC1\n";
+    for number in 0..24u64 {
+        let seen = run(rt.alloc(), &quiet, lines, 4096, Some(number))?;
+        let prints: &[u8] = if number < 11 {
+            b""
+        } else if number < 23 {
+            b"PC:\t00000\n"
+        } else {
+            b"PC:\t00000\nAC1:\t000000\n"
+        };
+        assert_eq!(rt; seen.status, 106, "read {number}");
+        assert_eq!(rt; seen.console.as_slice(), prints);
+    }
+    Ok(())
+}
+
+#[test]
+fn nothing_behind_exit_is_read(rt: HostRuntime) -> Result<(), Fail> {
+    let quiet = ["-q"];
+    let seen = run(rt.alloc(), &quiet, b"EXIT\nEXAMINE AC0\n", 4096, None)?;
+    assert_eq!(rt; seen.left.as_slice(), b"EXAMINE AC0\n".as_slice());
+    Ok(())
+}
+
+#[test]
+fn a_long_line_is_no_command(rt: HostRuntime) -> Result<(), Fail> {
+    let quiet = ["-q"];
+    let lengths = [512usize, 513, 514, 1023, 1024, 2000];
+    for length in lengths {
+        let mut lines = vec![in rt.alloc(); b'A'; length]?;
+        lines.extend_from_slice(b"\r\nEXAMINE PC\n")?;
+        let seen = run(rt.alloc(), &quiet, lines.as_slice(), 4096, None)?;
+        assert_eq!(rt;
+            seen.console.as_slice(),
+            b"Not built\nPC:\t00000\n".as_slice()
+        );
+        assert_eq!(rt; seen.status, 0);
+    }
+    Ok(())
+}
