@@ -1,0 +1,12 @@
+//! The standard streams, and any other reader or writer, as the source and the sink that a machine reads from and
+//! writes to.
+#![tactic(auto)]
+
+pub mod reader_source;
+pub mod writer_sink;
+
+pub use reader_source::{READ_AHEAD, ReaderSource};
+pub use writer_sink::WriterSink;
+
+/// How often in a row a call that a signal cut short is made again.
+const RETRIES: u32 = 64;

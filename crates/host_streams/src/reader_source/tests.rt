@@ -1,0 +1,98 @@
+use super::*;
+use host_files::next_byte;
+use std::test::Fail;
+
+/// What a reader does in one call, or in so many calls in a row.
+#[derive(Clone, Copy)]
+enum Step {
+    Give(&'static [u8]),
+    End,
+    Fail(ErrorKind, u32),
+}
+
+/// A reader that does these steps in turn, and then is at its end.
+#[derive(Drop)]
+struct Scripted {
+    steps: &'static [Step],
+    failed: u32,
+}
+
+impl Scripted {
+    fn new(steps: &'static [Step]) -> Scripted {
+        Scripted { steps, failed: 0 }
+    }
+}
+
+impl Read for Scripted {
+    fn read(&mut self, buf: &mut [u8]) -> io::Result<usize> {
+        let Some((step, later)) = self.steps.split_first() else {
+            return Ok(0);
+        };
+        if let Step::Fail(kind, times) = *step {
+            self.failed = self.failed.saturating_add(1);
+            if self.failed >= times {
+                self.steps = later;
+                self.failed = 0;
+            }
+            return Err(io::Error::from(kind));
+        }
+        self.steps = later;
+        match *step {
+            Step::Give(bytes) => {
+                let count = bytes.len().min(buf.len());
+                buf[..count].copy_from_slice(&bytes[..count]);
+                Ok(count)
+            }
+            _ => Ok(0),
+        }
+    }
+}
+
+// Each byte that is wanted is that of one call; `!` is one that failed, and `.` one at the end. The reader gives away
+// bytes that don't fit its caller's buffer, so they come only where they were read ahead.
+#[test]
+fn bytes_ends_and_errors_come_in_the_readers_order(rt: HostRuntime) -> Result<(), Fail> {
+    const INTERRUPTED: ErrorKind = ErrorKind::Interrupted;
+    const BROKEN: ErrorKind = ErrorKind::Other;
+    let cases: [(&'static [Step], &'static [u8], u64); 8] = [
+        (&[], b"..", 0),
+        (&[Step::Give(b"abc"), Step::Give(b"d")], b"abcd..", 0),
+        (
+            &[Step::Give(b"ab"), Step::End, Step::Give(b"c")],
+            b"ab.c.",
+            0,
+        ),
+        (
+            &[Step::Give(b"ab"), Step::Fail(BROKEN, 1), Step::Give(b"c")],
+            b"ab!c.",
+            1,
+        ),
+        (&[Step::Fail(BROKEN, 2), Step::Give(b"a")], b"!!a.", 2),
+        (&[Step::Fail(INTERRUPTED, 3), Step::Give(b"a")], b"a.", 0),
+        (&[Step::Fail(INTERRUPTED, 64), Step::Give(b"a")], b"a.", 0),
+        (&[Step::Fail(INTERRUPTED, 65), Step::Give(b"a")], b"!a.", 1),
+    ];
+    for (steps, wanted, faults) in cases {
+        let mut source = ReaderSource::new(rt.alloc(), Scripted::new(steps))?;
+        for want in wanted {
+            let answer = match *want {
+                b'!' => Err(Failed),
+                b'.' => Ok(None),
+                byte => Ok(Some(byte)),
+            };
+            assert_eq!(rt; next_byte(&mut source), answer, "{wanted:?}");
+        }
+        assert_eq!(rt; source.faults(), faults, "{wanted:?}");
+    }
+    Ok(())
+}
+
+#[test]
+fn an_empty_buffer_asks_for_nothing(rt: HostRuntime) -> Result<(), Fail> {
+    let reader = Scripted::new(&[Step::Fail(ErrorKind::Other, 1), Step::Give(b"a")]);
+    let mut source = ReaderSource::new(rt.alloc(), reader)?;
+    assert_eq!(rt; source.read(&mut []), Ok(0));
+    assert_eq!(rt; next_byte(&mut source), Err(Failed));
+    assert_eq!(rt; next_byte(&mut source), Ok(Some(b'a')));
+    Ok(())
+}
