@@ -1,10 +1,10 @@
 -- A run, one turn further.
-use Rattle.std.proofs.Common.{◌≡◌, ℕ, zero, suc, ◌+◌, ◌-◌, ◌<◌, ◌≤◌, Bool, refl, ap, sym, ◌∙◌, arith, Option, Some, None}
+use Rattle.std.proofs.Common.{◌≡◌, ℕ, suc, ◌+◌, ◌-◌, ◌<◌, ◌≤◌, Bool, refl, ap, ◌∙◌, arith, Option, Some, None}
 use Rattle.nova_machine.specs.declared.machine.Stop.{Stop}
 use Rattle.nova_machine.specs.declared.machine.Turn.TheVariants.{Executed, Stopped}
 use Rattle.nova_machine.specs.Machine.{MachineState}
 use Rattle.nova_machine.specs.Turn.{answer_of}
-use Rattle.nova_machine.specs.Run.{Ran, run, next_turn, after_turn, expired}
+use Rattle.nova_machine.specs.Run.{run, next_turn, expired}
 
 -- no instruction is left
 pub run-none : (step : Bool) (m : MachineState) → run step 0 m ≡ record { machine = m; stop = expired step }

@@ -1,8 +1,8 @@
 -- One instruction, by cases on its word as a number (How to Use the Nova Computers, "Memory Reference Instructions" and
 -- "Arithmetic and Logical Instructions").
-use Rattle.std.specs.Prelude.{ℕ, ◌+◌, ◌-◌, ◌%◌, ◌^◌, ◌==◌, Bool, true, false, List, [], ◌∷◌, slice_index, slice_set, if◌then◌else◌}
+use Rattle.std.specs.Prelude.{ℕ, ◌+◌, ◌-◌, ◌%◌, ◌^◌, ◌==◌, Bool, false, slice_index, slice_set, if◌then◌else◌}
 use Rattle.nova_word.specs.Bits.{bits}
-use Rattle.nova_memory.specs.Memory.{MemoryState, get, put}
+use Rattle.nova_memory.specs.Memory.{get, put}
 use Rattle.nova_alu.specs.Arithmetic.{loaded_accumulators, loaded_carry, skips_next}
 use Rattle.nova_machine.specs.declared.cpu.Cpu.{Cpu}
 use Rattle.nova_machine.specs.Machine.{MachineState}

@@ -4,4 +4,5 @@ pub mod Instruction
 pub mod InputOutput
 pub mod Turn
 pub mod Run
+pub mod Laws
 pub mod Lending

@@ -1,5 +1,5 @@
 -- The state of a machine, on which all that it does depends.
-use Rattle.std.specs.Prelude.{ℕ, ◌≡◌, ◌<◌, ◌≤◌, ◌^◌, List, [], ◌∷◌, length, Bool, false}
+use Rattle.std.specs.Prelude.{ℕ, [], ◌∷◌, false}
 use Rattle.nova_memory.specs.Memory.{MemoryState, blank}
 use Rattle.nova_machine.specs.declared.cpu.Cpu.{Cpu}
 
@@ -14,5 +14,5 @@ unfoldable pub new_machine : MachineState
 new_machine = record {
   cpu = record { accumulators = 0 ∷ 0 ∷ 0 ∷ 0 ∷ []; carry = false; pc = 0 };
   memory = blank;
-  time = 0
+  time = 0;
 }

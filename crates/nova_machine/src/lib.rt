@@ -4,6 +4,7 @@
 pub mod cpu;
 mod input_output;
 mod instruction;
+pub mod laws;
 pub mod machine;
 pub mod registers;
 mod run;

@@ -1,5 +1,4 @@
 ghost use Rattle.std.specs.Prelude.{◌≡◌, ◌≤◌, ◌<◌, ◌^◌, ◌↔◌, IfOk, IsOk, OnOk, OnErr};
-ghost use Rattle.nova_memory.specs.Memory.{put};
 ghost use Rattle.nova_machine.specs.Run.{last_time};
 
 use crate::cpu::Cpu;
@@ -95,7 +94,7 @@ impl Machine {
         &self.memory
     }
 
-    /// The machine's memory, to be changed as a person at the console or a loader does.
+    /// The machine's memory, to be changed as a person at the console or a loader does. It takes no time.
     pub fn memory_mut(&mut self) -> &mut Memory
         ensures* writes_back { sem 𝓛 (LendsMemory self.entry result) }
         ensures value { result.now ≡ self.old.memory }
@@ -108,13 +107,6 @@ impl Machine {
         ensures { result ≡ self.now.cpu.pc }
     {
         self.cpu.pc
-    }
-
-    /// Puts a word into memory, as a person at the console does.
-    pub fn deposit(&mut self, at: Addr, word: Word)
-        ensures { self.new ≡ record self.old { memory = put self.old.memory at word } }
-    {
-        self.memory.write(at, word);
     }
 
     /// The value of a register.

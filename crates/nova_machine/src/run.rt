@@ -12,7 +12,11 @@ impl RunLimit {
     fn expired(self) -> Stop
         ensures { result ≡ expired self.step }
     {
-        if self.step { Stop::Stepped } else { Stop::Limit }
+        if self.step {
+            Stop::Stepped
+        } else {
+            Stop::Limit
+        }
     }
 }
 

@@ -48,7 +48,10 @@ impl Machine {
         ensures machine { self.new ≡ (refer word self.old).machine }
         ensures answer { result ≡ answer_of (refer word self.old).stop }
     {
-        match self.memory.address(word, self.cpu.pc, self.cpu.accumulators) {
+        match self
+            .memory
+            .address(word, self.cpu.pc, self.cpu.accumulators)
+        {
             Err(ChainLimit) => Turn::Stopped(Stop::ChainLimit),
             Ok(address) => {
                 self.time += 1;

@@ -20,7 +20,7 @@ goes c = answer_of-executed _ c.in-Executed.ensures.answer
 pub loop-turn-preserved : goal.loop-turn-preserved
 loop-turn-preserved c =
     run-goes-behind c.args.limit.step c.args.limit.count c.loop-turn.turn c.args.self.now c.loop-turn.self c.loop-turn-test.true c.loop-turn.invariant (goes c)
-      ∙ ap (λ m. run c.args.limit.step (c.args.limit.count - (c.loop-turn.turn + 1)) m) (sym c.in-Executed.ensures.machine)
+    ∙ ap (λ m. run c.args.limit.step (c.args.limit.count - (c.loop-turn.turn + 1)) m) (sym c.in-Executed.ensures.machine)
 
 pub returns-clause-machine : goal.returns-clause-machine
 returns-clause-machine c =

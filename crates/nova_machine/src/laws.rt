@@ -1,0 +1,13 @@
+ghost use Rattle.nova_machine.specs.Laws.{RunSplits, RunTakesTime};
+
+/// The law that a run of n + k is a run of n and then a run of k, where only the count or the end of time ended the
+/// first. Another stop within the first n ends the whole run.
+pub fn runs_split()
+    ensures { RunSplits }
+{}
+
+/// The law that time grows by the instructions that a run has executed, at most its count, and that no run changes how
+/// many words the memory has.
+pub fn runs_take_time()
+    ensures { RunTakesTime }
+{}
