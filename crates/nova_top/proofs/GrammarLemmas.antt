@@ -42,7 +42,7 @@ is_number-sound base text h =
 pub is_number-complete : (base : ℕ) (text : List ℕ) (n : ℕ) → IsNumber base text n → is_number base text ≡ true
 is_number-complete base text n number =
     and_from (nat_lt 0 (length text)) (list_all (is_digit base) text) (lt-ltb 0 (length text) number.some)
-      (list_all-from_AllPass (is_digit base) text (λ k d l. digit-complete base _ (number.digits k d l)))
+    (list_all-from_AllPass (is_digit base) text (λ k d l. digit-complete base _ (number.digits k d l)))
 
 pub is_octal-sound : (most : ℕ) (text : List ℕ) → is_octal most text ≡ true → IsNumber 8 text (value_of 8 text) × (length text ≤ most)
 unfolding is_octal
@@ -191,12 +191,12 @@ pub count-sound : (text : List ℕ) (count : ℕ) → count_of text ≡ Some cou
 unfolding count_of
 count-sound text count h =
     ⊎_elim
-      (λ (yes : ((is_number 10 text && (nat_le 1 (value_of 10 text) && nat_le (value_of 10 text) (2 ^ 48))) ≡ true) × (Some (value_of 10 text) ≡ Some count)).
-        let parts = and_parts (is_number 10 text) (nat_le 1 (value_of 10 text) && nat_le (value_of 10 text) (2 ^ 48)) yes.0 in
-        let range = and_parts (nat_le 1 (value_of 10 text)) (nat_le (value_of 10 text) (2 ^ 48)) parts.1 in
-        subst (λ c. IsCount text c) (some-equal yes.1) (is_number-sound 10 text parts.0, leb-true 1 (value_of 10 text) range.0, leb-true (value_of 10 text) (2 ^ 48) range.1))
-      (λ (no : ((is_number 10 text && (nat_le 1 (value_of 10 text) && nat_le (value_of 10 text) (2 ^ 48))) ≡ false) × (None ≡ Some count)). absurd (cc))
-      (chosen (is_number 10 text && (nat_le 1 (value_of 10 text) && nat_le (value_of 10 text) (2 ^ 48))) (Some (value_of 10 text)) None count h)
+    (λ (yes : ((is_number 10 text && (nat_le 1 (value_of 10 text) && nat_le (value_of 10 text) (2 ^ 48))) ≡ true) × (Some (value_of 10 text) ≡ Some count)).
+    let parts = and_parts (is_number 10 text) (nat_le 1 (value_of 10 text) && nat_le (value_of 10 text) (2 ^ 48)) yes.0 in
+    let range = and_parts (nat_le 1 (value_of 10 text)) (nat_le (value_of 10 text) (2 ^ 48)) parts.1 in
+    subst (λ c. IsCount text c) (some-equal yes.1) (is_number-sound 10 text parts.0, leb-true 1 (value_of 10 text) range.0, leb-true (value_of 10 text) (2 ^ 48) range.1))
+    (λ (no : ((is_number 10 text && (nat_le 1 (value_of 10 text) && nat_le (value_of 10 text) (2 ^ 48))) ≡ false) × (None ≡ Some count)). absurd (cc))
+    (chosen (is_number 10 text && (nat_le 1 (value_of 10 text) && nat_le (value_of 10 text) (2 ^ 48))) (Some (value_of 10 text)) None count h)
 
 pub count-complete : (text : List ℕ) (count : ℕ) → IsCount text count → count_of text ≡ Some count
 unfolding count_of
@@ -210,9 +210,9 @@ pub address-sound : (text : List ℕ) (address : ℕ) → octal_up_to 5 text ≡
 unfolding octal_up_to
 address-sound text address h =
     ⊎_elim
-      (λ (yes : (is_octal 5 text ≡ true) × (Some (value_of 8 text) ≡ Some address)). subst (λ a. IsAddress text a) (some-equal yes.1) (is_octal-sound 5 text yes.0))
-      (λ (no : (is_octal 5 text ≡ false) × (None ≡ Some address)). absurd (cc))
-      (chosen (is_octal 5 text) (Some (value_of 8 text)) None address h)
+    (λ (yes : (is_octal 5 text ≡ true) × (Some (value_of 8 text) ≡ Some address)). subst (λ a. IsAddress text a) (some-equal yes.1) (is_octal-sound 5 text yes.0))
+    (λ (no : (is_octal 5 text ≡ false) × (None ≡ Some address)). absurd (cc))
+    (chosen (is_octal 5 text) (Some (value_of 8 text)) None address h)
 
 pub address-complete : (text : List ℕ) (address : ℕ) → IsAddress text address → octal_up_to 5 text ≡ Some address
 unfolding octal_up_to
@@ -277,21 +277,21 @@ fixed-sound : (line : List ℕ) (command : Command) → fixed_of line ≡ Some c
 unfolding fixed_of
 fixed-sound line command =
     choice-sound line command _ _ _ (name-sound line [] Nothing command refl)
-      (choice-sound line command _ _ _ (name-sound line (codes "RUN") (Run None) command refl)
-        (choice-sound line command _ _ _ (name-sound line (codes "GO") (Go None) command refl)
-          (choice-sound line command _ _ _ (name-sound line (codes "CONT") Cont command refl)
-            (choice-sound line command _ _ _ (name-sound line (codes "STEP") (Step None) command refl)
-              (choice-sound line command _ _ _ (name-sound line (codes "SHOW TIME") ShowTime command refl)
-                (choice-sound line command _ _ _ (name-sound line (codes "EXIT") Exit command refl) (λ x. absurd (cc))))))))
+    (choice-sound line command _ _ _ (name-sound line (codes "RUN") (Run None) command refl)
+    (choice-sound line command _ _ _ (name-sound line (codes "GO") (Go None) command refl)
+    (choice-sound line command _ _ _ (name-sound line (codes "CONT") Cont command refl)
+    (choice-sound line command _ _ _ (name-sound line (codes "STEP") (Step None) command refl)
+    (choice-sound line command _ _ _ (name-sound line (codes "SHOW TIME") ShowTime command refl)
+    (choice-sound line command _ _ _ (name-sound line (codes "EXIT") Exit command refl) (λ x. absurd (cc))))))))
 
 operated-sound : (line : List ℕ) (command : Command) → operated_of line ≡ Some command → HasForm line command
 unfolding operated_of
 operated-sound line command =
     choice-sound line command _ _ _ (examine-sound line command)
-      (choice-sound line command _ _ _ (deposits-sound line command)
-        (choice-sound line command _ _ _ (run-sound line command)
-          (choice-sound line command _ _ _ (go-sound line command)
-            (choice-sound line command _ _ _ (step-sound line command) (λ x. absurd (cc))))))
+    (choice-sound line command _ _ _ (deposits-sound line command)
+    (choice-sound line command _ _ _ (run-sound line command)
+    (choice-sound line command _ _ _ (go-sound line command)
+    (choice-sound line command _ _ _ (step-sound line command) (λ x. absurd (cc))))))
 
 either-sound : (line : List ℕ) (command : Command) (fixed : Option Command) → fixed_of line ≡ fixed → or_else fixed (operated_of line) ≡ Some command → HasForm line command
 either-sound line command None e h = operated-sound line command h
@@ -301,10 +301,10 @@ pub command-sound : (line : List ℕ) (command : Command) → command_of line �
 unfolding command_of
 command-sound line command h =
     ⊎_elim
-      (λ (yes : (nat_le (length line) longest_line ≡ true) × (or_else (fixed_of line) (operated_of line) ≡ Some command)).
-        (leb-true (length line) longest_line yes.0, either-sound line command (fixed_of line) refl yes.1))
-      (λ (no : (nat_le (length line) longest_line ≡ false) × (None ≡ Some command)). absurd (cc))
-      (chosen (nat_le (length line) longest_line) (or_else (fixed_of line) (operated_of line)) None command h)
+    (λ (yes : (nat_le (length line) longest_line ≡ true) × (or_else (fixed_of line) (operated_of line) ≡ Some command)).
+    (leb-true (length line) longest_line yes.0, either-sound line command (fixed_of line) refl yes.1))
+    (λ (no : (nat_le (length line) longest_line ≡ false) × (None ≡ Some command)). absurd (cc))
+    (chosen (nat_le (length line) longest_line) (or_else (fixed_of line) (operated_of line)) None command h)
 
 pub one-command : (line : List ℕ) (one other : Command) → Parses line one → Parses line other → one ≡ other
 one-command line one other h k = some-equal (sym (command-complete line one h) ∙ command-complete line other k)

@@ -84,6 +84,6 @@ count-unread text fault h = none-from (count_of text) (λ count e.
     let same : Ok count ≡ Err fault = one_answer 10 (2 ^ 63) text (Ok count) (Err fault) (stands.0, omega (arith, stands.2)) h in
     absurd (cc))
   where
-  none-from : {A : Type 0} (o : Option A) → ((x : A) → o ≡ Some x → ⊥) → o ≡ None
-  none-from None h = refl
-  none-from (Some x) h = absurd (h x refl)
+    none-from : {A : Type 0} (o : Option A) → ((x : A) → o ≡ Some x → ⊥) → o ≡ None
+    none-from None h = refl
+    none-from (Some x) h = absurd (h x refl)

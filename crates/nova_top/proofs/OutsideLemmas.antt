@@ -111,7 +111,7 @@ session-outcome words options input left before after finish now e small s =
       state = Some (core_of now options.limit);
       machine_is = refl;
       is = outcome-words words input (length s.end.taken) s.gives (Some options) e
-        ∙ session-cut options input (length s.end.taken) s.gives (status_of finish) s.made s.end.taken (core_of now options.limit) s.end.outcome
+          ∙ session-cut options input (length s.end.taken) s.gives (status_of finish) s.made s.end.taken (core_of now options.limit) s.end.outcome;
     }
 
 -- the laws, at the outcome

@@ -18,8 +18,8 @@ at-word : (c : Choices) (words : List (String Global)) (i : ℕ) (word : String 
     → options_from c (texts_of (drop i words)) ≡ option_and_then (λ c. options_from c (texts_of (drop (i + 1) words))) (next_choice c (string_bytes word))
 at-word c words i word within is =
     ap (λ l. options_from c (texts_of l)) (drop_more words i word within)
-      ∙ ap (λ w. options_from c (string_bytes w ∷ texts_of (drop (i + 1) words))) (sym is)
-      ∙ from-word c (string_bytes word) (texts_of (drop (i + 1) words))
+    ∙ ap (λ w. options_from c (string_bytes w ∷ texts_of (drop (i + 1) words))) (sym is)
+    ∙ from-word c (string_bytes word) (texts_of (drop (i + 1) words))
 
 -- a word that is no option
 pub word-refused : (c : Choices) (words : List (String Global)) (i : ℕ) (word : String Global) (answer : Option Options) → i < length words → word ≡ get_or words i word

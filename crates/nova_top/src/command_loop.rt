@@ -11,8 +11,8 @@ use crate::command::Command;
 use crate::effect::execute;
 use crate::grammar::read_command;
 use crate::line_reader::Reading;
-use crate::session::Session;
 use crate::progress::{CommandLoop, Finish, Progress};
+use crate::session::Session;
 use host_files::{Failed, Sink, Source, put_all};
 
 /// Does the next line of a session: the prompt where it is on, the reading, and the command.

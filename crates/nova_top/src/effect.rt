@@ -11,8 +11,8 @@ use crate::command::{Command, Place, register_name};
 use crate::session::Session;
 use crate::text::Text;
 use host_files::{Failed, Sink, put_all};
-use nova_machine::{CpuReg, Machine, RunLimit, Stop};
 use itoa::Buffer;
+use nova_machine::{CpuReg, Machine, RunLimit, Stop};
 use nova_word::{Addr, Word};
 
 /// Does a command, or answers a line that is none, and prints what it has to say. Answers whether it ends the session.
@@ -149,7 +149,7 @@ fn deposit(machine: &mut Machine, place: Place, value: Word)
     ensures { machine.new ≡ deposited machine.old place value }
 {
     match place {
-        Place::At(address) => machine.deposit(address, value),
+        Place::At(address) => machine.memory_mut().write(address, value),
         Place::Register(register) => {
             let _fits = machine.set_cpu_reg(register, u32::from(value.0));
         }

@@ -5,8 +5,8 @@ ghost use Rattle.nova_top.specs.Ends.{IsSession, FinishCause};
 
 use crate::command_loop::next_line;
 use crate::line_reader::LineReader;
-use crate::session::Session;
 use crate::progress::{CommandLoop, Finish, Progress};
+use crate::session::Session;
 use host_files::{Sink, Source};
 
 /// How many lines a session may have: each costs a unit, and a long one more.

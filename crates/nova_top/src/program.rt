@@ -6,10 +6,10 @@ ghost use Rattle.nova_top.specs.Outside.{texts_of};
 ghost use Rattle.nova_top.specs.Ends.{IsOutcome, IsCutShort, StatusCause, MachineThere, IsComplete, IsSession, FinishCause};
 ghost use Rattle.nova_top.specs.Program.{IsUsage, UsageCause, SessionEnds};
 
+use crate::options::Options;
 use crate::perform::perform;
 use crate::progress::Finish;
 use crate::session::Session;
-use crate::options::Options;
 use crate::words::options_of;
 use host_files::{Sink, Source, put_all};
 use nova_machine::Machine;

@@ -48,7 +48,7 @@ const FIRST_RUN_PRINTS: &[u8] = b"\nStep expired, PC: 00101 (000000)\nAC0:\t0000
 #[test]
 fn sessions_print_and_end_as_the_tables_say(rt: HostRuntime) -> Result<(), Fail> {
     let quiet = ["-q"];
-    let cases: [(&[u8], &[u8], u8); 17] = [
+    let cases: [(&[u8], &[u8], u8); 22] = [
         (FIRST_RUN, FIRST_RUN_PRINTS, 0),
         (b"", b"", 0),
         (b"\n\n", b"", 0),
@@ -98,21 +98,51 @@ fn sessions_print_and_end_as_the_tables_say(rt: HostRuntime) -> Result<(), Fail>
             b"\nStep expired, PC: 00201 (000000)\nAC3:\t000101\n",
             0,
         ),
-        // a word of 060000 or more stops, with the machine as it was
+        // a word of input and output that is not built stops, with the machine as it was
         (
-            b"DEPOSIT 100 60000\nDEPOSIT PC 100\nSTEP\nEXAMINE PC\n",
-            b"\nNot built, PC: 00100 (060000)\nPC:\t00100\n",
+            b"DEPOSIT 100 60000\nDEPOSIT PC 100\nSTEP\nEXAMINE PC\nSHOW TIME\n",
+            b"\nNot built, PC: 00100 (060000)\nPC:\t00100\nTime: 0\n",
+            0,
+        ),
+        // INC of all ones carries, and HALT counts as an instruction
+        (
+            b"DEPOSIT AC0 177777\nDEPOSIT 100 101400\nDEPOSIT 101 63077\nGO 100\nEXAMINE AC0\nEXAMINE C\nSHOW TIME\n",
+            b"\nHALT instruction, PC: 00102 (000000)\nAC0:\t000000\nC:\t1\nTime: 2\n",
+            0,
+        ),
+        // auto-index through 20, whose changed word is the address
+        (
+            b"DEPOSIT 20 177777\nDEPOSIT 0 123\nDEPOSIT 100 22020\nDEPOSIT PC 100\nSTEP\nEXAMINE 20\nEXAMINE AC0\n",
+            b"\nStep expired, PC: 00101 (000000)\n00020:\t000000\nAC0:\t000123\n",
+            0,
+        ),
+        // a chain without end
+        (
+            b"DEPOSIT 100 100100\nDEPOSIT 200 2100\nGO 200\nSHOW TIME\n",
+            b"\nIndirect chain limit, PC: 00200 (002100)\nTime: 0\n",
+            0,
+        ),
+        // MUL, and DIV that overflows
+        (
+            b"DEPOSIT AC0 177777\nDEPOSIT AC1 177777\nDEPOSIT AC2 177777\nDEPOSIT 100 73301\nDEPOSIT PC 100\nSTEP\nEXAMINE AC0\nEXAMINE AC1\n",
+            b"\nStep expired, PC: 00101 (000000)\nAC0:\t177777\nAC1:\t000000\n",
             0,
         ),
         (
-            b"DEPOSIT 100 177777\nDEPOSIT PC 100\nSTEP\n",
-            b"\nNot built, PC: 00100 (177777)\n",
+            b"DEPOSIT AC0 5\nDEPOSIT AC1 3\nDEPOSIT AC2 5\nDEPOSIT C 0\nDEPOSIT 100 73101\nDEPOSIT PC 100\nSTEP\nEXAMINE AC1\nEXAMINE C\n",
+            b"\nStep expired, PC: 00101 (000000)\nAC1:\t000003\nC:\t1\n",
             0,
         ),
-        // so does an indirect level
+        // a count is decimal, may have leading zeros, and is at least 1
         (
-            b"DEPOSIT 100 22040\nDEPOSIT PC 100\nSTEP\n",
-            b"\nNot built, PC: 00100 (022040)\n",
+            b"DEPOSIT 0 0\nSTEP 010\nSHOW TIME\nSTEP 0\nSTEP 281474976710657\nSTEP 8x\nDEPOSIT C 2\n",
+            b"\nStep expired, PC: 00000 (000000)\nTime: 10\nNot built\nNot built\nNot built\nNot built\n",
+            0,
+        ),
+        // RUN and GO begin at their address, CONT at PC
+        (
+            b"DEPOSIT 100 63077\nDEPOSIT 101 63077\nDEPOSIT 102 63077\nRUN 100\nCONT\nGO\nRUN\nGO 100000\nRUN \n",
+            b"\nHALT instruction, PC: 00101 (063077)\n\nHALT instruction, PC: 00102 (063077)\n\nHALT instruction, PC: 00103 (000000)\n",
             0,
         ),
         // a displacement is signed on an index: LDA 0,-1,2
@@ -126,6 +156,44 @@ fn sessions_print_and_end_as_the_tables_say(rt: HostRuntime) -> Result<(), Fail>
         let seen = run(rt.alloc(), &quiet, lines, 4096, None)?;
         assert_eq!(rt; seen.console.as_slice(), prints);
         assert_eq!(rt; seen.status, status);
+    }
+    Ok(())
+}
+
+#[test]
+fn a_limit_ends_each_run(rt: HostRuntime) -> Result<(), Fail> {
+    let lines = b"DEPOSIT 100 400\nGO 100\nSHOW TIME\nSTEP 7\nSTEP 5\nSHOW TIME\n";
+    let prints =
+        b"\nInstruction limit, PC: 00100 (000400)\nTime: 5\n\nInstruction limit, PC: 00100 (000400)\n\nStep expired, PC: 00100 (000400)\nTime: 15\n";
+    for words in [["-q", "-l", "5"], ["-l", "5", "-q"]] {
+        let seen = run(rt.alloc(), &words, lines, 4096, None)?;
+        assert_eq!(rt; seen.console.as_slice(), prints.as_slice());
+        assert_eq!(rt; seen.status, 0);
+    }
+    let bad = [
+        "",
+        "0",
+        "05",
+        "-5",
+        "5 ",
+        "281474976710657",
+        "99999999999999999999999999",
+    ];
+    for limit in bad {
+        let seen = run(rt.alloc(), &["-l", limit], lines, 4096, None)?;
+        assert_eq!(rt; seen.status, 100, "-l {limit}");
+    }
+    let seen = run(
+        rt.alloc(),
+        &["-q", "-l", "281474976710656"],
+        b"",
+        4096,
+        None,
+    )?;
+    assert_eq!(rt; seen.status, 0);
+    for words in [["-l", "5", "-l"], ["-q", "-l", "-q"], ["-l", "-q", "5"]] {
+        let seen = run(rt.alloc(), &words, lines, 4096, None)?;
+        assert_eq!(rt; seen.status, 100);
     }
     Ok(())
 }
