@@ -204,7 +204,7 @@ fn read_place(text: &[u8]) -> Option<Place>
     if text == b"PC".as_slice() {
         return Some(Place::Register(CpuReg::Pc));
     }
-    read_digits(5, text).map(|n| Place::At(Addr::of_word(Word(n as u16))))
+    read_address(text).map(|address| Place::At(address))
 }
 
 /// A value of 1 to 6 octal digits, up to the largest.

@@ -62,7 +62,7 @@ fn sessions_print_and_end_as_the_tables_say(rt: HostRuntime) -> Result<(), Fail>
         // nothing behind EXIT is done
         (b"EXIT\nEXAMINE AC0\n", b"", 0),
         (
-            b"FOO\nexamine ac0\nEXAMINE  AC0\nEXAMINE AC0 \nSTEP 1\n",
+            b"FOO\nexamine ac0\nEXAMINE  AC0\nEXAMINE AC0 \nSTEP -1\n",
             b"Not built\nNot built\nNot built\nNot built\nNot built\n",
             0,
         ),
@@ -141,8 +141,8 @@ fn sessions_print_and_end_as_the_tables_say(rt: HostRuntime) -> Result<(), Fail>
         ),
         // RUN and GO begin at their address, CONT at PC
         (
-            b"DEPOSIT 100 63077\nDEPOSIT 101 63077\nDEPOSIT 102 63077\nRUN 100\nCONT\nGO\nRUN\nGO 100000\nRUN \n",
-            b"\nHALT instruction, PC: 00101 (063077)\n\nHALT instruction, PC: 00102 (063077)\n\nHALT instruction, PC: 00103 (000000)\n",
+            b"DEPOSIT 100 63077\nDEPOSIT 101 63077\nDEPOSIT 102 63077\nRUN 100\nCONT\nGO\nGO 100000\nRUN \n",
+            b"\nHALT instruction, PC: 00101 (063077)\n\nHALT instruction, PC: 00102 (063077)\n\nHALT instruction, PC: 00103 (000000)\nNot built\nNot built\n",
             0,
         ),
         // a displacement is signed on an index: LDA 0,-1,2
