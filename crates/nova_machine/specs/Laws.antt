@@ -1,8 +1,13 @@
 -- What holds of every run, in a reader's words. A law is proved where a public function's contract is that law.
-use Rattle.std.specs.Prelude.{◌≡◌, ℕ, ◌+◌, ◌<◌, ◌≤◌, ◌⊎◌, Bool}
+use Rattle.std.specs.Prelude.{◌≡◌, ◌≢◌, ◌↔◌, ℕ, ◌+◌, ◌<◌, ◌≤◌, ◌⊎◌, Bool, Some, None}
+use Rattle.nova_word.specs.Bits.{bits}
+use Rattle.nova_memory.specs.Memory.{get}
+use Rattle.nova_memory.specs.Address.{address}
 use Rattle.nova_machine.specs.declared.machine.Stop.{Stop}
-use Rattle.nova_machine.specs.declared.machine.Stop.TheVariants.{Stepped, Limit}
+use Rattle.nova_machine.specs.declared.machine.Stop.TheVariants.{Halt, ChainLimit, Stepped, Limit, NotBuilt}
 use Rattle.nova_machine.specs.Machine.{MachineState}
+use Rattle.nova_machine.specs.Instruction.{following}
+use Rattle.nova_machine.specs.Turn.{turn}
 use Rattle.nova_machine.specs.Run.{run, expired, last_time}
 
 -- the stops of a run that only its count or the end of time has ended
@@ -32,3 +37,30 @@ pub record RunTakesTime : Type 0 where
   pub limited : (step : Bool) (n : ℕ) (m : MachineState) → IsLimit (run step n m).stop
       → ((run step n m).machine.time ≡ m.time + n) ⊎ ((run step n m).machine.time ≡ last_time)
   pub size : (step : Bool) (n : ℕ) (m : MachineState) → (run step n m).machine.memory.size ≡ m.memory.size
+
+-- the word that the next turn fetches
+abbrev pub fetched : MachineState → ℕ
+fetched m = get m.memory m.cpu.pc
+
+-- the words that no turn executes: those of input and output, but for HALT and those to device 1
+pub record IsNotBuilt (word : ℕ) : Type 0 where
+  pub input_output : (0o60000 ≤ word) × (word < 0o100000)
+  pub device : bits 10 15 word ≢ 1
+  pub other : word ≢ 0o63077
+
+-- a memory reference whose indirect chain does not end
+pub record IsEndless (word : ℕ) (m : MachineState) : Type 0 where
+  pub memory_reference : word < 0o60000
+  pub chain : (address m.memory word m.cpu.pc m.cpu.accumulators).address ≡ None
+
+-- Each stop of a turn has its cause, and comes wherever that is given. What stands after it: HALT has taken its
+-- time, and the others have changed no register and taken no time.
+pub record TurnStops : Type 0 where
+  pub halt : (m : MachineState) → ((turn m).stop ≡ Some Halt) ↔ (fetched m ≡ 0o63077)
+  pub chain_limit : (m : MachineState) → ((turn m).stop ≡ Some ChainLimit) ↔ IsEndless (fetched m) m
+  pub not_built : (m : MachineState) → ((turn m).stop ≡ Some NotBuilt) ↔ IsNotBuilt (fetched m)
+  pub halted : (m : MachineState) → (turn m).stop ≡ Some Halt
+      → (turn m).machine ≡ record m { cpu = record m.cpu { pc = following m.cpu.pc }; time = m.time + 1 }
+  pub unended : (m : MachineState) → (turn m).stop ≡ Some ChainLimit
+      → (turn m).machine ≡ record m { memory = (address m.memory (fetched m) m.cpu.pc m.cpu.accumulators).memory }
+  pub unbuilt : (m : MachineState) → (turn m).stop ≡ Some NotBuilt → (turn m).machine ≡ m

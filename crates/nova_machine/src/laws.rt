@@ -1,4 +1,4 @@
-ghost use Rattle.nova_machine.specs.Laws.{RunSplits, RunTakesTime};
+ghost use Rattle.nova_machine.specs.Laws.{RunSplits, RunTakesTime, TurnStops};
 
 /// The law that a run of n + k is a run of n and then a run of k, where only the count or the end of time ended the
 /// first. Another stop within the first n ends the whole run.
@@ -10,4 +10,9 @@ pub fn runs_split()
 /// many words the memory has.
 pub fn runs_take_time()
     ensures { RunTakesTime }
+{}
+
+/// The law that each stop of a turn has its cause, and what stands after it.
+pub fn turns_stop()
+    ensures { TurnStops }
 {}

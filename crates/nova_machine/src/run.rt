@@ -24,7 +24,8 @@ impl Machine {
     ghost use Rattle.nova_machine.specs.Turn.{answer_of};
     ghost use Rattle.nova_machine.specs.Run.{next_turn, run};
 
-    /// Makes turns until one stops, the count of the limit is reached, or time ends.
+    /// Makes turns until one stops, the count of the limit is reached, or time ends, and answers which. The instruction
+    /// of a HALT counts; one that stopped as `ChainLimit` or `NotBuilt` does not, and PC stays there.
     pub fn run(&mut self, limit: RunLimit) -> Stop
         ensures machine { self.new ≡ (run limit.step limit.count self.old).machine }
         ensures stop { result ≡ (run limit.step limit.count self.old).stop }
@@ -51,3 +52,6 @@ impl Machine {
         }
     }
 }
+
+#[cfg(test)]
+mod tests;

@@ -48,10 +48,8 @@ impl Machine {
         ensures machine { self.new ≡ (refer word self.old).machine }
         ensures answer { result ≡ answer_of (refer word self.old).stop }
     {
-        match self
-            .memory
-            .address(word, self.cpu.pc, self.cpu.accumulators)
-        {
+        let acs = self.cpu.accumulators;
+        match self.memory.address(word, self.cpu.pc, acs) {
             Err(ChainLimit) => Turn::Stopped(Stop::ChainLimit),
             Ok(address) => {
                 self.time += 1;
@@ -90,3 +88,6 @@ impl Machine {
         Turn::Stopped(Stop::Halt)
     }
 }
+
+#[cfg(test)]
+mod tests;
