@@ -37,44 +37,46 @@ pub more-room : {S : Type 0} (events : List (Event S)) (ended : Ended S) (takes 
 more-room [] ended takes more gives h s = refl
 more-room (Prints text at ∷ rest) ended takes more gives h s =
     ⊎_elim
-      (λ (short : takes < length text). absurd (s (ap (λ o. o.status) (cut-refused text at rest ended takes gives short))))
-      (λ (fits : length text ≤ takes).
-        let now = cut-printed text at rest ended takes gives fits in
-        let later = cut-printed text at rest ended more gives (omega (arith, h, fits)) in
-        let s' = λ (e : (cut (takes - length text) gives rest ended).status ≡ 102). s (ap (λ o. o.status) now ∙ e) in
-        later ∙ ap (behind text 0) (more-room rest ended (takes - length text) (more - length text) gives (omega (arith, h)) s') ∙ sym now)
-      (cases_lt takes (length text))
+    (λ (short : takes < length text). absurd (s (ap (λ o. o.status) (cut-refused text at rest ended takes gives short))))
+    (λ (fits : length text ≤ takes).
+    let now = cut-printed text at rest ended takes gives fits in
+    let later = cut-printed text at rest ended more gives (omega (arith, h, fits)) in
+    let s' = λ (e : (cut (takes - length text) gives rest ended).status ≡ 102). s (ap (λ o. o.status) now ∙ e) in
+    later ∙ ap (behind text 0) (more-room rest ended (takes - length text) (more - length text) gives (omega (arith, h)) s') ∙ sym now)
+    (cases_lt takes (length text))
 more-room (Reads count at ∷ rest) ended takes more gives h s =
     ⊎_elim
-      (λ (short : gives < count). cut-failed count at rest ended more gives short ∙ sym (cut-failed count at rest ended takes gives short))
-      (λ (fits : count ≤ gives).
-        let now = cut-read count at rest ended takes gives fits in
-        let later = cut-read count at rest ended more gives fits in
-        let s' = λ (e : (cut takes (gives - count) rest ended).status ≡ 102). s (ap (λ o. o.status) now ∙ e) in
-        later ∙ ap (behind [] count) (more-room rest ended takes more (gives - count) h s') ∙ sym now)
-      (cases_lt gives count)
+    (λ (short : gives < count). cut-failed count at rest ended more gives short ∙ sym (cut-failed count at rest ended takes gives short))
+    (λ (fits : count ≤ gives).
+    let now = cut-read count at rest ended takes gives fits in
+    let later = cut-read count at rest ended more gives fits in
+    let s' = λ (e : (cut takes (gives - count) rest ended).status ≡ 102). s (ap (λ o. o.status) now ∙ e) in
+    later ∙ ap (behind [] count) (more-room rest ended takes more (gives - count) h s') ∙ sym now)
+    (cases_lt gives count)
 
 pub first-part : {S : Type 0} (events : List (Event S)) (ended : Ended S) (takes gives : ℕ) → (rest : List ℕ) × (text_of events ≡ (cut takes gives events ended).console ++ rest)
 first-part [] ended takes gives = ([], refl)
 first-part (Prints text at ∷ more) ended takes gives =
     ⊎_elim
-      (λ (short : takes < length text).
-        (drop takes text ++ text_of more,
-         ap (λ t. t ++ text_of more) (sym (take-append-drop takes text)) ∙ append_assoc (take takes text) (drop takes text) (text_of more)
-           ∙ ap (λ o. o.console ++ (drop takes text ++ text_of more)) (sym (cut-refused text at more ended takes gives short))))
-      (λ (fits : length text ≤ takes).
-        let part = first-part more ended (takes - length text) gives in
-        (part.0,
-         ap (λ t. text ++ t) part.1 ∙ sym (append_assoc text (cut (takes - length text) gives more ended).console part.0)
-           ∙ ap (λ o. o.console ++ part.0) (sym (cut-printed text at more ended takes gives fits))))
-      (cases_lt takes (length text))
+    (λ (short : takes < length text). (
+      drop takes text ++ text_of more,
+      ap (λ t. t ++ text_of more) (sym (take-append-drop takes text)) ∙ append_assoc (take takes text) (drop takes text) (text_of more)
+          ∙ ap (λ o. o.console ++ (drop takes text ++ text_of more)) (sym (cut-refused text at more ended takes gives short)),
+    ))
+    (λ (fits : length text ≤ takes).
+    let part = first-part more ended (takes - length text) gives in (
+      part.0,
+      ap (λ t. text ++ t) part.1 ∙ sym (append_assoc text (cut (takes - length text) gives more ended).console part.0)
+          ∙ ap (λ o. o.console ++ part.0) (sym (cut-printed text at more ended takes gives fits)),
+    ))
+    (cases_lt takes (length text))
 first-part (Reads count at ∷ more) ended takes gives =
     ⊎_elim
-      (λ (short : gives < count). (text_of more, ap (λ o. o.console ++ text_of more) (sym (cut-failed count at more ended takes gives short))))
-      (λ (fits : count ≤ gives).
-        let part = first-part more ended takes (gives - count) in
-        (part.0, part.1 ∙ ap (λ o. o.console ++ part.0) (sym (cut-read count at more ended takes gives fits))))
-      (cases_lt gives count)
+    (λ (short : gives < count). (text_of more, ap (λ o. o.console ++ text_of more) (sym (cut-failed count at more ended takes gives short))))
+    (λ (fits : count ≤ gives).
+    let part = first-part more ended takes (gives - count) in
+    (part.0, part.1 ∙ ap (λ o. o.console ++ part.0) (sym (cut-read count at more ended takes gives fits))))
+    (cases_lt gives count)
 
 pub no-faults : {S : Type 0} (events : List (Event S)) (ended : Ended S) (takes gives : ℕ)
     → (cut takes gives events ended).status ≢ 102 → (cut takes gives events ended).status ≢ 106
@@ -82,20 +84,20 @@ pub no-faults : {S : Type 0} (events : List (Event S)) (ended : Ended S) (takes 
 no-faults [] ended takes gives p r = refl
 no-faults (Prints text at ∷ more) ended takes gives p r =
     ⊎_elim
-      (λ (short : takes < length text). absurd (p (ap (λ o. o.status) (cut-refused text at more ended takes gives short))))
-      (λ (fits : length text ≤ takes).
-        let now = cut-printed text at more ended takes gives fits in
-        let inner = no-faults more ended (takes - length text) gives (λ e. p (ap (λ o. o.status) now ∙ e)) (λ e. r (ap (λ o. o.status) now ∙ e)) in
-        now ∙ ap (behind text 0) inner ∙ ap (λ n. ends ended.status (text ++ text_of more) n ended.state) (zero-add (reads_of more)))
-      (cases_lt takes (length text))
+    (λ (short : takes < length text). absurd (p (ap (λ o. o.status) (cut-refused text at more ended takes gives short))))
+    (λ (fits : length text ≤ takes).
+    let now = cut-printed text at more ended takes gives fits in
+    let inner = no-faults more ended (takes - length text) gives (λ e. p (ap (λ o. o.status) now ∙ e)) (λ e. r (ap (λ o. o.status) now ∙ e)) in
+    now ∙ ap (behind text 0) inner ∙ ap (λ n. ends ended.status (text ++ text_of more) n ended.state) (zero-add (reads_of more)))
+    (cases_lt takes (length text))
 no-faults (Reads count at ∷ more) ended takes gives p r =
     ⊎_elim
-      (λ (short : gives < count). absurd (r (ap (λ o. o.status) (cut-failed count at more ended takes gives short))))
-      (λ (fits : count ≤ gives).
-        let now = cut-read count at more ended takes gives fits in
-        let inner = no-faults more ended takes (gives - count) (λ e. p (ap (λ o. o.status) now ∙ e)) (λ e. r (ap (λ o. o.status) now ∙ e)) in
-        now ∙ ap (behind [] count) inner)
-      (cases_lt gives count)
+    (λ (short : gives < count). absurd (r (ap (λ o. o.status) (cut-failed count at more ended takes gives short))))
+    (λ (fits : count ≤ gives).
+    let now = cut-read count at more ended takes gives fits in
+    let inner = no-faults more ended takes (gives - count) (λ e. p (ap (λ o. o.status) now ∙ e)) (λ e. r (ap (λ o. o.status) now ∙ e)) in
+    now ∙ ap (behind [] count) inner)
+    (cases_lt gives count)
 
 pub whole : {S : Type 0} (events : List (Event S)) (ended : Ended S) (takes gives : ℕ)
     → (cut takes gives events ended).status ≢ 102 → (cut takes gives events ended).status ≢ 106 → IsWhole events ended takes gives
@@ -107,30 +109,30 @@ whole events ended takes gives p r =
 behind-behind : {S : Type 0} (first second : List ℕ) (m n : ℕ) (o : Outcome S) → behind first m (behind second n o) ≡ behind (first ++ second) (m + n) o
 behind-behind first second m n o =
     ap (λ t. ends o.status t (m + (n + o.reads)) o.state) (sym (append_assoc first second o.console))
-      ∙ ap (λ k. ends o.status ((first ++ second) ++ o.console) k o.state) (sym (add_assoc m n o.reads))
+    ∙ ap (λ k. ends o.status ((first ++ second) ++ o.console) k o.state) (sym (add_assoc m n o.reads))
 
 -- a cut behind events that were let through
 pub cut-after : {S : Type 0} (done more : List (Event S)) (ended : Ended S) (takes gives : ℕ)
     → cut (length (text_of done) + takes) (reads_of done + gives) (done ++ more) ended ≡ behind (text_of done) (reads_of done) (cut takes gives more ended)
 cut-after [] more ended takes gives =
     ap (λ n. cut n (0 + gives) more ended) (zero-add takes) ∙ ap (λ n. cut takes n more ended) (zero-add gives)
-      ∙ ap (λ n. ends (cut takes gives more ended).status (cut takes gives more ended).console n (cut takes gives more ended).state) (sym (zero-add (cut takes gives more ended).reads))
+    ∙ ap (λ n. ends (cut takes gives more ended).status (cut takes gives more ended).console n (cut takes gives more ended).state) (sym (zero-add (cut takes gives more ended).reads))
 cut-after (Prints text at ∷ done) more ended takes gives =
     let size = length-append text (text_of done) in
     let fits : length text ≤ length (text ++ text_of done) + takes = omega (arith, size) in
     let rest : length (text ++ text_of done) + takes - length text ≡ length (text_of done) + takes = omega (arith, size) in
     cut-printed text at (done ++ more) ended (length (text ++ text_of done) + takes) (reads_of done + gives) fits
-      ∙ ap (λ n. behind text 0 (cut n (reads_of done + gives) (done ++ more) ended)) rest
-      ∙ ap (behind text 0) (cut-after done more ended takes gives)
-      ∙ behind-behind text (text_of done) 0 (reads_of done) (cut takes gives more ended)
-      ∙ ap (λ n. behind (text ++ text_of done) n (cut takes gives more ended)) (zero-add (reads_of done))
+    ∙ ap (λ n. behind text 0 (cut n (reads_of done + gives) (done ++ more) ended)) rest
+    ∙ ap (behind text 0) (cut-after done more ended takes gives)
+    ∙ behind-behind text (text_of done) 0 (reads_of done) (cut takes gives more ended)
+    ∙ ap (λ n. behind (text ++ text_of done) n (cut takes gives more ended)) (zero-add (reads_of done))
 cut-after (Reads count at ∷ done) more ended takes gives =
     let fits : count ≤ count + reads_of done + gives = omega arith in
     let rest : count + reads_of done + gives - count ≡ reads_of done + gives = omega arith in
     cut-read count at (done ++ more) ended (length (text_of done) + takes) (count + reads_of done + gives) fits
-      ∙ ap (λ n. behind [] count (cut (length (text_of done) + takes) n (done ++ more) ended)) rest
-      ∙ ap (behind [] count) (cut-after done more ended takes gives)
-      ∙ behind-behind [] (text_of done) count (reads_of done) (cut takes gives more ended)
+    ∙ ap (λ n. behind [] count (cut (length (text_of done) + takes) n (done ++ more) ended)) rest
+    ∙ ap (behind [] count) (cut-after done more ended takes gives)
+    ∙ behind-behind [] (text_of done) count (reads_of done) (cut takes gives more ended)
 
 -- a byte of a text is refused, behind events that were let through
 pub cut-refused-after : {S : Type 0} (done : List (Event S)) (text : List ℕ) (at : S) (more : List (Event S)) (ended : Ended S) (n gives : ℕ) → n < length text
@@ -138,28 +140,28 @@ pub cut-refused-after : {S : Type 0} (done : List (Event S)) (text : List ℕ) (
 cut-refused-after done text at more ended n gives h =
     let size : length (text_of done ++ take n text) ≡ length (text_of done) + n = length-append (text_of done) (take n text) ∙ ap (λ m. length (text_of done) + m) (length-take-le n text (omega (arith, h))) in
     ap (λ m. cut m (reads_of done + gives) (done ++ Prints text at ∷ more) ended) size
-      ∙ cut-after done (Prints text at ∷ more) ended n gives
-      ∙ ap (behind (text_of done) (reads_of done)) (cut-refused text at more ended n gives h)
-      ∙ ap (λ r. ends 102 (text_of done ++ take n text) r at) (add-zero (reads_of done))
+    ∙ cut-after done (Prints text at ∷ more) ended n gives
+    ∙ ap (behind (text_of done) (reads_of done)) (cut-refused text at more ended n gives h)
+    ∙ ap (λ r. ends 102 (text_of done ++ take n text) r at) (add-zero (reads_of done))
 
 -- a read fails, behind events that were let through
 pub cut-failed-after : {S : Type 0} (done : List (Event S)) (count : ℕ) (at : S) (more : List (Event S)) (ended : Ended S) (n : ℕ) → n < count
     → cut (length (text_of done)) (reads_of done + n) (done ++ Reads count at ∷ more) ended ≡ ends 106 (text_of done) (reads_of done + n) at
 cut-failed-after done count at more ended n h =
     ap (λ m. cut m (reads_of done + n) (done ++ Reads count at ∷ more) ended) (sym (add-zero (length (text_of done))))
-      ∙ cut-after done (Reads count at ∷ more) ended 0 n
-      ∙ ap (behind (text_of done) (reads_of done)) (cut-failed count at more ended 0 n h)
-      ∙ ap (λ t. ends 106 t (reads_of done + n) at) (append-nil (text_of done))
+    ∙ cut-after done (Reads count at ∷ more) ended 0 n
+    ∙ ap (behind (text_of done) (reads_of done)) (cut-failed count at more ended 0 n h)
+    ∙ ap (λ t. ends 106 t (reads_of done + n) at) (append-nil (text_of done))
 
 -- all events were let through
 pub cut-whole : {S : Type 0} (done : List (Event S)) (ended : Ended S) (gives : ℕ)
     → cut (length (text_of done)) (reads_of done + gives) done ended ≡ ends ended.status (text_of done) (reads_of done) ended.state
 cut-whole done ended gives =
     ap (λ m. cut m (reads_of done + gives) done ended) (sym (add-zero (length (text_of done))))
-      ∙ ap (λ events. cut (length (text_of done) + 0) (reads_of done + gives) events ended) (sym (append-nil done))
-      ∙ cut-after done [] ended 0 gives
-      ∙ ap (λ t. ends ended.status t (reads_of done + 0) ended.state) (append-nil (text_of done))
-      ∙ ap (λ r. ends ended.status (text_of done) r ended.state) (add-zero (reads_of done))
+    ∙ ap (λ events. cut (length (text_of done) + 0) (reads_of done + gives) events ended) (sym (append-nil done))
+    ∙ cut-after done [] ended 0 gives
+    ∙ ap (λ t. ends ended.status t (reads_of done + 0) ended.state) (append-nil (text_of done))
+    ∙ ap (λ r. ends ended.status (text_of done) r ended.state) (add-zero (reads_of done))
 
 -- a cut speaks of no state but hands one on
 pub cut-map : {S T : Type 0} (f : S → T) (events : List (Event S)) (ended : Ended S) (takes gives : ℕ)
@@ -167,19 +169,19 @@ pub cut-map : {S T : Type 0} (f : S → T) (events : List (Event S)) (ended : En
 cut-map f [] ended takes gives = refl
 cut-map f (Prints text at ∷ more) ended takes gives =
     ⊎_elim
-      (λ (short : takes < length text).
-        cut-refused text (f at) (map_events f more) (map_ended f ended) takes gives short ∙ ap (map_outcome f) (sym (cut-refused text at more ended takes gives short)))
-      (λ (fits : length text ≤ takes).
-        cut-printed text (f at) (map_events f more) (map_ended f ended) takes gives fits
-          ∙ ap (behind text 0) (cut-map f more ended (takes - length text) gives)
-          ∙ ap (map_outcome f) (sym (cut-printed text at more ended takes gives fits)))
-      (cases_lt takes (length text))
+    (λ (short : takes < length text).
+    cut-refused text (f at) (map_events f more) (map_ended f ended) takes gives short ∙ ap (map_outcome f) (sym (cut-refused text at more ended takes gives short)))
+    (λ (fits : length text ≤ takes).
+    cut-printed text (f at) (map_events f more) (map_ended f ended) takes gives fits
+    ∙ ap (behind text 0) (cut-map f more ended (takes - length text) gives)
+    ∙ ap (map_outcome f) (sym (cut-printed text at more ended takes gives fits)))
+    (cases_lt takes (length text))
 cut-map f (Reads count at ∷ more) ended takes gives =
     ⊎_elim
-      (λ (short : gives < count).
-        cut-failed count (f at) (map_events f more) (map_ended f ended) takes gives short ∙ ap (map_outcome f) (sym (cut-failed count at more ended takes gives short)))
-      (λ (fits : count ≤ gives).
-        cut-read count (f at) (map_events f more) (map_ended f ended) takes gives fits
-          ∙ ap (behind [] count) (cut-map f more ended takes (gives - count))
-          ∙ ap (map_outcome f) (sym (cut-read count at more ended takes gives fits)))
-      (cases_lt gives count)
+    (λ (short : gives < count).
+    cut-failed count (f at) (map_events f more) (map_ended f ended) takes gives short ∙ ap (map_outcome f) (sym (cut-failed count at more ended takes gives short)))
+    (λ (fits : count ≤ gives).
+    cut-read count (f at) (map_events f more) (map_ended f ended) takes gives fits
+    ∙ ap (behind [] count) (cut-map f more ended takes (gives - count))
+    ∙ ap (map_outcome f) (sym (cut-read count at more ended takes gives fits)))
+    (cases_lt gives count)
