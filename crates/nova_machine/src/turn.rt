@@ -19,7 +19,6 @@ impl Machine {
         ensures machine { self.new ≡ (turn self.old).machine }
         ensures answer { result ≡ answer_of (turn self.old).stop }
     {
-        let _passes_breakpoint = first;
         let word = self.memory.read(self.cpu.pc);
         self.execute(word)
     }
