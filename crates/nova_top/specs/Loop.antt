@@ -27,8 +27,8 @@ IsAnswer text exits (IsOver Input) before after = ⊥
 abbrev pub AnswerCause : Progress → ℕ → ℕ → Type 0
 AnswerCause (IsOver Console) sink sink_now = Rose sink sink_now × (sink ≤ sink_now)
 AnswerCause (IsOver Input) sink sink_now = ⊥
-AnswerCause (IsOver finish) sink sink_now = sink ≤ sink_now
-AnswerCause GoesOn sink sink_now = sink ≤ sink_now
+AnswerCause (IsOver finish) sink sink_now = sink_now ≡ sink
+AnswerCause GoesOn sink sink_now = sink_now ≡ sink
 
 -- the status of EXIT is below 100
 abbrev pub IsExitStatus : Finish → Type 0
