@@ -2,9 +2,9 @@
 use Rattle.std.proofs.Common.{ℕ, ◌≡◌, ◌≢◌, ◌+◌, ◌-◌, ◌<◌, ◌≤◌, nat_le, false, true, List, [], ◌∷◌, ◌++◌, length, take, drop, refl, ap, sym, ◌∙◌, append_assoc, append-nil, add_assoc, zero-add, add-zero, arith, length-append, length-take-le, ⊎_elim}
 use Rattle.std.proofs.lemmas.Bool.{cases_lt}
 use Rattle.std.proofs.lemmas.List.{take-append-drop}
-use Rattle.event_trace.specs.Events.{Event, Prints, Reads, Ended, Trace, text_of, reads_of, map_events, map_ended, map_trace}
-use Rattle.event_trace.specs.Cut.{Outcome, ends, behind, cut, cut_trace, map_outcome}
-use Rattle.event_trace.specs.Laws.{SameWithMoreRoom, TakesFirstPart, IsWhole, WholeWithoutFaults}
+use Rattle.event_trace.specs.Events.{Event, Prints, Reads, Ended, text_of, reads_of, map_events, map_ended}
+use Rattle.event_trace.specs.Cut.{Outcome, ends, behind, cut, map_outcome}
+use Rattle.event_trace.specs.Laws.{IsWhole}
 
 yes-le : (m n : ℕ) → m ≤ n → nat_le m n ≡ true
 yes-le m n h = grind arith

@@ -1,6 +1,6 @@
 -- Lists of events, one behind another.
-use Rattle.std.proofs.Common.{ℕ, ◌≡◌, ◌+◌, List, [], ◌∷◌, ◌++◌, length, refl, ap, sym, ◌∙◌, append_assoc, add_assoc, zero-add}
-use Rattle.event_trace.specs.Events.{Event, Prints, Reads, Ended, Trace, after_events, text_of, reads_of}
+use Rattle.std.proofs.Common.{◌≡◌, ◌+◌, List, [], ◌∷◌, ◌++◌, refl, ap, sym, ◌∙◌, append_assoc, add_assoc, zero-add}
+use Rattle.event_trace.specs.Events.{Event, Prints, Reads, Trace, after_events, text_of, reads_of}
 
 pub text_of-append : {S : Type 0} (first second : List (Event S)) → text_of (first ++ second) ≡ text_of first ++ text_of second
 text_of-append [] second = refl

@@ -3,13 +3,6 @@ use Rattle.std.specs.Prelude.{◌≡◌, ◌≢◌, ℕ, ◌≤◌, List, ◌++�
 use Rattle.event_trace.specs.Events.{Event, Ended, text_of, reads_of}
 use Rattle.event_trace.specs.Cut.{cut}
 
--- a console that takes more, over an input that gives more, comes to the same end, where no byte was refused and no
--- read failed
-abbrev pub SameWithMore : Type 0 → Type 0
-SameWithMore S = (events : List (Event S)) (ended : Ended S) (takes gives more_takes more_gives : ℕ) → takes ≤ more_takes → gives ≤ more_gives
-    → (cut takes gives events ended).status ≢ 102 → (cut takes gives events ended).status ≢ 106
-    → cut more_takes more_gives events ended ≡ cut takes gives events ended
-
 -- a console that takes more comes to the same end, where none of its bytes was refused
 abbrev pub SameWithMoreRoom : Type 0 → Type 0
 SameWithMoreRoom S = (events : List (Event S)) (ended : Ended S) (takes more gives : ℕ) → takes ≤ more

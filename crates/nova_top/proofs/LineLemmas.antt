@@ -1,7 +1,7 @@
 -- One line of the command loop, by what it came to.
-use Rattle.std.proofs.Common.{◌≡◌, ℕ, zero, suc, ◌+◌, ◌-◌, ◌<◌, ◌≤◌, Bool, true, false, List, [], ◌∷◌, ◌++◌, length, take, drop, refl, ap, sym, ◌∙◌, subst, arith, append_assoc, append-nil, zero-add, add-zero, length-append, length-take-le, Option, Some, None}
+use Rattle.std.proofs.Common.{◌≡◌, ℕ, ◌+◌, ◌-◌, ◌<◌, ◌≤◌, Bool, true, false, List, [], ◌∷◌, ◌++◌, length, take, drop, refl, ap, sym, ◌∙◌, subst, arith, append_assoc, append-nil, zero-add, add-zero, length-take-le, Option}
 use Rattle.std.proofs.lemmas.Bool.{le-leb}
-use Rattle.event_trace.specs.Events.{Event, Prints, Reads, Ended, Trace, text_of, reads_of}
+use Rattle.event_trace.specs.Events.{Prints, Reads, text_of, reads_of}
 use Rattle.event_trace.specs.Cut.{ends, cut, cut_trace}
 use Rattle.event_trace.proofs.CutLemmas.{cut-refused, cut-refused-after, cut-failed-after, cut-whole}
 use Rattle.event_trace.proofs.EventLemmas.{text_of-append, reads_of-append}
@@ -9,17 +9,16 @@ use Rattle.host_files.specs.Streams.{AddsPart}
 use Rattle.nova_top.specs.declared.command.Command.{Command}
 use Rattle.nova_top.specs.declared.progress.Progress.{Progress}
 use Rattle.nova_top.specs.declared.progress.Progress.TheVariants.{GoesOn, IsOver}
-use Rattle.nova_top.specs.declared.progress.Finish.{Finish}
 use Rattle.nova_top.specs.declared.progress.Finish.TheVariants.{Exit, EndOfInput, Commands, Console, Input}
 use Rattle.nova_top.specs.CommandGrammar.{command_of}
 use Rattle.nova_top.specs.Core.{Core}
 use Rattle.nova_top.specs.CommandEffect.{does, is_exit}
-use Rattle.nova_top.specs.Lines.{Due, InputEnds, Unpaid, Comes, due, reads_due, reads_left, units, first_line, has_lf}
+use Rattle.nova_top.specs.Lines.{InputEnds, Unpaid, Comes, due, reads_due, reads_left, units, first_line, has_lf}
 use Rattle.nova_top.specs.Reading.{AreRead}
-use Rattle.nova_top.specs.Session.{Session, Going, Over, prompt_text, asking, behind_line, next_after, command_step, step, trace}
-use Rattle.nova_top.specs.Loop.{IsAnswer, AnswerCause, IsSmallExit}
-use Rattle.nova_top.specs.Ends.{EndsAs, Finishes, GoesPast, Progresses, ProgressCause, status_of}
-use Rattle.nova_top.proofs.SessionLemmas.{Begins, due-paid, trace-asks, trace-begins, trace-over, step-line, step-ends, step-unpaid}
+use Rattle.nova_top.specs.Session.{Session, Going, Over, prompt_text, asking, behind_line, next_after, command_step, trace}
+use Rattle.nova_top.specs.Loop.{IsAnswer, AnswerCause, HasExitStatus}
+use Rattle.nova_top.specs.Ends.{Finishes, Progresses, ProgressCause}
+use Rattle.nova_top.proofs.SessionLemmas.{due-paid, trace-asks, trace-begins, trace-over, step-line, step-ends, step-unpaid}
 
 none-read : (open_ : Bool) (input : List ℕ) → AreRead 0 open_ input open_ input
 none-read open_ input = record { rest = refl; count = sym (zero-add (reads_left open_ input)) }
@@ -252,15 +251,15 @@ answered old new line command (IsOver Commands) before mid after e c b asked a =
 answered old new line command (IsOver Input) before mid after e c b asked a = absurd a
 
 -- the causes of an answer are causes of the text, whose prompt was printed and whose line was read before
-pub answer-causes : (result : Progress) (sink sink_mid sink_now source source_now : ℕ) → sink ≤ sink_mid → source ≤ source_now → AnswerCause result sink_mid sink_now
-    → IsSmallExit result → ProgressCause result sink sink_now source source_now
-answer-causes GoesOn sink sink_mid sink_now source source_now a b c s = (omega (arith, a, c), b)
+pub answer-causes : (result : Progress) (sink sink_mid sink_now source source_now : ℕ) → sink_mid ≡ sink → source_now ≡ source → AnswerCause result sink_mid sink_now
+    → HasExitStatus result → ProgressCause result sink sink_now source source_now
+answer-causes GoesOn sink sink_mid sink_now source source_now a b c s = (c ∙ a, b)
 answer-causes (IsOver (Exit status)) sink sink_mid sink_now source source_now a b c s =
-    record { sink_later = omega (arith, a, c); source_later = b; console = λ e. absurd (cc); input = λ e. absurd (cc); exit = s }
+    record { sink_later = omega (arith, a, c); source_later = omega (arith, b); console = λ e. absurd (cc); input = λ e. absurd (cc); console_only = λ _. c ∙ a; input_only = λ _. b; exit = s }
 answer-causes (IsOver EndOfInput) sink sink_mid sink_now source source_now a b c s =
-    record { sink_later = omega (arith, a, c); source_later = b; console = λ e. absurd (cc); input = λ e. absurd (cc); exit = tt }
+    record { sink_later = omega (arith, a, c); source_later = omega (arith, b); console = λ e. absurd (cc); input = λ e. absurd (cc); console_only = λ _. c ∙ a; input_only = λ _. b; exit = tt }
 answer-causes (IsOver Commands) sink sink_mid sink_now source source_now a b c s =
-    record { sink_later = omega (arith, a, c); source_later = b; console = λ e. absurd (cc); input = λ e. absurd (cc); exit = tt }
+    record { sink_later = omega (arith, a, c); source_later = omega (arith, b); console = λ e. absurd (cc); input = λ e. absurd (cc); console_only = λ _. c ∙ a; input_only = λ _. b; exit = tt }
 answer-causes (IsOver Console) sink sink_mid sink_now source source_now a b c s =
-    record { sink_later = omega (arith, a, c.1); source_later = b; console = λ e. omega (arith, a, c.0); input = λ e. absurd (cc); exit = tt }
+    record { sink_later = omega (arith, a, c.1); source_later = omega (arith, b); console = λ e. omega (arith, a, c.0); input = λ e. absurd (cc); console_only = λ n. absurd (n refl); input_only = λ _. b; exit = tt }
 answer-causes (IsOver Input) sink sink_mid sink_now source source_now a b c s = absurd c

@@ -1,12 +1,12 @@
 -- What the reader of octal digits says of texts of few digits.
-use Rattle.std.proofs.Common.{◌≡◌, ◌⊎◌, ⊎_elim, ℕ, ◌+◌, ◌-◌, ◌*◌, ◌^◌, ◌<◌, ◌≤◌, zero, suc, Bool, true, false, cond, nat_le, nat_lt, ◌&&◌, if◌then◌else◌, List, [], ◌∷◌, length, refl, ap, sym, ◌∙◌, arith, Option, Some, None, Result, Ok, Err}
+use Rattle.std.proofs.Common.{◌≡◌, ⊎_elim, ℕ, ◌+◌, ◌-◌, ◌*◌, ◌^◌, ◌<◌, ◌≤◌, true, false, nat_le, nat_lt, ◌&&◌, if◌then◌else◌, List, [], ◌∷◌, length, refl, ap, sym, ◌∙◌, arith, Option, Some, None, Result, Ok, Err}
 use Rattle.std.specs.Result.{result_ok}
 use Rattle.std.specs.Option.{IfSome}
-use Rattle.std.specs.List.{All, list_all}
-use Rattle.std.proofs.lemmas.Bool.{and_parts, leb-true, ltb-true, ltb-false, cases_Bool, cond-true, cond-false, false_from_ne_true}
+use Rattle.std.specs.List.{list_all}
+use Rattle.std.proofs.lemmas.Bool.{and_parts, leb-true, ltb-true, cases_Bool, cond-true, cond-false, false_from_ne_true}
 use Rattle.std.proofs.Math.Nat.{mul-le-mul_right, pow-succ', pow-le-pow_right}
 use Rattle.nova_word.specs.declared.numbers.NumberFault.{NumberFault}
-use Rattle.nova_word.specs.Numbers.{IsNumber, IsDigit, ReadsNumber, value_of, value_after}
+use Rattle.nova_word.specs.Numbers.{ReadsNumber, value_of, value_after}
 use Rattle.nova_word.proofs.NumberLemmas.{one_answer}
 use Rattle.nova_top.specs.CommandGrammar.{is_octal, is_number, is_digit, octal_up_to, count_of}
 use Rattle.nova_top.proofs.GrammarLemmas.{is_octal-sound, is_octal-complete, count-sound, is_number-complete}

@@ -1,22 +1,20 @@
 -- The whole program against its outcome.
-use Rattle.std.proofs.Common.{◌≡◌, ◌≢◌, ◌⊎◌, ⊎_elim, inl, inr, ℕ, ◌+◌, ◌<◌, ◌≤◌, Bool, List, [], ◌∷◌, ◌++◌, length, take, drop, refl, ap, sym, ◌∙◌, subst, arith, append-nil, length-take-le, Option, Some, None}
+use Rattle.std.proofs.Common.{◌≡◌, ◌≢◌, inl, inr, ℕ, ◌+◌, ◌<◌, ◌≤◌, List, [], ◌++◌, length, take, drop, refl, ap, sym, ◌∙◌, subst, arith, append-nil, length-take-le, Option, Some, None}
 use Rattle.fault_counts.specs.Faults.{Rose}
-use Rattle.event_trace.specs.Events.{Event, Prints, Ended, Trace, map_trace, map_events, map_ended, text_of}
-use Rattle.event_trace.specs.Cut.{Outcome, ends, behind, cut, cut_trace, map_outcome}
-use Rattle.event_trace.specs.Laws.{IsWhole}
+use Rattle.event_trace.specs.Events.{text_of}
+use Rattle.event_trace.specs.Cut.{ends, cut_trace, map_outcome}
 use Rattle.event_trace.proofs.CutLemmas.{cut-printed, cut-refused, cut-map, more-room, first-part, whole}
-use Rattle.host_files.specs.Streams.{AddsPart}
 use Rattle.nova_machine.specs.Machine.{MachineState, new_machine}
 use Rattle.nova_top.specs.declared.progress.Finish.{Finish}
 use Rattle.nova_top.specs.declared.progress.Finish.TheVariants.{Exit, EndOfInput, Commands, Console, Input}
 use Rattle.nova_top.specs.declared.options.Options.{Options}
 use Rattle.nova_top.specs.Core.{Core, core_of, new_core}
 use Rattle.nova_top.specs.Lines.{reads_left}
-use Rattle.nova_top.specs.Session.{Session, trace}
+use Rattle.nova_top.specs.Session.{trace}
 use Rattle.nova_top.specs.Outside.{Outside, usage, options_of, opening, trace_for, whole_trace, outcome}
 use Rattle.nova_top.specs.Perform.{beginning}
 use Rattle.nova_top.specs.Loop.{IsExitStatus}
-use Rattle.nova_top.specs.Ends.{EndsAs, LetsThrough, IsSession, IsOutcome, IsComplete, FinishCause, status_of, machine_in}
+use Rattle.nova_top.specs.Ends.{LetsThrough, IsSession, IsOutcome, IsComplete, FinishCause, status_of, machine_in}
 use Rattle.nova_top.specs.Program.{IsUsage, UsageCause}
 use Rattle.nova_top.specs.Laws.{IsWholeOutcome}
 
@@ -131,7 +129,7 @@ whole-outcome o p r =
 
 -- without faults the program comes to the end of the whole trace
 pub complete : (words : List (List ℕ)) (input left before after : List ℕ) (status : ℕ) (machine : Option MachineState) → status ≢ 102 → status ≢ 106
-    → IsOutcome words input left before after status machine → IsComplete words input before after status machine
+    → IsOutcome words input left before after status machine → IsComplete words input left before after status machine
 complete words input left before after status machine console read o =
     let is = o.is in
     let same = ap (λ o. o.status) is in
@@ -140,6 +138,7 @@ complete words input left before after status machine console read o =
       status_is = sym same ∙ w.status;
       machine_is = o.machine_is ∙ ap machine_in (sym (ap (λ o. o.state) is) ∙ w.state);
       printed = o.written ∙ ap (λ t. before ++ t) (sym (ap (λ o. o.console) is) ∙ w.console);
+      rest = o.rest ∙ ap (λ n. drop n input) (sym (ap (λ o. o.reads) is) ∙ w.reads);
     }
 
 -- what the two halves of the program give, at the names of the code
@@ -166,5 +165,5 @@ finish-status Console sink sink_now source source_now c a b = absurd (a (c.conso
 finish-status Input sink sink_now source source_now c a b = absurd (b (c.input refl))
 
 pub usage-status : (status sink sink_now : ℕ) → UsageCause status sink sink_now → (Rose sink sink_now → ⊥) → (status ≢ 102) × (status ≢ 106)
-usage-status status sink sink_now (later, inl h) a = (λ s. omega (arith, h, s), λ s. omega (arith, h, s))
+usage-status status sink sink_now (later, inl h) a = (λ s. omega (arith, h.0, s), λ s. omega (arith, h.0, s))
 usage-status status sink sink_now (later, inr h) a = absurd (a h.1)

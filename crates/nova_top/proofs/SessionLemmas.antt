@@ -1,15 +1,13 @@
 -- The trace of a session, one text further.
-use Rattle.std.proofs.Common.{◌≡◌, ◌⊎◌, ⊎_elim, inl, inr, ℕ, zero, suc, ◌+◌, ◌-◌, ◌<◌, ◌≤◌, Bool, true, false, cond, not, ◌||◌, nat_le, nat_eq, List, [], ◌∷◌, ◌++◌, length, take, drop, refl, ap, sym, ◌∙◌, subst, arith, if◌then◌else◌, append_assoc, append-nil, zero-add, add-zero, Option, Some, None}
-use Rattle.std.proofs.lemmas.Bool.{leb-true, cases_Bool, cond-true, cond-false, cond_both}
-use Rattle.event_trace.specs.Events.{Event, Prints, Reads, Ended, Trace, after_events, text_of, reads_of}
-use Rattle.event_trace.specs.Cut.{ends, cut_trace}
-use Rattle.event_trace.proofs.EventLemmas.{after_events-append}
+use Rattle.std.proofs.Common.{◌≡◌, ℕ, zero, suc, ◌-◌, ◌<◌, ◌≤◌, Bool, true, false, not, ◌||◌, nat_le, nat_eq, List, [], ◌++◌, length, refl, ap, sym, ◌∙◌, arith, if◌then◌else◌, append_assoc, append-nil, Option}
+use Rattle.std.proofs.lemmas.Bool.{leb-true, cond_both}
+use Rattle.event_trace.specs.Events.{Event, Ended, Trace, after_events}
 use Rattle.nova_top.specs.declared.command.Command.{Command}
 use Rattle.nova_top.specs.CommandGrammar.{command_of}
 use Rattle.nova_top.specs.Core.{Core}
 use Rattle.nova_top.specs.CommandEffect.{does, is_exit}
-use Rattle.nova_top.specs.Lines.{Due, InputEnds, Unpaid, Comes, due, reads_due, units, first_line, has_lf, line_of}
-use Rattle.nova_top.specs.Session.{Session, Next, Going, Over, Step, asking, behind_line, next_after, command_step, step_due, step, after_step, texts, trace}
+use Rattle.nova_top.specs.Lines.{Due, InputEnds, Unpaid, Comes, due, units, first_line, line_of}
+use Rattle.nova_top.specs.Session.{Session, Next, Going, Over, asking, behind_line, next_after, command_step, step_due, step, after_step, texts, trace}
 
 going-equal : {s t : Session} → Going s ≡ Going t → s ≡ t
 going-equal h = cc
@@ -68,6 +66,14 @@ pub trace-over : (s : Session) (status : ℕ) (core : Core) → (step s).next �
     → trace s ≡ record { events = (step s).events; ended = record { status = status; state = core } }
 unfolding texts trace
 trace-over s status core e = ap (λ next. after_step (step s).events next (λ t. texts s.budget t)) e
+
+by-next : (s : Session) (next : Next) → (step s).next ≡ next → trace s ≡ after_step (step s).events next trace
+by-next s (Going t) e = trace-going s t e
+by-next s (Over status core) e = trace-over s status core e
+
+-- a session goes line by line
+pub line-by-line : (s : Session) → trace s ≡ after_step (step s).events (step s).next trace
+line-by-line s = by-next s (step s).next refl
 
 -- a trace begins with these events
 pub record Begins (s : Session) (events : List (Event Core)) : Type 0 where

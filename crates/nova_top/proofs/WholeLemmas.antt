@@ -1,9 +1,8 @@
 -- All lines of a session, one behind another.
-use Rattle.std.proofs.Common.{◌≡◌, ℕ, zero, suc, ◌+◌, ◌-◌, ◌<◌, ◌≤◌, Bool, true, false, List, [], ◌∷◌, ◌++◌, length, take, drop, refl, ap, sym, ◌∙◌, subst, arith, append_assoc, append-nil, zero-add, add-zero, length-append}
+use Rattle.std.proofs.Common.{◌≡◌, ℕ, ◌+◌, Bool, List, [], ◌++◌, length, drop, refl, ap, sym, ◌∙◌, subst, arith, append_assoc, append-nil, zero-add, length-append}
 use Rattle.std.proofs.lemmas.List.{drop-drop}
-use Rattle.fault_counts.specs.Faults.{Rose}
-use Rattle.event_trace.specs.Events.{Event, Ended, Trace, after_events, text_of, reads_of}
-use Rattle.event_trace.specs.Cut.{ends, behind, cut, cut_trace}
+use Rattle.event_trace.specs.Events.{Event, after_events, text_of, reads_of}
+use Rattle.event_trace.specs.Cut.{behind, cut, cut_trace}
 use Rattle.event_trace.proofs.CutLemmas.{cut-after}
 use Rattle.event_trace.proofs.EventLemmas.{text_of-append, reads_of-append, after_events-append}
 use Rattle.nova_top.specs.declared.progress.Finish.{Finish}
@@ -11,8 +10,8 @@ use Rattle.nova_top.specs.declared.progress.Finish.TheVariants.{Exit, EndOfInput
 use Rattle.nova_top.specs.Core.{Core}
 use Rattle.nova_top.specs.Lines.{reads_left}
 use Rattle.nova_top.specs.Reading.{AreRead}
-use Rattle.nova_top.specs.Session.{Session, Going, step, trace}
-use Rattle.nova_top.specs.Ends.{EndsAs, Finishes, FinishCause, GoesPast, IsSession, LetsThrough, status_of}
+use Rattle.nova_top.specs.Session.{Session, step, trace}
+use Rattle.nova_top.specs.Ends.{Finishes, FinishCause, GoesPast, IsSession, LetsThrough}
 use Rattle.nova_top.proofs.SessionLemmas.{trace-going}
 
 -- the session came from its start to here, with these events
@@ -73,12 +72,14 @@ session-over start now new finish before mid after r f =
       };
     }
 
-pub causes-behind : (finish : Finish) (sink sink_mid sink_now source source_mid source_now : ℕ) → sink ≤ sink_mid → source ≤ source_mid → FinishCause finish sink_mid sink_now source_mid source_now
+pub causes-behind : (finish : Finish) (sink sink_mid sink_now source source_mid source_now : ℕ) → sink_mid ≡ sink → source_mid ≡ source → FinishCause finish sink_mid sink_now source_mid source_now
     → FinishCause finish sink sink_now source source_now
 causes-behind finish sink sink_mid sink_now source source_mid source_now a b c = record {
   sink_later = omega (arith, a, c.sink_later);
   source_later = omega (arith, b, c.source_later);
   console = λ e. omega (arith, a, c.console e);
   input = λ e. omega (arith, b, c.input e);
+  console_only = λ n. c.console_only n ∙ a;
+  input_only = λ n. c.input_only n ∙ b;
   exit = c.exit;
 }

@@ -1,5 +1,5 @@
 -- Which line is which command: a relation by the forms of the lines.
-use Rattle.std.specs.Prelude.{◌≡◌, ◌↔◌, ◌==◌, ◌&&◌, ℕ, ◌+◌, ◌≤◌, ◌^◌, ◌-◌, Bool, true, false, List, [], ◌∷◌, ◌++◌, length, drop, codes, bytes_eq, nat_eq, nat_le, nat_lt, if◌then◌else◌, Option, Some, None, option_map, option_and_then}
+use Rattle.std.specs.Prelude.{◌≡◌, ◌↔◌, ◌==◌, ◌&&◌, ℕ, ◌+◌, ◌≤◌, ◌^◌, ◌-◌, Bool, List, [], ◌∷◌, ◌++◌, length, drop, codes, bytes_eq, nat_eq, nat_le, nat_lt, if◌then◌else◌, Option, Some, None, option_map, option_and_then}
 use Rattle.std.specs.List.{starts_with, list_all, before_first, after_first}
 use Rattle.nova_word.specs.Numbers.{IsNumber, value_of}
 use Rattle.nova_machine.specs.declared.registers.CpuReg.{CpuReg}

@@ -1,10 +1,9 @@
 -- What the calls of the command loop and of the whole program come to, for a console that took so many bytes and an
 -- input that let so many reads through.
-use Rattle.std.specs.Prelude.{◌≡◌, ◌≢◌, ◌⊎◌, ℕ, ◌+◌, ◌<◌, ◌≤◌, ◌^◌, Bool, true, false, List, [], ◌∷◌, ◌++◌, length, drop, Option, Some, None, IsSome, option_map}
+use Rattle.std.specs.Prelude.{◌≡◌, ◌≢◌, ◌⊎◌, ℕ, ◌+◌, ◌<◌, ◌≤◌, List, [], ◌++◌, length, drop, Option, Some, None, IsSome, option_map}
 use Rattle.fault_counts.specs.Faults.{Rose}
 use Rattle.event_trace.specs.Events.{Event, Trace, text_of, reads_of}
-use Rattle.event_trace.specs.Cut.{Outcome, ends, cut_trace}
-use Rattle.host_files.specs.Streams.{AddsPart}
+use Rattle.event_trace.specs.Cut.{ends, cut_trace}
 use Rattle.nova_top.specs.declared.progress.Finish.{Finish}
 use Rattle.nova_top.specs.declared.progress.Finish.TheVariants.{Exit, EndOfInput, Commands, Console, Input}
 use Rattle.nova_top.specs.declared.progress.Progress.{Progress}
@@ -16,7 +15,7 @@ use Rattle.nova_top.specs.Reading.{AreRead}
 use Rattle.nova_top.specs.Session.{Session, Going, step, trace, ComesTo}
 use Rattle.nova_top.specs.declared.options.Options.{Options}
 use Rattle.nova_top.specs.Loop.{IsExitStatus}
-use Rattle.nova_top.specs.Outside.{Outside, outcome, opening, options_of, whole_trace}
+use Rattle.nova_top.specs.Outside.{outcome, opening, options_of, whole_trace}
 
 -- the status of a finish
 abbrev pub status_of : Finish → ℕ
@@ -55,16 +54,18 @@ abbrev pub Progresses : Session → Progress → Session → List ℕ → List �
 Progresses old GoesOn new before after = GoesPast old new before after
 Progresses old (IsOver finish) new before after = Finishes old finish new before after
 
--- each finish has its cause: the console's or the input's count
+-- each finish has its cause: the console's count rose where it failed, and nowhere else, and so did the input's
 pub record FinishCause (finish : Finish) (sink sink_now source source_now : ℕ) : Type 0 where
   pub sink_later : sink ≤ sink_now
   pub source_later : source ≤ source_now
   pub console : finish ≡ Console → Rose sink sink_now
   pub input : finish ≡ Input → Rose source source_now
+  pub console_only : finish ≢ Console → sink_now ≡ sink
+  pub input_only : finish ≢ Input → source_now ≡ source
   pub exit : IsExitStatus finish
 
 abbrev pub ProgressCause : Progress → ℕ → ℕ → ℕ → ℕ → Type 0
-ProgressCause GoesOn sink sink_now source source_now = (sink ≤ sink_now) × (source ≤ source_now)
+ProgressCause GoesOn sink sink_now source source_now = (sink_now ≡ sink) × (source_now ≡ source)
 ProgressCause (IsOver finish) sink sink_now source source_now = FinishCause finish sink sink_now source source_now
 
 -- a text after which the session goes on costs a unit, told or not
@@ -112,6 +113,7 @@ pub record StopsInside (start : Session) (machine : Option MachineState) (left t
   pub machine_is : machine ≡ Some now.core.machine
   pub console : taken ≡ text_of events ++ part
   pub defined : text_of (step now).events ≡ part ++ rest
+  pub done_reads : reads_of events ≤ made
   pub reads : made ≤ reads_of events + reads_of (step now).events
   pub input : left ≡ drop made start.input
 
@@ -124,7 +126,8 @@ pub record IsCutShort (words : List (List ℕ)) (input left before after : List 
   pub cut : ((machine ≡ None) × (taken ≡ []) × (left ≡ input)) ⊎ StopsInside (opening options input) machine left taken
 
 -- Each status has its cause, told or not: 100 comes exactly where the words are outside their grammar, yielding only to
--- 102; 102 and 106 only where the console's and the input's count rose; and there is no other status than these.
+-- 102; 102 comes only where the console's count rose, and at any other status that count stands still; so it is with 106
+-- and the input's; and there is no other status than these.
 pub record StatusCause (words : List (List ℕ)) (status sink sink_now source source_now : ℕ) : Type 0 where
   pub sink_later : sink ≤ sink_now
   pub source_later : source ≤ source_now
@@ -132,7 +135,9 @@ pub record StatusCause (words : List (List ℕ)) (status sink sink_now source so
   pub bad_words : options_of words ≡ None → (status ≡ 100) ⊎ (status ≡ 102)
   pub console : status ≡ 102 → Rose sink sink_now
   pub input : status ≡ 106 → Rose source source_now
-  pub listed : (status < 100) ⊎ (status ≡ 100) ⊎ (status ≡ 102) ⊎ (status ≡ 103) ⊎ (status ≡ 104) ⊎ (status ≡ 106)
+  pub console_only : status ≢ 102 → sink_now ≡ sink
+  pub input_only : status ≢ 106 → source_now ≡ source
+  pub listed : (status ≡ 0) ⊎ (status ≡ 100) ⊎ (status ≡ 102) ⊎ (status ≡ 103) ⊎ (status ≡ 104) ⊎ (status ≡ 106)
 
 -- there is no machine where the words are outside their grammar, and else only where memory ran out there may be none
 pub record MachineThere (words : List (List ℕ)) (status : ℕ) (machine : Option MachineState) : Type 0 where
@@ -140,8 +145,9 @@ pub record MachineThere (words : List (List ℕ)) (status : ℕ) (machine : Opti
   pub some : (options : Options) → options_of words ≡ Some options → status ≢ 103 → IsSome machine
 
 -- Without a failing call, and with memory, the status and the machine are those of the whole trace, all of whose text
--- was printed.
-pub record IsComplete (words : List (List ℕ)) (input before after : List ℕ) (status : ℕ) (machine : Option MachineState) : Type 0 where
+-- was printed and all of whose reads were made.
+pub record IsComplete (words : List (List ℕ)) (input left before after : List ℕ) (status : ℕ) (machine : Option MachineState) : Type 0 where
   pub status_is : status ≡ (whole_trace words input).ended.status
   pub machine_is : machine ≡ machine_in (whole_trace words input).ended.state
   pub printed : after ≡ before ++ text_of (whole_trace words input).events
+  pub rest : left ≡ drop (reads_of (whole_trace words input).events) input

@@ -1,7 +1,7 @@
 -- Laws above the definitions: what holds of every outcome, in a reader's words.
-use Rattle.std.specs.Prelude.{◌≡◌, ◌≢◌, ℕ, ◌≤◌, List, ◌++◌, Option}
+use Rattle.std.specs.Prelude.{◌≡◌, ◌≢◌, ℕ, ◌≤◌, List, ◌++◌}
 use Rattle.event_trace.specs.Events.{text_of, reads_of}
-use Rattle.nova_top.specs.Core.{Core}
+use Rattle.nova_top.specs.Session.{Session, step, after_step, trace}
 use Rattle.nova_top.specs.Outside.{Outside, whole_trace, outcome}
 
 -- a console that takes more comes to the same end, where none of its bytes was refused
@@ -21,3 +21,8 @@ pub record IsWholeOutcome (o : Outside) : Type 0 where
 
 abbrev pub WholeWithoutFaults : Type 0
 WholeWithoutFaults = (o : Outside) → (outcome o).status ≢ 102 → (outcome o).status ≢ 106 → IsWholeOutcome o
+
+-- a session does its next line, and then what the session behind that line does: the bound in the definition of a trace
+-- is never what ends it
+abbrev pub LineByLine : Type 0
+LineByLine = (s : Session) → trace s ≡ after_step (step s).events (step s).next trace

@@ -1,5 +1,5 @@
 -- The session that the command loop stands in.
-use Rattle.std.specs.Prelude.{◌≡◌, ℕ, ◌<◌, ◌≤◌, Bool, true, false, List, ◌++◌}
+use Rattle.std.specs.Prelude.{◌≡◌, ℕ, ◌≤◌, Bool, true, false, List, ◌++◌}
 use Rattle.host_files.specs.Streams.{AddsPart}
 use Rattle.fault_counts.specs.Faults.{Rose}
 use Rattle.nova_top.specs.declared.progress.CommandLoop.{CommandLoop}
@@ -31,14 +31,14 @@ IsAnswer text exits (IsOver Input) before after = ⊥
 abbrev pub AnswerCause : Progress → ℕ → ℕ → Type 0
 AnswerCause (IsOver Console) sink sink_now = Rose sink sink_now × (sink ≤ sink_now)
 AnswerCause (IsOver Input) sink sink_now = ⊥
-AnswerCause (IsOver finish) sink sink_now = sink ≤ sink_now
-AnswerCause GoesOn sink sink_now = sink ≤ sink_now
+AnswerCause (IsOver finish) sink sink_now = sink_now ≡ sink
+AnswerCause GoesOn sink sink_now = sink_now ≡ sink
 
--- the status of EXIT is below 100
+-- the status of EXIT
 abbrev pub IsExitStatus : Finish → Type 0
-IsExitStatus (Exit status) = status < 100
+IsExitStatus (Exit status) = status ≡ 0
 IsExitStatus finish = Unit {0}
 
-abbrev pub IsSmallExit : Progress → Type 0
-IsSmallExit (IsOver finish) = IsExitStatus finish
-IsSmallExit GoesOn = Unit {0}
+abbrev pub HasExitStatus : Progress → Type 0
+HasExitStatus (IsOver finish) = IsExitStatus finish
+HasExitStatus GoesOn = Unit {0}

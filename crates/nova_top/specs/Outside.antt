@@ -1,8 +1,8 @@
 -- All that is handed to the program, and what it comes to.
-use Rattle.std.specs.Prelude.{ℕ, ◌^◌, ◌&&◌, Bool, true, false, not, nat_eq, is_none, unwrap_or, option_map, option_and_then, slice_index, List, [], ◌∷◌, ◌++◌, codes, Option, Some, None, bytes_eq, map, string_bytes, if◌then◌else◌}
+use Rattle.std.specs.Prelude.{ℕ, ◌^◌, ◌&&◌, true, false, not, nat_eq, is_none, unwrap_or, option_map, option_and_then, slice_index, List, [], ◌∷◌, ◌++◌, codes, Option, Some, None, bytes_eq, map, string_bytes, if◌then◌else◌}
 use Rattle.std.specs.declared.string.String.{String}
 use Rattle.std.specs.declared.alloc.Global.{Global}
-use Rattle.event_trace.specs.Events.{Event, Prints, Ended, Trace, map_trace}
+use Rattle.event_trace.specs.Events.{Prints, Trace, map_trace}
 use Rattle.event_trace.specs.Cut.{Outcome, cut_trace}
 use Rattle.nova_top.specs.declared.options.Options.{Options}
 use Rattle.nova_top.specs.declared.options.Choices.{Choices}

@@ -12,7 +12,7 @@ abbrev pub IsUsage : ℕ → List ℕ → List ℕ → Type 0
 IsUsage status before after = ((status ≡ 100) × (after ≡ before ++ usage)) ⊎ ((status ≡ 102) × AddsPart before usage after)
 
 abbrev pub UsageCause : ℕ → ℕ → ℕ → Type 0
-UsageCause status sink sink_now = (sink ≤ sink_now) × ((status ≡ 100) ⊎ ((status ≡ 102) × Rose sink sink_now))
+UsageCause status sink sink_now = (sink ≤ sink_now) × (((status ≡ 100) × (sink_now ≡ sink)) ⊎ ((status ≡ 102) × Rose sink sink_now))
 
 -- a session that ended: by that finish, with that machine
 abbrev pub SessionEnds : ℕ → Option MachineState → (Finish → MachineState → Type 0) → (Finish → Type 0) → Type 0

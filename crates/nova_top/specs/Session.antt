@@ -1,10 +1,10 @@
 -- A session: one line after another, to EXIT, the end of the input, or the end of the budget.
-use Rattle.std.specs.Prelude.{◌≡◌, ℕ, zero, suc, ◌+◌, ◌-◌, ◌^◌, Bool, true, false, List, [], ◌∷◌, ◌++◌, length, drop, codes, Option, if◌then◌else◌}
-use Rattle.event_trace.specs.Events.{Event, Prints, Reads, Ended, Trace, after_events}
+use Rattle.std.specs.Prelude.{◌≡◌, ℕ, zero, suc, ◌+◌, ◌-◌, Bool, true, false, List, [], ◌∷◌, ◌++◌, length, drop, codes, Option, if◌then◌else◌}
+use Rattle.event_trace.specs.Events.{Event, Prints, Reads, Trace, after_events}
 use Rattle.nova_top.specs.declared.command.Command.{Command}
 use Rattle.nova_top.specs.CommandGrammar.{command_of}
 use Rattle.nova_top.specs.Core.{Core}
-use Rattle.nova_top.specs.CommandEffect.{Reply, does, is_exit}
+use Rattle.nova_top.specs.CommandEffect.{does, is_exit}
 use Rattle.nova_top.specs.Lines.{Due, InputEnds, Unpaid, Comes, first_line, units, has_lf, due, reads_due}
 
 -- the core, the units of budget left, the rest of the input and whether its end is still to be read, and whether the

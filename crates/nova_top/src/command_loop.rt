@@ -4,7 +4,7 @@ ghost use Rattle.host_files.specs.Streams.{AddsPart};
 ghost use Rattle.nova_top.specs.CommandGrammar.{FitsItsPlace};
 ghost use Rattle.nova_top.specs.CommandEffect.{does, is_exit};
 ghost use Rattle.nova_top.specs.Session.{prompt_text};
-ghost use Rattle.nova_top.specs.Loop.{IsAnswer, AnswerCause, IsSmallExit, session_core, session_of};
+ghost use Rattle.nova_top.specs.Loop.{IsAnswer, AnswerCause, HasExitStatus, session_core, session_of};
 ghost use Rattle.nova_top.specs.Ends.{Progresses, ProgressCause, PaysFor};
 
 use crate::command::Command;
@@ -64,7 +64,7 @@ fn answer<S: Sink>(session: &mut Session, command: Option<Command>, output: &mut
     ensures limit { session.new.limit ≡ session.old.limit }
     ensures told { IsTrue S.tells → IsAnswer (does (session_core session.old) command).text (is_exit command) result (S.written output.old) (S.written output.new) }
     ensures cause { AnswerCause result (S.fault_count output.old) (S.fault_count output.new) }
-    ensures exit { IsSmallExit result }
+    ensures exit { HasExitStatus result }
 {
     match execute(session, command, output) {
         Ok(true) => Progress::IsOver(Finish::Exit(0)),

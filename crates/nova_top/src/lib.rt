@@ -18,5 +18,7 @@ mod words;
 
 pub use command::{Command, Place};
 pub use grammar::{commands_are_those_of_the_grammar, no_line_is_two_commands, read_command};
-pub use laws::{console_takes_first_part, more_room_same_end, whole_without_faults};
+pub use laws::{
+    console_takes_first_part, more_room_same_end, session_goes_line_by_line, whole_without_faults,
+};
 pub use program::{Ending, simulate};

@@ -1,4 +1,4 @@
-ghost use Rattle.std.specs.Prelude.{◌≡◌, ◌+◌, ◌≤◌, ◌<◌, ◌^◌, [], true, false, IsTrue};
+ghost use Rattle.std.specs.Prelude.{◌≡◌, ◌≢◌, ◌+◌, ◌≤◌, ◌<◌, ◌^◌, [], true, false, IsTrue};
 ghost use Rattle.fault_counts.specs.Faults.{Rose};
 ghost use Rattle.nova_top.specs.Reading.{is_due, units_for};
 
@@ -63,6 +63,7 @@ impl LineReader {
         ensures pays { Pays budget.old result budget.new }
         ensures later { C.fault_count input.old ≤ C.fault_count input.new }
         ensures cause { result ≡ Reading.Failed → Rose (C.fault_count input.old) (C.fault_count input.new) }
+        ensures quiet { result ≢ Reading.Failed → C.fault_count input.new ≡ C.fault_count input.old }
     {
         if self.open_ {
             self.read_open_line(input, budget)
@@ -79,6 +80,7 @@ impl LineReader {
         ensures pays { Pays budget.old result budget.new }
         ensures later { C.fault_count input.old ≤ C.fault_count input.new }
         ensures cause { result ≡ Reading.Failed → Rose (C.fault_count input.old) (C.fault_count input.new) }
+        ensures quiet { result ≢ Reading.Failed → C.fault_count input.new ≡ C.fault_count input.old }
     {
         self.line.clear();
         let mut count = 0u64;

@@ -5,7 +5,7 @@ abbrev pub invariant-loop-done : goal.invariant-loop-done
 invariant-loop-done g l = record {
   within : l.done ≤ length l.bytes;
   added : IsTrue g.S.Sink.tells → g.S.Sink.written l.sink ≡ g.S.Sink.written l.fn.sink ++ take l.done l.bytes;
-  later : g.S.Sink.fault_count l.fn.sink ≤ g.S.Sink.fault_count l.sink;
+  quiet : g.S.Sink.fault_count l.sink ≡ g.S.Sink.fault_count l.fn.sink;
 }
 
 abbrev pub decreases-loop-done : goal.decreases-loop-done

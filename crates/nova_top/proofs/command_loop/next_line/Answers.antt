@@ -1,4 +1,4 @@
-use Rattle.std.proofs.Common.{None, refl, ap, sym, ◌∙◌, arith}
+use Rattle.std.proofs.Common.{None, refl, ap, sym, ◌∙◌}
 use Rattle.nova_top.specs.CommandGrammar.{command_of}
 use Rattle.nova_top.specs.Loop.{session_of}
 use Rattle.nova_top.proofs.GrammarLemmas.{long-line}
@@ -23,7 +23,7 @@ returns-in-Line-clause-told g c = λ source sink.
 pub returns-in-Line-clause-cause : goal.returns-in-Line-clause-cause
 returns-in-Line-clause-cause g c =
     answer-causes c.answer.result (g.S.Sink.fault_count c.args.output.now) (g.S.Sink.fault_count c.ask.new.output) (g.S.Sink.fault_count c.answer.new.output)
-    (g.C.Source.fault_count c.args.input.now) (g.C.Source.fault_count c.read_line.new.input) c.in-Ok.ensures.cause.later c.in-Line.ensures.later c.answer.ensures.cause c.answer.ensures.exit
+    (g.C.Source.fault_count c.args.input.now) (g.C.Source.fault_count c.read_line.new.input) c.in-Ok.ensures.cause.quiet (c.in-Line.ensures.quiet (λ e. absurd (cc))) c.answer.ensures.cause c.answer.ensures.exit
 
 pub returns-in-TooLong-clause-told : goal.returns-in-TooLong-clause-told
 returns-in-TooLong-clause-told g c = λ source sink.
@@ -39,7 +39,7 @@ returns-in-TooLong-clause-told g c = λ source sink.
 pub returns-in-TooLong-clause-cause : goal.returns-in-TooLong-clause-cause
 returns-in-TooLong-clause-cause g c =
     answer-causes c.answer-in-TooLong.result (g.S.Sink.fault_count c.args.output.now) (g.S.Sink.fault_count c.ask.new.output) (g.S.Sink.fault_count c.answer-in-TooLong.new.output)
-    (g.C.Source.fault_count c.args.input.now) (g.C.Source.fault_count c.read_line.new.input) c.in-Ok.ensures.cause.later c.in-TooLong.ensures.later c.answer-in-TooLong.ensures.cause c.answer-in-TooLong.ensures.exit
+    (g.C.Source.fault_count c.args.input.now) (g.C.Source.fault_count c.read_line.new.input) c.in-Ok.ensures.cause.quiet (c.in-TooLong.ensures.quiet (λ e. absurd (cc))) c.answer-in-TooLong.ensures.cause c.answer-in-TooLong.ensures.exit
 
 pub returns-in-End-clause-told : goal.returns-in-End-clause-told
 returns-in-End-clause-told g c = λ source sink.

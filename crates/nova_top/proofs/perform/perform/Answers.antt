@@ -1,7 +1,7 @@
-use Rattle.std.proofs.Common.{◌≡◌, true, refl, ap, sym, ◌∙◌, arith, subst}
+use Rattle.std.proofs.Common.{refl, ◌∙◌, arith}
 use Rattle.nova_top.specs.Perform.{beginning}
 use Rattle.nova_top.specs.Loop.{session_core, session_of}
-use Rattle.nova_top.proofs.WholeLemmas.{Reached, reached-none, reached-more, session-over, causes-behind}
+use Rattle.nova_top.proofs.WholeLemmas.{reached-none, reached-more, session-over, causes-behind}
 use Rattle.nova_top.proofs.perform.perform.Goals as goal
 
 pub lines-init : goal.lines-init
@@ -10,8 +10,8 @@ lines-init g c = record {
   enough = omega arith;
   limit = refl;
   told = λ source sink. rw c.new.ensures (reached-none (beginning (session_core c.args.session.now) c.args.prompt (g.C.Source.left c.args.input.now)) (g.S.Sink.written c.args.output.now));
-  source = omega arith;
-  sink = omega arith;
+  source = refl;
+  sink = refl;
 }
 
 pub lines-preserved : goal.lines-preserved
@@ -22,8 +22,8 @@ lines-preserved g c = record {
       (session_of c.lines.session c.lines.lines (g.C.Source.left c.lines.input)) (session_of c.next_line.new.session c.next_line.new.lines (g.C.Source.left c.next_line.new.input))
       (g.S.Sink.written c.args.output.now) (g.S.Sink.written c.lines.output) (g.S.Sink.written c.next_line.new.output)
       (c.lines.invariant.told source sink) (c.in-GoesOn.ensures.told source sink);
-  source = omega (arith, c.lines.invariant.source, c.in-GoesOn.ensures.cause.1);
-  sink = omega (arith, c.lines.invariant.sink, c.in-GoesOn.ensures.cause.0);
+  source = c.in-GoesOn.ensures.cause.1 ∙ c.lines.invariant.source;
+  sink = c.in-GoesOn.ensures.cause.0 ∙ c.lines.invariant.sink;
 }
 
 pub returns-in-IsOver-clause-told : goal.returns-in-IsOver-clause-told

@@ -12,8 +12,8 @@ invariant-lines g l = record {
       (beginning (session_core l.fn.session) l.fn.prompt (g.C.Source.left l.fn.input))
       (session_of l.session l.lines (g.C.Source.left l.input))
       (g.S.Sink.written l.fn.output) (g.S.Sink.written l.output);
-  source : g.C.Source.fault_count l.fn.input ≤ g.C.Source.fault_count l.input;
-  sink : g.S.Sink.fault_count l.fn.output ≤ g.S.Sink.fault_count l.output;
+  source : g.C.Source.fault_count l.input ≡ g.C.Source.fault_count l.fn.input;
+  sink : g.S.Sink.fault_count l.output ≡ g.S.Sink.fault_count l.fn.output;
 }
 
 abbrev pub decreases-lines : goal.decreases-lines

@@ -1,6 +1,5 @@
-use Rattle.std.proofs.Common.{◌≡◌, ◌≢◌, ◌∙◌, IsTrue, ap, sym, subst}
+use Rattle.std.proofs.Common.{◌∙◌, sym}
 use Rattle.nova_top.specs.Outside.{texts_of}
-use Rattle.nova_top.specs.Ends.{IsOutcome}
 use Rattle.nova_top.proofs.OutsideLemmas.{usage-answer, session-answer, usage-status, finish-status, complete}
 use Rattle.nova_top.proofs.program.simulate.Goals as goal
 

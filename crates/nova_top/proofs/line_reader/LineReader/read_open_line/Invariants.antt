@@ -8,7 +8,7 @@ invariant-loop-next g l = record {
   on : l.self.open_ ≡ true;
   kept : length l.self.line ≤ l.count;
   told : IsTrue g.C.Source.tells → SoFar (g.C.Source.left l.fn.input) (g.C.Source.left l.input) l.self.line l.count;
-  later : g.C.Source.fault_count l.fn.input ≤ g.C.Source.fault_count l.input;
+  quiet : g.C.Source.fault_count l.input ≡ g.C.Source.fault_count l.fn.input;
 }
 
 abbrev pub decreases-loop-next : goal.decreases-loop-next
