@@ -8,15 +8,34 @@ use nova_alu::{Arith, arith};
 use nova_word::{Addr, Word};
 
 impl Cpu {
-    ghost use Rattle.nova_machine.specs.Instruction.{advanced};
+    ghost use Rattle.nova_machine.specs.Instruction.{advanced, following};
 
     /// Goes on behind the instruction, and over the next one where it skips.
     #[tactic(auto, unfolding(crate::specs::Instruction::advanced))]
     pub(crate) fn advance(&mut self, skips: bool)
         ensures { self.new ≡ advanced skips self.old }
     {
-        let next = self.pc.plus(1);
-        self.pc = if skips { next.plus(1) } else { next };
+        self.go_on();
+        if skips {
+            self.skip();
+        }
+    }
+
+    /// Goes on behind the instruction.
+    #[inline]
+    fn go_on(&mut self)
+        ensures { self.new ≡ record self.old { pc = following self.old.pc } }
+    {
+        self.pc = self.pc.plus(1);
+    }
+
+    /// Goes over an instruction. It is a call of its own, since the processor then guesses whether it is made, and begins
+    /// with the next instruction before this one's result is there. PC computed from the result would wait for it.
+    #[inline(never)]
+    fn skip(&mut self)
+        ensures { self.new ≡ record self.old { pc = following self.old.pc } }
+    {
+        self.pc = self.pc.plus(1);
     }
 }
 
