@@ -4,7 +4,7 @@ ghost use Rattle.nova_memory.specs.Memory.{get};
 
 use crate::cpu::Cpu;
 use crate::machine::Machine;
-use nova_alu::{Arith, arith};
+use nova_alu::arith_in_place;
 use nova_word::{Addr, Word};
 
 impl Cpu {
@@ -121,9 +121,7 @@ impl Machine {
     pub(crate) fn arithmetic(&mut self, word: Word)
         ensures { self.new ≡ arithmetic word self.old }
     {
-        let Arith { acs, carry, skip } = arith(word, self.cpu.accumulators, self.cpu.carry);
-        self.cpu.accumulators = acs;
-        self.cpu.carry = carry;
+        let skip = arith_in_place(word, &mut self.cpu.accumulators, &mut self.cpu.carry);
         self.cpu.advance(skip);
     }
 }
