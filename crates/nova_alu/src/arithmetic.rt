@@ -23,48 +23,37 @@ pub fn arith(word: Word, acs: [Word; 4], carry: bool) -> Arith
     ensures no_load { bits 12 12 word ≡ 1 → (result.acs ≡ acs) × (result.carry ≡ carry) }
     ensures others { (k : ℕ) → k ≢ bits 3 4 word → slice_index result.acs k ≡ slice_index acs k }
 {
-    let x = shifted_number(word, acs, carry);
-    let skip = Skip::of_word(word).holds(x);
-    if (word.0 >> 3) & 1 == 0 {
-        Arith {
-            acs: with_word(acs, (word.0 >> 11) & 3, (x % 65536) as u16),
-            carry: x >= 65536,
-            skip,
-        }
-    } else {
-        // Taken apart, since a proof learns so that each of them is a word.
-        let [ac0, ac1, ac2, ac3] = acs;
-        Arith {
-            acs: [ac0, ac1, ac2, ac3],
-            carry,
-            skip,
-        }
-    }
+    // Taken apart, since a proof learns so that each of them is a word.
+    let [ac0, ac1, ac2, ac3] = acs;
+    let mut acs = [ac0, ac1, ac2, ac3];
+    let mut carry = carry;
+    let skip = arith_in_place(word, &mut acs, &mut carry);
+    Arith { acs, carry, skip }
 }
 
-/// The accumulators with this value in the one of that number. Each is chosen, and none indexed: a caller that keeps the
-/// accumulators would else read all four together right after one of them was written, and wait for it.
+/// Executes the instruction as `arith` does, on accumulators and a Carry where they stand, and answers whether the next
+/// instruction is skipped. One accumulator is written at the most, and all four are never read together: a processor
+/// waits where it reads several words at once of which one was just written.
 #[inline]
-fn with_word(acs: [Word; 4], number: u16, value: u16) -> [Word; 4]
-    requires { number < 4 }
-    ensures put { result ≡ slice_set acs number value }
-    ensures words { All (λ n. n < 2 ^ 16) result }
+#[tactic(auto, unfolding(crate::specs::Arithmetic::loaded_accumulators, crate::specs::Arithmetic::loaded_carry, crate::specs::Arithmetic::skips_next))]
+pub fn arith_in_place(word: Word, acs: &mut [Word; 4], carry: &mut bool) -> bool
+    ensures accumulators { acs.new ≡ loaded_accumulators word acs.old carry.old }
+    ensures carry { carry.new ≡ loaded_carry word acs.old carry.old }
+    ensures skip { result ≡ skips_next word acs.old carry.old }
 {
-    let word = Word(value);
-    let [ac0, ac1, ac2, ac3] = acs;
-    [
-        if number == 0 { word } else { ac0 },
-        if number == 1 { word } else { ac1 },
-        if number == 2 { word } else { ac2 },
-        if number == 3 { word } else { ac3 },
-    ]
+    let x = shifted_number(word, acs, *carry);
+    if (word.0 >> 3) & 1 == 0 {
+        acs[usize::from((word.0 >> 11) & 3)] = Word((x % 65536) as u16);
+        *carry = x >= 65536;
+    }
+    Skip::of_word(word).holds(x)
 }
 
 /// The 17 bits of carry and result after the shift.
 #[inline]
 #[tactic(auto, unfolding(crate::specs::Arithmetic::shifted_number))]
-fn shifted_number(word: Word, acs: [Word; 4], carry: bool) -> u32
-    ensures value { result ≡ shifted_number word acs carry }
+fn shifted_number(word: Word, acs: &[Word; 4], carry: bool) -> u32
+    ensures value { result ≡ shifted_number word acs.now carry }
     ensures range { result < 2 ^ 17 }
 {
     Shift::of_word(word).shift(function_number(word, acs, carry))
@@ -73,8 +62,8 @@ fn shifted_number(word: Word, acs: [Word; 4], carry: bool) -> u32
 /// The 17 bits of carry and result before the shift.
 #[inline]
 #[tactic(auto, unfolding(crate::specs::Arithmetic::function_number))]
-fn function_number(word: Word, acs: [Word; 4], carry: bool) -> u32
-    ensures value { result ≡ function_number word acs carry }
+fn function_number(word: Word, acs: &[Word; 4], carry: bool) -> u32
+    ensures value { result ≡ function_number word acs.now carry }
     ensures range { result < 2 ^ 17 }
 {
     let source = acs[usize::from((word.0 >> 13) & 3)];

@@ -9,6 +9,6 @@ pub mod outcome;
 mod shifts;
 mod skips;
 
-pub use arithmetic::arith;
+pub use arithmetic::{arith, arith_in_place};
 pub use multiply_divide::{Divided, divide, multiply};
 pub use outcome::Arith;

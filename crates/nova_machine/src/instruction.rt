@@ -4,19 +4,38 @@ ghost use Rattle.nova_memory.specs.Memory.{get};
 
 use crate::cpu::Cpu;
 use crate::machine::Machine;
-use nova_alu::{Arith, arith};
+use nova_alu::arith_in_place;
 use nova_word::{Addr, Word};
 
 impl Cpu {
-    ghost use Rattle.nova_machine.specs.Instruction.{advanced};
+    ghost use Rattle.nova_machine.specs.Instruction.{advanced, following};
 
     /// Goes on behind the instruction, and over the next one where it skips.
     #[tactic(auto, unfolding(crate::specs::Instruction::advanced))]
     pub(crate) fn advance(&mut self, skips: bool)
         ensures { self.new ≡ advanced skips self.old }
     {
-        let next = self.pc.plus(1);
-        self.pc = if skips { next.plus(1) } else { next };
+        self.go_on();
+        if skips {
+            self.skip();
+        }
+    }
+
+    /// Goes on behind the instruction.
+    #[inline]
+    fn go_on(&mut self)
+        ensures { self.new ≡ record self.old { pc = following self.old.pc } }
+    {
+        self.pc = self.pc.plus(1);
+    }
+
+    /// Goes over an instruction. It is a call of its own, since the processor then guesses whether it is made, and begins
+    /// with the next instruction before this one's result is there. PC computed from the result would wait for it.
+    #[inline(never)]
+    fn skip(&mut self)
+        ensures { self.new ≡ record self.old { pc = following self.old.pc } }
+    {
+        self.pc = self.pc.plus(1);
     }
 }
 
@@ -102,9 +121,7 @@ impl Machine {
     pub(crate) fn arithmetic(&mut self, word: Word)
         ensures { self.new ≡ arithmetic word self.old }
     {
-        let Arith { acs, carry, skip } = arith(word, self.cpu.accumulators, self.cpu.carry);
-        self.cpu.accumulators = acs;
-        self.cpu.carry = carry;
+        let skip = arith_in_place(word, &mut self.cpu.accumulators, &mut self.cpu.carry);
         self.cpu.advance(skip);
     }
 }

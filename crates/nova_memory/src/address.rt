@@ -70,10 +70,13 @@ fn indexed(word: Word, pc: Addr, acs: [Word; 4]) -> Addr
     ensures { result ≡ indexed word pc acs }
 {
     let displacement = word.0 & 0o377;
+    // Taken apart, so that no more than one of them is read.
+    let [_ac0, _ac1, ac2, ac3] = acs;
     match (word.0 >> 8) & 3 {
         0 => Addr::of_word(Word(displacement)),
         1 => displaced(Word(pc.number()), displacement),
-        index => displaced(acs[usize::from(index)], displacement),
+        2 => displaced(ac2, displacement),
+        _ => displaced(ac3, displacement),
     }
 }
 
