@@ -1,0 +1,15 @@
+pub mod TextLemmas
+pub mod OctalLemmas
+pub mod CanonLemmas
+pub mod FoundLemmas
+pub mod ReadsLemmas
+pub mod SplitLemmas
+pub mod FieldLemmas
+pub mod AddressLemmas
+pub mod NameLemmas
+pub mod GivenLemmas
+pub mod StandsLemmas
+pub mod FaultFieldLemmas
+pub mod FaultAddressLemmas
+pub mod FaultLemmas
+pub mod LawLemmas

@@ -1,0 +1,7 @@
+pub mod Names
+pub mod Forms
+pub mod Canon
+pub mod Naming
+pub mod Operands
+pub mod Reading
+pub mod Faults
