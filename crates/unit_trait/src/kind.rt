@@ -1,0 +1,111 @@
+ghost use Rattle.std.specs.Prelude.{◌≡◌, ◌+◌, ◌<◌, ◌≤◌, ◌++◌, length, take, drop};
+ghost use Rattle.unit_trait.specs.Kinds.{kind_name, units_of, unit_name, decimal_below_100};
+
+/// The kinds of units, in bus order.
+#[derive(Clone, Copy, Debug, PartialEq, Eq)]
+pub enum Kind {
+    /// Fixed-head disk.
+    Dsk,
+    /// Magnetic tape.
+    Mta,
+    /// Line printer.
+    Lpt,
+    /// Paper tape reader.
+    Ptr,
+    /// Paper tape punch.
+    Ptp,
+    /// Real-time clock.
+    Clk,
+    /// Console keyboard.
+    Tti,
+    /// Console printer.
+    Tto,
+    /// Second terminal's keyboard.
+    Tti1,
+    /// Second terminal's printer.
+    Tto1,
+    /// Multiplexer of 64 lines.
+    Qty,
+}
+
+/// A unit: its kind, and its number among the units of that kind.
+#[derive(Clone, Copy, Debug, PartialEq, Eq)]
+pub struct UnitName {
+    pub kind: Kind,
+    pub unit: u8,
+}
+
+impl Kind {
+    /// The name of the kind, in capitals.
+    pub fn name(self) -> &'static str
+        ensures name { result.now ≡ kind_name self }
+        ensures short { length result.now ≤ 4 }
+    {
+        match self {
+            Kind::Dsk => "DSK",
+            Kind::Mta => "MTA",
+            Kind::Lpt => "LPT",
+            Kind::Ptr => "PTR",
+            Kind::Ptp => "PTP",
+            Kind::Clk => "CLK",
+            Kind::Tti => "TTI",
+            Kind::Tto => "TTO",
+            Kind::Tti1 => "TTI1",
+            Kind::Tto1 => "TTO1",
+            Kind::Qty => "QTY",
+        }
+    }
+}
+
+/// How many units a kind has: 8 drives, 64 lines, and else one.
+pub fn units_of(kind: Kind) -> u8
+    ensures { result ≡ units_of kind }
+{
+    match kind {
+        Kind::Mta => 8,
+        Kind::Qty => 64,
+        _ => 1,
+    }
+}
+
+/// Writes the name of a unit first into `out`, and answers its length: the name of its kind, and the unit's number in
+/// decimal where its kind has more than one.
+pub fn unit_text(unit: UnitName, out: &mut [u8; 8]) -> usize
+    requires { unit.unit < units_of unit.kind }
+    ensures count { result ≡ length (unit_name unit) }
+    ensures text { out.new ≡ unit_name unit ++ drop (length (unit_name unit)) out.old }
+{
+    let end = put_first(unit.kind.name().as_bytes(), out);
+    if units_of(unit.kind) == 1 {
+        end
+    } else {
+        put_number(unit.unit, end, out)
+    }
+}
+
+/// Puts bytes first into `out`, and answers how many.
+pub fn put_first(bytes: &[u8], out: &mut [u8; 8]) -> usize
+    requires { length bytes.now ≤ 8 }
+    ensures count { result ≡ length bytes.now }
+    ensures text { out.new ≡ bytes.now ++ drop (length bytes.now) out.old }
+{
+    out[..bytes.len()].copy_from_slice(bytes);
+    bytes.len()
+}
+
+// Puts a number below 100 in decimal behind that place, and answers where it ends.
+fn put_number(n: u8, at: usize, out: &mut [u8; 8]) -> usize
+    requires number { n < 100 }
+    requires room { at ≤ 6 }
+    ensures count { result ≡ at + length (decimal_below_100 n) }
+    ensures text { out.new ≡ take at out.old ++ (decimal_below_100 n ++ drop (at + length (decimal_below_100 n)) out.old) }
+{
+    if n < 10 {
+        out[at] = b'0' + n;
+        at + 1
+    } else {
+        out[at] = b'0' + n / 10;
+        out[at + 1] = b'0' + n % 10;
+        at + 2
+    }
+}
