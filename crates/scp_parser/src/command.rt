@@ -1,0 +1,134 @@
+ghost use Rattle.std.specs.Prelude.{◌≡◌, []};
+
+use crate::listing::{Listing, Test};
+use std::marker::Model;
+use unit_trait::{Kind, UnitName};
+
+/// How many bytes a command line has at most.
+pub const LONGEST_LINE: usize = 512;
+
+/// Bytes of the line: those from a place up to another.
+#[derive(Clone, Copy, Debug, PartialEq, Eq)]
+pub struct Piece {
+    pub from: usize,
+    pub to: usize,
+}
+
+/// What SHOW shows.
+#[derive(Clone, Copy, Debug, PartialEq, Eq)]
+pub enum Shown {
+    Time,
+    Cpu,
+    Queue,
+    Break,
+    Expect,
+    Send,
+    Version,
+    Unit(UnitName),
+}
+
+/// What a line asks for.
+///
+/// A number that is too large for its reader is held as 2^64 - 1. An operand that was left out is `None`; in NOBREAK and
+/// DETACH `None` is ALL. A text piece is a quoted text with its quotes.
+#[derive(Drop)]
+pub enum Verb {
+    /// A blank line, a comment or a label.
+    Nothing,
+    Examine(Listing),
+    Deposit(Listing, u64),
+    Run(Option<u64>),
+    Go(Option<u64>),
+    Cont,
+    Step(Option<u64>),
+    Reset,
+    Break {
+        at: u64,
+        count: u64,
+        actions: Piece,
+    },
+    NoBreak(Option<u64>),
+    Expect {
+        count: u64,
+        text: Piece,
+        actions: Piece,
+    },
+    NoExpect,
+    Send {
+        after: u64,
+        delay: u64,
+        text: Piece,
+    },
+    NoSend,
+    /// The option is its letter in capitals, E, N or R, or 0 where there is none.
+    Attach {
+        option: u8,
+        unit: UnitName,
+        name: Piece,
+    },
+    AttachPort {
+        kind: Kind,
+        port: u64,
+    },
+    Detach(Option<UnitName>),
+    Load(Piece),
+    Save(Piece),
+    Dump {
+        from: u64,
+        to: u64,
+        name: Piece,
+    },
+    Restore {
+        force: bool,
+        name: Piece,
+    },
+    /// The n of `SET CPU nK`.
+    SetSize(u64),
+    Disconnect(Kind),
+    Show(Shown),
+    Do {
+        echo: bool,
+        strict: bool,
+        name: Piece,
+        arguments: Piece,
+    },
+    Goto(Piece),
+    Assert(Test),
+    Echo(Piece),
+    Exit(Option<u64>),
+}
+
+/// A command line and what it asks for.
+#[derive(Drop)]
+pub struct Command {
+    /// The line; its bytes at `length` and behind are none of it.
+    pub line: [u8; LONGEST_LINE],
+    pub length: usize,
+    pub verb: Verb,
+}
+
+impl Model for Command {
+    ghost use Rattle.std.specs.Prelude.{◌≤◌, take};
+    ghost use Rattle.scp_parser.specs.Command.{CommandLine, Keeps};
+
+    ghost Value = { CommandLine };
+
+    ghost view = { λ c. record { text = take c.length c.line; verb = c.verb } };
+
+    ghost invariant = { λ c. (c.length ≤ 512) × Keeps (take c.length c.line) c.verb };
+}
+
+impl Command {
+    ghost use Rattle.scp_parser.specs.Command.{no_command};
+
+    /// An empty line, which asks for nothing.
+    pub fn new() -> Command
+        ensures { result ≡ no_command }
+    {
+        Command {
+            line: [0; LONGEST_LINE],
+            length: 0,
+            verb: Verb::Nothing,
+        }
+    }
+}
