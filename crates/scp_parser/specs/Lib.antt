@@ -1,1 +1,7 @@
 pub mod Command
+pub mod Names
+pub mod Forms
+pub mod Grammar
+pub mod Faults
+pub mod Operands
+pub mod Reading

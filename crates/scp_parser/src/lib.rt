@@ -2,9 +2,18 @@
 #![tactic(auto)]
 
 pub mod command;
+mod condition;
 pub mod fault;
+mod item;
 pub mod listing;
+pub mod names;
+mod number;
+mod operands;
+pub mod reader;
+mod subject;
 
-pub use command::{Command, Piece, Shown, Verb};
+pub use command::{Command, LONGEST_LINE, Piece, Shown, Verb};
 pub use fault::ParseFault;
-pub use listing::{Condition, Item, Items, Listing, Name, Rel, Test};
+pub use listing::{Condition, Item, Items, Listing, MOST_ITEMS, Name, Rel, Test};
+pub use names::register_name;
+pub use reader::{each_line_has_a_command_or_a_fault, no_line_is_two_commands, read_command};

@@ -1,0 +1,6 @@
+//! The words of a line, with spaces and tabs between them.
+#![tactic(auto)]
+
+pub mod words;
+
+pub use words::{is_blank, past_blanks, trimmed, word_at};

@@ -1,0 +1,86 @@
+-- The one fault of each line that is no command. The words are taken from the left: the first that is not as the
+-- grammar wants it is at fault. A place is said by how many bytes of the line are left there.
+use Rattle.std.specs.Prelude.{◌≡◌, ◌⊎◌, ℕ, ◌+◌, ◌-◌, ◌<◌, ◌≤◌, Bool, true, false, ◌||◌, ◌&&◌, nat_le, List, [], ◌∷◌, ◌++◌, length, Option, if◌then◌else◌}
+use Rattle.line_words.specs.Words.{IsBlanks, Begins}
+use Rattle.nova_symbols.specs.declared.fault.SymbolFault.{SymbolFault}
+use Rattle.nova_symbols.specs.Faults as symbols
+use Rattle.scp_parser.specs.declared.listing.Listing.{Listing}
+use Rattle.scp_parser.specs.declared.listing.Name.{Name}
+use Rattle.scp_parser.specs.declared.listing.Condition.{Condition}
+use Rattle.scp_parser.specs.declared.command.Shown.{Shown}
+use Rattle.scp_parser.specs.declared.fault.ParseFault.{ParseFault}
+use Rattle.scp_parser.specs.declared.fault.ParseFault.TheVariants.{Unknown, Missing, BadNumber, BadName, BadSymbol, Extra, TooLong, NotBuilt}
+use Rattle.scp_parser.specs.declared.names.CommandName.{CommandName}
+use Rattle.scp_parser.specs.declared.names.CommandName.TheVariants.{Examine, Deposit, Run, Go, Cont, Step, Show, Exit, Quit, Bye}
+use Rattle.scp_parser.specs.Names.{IsCommandName, is_built}
+use Rattle.scp_parser.specs.Forms.{IsOctal, IsDecimal, IsList, IsSubject}
+use Rattle.scp_parser.specs.Grammar.{longest_line, Chooses, Lists, IsInside, AsksNothing}
+
+abbrev pub is_decimal_digit : ℕ → Bool
+is_decimal_digit b = nat_le 48 b && nat_le b 57
+
+abbrev pub begins_with_digit : List ℕ → Bool
+begins_with_digit [] = false
+begins_with_digit (b ∷ more) = is_decimal_digit b
+
+-- the fault of a word that is not in the form of its operand, with so many bytes left at it: a bad number where it
+-- begins with a digit or where only a number may stand, and else a bad name
+abbrev pub bad_word : Bool → List ℕ → ℕ → ParseFault
+bad_word only_number word left = if only_number || begins_with_digit word then BadNumber left else BadName left
+
+-- the faults of an operand that must be there: it is missing, or the next word has not its form
+pub data WordFaults {V : Type 0} (Form : List ℕ → V → Type 0) (only_number : Bool) (text : List ℕ) : ParseFault → Type 0 where
+  missing : IsBlanks text → WordFaults Form only_number text Missing
+  bad : (word rest : List ℕ) → Begins text word rest → ((v : V) → Form word v → ⊥) → WordFaults Form only_number text (bad_word only_number word (length (word ++ rest)))
+
+-- the fault of a line that goes on behind its last operand
+pub data EndFaults (text : List ℕ) : ParseFault → Type 0 where
+  extra : (word rest : List ℕ) → Begins text word rest → EndFaults text (Extra (length (word ++ rest)))
+
+-- the faults of a number that may be left out at the end of a line
+pub data LastNumberFaults (Form : List ℕ → ℕ → Type 0) (text : List ℕ) : ParseFault → Type 0 where
+  bad_number : (word rest : List ℕ) → Begins text word rest → ((n : ℕ) → Form word n → ⊥) → LastNumberFaults Form text (BadNumber (length (word ++ rest)))
+  behind_number : (word rest : List ℕ) (n : ℕ) (fault : ParseFault) → Begins text word rest → Form word n → EndFaults rest fault → LastNumberFaults Form text fault
+
+-- the faults of a list, behind all that may stand before it
+pub data ListFaults (conditions : Bool) (text : List ℕ) : ParseFault → Type 0 where
+  at_list : (symbolic : Bool) (device : Name) (condition : Option Condition) (rest : List ℕ) (fault : ParseFault) → Chooses conditions text symbolic device condition rest → WordFaults (IsList device) false rest fault → ListFaults conditions text fault
+
+-- the faults of the value of a DEPOSIT
+pub data ValueFaults : Bool → List ℕ → ParseFault → Type 0 where
+  no_instruction : (text : List ℕ) → IsBlanks text → ValueFaults true text Missing
+  bad_symbol : (text inside behind : List ℕ) (fault : SymbolFault) → IsInside text inside behind → symbols.Faults inside fault → ValueFaults true text (BadSymbol (length (inside ++ behind)))
+  at_number : (text : List ℕ) (fault : ParseFault) → WordFaults IsOctal true text fault → ValueFaults false text fault
+  behind_value : (text word rest : List ℕ) (n : ℕ) (fault : ParseFault) → Begins text word rest → IsOctal word n → EndFaults rest fault → ValueFaults false text fault
+
+-- the faults of the operands of each command
+pub data OperandFaults : CommandName → List ℕ → ParseFault → Type 0 where
+  in_examine : (text : List ℕ) (fault : ParseFault) → ListFaults true text fault → OperandFaults Examine text fault
+  behind_examine : (text rest : List ℕ) (listing : Listing) (fault : ParseFault) → Lists true text listing rest → EndFaults rest fault → OperandFaults Examine text fault
+  in_deposit : (text : List ℕ) (fault : ParseFault) → ListFaults false text fault → OperandFaults Deposit text fault
+  in_value : (text rest : List ℕ) (listing : Listing) (fault : ParseFault) → Lists false text listing rest → ValueFaults listing.symbolic rest fault → OperandFaults Deposit text fault
+  in_run : (text : List ℕ) (fault : ParseFault) → LastNumberFaults IsOctal text fault → OperandFaults Run text fault
+  in_go : (text : List ℕ) (fault : ParseFault) → LastNumberFaults IsOctal text fault → OperandFaults Go text fault
+  behind_cont : (text : List ℕ) (fault : ParseFault) → EndFaults text fault → OperandFaults Cont text fault
+  in_step : (text : List ℕ) (fault : ParseFault) → LastNumberFaults IsDecimal text fault → OperandFaults Step text fault
+  in_show : (text : List ℕ) (fault : ParseFault) → WordFaults IsSubject false text fault → OperandFaults Show text fault
+  behind_show : (text word rest : List ℕ) (subject : Shown) (fault : ParseFault) → Begins text word rest → IsSubject word subject → EndFaults rest fault → OperandFaults Show text fault
+  in_exit : (text : List ℕ) (fault : ParseFault) → LastNumberFaults IsDecimal text fault → OperandFaults Exit text fault
+  in_quit : (text : List ℕ) (fault : ParseFault) → LastNumberFaults IsDecimal text fault → OperandFaults Quit text fault
+  in_bye : (text : List ℕ) (fault : ParseFault) → LastNumberFaults IsDecimal text fault → OperandFaults Bye text fault
+
+-- a fault by its place from the beginning of a line of that length
+abbrev pub placed : ℕ → ParseFault → ParseFault
+placed length (BadNumber left) = BadNumber (length - left)
+placed length (BadName left) = BadName (length - left)
+placed length (BadSymbol left) = BadSymbol (length - left)
+placed length (Extra left) = Extra (length - left)
+placed length fault = fault
+
+-- the faults of lines: a line that is too long, then one whose first word names no command, then one whose command is
+-- not built, then the first fault of the operands
+pub data Faults : List ℕ → ParseFault → Type 0 where
+  too_long : (line : List ℕ) → longest_line < length line → Faults line TooLong
+  unknown : (line word rest : List ℕ) → length line ≤ longest_line → (AsksNothing line → ⊥) → Begins line word rest → ((name : CommandName) → IsCommandName word name → ⊥) → Faults line Unknown
+  not_built : (line word rest : List ℕ) (name : CommandName) → length line ≤ longest_line → Begins line word rest → IsCommandName word name → is_built name ≡ false → Faults line NotBuilt
+  operands : (line word rest : List ℕ) (name : CommandName) (fault : ParseFault) → length line ≤ longest_line → Begins line word rest → IsCommandName word name → OperandFaults name rest fault → Faults line (placed (length line) fault)

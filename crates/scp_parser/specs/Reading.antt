@@ -1,0 +1,168 @@
+-- Which line is which command, as a function: its words one by one from the left. A fault is said by how many bytes of
+-- the line are left at its place.
+use Rattle.std.specs.Prelude.{ℕ, ◌==◌, Bool, true, false, ◌||◌, nat_le, List, [], ◌∷◌, length, Option, Some, None, is_some, Result, Ok, Err, if◌then◌else◌}
+use Rattle.unit_trait.specs.declared.kind.Kind.{Kind}
+use Rattle.line_words.specs.Words.{past_blanks, word_at, trimmed}
+use Rattle.nova_symbols.specs.declared.fault.SymbolFault.{SymbolFault}
+use Rattle.nova_symbols.specs.Reading as symbols
+use Rattle.scp_parser.specs.declared.listing.Name.{Name}
+use Rattle.scp_parser.specs.declared.listing.Condition.{Condition}
+use Rattle.scp_parser.specs.declared.listing.Item.{Item}
+use Rattle.scp_parser.specs.declared.listing.Listing.{Listing}
+use Rattle.scp_parser.specs.declared.command.Verb.{Verb}
+use Rattle.scp_parser.specs.declared.command.Verb.TheVariants as verb
+use Rattle.scp_parser.specs.declared.fault.ParseFault.{ParseFault}
+use Rattle.scp_parser.specs.declared.fault.ParseFault.TheVariants.{Unknown, Missing, BadNumber, BadSymbol, Extra, TooLong, NotBuilt}
+use Rattle.scp_parser.specs.declared.names.CommandName.{CommandName}
+use Rattle.scp_parser.specs.declared.names.CommandName.TheVariants.{Examine, Deposit, Run, Go, Cont, Step, Show, Exit, Quit, Bye}
+use Rattle.scp_parser.specs.Command.{CommandLine}
+use Rattle.scp_parser.specs.Names.{command_named}
+use Rattle.scp_parser.specs.Operands.{octal, decimal, items_of, condition_of, device_of, subject_of, symbolic_of}
+use Rattle.scp_parser.specs.Grammar.{longest_line, name_of}
+use Rattle.scp_parser.specs.Faults.{bad_word, placed}
+
+infixl 10 ◌>>=◌
+abbrev pub ◌>>=◌ : {A B : Type 0} → Result A ParseFault → (A → Result B ParseFault) → Result B ParseFault
+(Ok x) >>= f = f x
+(Err e) >>= f = Err e
+
+-- the next word, which has no byte where none is left, and what follows it
+unfoldable pub next_word : List ℕ → List ℕ × List ℕ
+next_word text = word_at (past_blanks text)
+
+-- an operand that may be left out
+abbrev pub maybe_found : {V : Type 0} → Option V → List ℕ → List ℕ → Option V × List ℕ
+maybe_found None text rest = (None, text)
+maybe_found (Some v) text rest = (Some v, rest)
+
+abbrev pub maybe : {V : Type 0} → (List ℕ → Option V) → List ℕ → Option V × List ℕ
+maybe form text = let next = next_word text in maybe_found (form next.0) text next.1
+
+-- an operand that must be there
+abbrev pub needed_found : {V : Type 0} → Bool → Option V → List ℕ → List ℕ → Result (V × List ℕ) ParseFault
+needed_found only_number (Some v) word rest = Ok (v, rest)
+needed_found only_number None [] rest = Err Missing
+needed_found only_number None (b ∷ more) rest = Err (bad_word only_number (b ∷ more) (length (b ∷ more ++ rest)))
+
+abbrev pub needed : {V : Type 0} → Bool → (List ℕ → Option V) → List ℕ → Result (V × List ℕ) ParseFault
+needed only_number form text = let next = next_word text in needed_found only_number (form next.0) next.0 next.1
+
+-- what a line asks for, if nothing but blanks is left
+unfoldable pub ended : Verb → List ℕ → Result Verb ParseFault
+ended what text = let left = length (past_blanks text) in if left == 0 then Ok what else Err (Extra left)
+
+-- a number that may be left out at the end of a line
+abbrev pub given : ℕ × List ℕ → Result (Option ℕ × List ℕ) ParseFault
+given number = Ok (Some number.0, number.1)
+
+unfoldable pub last_number : (List ℕ → Option ℕ) → List ℕ → Result (Option ℕ × List ℕ) ParseFault
+last_number form text = if length (past_blanks text) == 0 then Ok (None, text) else (needed true form text >>= given)
+
+-- a command with a number that may be left out
+abbrev pub numbered : (Option ℕ → Verb) → Result (Option ℕ × List ℕ) ParseFault → Result Verb ParseFault
+numbered make number = number >>= (λ n. ended (make n.0) n.1)
+
+-- what stands before a list: the option, the device and the condition, and what follows
+pub record Choice : Type 0 where
+  pub symbolic : Bool
+  pub device : Name
+  pub condition : Option Condition
+  pub rest : List ℕ
+
+-- a condition, where the command may have one
+abbrev pub maybe_condition : Bool → List ℕ → Option Condition × List ℕ
+maybe_condition true text = maybe condition_of text
+maybe_condition false text = (None, text)
+
+unfoldable pub choice : Bool → List ℕ → Choice
+choice conditions text =
+    let option = maybe symbolic_of text in
+    let kind = maybe device_of option.1 in
+    let condition = maybe_condition conditions kind.1 in
+    record { symbolic = is_some option.0; device = name_of kind.0; condition = condition.0; rest = condition.1 }
+
+abbrev pub listing_with : Choice → List Item × List ℕ → Result (Listing × List ℕ) ParseFault
+listing_with c items = Ok (record { symbolic = c.symbolic; device = c.device; condition = c.condition; items = items.0 }, items.1)
+
+-- what EXAMINE and DEPOSIT work on, and what follows
+unfoldable pub listing : Bool → List ℕ → Result (Listing × List ℕ) ParseFault
+listing conditions text = let c = choice conditions text in (needed false (items_of c.device) c.rest >>= listing_with c)
+
+-- the word of a symbolic text with that reading, if it is one
+abbrev pub instruction_found : Result ℕ SymbolFault → ℕ → Result ℕ ParseFault
+instruction_found (Ok w) left = Ok w
+instruction_found (Err fault) left = Err (BadSymbol left)
+
+abbrev pub instruction_in : List ℕ → Result ℕ ParseFault
+instruction_in [] = Err Missing
+instruction_in (b ∷ more) = instruction_found (symbols.reading (trimmed (b ∷ more))) (length (b ∷ more))
+
+-- the word of the symbolic text that goes to the end of the line
+unfoldable pub instruction : List ℕ → Result ℕ ParseFault
+instruction text = instruction_in (past_blanks text)
+
+unfoldable pub examine : List ℕ → Result Verb ParseFault
+examine text = listing true text >>= (λ l. ended (verb.Examine l.0) l.1)
+
+-- the value of a DEPOSIT
+abbrev pub valued : Listing × List ℕ → Result Verb ParseFault
+valued l =
+    if l.0.symbolic then (instruction l.1 >>= (λ w. Ok (verb.Deposit l.0 w)))
+    else (needed true octal l.1 >>= (λ n. ended (verb.Deposit l.0 n.0) n.1))
+
+unfoldable pub deposit : List ℕ → Result Verb ParseFault
+deposit text = listing false text >>= valued
+
+unfoldable pub show : List ℕ → Result Verb ParseFault
+show text = needed false subject_of text >>= (λ s. ended (verb.Show s.0) s.1)
+
+-- what a command asks for, by what stands behind its name
+unfoldable pub operands : CommandName → List ℕ → Result Verb ParseFault
+operands Examine text = examine text
+operands Deposit text = deposit text
+operands Run text = numbered (λ n. verb.Run n) (last_number octal text)
+operands Go text = numbered (λ n. verb.Go n) (last_number octal text)
+operands Cont text = ended verb.Cont text
+operands Step text = numbered (λ n. verb.Step n) (last_number decimal text)
+operands Show text = show text
+operands Exit text = numbered (λ n. verb.Exit n) (last_number decimal text)
+operands Quit text = numbered (λ n. verb.Exit n) (last_number decimal text)
+operands Bye text = numbered (λ n. verb.Exit n) (last_number decimal text)
+operands name text = Err NotBuilt
+
+-- a comment begins with `;` or `#`, and a label with `:`
+abbrev pub is_mark : ℕ → Bool
+is_mark b = b == 59 || (b == 35 || b == 58)
+
+abbrev pub begins_with_mark : List ℕ → Bool
+begins_with_mark [] = false
+begins_with_mark (b ∷ more) = is_mark b
+
+unfoldable pub asks_nothing : List ℕ → Bool
+asks_nothing line = begins_with_mark line || (length (past_blanks line) == 0)
+
+abbrev pub command_found : Option CommandName → List ℕ → Result Verb ParseFault
+command_found None rest = Err Unknown
+command_found (Some name) rest = operands name rest
+
+unfoldable pub named : List ℕ → Result Verb ParseFault
+named line = let next = next_word line in command_found (command_named next.0) next.1
+
+abbrev pub placed_in : ℕ → Result Verb ParseFault → Result Verb ParseFault
+placed_in length (Ok what) = Ok what
+placed_in length (Err fault) = Err (placed length fault)
+
+-- what a line asks for, or its fault
+unfoldable pub verb_of : List ℕ → Result Verb ParseFault
+verb_of line =
+    if nat_le (length line) longest_line then
+        (if asks_nothing line then Ok verb.Nothing else placed_in (length line) (named line))
+    else Err TooLong
+
+-- the command of a line, or its fault
+abbrev pub with_line : List ℕ → Result Verb ParseFault → Result CommandLine ParseFault
+with_line line (Ok what) = Ok (record { text = line; verb = what })
+with_line line (Err fault) = Err fault
+
+unfoldable pub reading : List ℕ → Result CommandLine ParseFault
+reading line = with_line line (verb_of line)

@@ -1,0 +1,116 @@
+ghost use Rattle.std.specs.Prelude.{◌≡◌, ◌+◌, ◌==◌, ◌≤◌, ◌++◌, length, take, drop, option_map};
+ghost use Rattle.std.specs.List.{list_all, before_first, after_first, position, position_or_len};
+ghost use Rattle.scp_parser.specs.Operands.{is_letter, is_name_byte, is_name, named_item, numbered_item, item_of, items_up_to, items_of, front, behind};
+
+use crate::listing::{Item, Items, MOST_ITEMS, Name};
+use crate::names::{is_spelled, register_named};
+use crate::number::{decimal, octal};
+
+/// The items of a list, with commas between them: 1 to 16.
+#[tactic(auto, unfolding(crate::specs::Operands::items_of))]
+pub fn items_of(device: Name, word: &[u8]) -> Option<Items>
+    ensures { result ≡ items_of device word.now }
+{
+    let mut items = Items::new();
+    let mut rest = word;
+    for _room in 0..MOST_ITEMS {
+        let (text, next) = split(rest, b',');
+        items.push(item_of(device, text)?);
+        match next {
+            Some(text) => rest = text,
+            None => return Some(items),
+        }
+    }
+    None
+}
+
+// What stands before the first such byte of a text, and what stands behind it, if there is one.
+fn split(text: &[u8], mark: u8) -> (&[u8], Option<&[u8]>)
+{
+    match text.iter().position(|b| *b == mark) {
+        Some(place) => (&text[..place], Some(&text[place + 1..])),
+        None => (text, None),
+    }
+}
+
+/// An item.
+#[tactic(auto, unfolding(crate::specs::Operands::item_of))]
+fn item_of(device: Name, text: &[u8]) -> Option<Item>
+    ensures { result ≡ item_of device text.now }
+{
+    match named_item(device, text) {
+        Some(item) => Some(item),
+        None => numbered_item(text),
+    }
+}
+
+// An item that is a name.
+#[tactic(auto, unfolding(crate::specs::Operands::named_item))]
+fn named_item(device: Name, text: &[u8]) -> Option<Item>
+    ensures { result ≡ named_item device text.now }
+{
+    if is_spelled(text, b"ALL") {
+        return Some(Item::All);
+    }
+    if is_spelled(text, b"STATE") {
+        return Some(Item::State);
+    }
+    match register_named(device, text) {
+        Some(register) => Some(Item::Reg(register)),
+        None => unknown_name(text),
+    }
+}
+
+fn unknown_name(text: &[u8]) -> Option<Item>
+{
+    if is_name(text) {
+        Some(Item::Unknown)
+    } else {
+        None
+    }
+}
+
+// Whether a text is a letter, and then letters, digits and `_`.
+#[tactic(auto, unfolding(crate::specs::Operands::is_name))]
+fn is_name(text: &[u8]) -> bool
+    ensures { result ≡ is_name text.now }
+{
+    match text {
+        [first, rest @ ..] => first.is_ascii_alphabetic() && rest.iter().all(|b| is_name_byte(*b)),
+        [] => false,
+    }
+}
+
+fn is_name_byte(b: u8) -> bool
+    ensures { result ≡ is_name_byte b }
+{
+    b.is_ascii_alphanumeric() || b == b'_'
+}
+
+// An item that is an address, a range, or an address and a count.
+#[tactic(auto, unfolding(crate::specs::Operands::numbered_item))]
+fn numbered_item(text: &[u8]) -> Option<Item>
+    ensures { result ≡ numbered_item text.now }
+{
+    match octal(text) {
+        Some(address) => Some(Item::At(address)),
+        None => match range_of(text) {
+            Some(item) => Some(item),
+            None => count_of(text),
+        },
+    }
+}
+
+// An item with two addresses.
+fn range_of(text: &[u8]) -> Option<Item>
+{
+    let (from, to) = split(text, b'-');
+    Some(Item::Range(octal(from)?, octal(to?)?))
+}
+
+// An item with an address and a count.
+fn count_of(text: &[u8]) -> Option<Item>
+{
+    let (from, count) = split(text, b'/');
+    Some(Item::Count(octal(from)?, decimal(count?)?))
+}

@@ -1,0 +1,176 @@
+ghost use Rattle.std.specs.Prelude.{◌≡◌, ◌↔◌, ◌⊎◌, ◌≤◌, length, IsOk, OnOk, OnErr, IfOk};
+ghost use Rattle.scp_parser.specs.Command.{CommandLine, Keeps};
+ghost use Rattle.scp_parser.specs.Faults.{Faults, placed};
+ghost use Rattle.scp_parser.specs.Grammar.{Parses};
+ghost use Rattle.scp_parser.specs.Reading.{operands, examine, deposit, show, asks_nothing, named, verb_of, with_line, reading};
+ghost use Rattle.scp_parser.specs.declared.fault.ParseFault.{ParseFault};
+
+use crate::command::{Command, LONGEST_LINE, Verb};
+use crate::fault::ParseFault;
+use crate::names::{CommandName, command_named};
+use crate::operands::{
+    ended, instruction, last_decimal, last_octal, listing, needed_octal, needed_subject, next_word,
+};
+use line_words::past_blanks;
+
+/// Reads a line as a command.
+///
+/// Names are read in either case, and may be abbreviated; blanks (spaces and tabs) stand between words. Addresses and
+/// values are octal, counts and statuses decimal. A fault leaves `into` as it was.
+pub fn read_command(line: &[u8], into: &mut Command) -> Result<(), ParseFault>
+    // A command exactly where the line is that command.
+    ensures command { (c : CommandLine) → (IsOk result × (into.new ≡ c)) ↔ Parses line.now c }
+    // A fault exactly where the line has that fault.
+    ensures fault { (fault : ParseFault) → (result ≡ Err fault) ↔ Faults line.now fault }
+    ensures kept { OnErr result (into.new ≡ into.old) }
+    // Which of them, as a function of the line.
+    ensures exact { IfOk result (λ _. reading line.now ≡ Ok into.new) }
+    ensures faulty { (fault : ParseFault) → result ≡ Err fault → reading line.now ≡ Err fault }
+{
+    let verb = verb_of(line)?;
+    into.length = line.len();
+    into.line[..line.len()].copy_from_slice(line);
+    into.verb = verb;
+    Ok(())
+}
+
+// What a line asks for.
+#[tactic(auto, unfolding(crate::specs::Reading::verb_of))]
+fn verb_of(line: &[u8]) -> Result<Verb, ParseFault>
+    ensures value { result ≡ verb_of line.now }
+    ensures short { IfOk result (λ _. length line.now ≤ 512) }
+    ensures keeps { IfOk result (Keeps line.now) }
+{
+    if line.len() > LONGEST_LINE {
+        return Err(ParseFault::TooLong);
+    }
+    if asks_nothing(line) {
+        return Ok(Verb::Nothing);
+    }
+    match named(line) {
+        Ok(verb) => Ok(verb),
+        Err(fault) => Err(placed(line.len(), fault)),
+    }
+}
+
+// A fault by its place from the beginning of a line of that length.
+fn placed(length: usize, fault: ParseFault) -> ParseFault
+    ensures { result ≡ placed length fault }
+{
+    match fault {
+        ParseFault::BadNumber(left) => ParseFault::BadNumber(length.saturating_sub(left)),
+        ParseFault::BadName(left) => ParseFault::BadName(length.saturating_sub(left)),
+        ParseFault::BadSymbol(left) => ParseFault::BadSymbol(length.saturating_sub(left)),
+        ParseFault::Extra(left) => ParseFault::Extra(length.saturating_sub(left)),
+        _ => fault,
+    }
+}
+
+// Whether a line is blank, a comment or a label.
+#[tactic(auto, unfolding(crate::specs::Reading::asks_nothing))]
+fn asks_nothing(line: &[u8]) -> bool
+    ensures { result ≡ asks_nothing line.now }
+{
+    matches!(line, [b';' | b'#' | b':', ..]) || past_blanks(line).is_empty()
+}
+
+// What a line with a command's name asks for.
+#[tactic(auto, unfolding(crate::specs::Reading::named))]
+fn named(line: &[u8]) -> Result<Verb, ParseFault>
+    ensures value { result ≡ named line.now }
+    ensures keeps { IfOk result (Keeps line.now) }
+{
+    let (word, rest) = next_word(line);
+    match command_named(word) {
+        Some(name) => operands(name, rest),
+        None => Err(ParseFault::Unknown),
+    }
+}
+
+// What a command asks for, by what stands behind its name.
+#[tactic(auto, unfolding(crate::specs::Reading::operands))]
+fn operands(name: CommandName, text: &[u8]) -> Result<Verb, ParseFault>
+    ensures value { result ≡ operands name text.now }
+{
+    match name {
+        CommandName::Examine => examine(text),
+        CommandName::Deposit => deposit(text),
+        CommandName::Run => run(text),
+        CommandName::Go => go(text),
+        CommandName::Cont => ended(Verb::Cont, text),
+        CommandName::Step => step(text),
+        CommandName::Show => show(text),
+        CommandName::Exit | CommandName::Quit | CommandName::Bye => exit(text),
+        _ => Err(ParseFault::NotBuilt),
+    }
+}
+
+#[tactic(auto, unfolding(crate::specs::Reading::examine))]
+fn examine(text: &[u8]) -> Result<Verb, ParseFault>
+    ensures { result ≡ examine text.now }
+{
+    match listing(true, text) {
+        Ok((listing, rest)) => ended(Verb::Examine(listing), rest),
+        Err(fault) => Err(fault),
+    }
+}
+
+#[tactic(auto, unfolding(crate::specs::Reading::deposit))]
+fn deposit(text: &[u8]) -> Result<Verb, ParseFault>
+    ensures { result ≡ deposit text.now }
+{
+    let (listing, rest) = match listing(false, text) {
+        Ok(read) => read,
+        Err(fault) => return Err(fault),
+    };
+    if listing.symbolic {
+        let word = instruction(rest)?;
+        return Ok(Verb::Deposit(listing, u64::from(word)));
+    }
+    let (value, rest) = needed_octal(rest)?;
+    ended(Verb::Deposit(listing, value), rest)
+}
+
+fn run(text: &[u8]) -> Result<Verb, ParseFault>
+{
+    let (address, rest) = last_octal(text)?;
+    ended(Verb::Run(address), rest)
+}
+
+fn go(text: &[u8]) -> Result<Verb, ParseFault>
+{
+    let (address, rest) = last_octal(text)?;
+    ended(Verb::Go(address), rest)
+}
+
+fn step(text: &[u8]) -> Result<Verb, ParseFault>
+{
+    let (count, rest) = last_decimal(text)?;
+    ended(Verb::Step(count), rest)
+}
+
+fn exit(text: &[u8]) -> Result<Verb, ParseFault>
+{
+    let (status, rest) = last_decimal(text)?;
+    ended(Verb::Exit(status), rest)
+}
+
+#[tactic(auto, unfolding(crate::specs::Reading::show))]
+fn show(text: &[u8]) -> Result<Verb, ParseFault>
+    ensures { result ≡ show text.now }
+{
+    let (subject, rest) = needed_subject(text)?;
+    ended(Verb::Show(subject), rest)
+}
+
+/// The law that no line is two commands.
+pub fn no_line_is_two_commands()
+    ensures { (line : List ℕ) (one other : CommandLine) → Parses line one → Parses line other → one ≡ other }
+{}
+
+/// The law that each line has a command or a fault, and not both, and one of them alone.
+pub fn each_line_has_a_command_or_a_fault()
+    ensures either { (line : List ℕ) → ((c : CommandLine) × Parses line c) ⊎ ((fault : ParseFault) × Faults line fault) }
+    ensures never_both { (line : List ℕ) (c : CommandLine) (fault : ParseFault) → Parses line c → Faults line fault → ⊥ }
+    ensures one_fault { (line : List ℕ) (one other : ParseFault) → Faults line one → Faults line other → one ≡ other }
+{}
