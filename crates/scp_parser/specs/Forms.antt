@@ -74,7 +74,7 @@ pub data AreItems (device : Name) : List ℕ → List Item → Type 0 where
 
 -- a list has at most 16 items
 pub record IsList (device : Name) (text : List ℕ) (items : List Item) : Type 0 where
-  pub items : AreItems device text items
+  pub each : AreItems device text items
   pub few : length items ≤ 16
 
 -- how a comparison is written

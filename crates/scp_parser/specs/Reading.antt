@@ -1,6 +1,6 @@
 -- Which line is which command, as a function: its words one by one from the left. A fault is said by how many bytes of
 -- the line are left at its place.
-use Rattle.std.specs.Prelude.{ℕ, ◌==◌, Bool, true, false, ◌||◌, nat_le, List, [], ◌∷◌, length, Option, Some, None, is_some, Result, Ok, Err, if◌then◌else◌}
+use Rattle.std.specs.Prelude.{ℕ, ◌==◌, Bool, true, false, ◌||◌, nat_le, List, [], ◌∷◌, ◌++◌, length, Option, Some, None, is_some, Result, Ok, Err, if◌then◌else◌}
 use Rattle.unit_trait.specs.declared.kind.Kind.{Kind}
 use Rattle.line_words.specs.Words.{past_blanks, word_at, trimmed}
 use Rattle.nova_symbols.specs.declared.fault.SymbolFault.{SymbolFault}

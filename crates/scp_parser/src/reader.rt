@@ -1,4 +1,4 @@
-ghost use Rattle.std.specs.Prelude.{◌≡◌, ◌↔◌, ◌⊎◌, ◌≤◌, length, IsOk, OnOk, OnErr, IfOk};
+ghost use Rattle.std.specs.Prelude.{◌≡◌, ◌↔◌, ◌⊎◌, ◌≤◌, List, ℕ, length, IsOk, OnErr, IfOk};
 ghost use Rattle.scp_parser.specs.Command.{CommandLine, Keeps};
 ghost use Rattle.scp_parser.specs.Faults.{Faults, placed};
 ghost use Rattle.scp_parser.specs.Grammar.{Parses};
