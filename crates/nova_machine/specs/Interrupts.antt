@@ -1,5 +1,5 @@
--- What of the processor belongs to interrupts (How to Use the Nova Computers, "Program Interrupt"): the mask word, whether
--- interrupts are on, and whether they wait for one more instruction.
+-- What of the processor belongs to interrupts (How to Use the Nova Computers, on the program interrupt): the mask word,
+-- whether interrupts are on, and whether they wait for one more instruction.
 use Rattle.std.specs.Prelude.{false}
 use Rattle.nova_machine.specs.declared.interrupts.Ints.{Ints}
 

@@ -1,6 +1,6 @@
 ghost use Rattle.std.specs.Prelude.{◌≡◌};
 
-/// What of the processor belongs to interrupts (How to Use the Nova Computers, "Program Interrupt").
+/// What of the processor belongs to interrupts (How to Use the Nova Computers, on the program interrupt).
 #[derive(Clone, Copy, Debug, PartialEq, Eq)]
 pub struct Ints {
     /// The interrupt mask word.

@@ -45,9 +45,9 @@ pub struct Machine {
     pub(crate) cpu: Cpu,
     pub(crate) ints: Ints,
     pub(crate) memory: Memory,
-    // the switch register
+    /// The switch register.
     pub(crate) sr: Word,
-    // whether a word to a device that is not there stops the machine
+    /// Whether a word to a device that is not there stops the machine.
     pub(crate) stop_dev: bool,
     pub(crate) time: u64,
 }
@@ -133,7 +133,8 @@ impl Machine {
         u32::from(self.register(register))
     }
 
-    /// Sets a register. A value above its largest is refused, and so is every value for `Size`; then nothing has changed.
+    /// Sets a register. A value above its largest is refused, and so is every value for `Size`; nothing has changed
+    /// then.
     pub fn set_cpu_reg(&mut self, register: CpuReg, value: u32) -> Result<(), RegFault>
         ensures set { OnOk result (self.new ≡ with_register self.old register value) }
         ensures fits { IsOk result ↔ CanHold register value }
@@ -146,8 +147,8 @@ impl Machine {
         Ok(())
     }
 
-    /// Resets the machine: interrupts go off and wait for no instruction, and the interrupt mask is cleared. All other
-    /// registers, memory and time stay.
+    /// Resets the machine: interrupts go off and wait for no instruction, and the interrupt mask is cleared. PC, the
+    /// accumulators, carry, the switch register, STOP_DEV, memory and time stay.
     #[tactic(auto, unfolding(crate::specs::Machine::reset_machine))]
     pub fn reset(&mut self)
         ensures { self.new ≡ reset_machine self.old }

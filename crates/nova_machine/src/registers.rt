@@ -42,7 +42,7 @@ impl CpuReg {
         }
     }
 
-    /// Whether the register can be set to a value: where it is not above the register's largest. `Size` can be set to none.
+    /// Whether the register can be set to a value: one that is not above its largest. `Size` can be set to none.
     pub fn can_hold(self, value: u32) -> bool
         ensures fits { IsTrue result ↔ CanHold self value }
         ensures word { IsTrue result → value < 2 ^ 16 }

@@ -11,8 +11,8 @@ impl Machine {
     /// Fetches the word at PC and executes it, which takes one instruction of time and clears `Hold`. After a stop as
     /// `ChainLimit` or `NotBuilt` the registers, `Hold` among them, and the time are as they were.
     ///
-    /// `first` says whether this is the first turn of a run. Nothing depends on it yet: it is for breakpoints, which the
-    /// first turn passes.
+    /// `first` says whether this is the first turn of a run. Nothing depends on it yet: it is for breakpoints, which
+    /// the first turn passes.
     #[tactic(auto, unfolding(crate::specs::Turn::turn))]
     pub fn turn(&mut self, first: bool) -> Turn
         requires { self.old.time < last_time }
