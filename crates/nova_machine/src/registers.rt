@@ -79,6 +79,7 @@ impl Machine {
             CpuReg::Ion => u16::from(self.ints.on),
             CpuReg::Hold => u16::from(self.ints.hold),
             CpuReg::Mask => {
+                // A field behind a reference has its range once it is read.
                 let mask = self.ints.mask;
                 mask
             }
