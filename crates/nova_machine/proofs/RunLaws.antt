@@ -6,9 +6,9 @@ use Rattle.nova_machine.specs.declared.machine.Stop.TheVariants.{Stepped, Limit}
 use Rattle.nova_machine.specs.Machine.{MachineState}
 use Rattle.nova_machine.specs.Turn.{Turned, turn}
 use Rattle.nova_machine.specs.Run.{Ran, run, next_turn, expired, last_time}
-use Rattle.nova_machine.specs.Laws.{IsLimit, RunSplits, RunTakesTime}
+use Rattle.nova_machine.specs.Laws.{IsLimit, Unchanged, RunSplits, RunTakesTime}
 use Rattle.nova_machine.proofs.Runs.{run-none, run-stops, run-goes}
-use Rattle.nova_machine.proofs.Turns.{Turns, turns-turn}
+use Rattle.nova_machine.proofs.Turns.{Turns, turns-turn, unchanged-same, unchanged-then}
 
 -- a turn where time may have ended: it stops for a limit exactly there, and then the machine is as it was
 pub record NextTurn (before : MachineState) (t : Turned) : Type 0 where
@@ -16,7 +16,9 @@ pub record NextTurn (before : MachineState) (t : Turned) : Type 0 where
   pub least : before.time ≤ t.machine.time
   pub most : t.machine.time ≤ before.time + 1
   pub ended : (s : Stop) → t.stop ≡ Some s → IsLimit s → (before.time ≡ last_time) × (s ≡ Limit) × (t.machine ≡ before)
-  pub size : t.machine.memory.size ≡ before.memory.size
+  pub released : before.time < t.machine.time → t.machine.ints.hold ≡ false
+  pub held : t.machine.time ≡ before.time → t.machine.ints.hold ≡ before.ints.hold
+  pub unchanged : Unchanged before t.machine
 
 next-if : (b : Bool) (m : MachineState) (x y : Turned) → (b ≡ true → NextTurn m x) → NextTurn m y → NextTurn m (if b then x else y)
 next-if true m x y first second = first refl
@@ -28,7 +30,9 @@ next-ended m end = record {
   least = omega arith;
   most = omega arith;
   ended = λ s h limit. (end, (cc), refl);
-  size = refl;
+  released = λ h. absurd (omega arith);
+  held = λ _. refl;
+  unchanged = unchanged-same m;
 }
 
 next-made : (m : MachineState) (t : Turned) → Turns m t → NextTurn m t
@@ -37,7 +41,9 @@ next-made m t turns = record {
   least = turns.least;
   most = turns.most;
   ended = λ s h limit. absurd (turns.other s h limit);
-  size = turns.size;
+  released = turns.released;
+  held = turns.held;
+  unchanged = turns.unchanged;
 }
 
 pub next-next_turn : (m : MachineState) → NextTurn m (next_turn m)
@@ -114,13 +120,19 @@ run-stopped first step (suc n) k m other =
 pub runs-split : RunSplits
 runs-split = record { counted = run-counted; limited = run-limited; stopped = run-stopped }
 
--- the time that a run of that many instructions has taken
+-- the time that a run of that many instructions has taken, what it has done to the wait of interrupts, and what it has
+-- left as it was
 pub record Takes (n : ℕ) (m : MachineState) (r : Ran) : Type 0 where
   pub least : m.time ≤ r.machine.time
   pub most : r.machine.time ≤ m.time + n
   pub stepped : r.stop ≡ Stepped → r.machine.time ≡ m.time + n
   pub limited : IsLimit r.stop → (r.machine.time ≡ m.time + n) ⊎ (r.machine.time ≡ last_time)
-  pub size : r.machine.memory.size ≡ m.memory.size
+  pub released : m.time < r.machine.time → r.machine.ints.hold ≡ false
+  pub held : r.machine.time ≡ m.time → r.machine.ints.hold ≡ m.ints.hold
+  pub unchanged : Unchanged m r.machine
+
+same-or-more : (a b : ℕ) → a ≤ b → (b ≡ a) ⊎ (a < b)
+same-or-more a b least = grind arith
 
 -- a run that goes on from the machine of the next turn
 takes-more : (n : ℕ) (m : MachineState) (r : Ran) → (next_turn m).stop ≡ None → Takes n (next_turn m).machine r → Takes (suc n) m r
@@ -132,7 +144,12 @@ takes-more n m r goes t =
       most = omega (arith, t.most);
       stepped = λ h. let e = t.stepped h in omega (arith, e);
       limited = λ h. elim (t.limited h) [ inl e ↦ inl (omega (arith, e)) | inr e ↦ inr e ];
-      size = t.size ∙ next.size;
+      released = λ _. elim (same-or-more (next_turn m).machine.time r.machine.time t.least) [
+        | inl same ↦ t.held same ∙ next.released (omega (arith, one))
+        | inr more ↦ t.released more
+      ];
+      held = λ h. absurd (omega (arith, one, t.least, h));
+      unchanged = unchanged-then m (next_turn m).machine r.machine next.unchanged t.unchanged;
     }
 
 takes-stop : (n : ℕ) (m : MachineState) (s : Stop) → (next_turn m).stop ≡ Some s → Takes (suc n) m (record { machine = (next_turn m).machine; stop = s })
@@ -143,7 +160,9 @@ takes-stop n m s stops =
       most = omega (arith, next.most);
       stepped = λ h. let P : Stop → Type 0 = λ x. IsLimit x in let e = next.ended s stops (subst P (sym h) tt) in absurd (cc);
       limited = λ h. let e = next.ended s stops h in inr (ap (λ (x : MachineState). x.time) e.2 ∙ e.0);
-      size = next.size;
+      released = next.released;
+      held = next.held;
+      unchanged = next.unchanged;
     }
 
 takes-run : (step : Bool) (n : ℕ) (m : MachineState) → Takes n m (run step n m)
@@ -154,7 +173,9 @@ takes-run step zero m =
       most = omega arith;
       stepped = λ h. omega arith;
       limited = λ h. inl (omega arith);
-      size = refl;
+      released = λ h. absurd (omega arith);
+      held = λ _. refl;
+      unchanged = unchanged-same m;
     })
 takes-run step (suc n) m =
     let P : Ran → Type 0 = λ r. Takes (suc n) m r in
@@ -169,5 +190,7 @@ runs-take-time = record {
   most = λ step n m. (takes-run step n m).most;
   stepped = λ step n m. (takes-run step n m).stepped;
   limited = λ step n m. (takes-run step n m).limited;
-  size = λ step n m. (takes-run step n m).size;
+  released = λ step n m. (takes-run step n m).released;
+  held = λ step n m. (takes-run step n m).held;
+  unchanged = λ step n m. (takes-run step n m).unchanged;
 }

@@ -15,7 +15,7 @@ pub record StopsAt (w : ℕ) (m : MachineState) (t : Turned) : Type 0 where
   pub halt : (t.stop ≡ Some Halt) ↔ (w ≡ 0o63077)
   pub chain_limit : (t.stop ≡ Some ChainLimit) ↔ IsEndless w m
   pub not_built : (t.stop ≡ Some NotBuilt) ↔ IsNotBuilt w
-  pub halted : t.stop ≡ Some Halt → t.machine ≡ record m { cpu = record m.cpu { pc = following m.cpu.pc }; time = m.time + 1 }
+  pub halted : t.stop ≡ Some Halt → t.machine ≡ record m { cpu = record m.cpu { pc = following m.cpu.pc }; ints = record m.ints { hold = false }; time = m.time + 1 }
   pub unended : t.stop ≡ Some ChainLimit → t.machine ≡ record m { memory = (address m.memory w m.cpu.pc m.cpu.accumulators).memory }
   pub unbuilt : t.stop ≡ Some NotBuilt → t.machine ≡ m
 

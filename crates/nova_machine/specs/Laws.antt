@@ -1,5 +1,5 @@
 -- What holds of every run, in a reader's words. A law is proved where a public function's contract is that law.
-use Rattle.std.specs.Prelude.{◌≡◌, ◌≢◌, ◌↔◌, ℕ, ◌+◌, ◌<◌, ◌≤◌, ◌⊎◌, Bool, Some, None}
+use Rattle.std.specs.Prelude.{◌≡◌, ◌≢◌, ◌↔◌, ℕ, ◌+◌, ◌<◌, ◌≤◌, ◌⊎◌, Bool, false, Some, None}
 use Rattle.nova_word.specs.Bits.{bits}
 use Rattle.nova_memory.specs.Memory.{get}
 use Rattle.nova_memory.specs.Address.{address}
@@ -28,6 +28,15 @@ pub record RunSplits : Type 0 where
   pub stopped : (first step : Bool) (n k : ℕ) (m : MachineState) → ¬ IsLimit (run first n m).stop
       → run step (n + k) m ≡ run first n m
 
+-- What no run changes: how many words the memory has, the switch register, STOP_DEV, the interrupt mask, and whether
+-- interrupts are on.
+pub record Unchanged (before after : MachineState) : Type 0 where
+  pub size : after.memory.size ≡ before.memory.size
+  pub sr : after.sr ≡ before.sr
+  pub stop_dev : after.stop_dev ≡ before.stop_dev
+  pub mask : after.ints.mask ≡ before.ints.mask
+  pub on : after.ints.on ≡ before.ints.on
+
 -- how time grows over a run, and what no run changes
 pub record RunTakesTime : Type 0 where
   pub least : (step : Bool) (n : ℕ) (m : MachineState) → m.time ≤ (run step n m).machine.time
@@ -36,7 +45,10 @@ pub record RunTakesTime : Type 0 where
   pub stepped : (step : Bool) (n : ℕ) (m : MachineState) → (run step n m).stop ≡ Stepped → (run step n m).machine.time ≡ m.time + n
   pub limited : (step : Bool) (n : ℕ) (m : MachineState) → IsLimit (run step n m).stop
       → ((run step n m).machine.time ≡ m.time + n) ⊎ ((run step n m).machine.time ≡ last_time)
-  pub size : (step : Bool) (n : ℕ) (m : MachineState) → (run step n m).machine.memory.size ≡ m.memory.size
+  -- interrupts wait no longer where an instruction was executed, and as before where none was
+  pub released : (step : Bool) (n : ℕ) (m : MachineState) → m.time < (run step n m).machine.time → (run step n m).machine.ints.hold ≡ false
+  pub held : (step : Bool) (n : ℕ) (m : MachineState) → (run step n m).machine.time ≡ m.time → (run step n m).machine.ints.hold ≡ m.ints.hold
+  pub unchanged : (step : Bool) (n : ℕ) (m : MachineState) → Unchanged m (run step n m).machine
 
 -- the word that the next turn fetches
 abbrev pub fetched : MachineState → ℕ
@@ -53,14 +65,18 @@ pub record IsEndless (word : ℕ) (m : MachineState) : Type 0 where
   pub memory_reference : word < 0o60000
   pub chain : (address m.memory word m.cpu.pc m.cpu.accumulators).address ≡ None
 
--- Each stop of a turn has its cause, and comes wherever that is given. What stands after it: HALT has taken its
--- time, and the others have changed no register and taken no time.
+-- Each stop of a turn has its cause, and comes wherever that is given. What stands after it: HALT has taken its time, as
+-- every instruction does, and the others have changed no register and taken no time.
 pub record TurnStops : Type 0 where
   pub halt : (m : MachineState) → ((turn m).stop ≡ Some Halt) ↔ (fetched m ≡ 0o63077)
   pub chain_limit : (m : MachineState) → ((turn m).stop ≡ Some ChainLimit) ↔ IsEndless (fetched m) m
   pub not_built : (m : MachineState) → ((turn m).stop ≡ Some NotBuilt) ↔ IsNotBuilt (fetched m)
   pub halted : (m : MachineState) → (turn m).stop ≡ Some Halt
-      → (turn m).machine ≡ record m { cpu = record m.cpu { pc = following m.cpu.pc }; time = m.time + 1 }
+      → (turn m).machine ≡ record m {
+        cpu = record m.cpu { pc = following m.cpu.pc };
+        ints = record m.ints { hold = false };
+        time = m.time + 1;
+      }
   pub unended : (m : MachineState) → (turn m).stop ≡ Some ChainLimit
       → (turn m).machine ≡ record m { memory = (address m.memory (fetched m) m.cpu.pc m.cpu.accumulators).memory }
   pub unbuilt : (m : MachineState) → (turn m).stop ≡ Some NotBuilt → (turn m).machine ≡ m

@@ -1,3 +1,4 @@
+pub mod Interrupts
 pub mod Machine
 pub mod Registers
 pub mod Instruction

@@ -1,18 +1,32 @@
 -- The state of a machine, on which all that it does depends.
-use Rattle.std.specs.Prelude.{ℕ, [], ◌∷◌, false}
+use Rattle.std.specs.Prelude.{ℕ, Bool, [], ◌∷◌, false}
 use Rattle.nova_memory.specs.Memory.{MemoryState, blank}
 use Rattle.nova_machine.specs.declared.cpu.Cpu.{Cpu}
+use Rattle.nova_machine.specs.declared.interrupts.Ints.{Ints}
+use Rattle.nova_machine.specs.Interrupts.{no_interrupts}
 
--- the processor's registers, the memory, and the time: how many instructions were executed since the session began
+-- the processor's registers, its interrupts, the memory, the switch register, whether a word to a device that is not
+-- there stops the machine, and the time: how many instructions were executed since the session began
 pub record MachineState : Type 0 where
   pub cpu : Cpu
+  pub ints : Ints
   pub memory : MemoryState
+  pub sr : ℕ
+  pub stop_dev : Bool
   pub time : ℕ
 
 -- a new machine: every register 0, memory of 0, no instruction executed
 unfoldable pub new_machine : MachineState
 new_machine = record {
   cpu = record { accumulators = 0 ∷ 0 ∷ 0 ∷ 0 ∷ []; carry = false; pc = 0 };
+  ints = no_interrupts;
   memory = blank;
+  sr = 0;
+  stop_dev = false;
   time = 0;
 }
+
+-- A reset: interrupts go off and none waits, and the mask is cleared. PC, the accumulators, carry, the switch register,
+-- STOP_DEV, memory and time stay.
+unfoldable pub reset_machine : MachineState → MachineState
+reset_machine m = record m { ints = no_interrupts }

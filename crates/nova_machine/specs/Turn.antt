@@ -7,6 +7,7 @@ use Rattle.nova_machine.specs.declared.machine.Stop.{Stop}
 use Rattle.nova_machine.specs.declared.machine.Stop.TheVariants.{Halt, ChainLimit, NotBuilt}
 use Rattle.nova_machine.specs.declared.machine.Turn.{Turn}
 use Rattle.nova_machine.specs.declared.machine.Turn.TheVariants.{Executed, Stopped}
+use Rattle.nova_machine.specs.Interrupts.{released}
 use Rattle.nova_machine.specs.Machine.{MachineState}
 use Rattle.nova_machine.specs.Instruction.{advanced, memory_reference, arithmetic}
 use Rattle.nova_machine.specs.InputOutput.{multiply_divide}
@@ -27,9 +28,10 @@ goes_on m = record { machine = m; stop = None }
 abbrev pub stops : Stop → MachineState → Turned
 stops stop m = record { machine = m; stop = Some stop }
 
--- time has grown by one instruction
+-- what comes with each instruction, before it does its own: time has grown by one, and interrupts that waited for an
+-- instruction wait no longer
 unfoldable pub ticked : MachineState → MachineState
-ticked m = record m { time = m.time + 1 }
+ticked m = record m { ints = released m.ints; time = m.time + 1 }
 
 -- a memory reference at its effective address, if its chain ends. Where it does not, the machine is as it was, but for
 -- the words that the chain changed.

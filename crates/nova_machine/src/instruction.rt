@@ -29,8 +29,9 @@ impl Cpu {
         self.pc = self.pc.plus(1);
     }
 
-    /// Goes over an instruction. It is a call of its own, since the processor then guesses whether it is made, and begins
-    /// with the next instruction before this one's result is there. PC computed from the result would wait for it.
+    /// Goes over an instruction. It is a call of its own, since the processor then guesses whether it is made, and
+    /// begins with the next instruction before this one's result is there. PC computed from the result would wait for
+    /// it.
     #[inline(never)]
     fn skip(&mut self)
         ensures { self.new ≡ record self.old { pc = following self.old.pc } }
@@ -40,7 +41,8 @@ impl Cpu {
 }
 
 impl Machine {
-    ghost use Rattle.nova_machine.specs.Instruction.{jump, jump_to_subroutine, store_and_skip, load, store, without_accumulator, memory_reference, arithmetic};
+    ghost use Rattle.nova_machine.specs.Instruction.{jump, jump_to_subroutine, store_and_skip, load, store};
+    ghost use Rattle.nova_machine.specs.Instruction.{without_accumulator, memory_reference, arithmetic};
 
     #[tactic(auto, unfolding(crate::specs::Instruction::jump))]
     fn jump(&mut self, address: Addr)

@@ -6,8 +6,9 @@ pub fn runs_split()
     ensures { RunSplits }
 {}
 
-/// The law that time grows by the instructions that a run has executed, at most its count, and that no run changes how
-/// many words the memory has.
+/// The law that time grows by the instructions that a run has executed, at most its count; that a run clears `Hold`
+/// exactly where it has executed one; and that no run changes how many words the memory has, the switch register,
+/// STOP_DEV, the interrupt mask, or whether interrupts are on.
 pub fn runs_take_time()
     ensures { RunTakesTime }
 {}

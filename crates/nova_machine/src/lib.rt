@@ -4,6 +4,7 @@
 pub mod cpu;
 mod input_output;
 mod instruction;
+pub mod interrupts;
 pub mod laws;
 pub mod machine;
 pub mod registers;
@@ -11,6 +12,7 @@ mod run;
 mod turn;
 
 pub use cpu::Cpu;
+pub use interrupts::Ints;
 pub use machine::{Machine, RunLimit, Stop, Turn};
 pub use registers::{CpuReg, RegFault};
 pub use std::alloc::AllocError as OutOfMemory;

@@ -2,6 +2,7 @@ ghost use Rattle.std.specs.Prelude.{◌≡◌, ◌≤◌, ◌<◌, ◌^◌, ◌�
 ghost use Rattle.nova_machine.specs.Run.{last_time};
 
 use crate::cpu::Cpu;
+use crate::interrupts::Ints;
 use crate::registers::{CpuReg, RegFault};
 use nova_memory::Memory;
 use nova_word::{Addr, Word};
@@ -42,7 +43,12 @@ pub struct RunLimit {
 #[derive(Drop)]
 pub struct Machine {
     pub(crate) cpu: Cpu,
+    pub(crate) ints: Ints,
     pub(crate) memory: Memory,
+    /// The switch register.
+    pub(crate) sr: Word,
+    /// Whether a word to a device that is not there stops the machine.
+    pub(crate) stop_dev: bool,
     pub(crate) time: u64,
 }
 
@@ -53,18 +59,25 @@ impl Model for Machine {
 
     ghost Value = { MachineState };
 
-    ghost view = { λ m. record { cpu = m.cpu; memory = m.memory; time = m.time } };
+    ghost view = { λ m. record {
+      cpu = m.cpu;
+      ints = m.ints;
+      memory = m.memory;
+      sr = m.sr;
+      stop_dev = m.stop_dev;
+      time = m.time;
+    } };
 
     ghost invariant = { λ m. m.time ≤ last_time };
 }
 
 impl Machine {
-    ghost use Rattle.nova_machine.specs.Machine.{new_machine};
+    ghost use Rattle.nova_machine.specs.Machine.{new_machine, reset_machine};
     ghost use Rattle.std.specs.Borrow.{sem};
     ghost use Rattle.nova_machine.specs.Lending.{LendsMemory};
-    ghost use Rattle.nova_machine.specs.Registers.{register_of, with_register, largest_of};
+    ghost use Rattle.nova_machine.specs.Registers.{register_of, with_register, largest_of, CanHold};
 
-    /// A machine whose registers and memory are 0, at time 0.
+    /// A machine of 32768 words, at time 0. Memory is 0, and so is every register but `Size`.
     #[tactic(auto, unfolding(crate::specs::Machine::new_machine))]
     pub fn new(alloc: Global) -> Result<Machine, AllocError>
         ensures { IfOk result (λ m. m ≡ new_machine) }
@@ -75,7 +88,10 @@ impl Machine {
                 carry: false,
                 pc: Addr::of_word(Word(0)),
             },
+            ints: Ints::new(),
             memory: Memory::new(alloc)?,
+            sr: Word(0),
+            stop_dev: false,
             time: 0,
         })
     }
@@ -111,23 +127,33 @@ impl Machine {
 
     /// The value of a register.
     pub fn cpu_reg(&self, register: CpuReg) -> u32
-        ensures value { result ≡ register_of self.now.cpu register }
+        ensures value { result ≡ register_of self.now register }
         ensures range { result ≤ largest_of register }
     {
-        u32::from(self.cpu.register(register))
+        u32::from(self.register(register))
     }
 
-    /// Sets a register. A value above its largest is refused, and then nothing has changed.
+    /// Sets a register. A value above its largest is refused, and so is every value for `Size`; nothing has changed
+    /// then.
     pub fn set_cpu_reg(&mut self, register: CpuReg, value: u32) -> Result<(), RegFault>
-        ensures set { OnOk result (self.new ≡ record self.old { cpu = with_register self.old.cpu register value }) }
-        ensures fits { IsOk result ↔ (value ≤ largest_of register) }
+        ensures set { OnOk result (self.new ≡ with_register self.old register value) }
+        ensures fits { IsOk result ↔ CanHold register value }
         ensures refused { OnErr result (self.new ≡ self.old) }
     {
-        if value > register.largest() {
+        if !register.can_hold(value) {
             return Err(RegFault::OutOfRange);
         }
-        self.cpu.set(register, value as u16);
+        self.set_register(register, value as u16);
         Ok(())
+    }
+
+    /// Resets the machine: interrupts go off and wait for no instruction, and the interrupt mask is cleared. PC, the
+    /// accumulators, carry, the switch register, STOP_DEV, memory and time stay.
+    #[tactic(auto, unfolding(crate::specs::Machine::reset_machine))]
+    pub fn reset(&mut self)
+        ensures { self.new ≡ reset_machine self.old }
+    {
+        self.ints.reset();
     }
 }
 

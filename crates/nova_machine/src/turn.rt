@@ -6,13 +6,13 @@ use nova_memory::ChainLimit;
 use nova_word::Word;
 
 impl Machine {
-    ghost use Rattle.nova_machine.specs.Turn.{answer_of, refer, halt, transfer, execute, turn};
+    ghost use Rattle.nova_machine.specs.Turn.{answer_of, ticked, refer, halt, transfer, execute, turn};
 
-    /// Fetches the word at PC and executes it, which takes one instruction of time. After a stop as `ChainLimit` or
-    /// `NotBuilt` the registers and the time are as they were.
+    /// Fetches the word at PC and executes it, which takes one instruction of time and clears `Hold`. After a stop as
+    /// `ChainLimit` or `NotBuilt` the registers, `Hold` among them, and the time are as they were.
     ///
-    /// `first` says whether this is the first turn of a run. Nothing depends on it yet: it is for breakpoints, which the
-    /// first turn passes.
+    /// `first` says whether this is the first turn of a run. Nothing depends on it yet: it is for breakpoints, which
+    /// the first turn passes.
     #[tactic(auto, unfolding(crate::specs::Turn::turn))]
     pub fn turn(&mut self, first: bool) -> Turn
         requires { self.old.time < last_time }
@@ -23,7 +23,19 @@ impl Machine {
         self.execute(word)
     }
 
-    #[tactic(auto, unfolding(crate::specs::Turn::execute, crate::specs::Turn::ticked))]
+    /// Does what comes with each instruction, before it does its own: time grows, and interrupts that waited for an
+    /// instruction wait no longer.
+    #[inline]
+    #[tactic(auto, unfolding(crate::specs::Turn::ticked))]
+    fn tick(&mut self)
+        requires { self.old.time < last_time }
+        ensures { self.new ≡ ticked self.old }
+    {
+        self.ints.release();
+        self.time += 1;
+    }
+
+    #[tactic(auto, unfolding(crate::specs::Turn::execute))]
     fn execute(&mut self, word: Word) -> Turn
         requires { self.old.time < last_time }
         ensures machine { self.new ≡ (execute word self.old).machine }
@@ -34,14 +46,14 @@ impl Machine {
         } else if word.0 < 0o100000 {
             self.transfer(word)
         } else {
-            self.time += 1;
+            self.tick();
             self.arithmetic(word);
             Turn::Executed
         }
     }
 
     /// Executes a memory reference.
-    #[tactic(auto, unfolding(crate::specs::Turn::refer, crate::specs::Turn::ticked))]
+    #[tactic(auto, unfolding(crate::specs::Turn::refer))]
     fn refer(&mut self, word: Word) -> Turn
         requires { self.old.time < last_time }
         ensures machine { self.new ≡ (refer word self.old).machine }
@@ -51,7 +63,7 @@ impl Machine {
         match self.memory.address(word, self.cpu.pc, acs) {
             Err(ChainLimit) => Turn::Stopped(Stop::ChainLimit),
             Ok(address) => {
-                self.time += 1;
+                self.tick();
                 self.memory_reference(word.0, address);
                 Turn::Executed
             }
@@ -59,14 +71,14 @@ impl Machine {
     }
 
     /// Executes a word of input and output.
-    #[tactic(auto, unfolding(crate::specs::Turn::transfer, crate::specs::Turn::ticked))]
+    #[tactic(auto, unfolding(crate::specs::Turn::transfer))]
     fn transfer(&mut self, word: Word) -> Turn
         requires { self.old.time < last_time }
         ensures machine { self.new ≡ (transfer word self.old).machine }
         ensures answer { result ≡ answer_of (transfer word self.old).stop }
     {
         if word.0 % 64 == 1 {
-            self.time += 1;
+            self.tick();
             self.multiply_divide(word.0);
             Turn::Executed
         } else if word.0 == 0o63077 {
@@ -82,7 +94,7 @@ impl Machine {
         ensures machine { self.new ≡ (halt self.old).machine }
         ensures answer { result ≡ answer_of (halt self.old).stop }
     {
-        self.time += 1;
+        self.tick();
         self.cpu.advance(false);
         Turn::Stopped(Stop::Halt)
     }

@@ -1,19 +1,42 @@
 use super::Machine;
 use crate::registers::{CpuReg, RegFault};
+use nova_word::{Addr, Word};
 use std::test::Fail;
+
+/// The registers that can be set, in their order, and the largest value of each.
+const LARGEST: [(CpuReg, u32); 11] = [
+    (CpuReg::Ac0, 0o177777),
+    (CpuReg::Ac1, 0o177777),
+    (CpuReg::Ac2, 0o177777),
+    (CpuReg::Ac3, 0o177777),
+    (CpuReg::C, 1),
+    (CpuReg::Pc, 0o77777),
+    (CpuReg::Ion, 1),
+    (CpuReg::Hold, 1),
+    (CpuReg::Mask, 0o177777),
+    (CpuReg::Sr, 0o177777),
+    (CpuReg::StopDev, 1),
+];
+
+/// Values that tell each of these registers from the one before it.
+const VALUES: [(CpuReg, u32); 11] = [
+    (CpuReg::Ac0, 1),
+    (CpuReg::Ac1, 2),
+    (CpuReg::Ac2, 3),
+    (CpuReg::Ac3, 4),
+    (CpuReg::C, 1),
+    (CpuReg::Pc, 0o100),
+    (CpuReg::Ion, 1),
+    (CpuReg::Hold, 1),
+    (CpuReg::Mask, 0o123456),
+    (CpuReg::Sr, 0o54321),
+    (CpuReg::StopDev, 1),
+];
 
 #[test]
 fn a_register_holds_its_range(rt: HostRuntime) -> Result<(), Fail> {
-    let largest = [
-        (CpuReg::Ac0, 0o177777),
-        (CpuReg::Ac1, 0o177777),
-        (CpuReg::Ac2, 0o177777),
-        (CpuReg::Ac3, 0o177777),
-        (CpuReg::C, 1),
-        (CpuReg::Pc, 0o77777),
-    ];
     let mut machine = Machine::new(rt.alloc())?;
-    for (register, most) in largest {
+    for (register, most) in LARGEST {
         assert_eq!(rt; register.largest(), most);
         assert_eq!(rt; machine.cpu_reg(register), 0, "{register:?}");
         machine.set_cpu_reg(register, most)?;
@@ -26,8 +49,55 @@ fn a_register_holds_its_range(rt: HostRuntime) -> Result<(), Fail> {
         assert_eq!(rt; machine.cpu_reg(register), most, "{register:?}");
     }
     assert_eq!(rt; machine.pc().number(), 0o77777);
-    machine.set_cpu_reg(CpuReg::C, 0)?;
-    assert_eq!(rt; machine.cpu_reg(CpuReg::C), 0);
+    for flag in [CpuReg::C, CpuReg::Ion, CpuReg::Hold, CpuReg::StopDev] {
+        machine.set_cpu_reg(flag, 0)?;
+        assert_eq!(rt; machine.cpu_reg(flag), 0, "{flag:?}");
+    }
     assert_eq!(rt; machine.cpu_reg(CpuReg::Ac3), 0o177777);
+    Ok(())
+}
+
+#[test]
+fn each_register_is_one_of_its_own(rt: HostRuntime) -> Result<(), Fail> {
+    let mut machine = Machine::new(rt.alloc())?;
+    for (register, value) in VALUES {
+        machine.set_cpu_reg(register, value)?;
+    }
+    for (register, value) in VALUES {
+        assert_eq!(rt; machine.cpu_reg(register), value, "{register:?}");
+    }
+    Ok(())
+}
+
+#[test]
+fn size_is_read_only(rt: HostRuntime) -> Result<(), Fail> {
+    let mut machine = Machine::new(rt.alloc())?;
+    assert_eq!(rt; CpuReg::Size.largest(), 0o100000);
+    for value in [0, 1, 0o100000, 0o100001, u32::MAX] {
+        assert_eq!(rt;
+            machine.set_cpu_reg(CpuReg::Size, value),
+            Err(RegFault::OutOfRange)
+        );
+        assert_eq!(rt; machine.cpu_reg(CpuReg::Size), 0o100000);
+    }
+    Ok(())
+}
+
+#[test]
+fn a_reset_clears_the_interrupts_alone(rt: HostRuntime) -> Result<(), Fail> {
+    let mut machine = Machine::new(rt.alloc())?;
+    for (register, value) in VALUES {
+        machine.set_cpu_reg(register, value)?;
+    }
+    let at = Addr::of_word(Word(0o200));
+    machine.memory_mut().write(at, Word(5));
+    machine.reset();
+    for (register, value) in VALUES {
+        let cleared = matches!(register, CpuReg::Ion | CpuReg::Hold | CpuReg::Mask);
+        let stands = if cleared { 0 } else { value };
+        assert_eq!(rt; machine.cpu_reg(register), stands, "{register:?}");
+    }
+    assert_eq!(rt; machine.memory().read(at).0, 5);
+    assert_eq!(rt; machine.time(), 0);
     Ok(())
 }

@@ -291,6 +291,44 @@ fn stops_of_a_turn(rt: HostRuntime) -> Result<(), Fail> {
     all_hold(&rt, rt.alloc(), &rows)
 }
 
+#[test]
+fn an_instruction_ends_the_hold_and_a_stop_keeps_it(rt: HostRuntime) -> Result<(), Fail> {
+    let halt = Turn::Stopped(Stop::Halt);
+    let chain_limit = Turn::Stopped(Stop::ChainLimit);
+    let not_built = Turn::Stopped(Stop::NotBuilt);
+    // INC 0,0, JMP .+1, MUL, DIA to device 1, HALT, a jump through a word that leads back to itself, and INTEN
+    let rows = [
+        (0o101400, Turn::Executed, 0),
+        (0o000401, Turn::Executed, 0),
+        (0o073301, Turn::Executed, 0),
+        (0o060401, Turn::Executed, 0),
+        (0o063077, halt, 0),
+        (0o002200, chain_limit, 1),
+        (0o060177, not_built, 1),
+    ];
+    let kept = [
+        (CpuReg::Ion, 1),
+        (CpuReg::Mask, 0o123456),
+        (CpuReg::Sr, 0o54321),
+        (CpuReg::StopDev, 1),
+    ];
+    for (word, answer, hold) in rows {
+        let mut machine = Machine::new(rt.alloc())?;
+        for (register, value) in kept {
+            machine.set_cpu_reg(register, value)?;
+        }
+        machine.set_cpu_reg(CpuReg::Hold, 1)?;
+        write(&mut machine, 0, word);
+        write(&mut machine, 0o200, 0o100200);
+        assert_eq!(rt; turn(&rt, &mut machine), answer, "{word:o}");
+        assert_eq!(rt; machine.cpu_reg(CpuReg::Hold), hold, "{word:o}");
+        for (register, value) in kept {
+            assert_eq!(rt; machine.cpu_reg(register), value, "{word:o} {register:?}");
+        }
+    }
+    Ok(())
+}
+
 /// How a turn of each word ends, as the table of words has it.
 fn answer_of(word: u32) -> Turn {
     match word {
