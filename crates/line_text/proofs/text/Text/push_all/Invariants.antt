@@ -1,5 +1,5 @@
 use Rattle.std.proofs.Common.{◌≡◌, ◌++◌, take}
-use Rattle.nova_top.proofs.text.Text.push_all.Given as goal
+use Rattle.line_text.proofs.text.Text.push_all.Given as goal
 
 abbrev pub invariant-loop-b : goal.invariant-loop-b
 invariant-loop-b l = l.self ≡ l.fn.self ++ take l.b-index l.bytes

@@ -1,0 +1,80 @@
+-- The faults of lists, values and conditions. Items are checked from the left before anything is printed or changed.
+use Rattle.std.specs.Prelude.{ℕ, ◌+◌, ◌^◌, ◌-◌, Bool, true, false, ◌&&◌, nat_le, nat_lt, List, [], ◌∷◌, Option, Some, None, if◌then◌else◌}
+use Rattle.nova_machine.specs.declared.registers.CpuReg.{CpuReg}
+use Rattle.nova_machine.specs.declared.registers.CpuReg.TheVariants.{Size}
+use Rattle.nova_machine.specs.Registers.{largest_of}
+use Rattle.scp_parser.specs.declared.listing.Name.{Name}
+use Rattle.scp_parser.specs.declared.listing.Name.TheVariants as whose
+use Rattle.scp_parser.specs.declared.listing.Condition.{Condition}
+use Rattle.scp_parser.specs.declared.listing.Item.{Item}
+use Rattle.scp_parser.specs.declared.listing.Item.TheVariants.{At, Range, Count, All, Reg, State, Unknown}
+use Rattle.scp_examine.specs.declared.fault.ExamineFault.{ExamineFault}
+use Rattle.scp_examine.specs.declared.fault.ExamineFault.TheVariants.{NoSuchName, OutOfRange, ReadOnlyName}
+use Rattle.scp_examine.specs.Places.{Place, Cell, Register, register_at, places_of, largest_at}
+
+-- the first of two faults
+abbrev pub or_fault : Option ExamineFault → Option ExamineFault → Option ExamineFault
+or_fault (Some fault) other = Some fault
+or_fault None other = other
+
+abbrev pub out_of_range_unless : Bool → Option ExamineFault
+out_of_range_unless fits = if fits then None else Some OutOfRange
+
+-- addresses and ALL name memory, which belongs to no device
+abbrev pub memory_fault : Name → Bool → Option ExamineFault
+memory_fault whose.Cpu fits = out_of_range_unless fits
+memory_fault (whose.Device kind) fits = Some NoSuchName
+
+abbrev pub register_fault : Option CpuReg → Option ExamineFault
+register_fault None = Some NoSuchName
+register_fault (Some r) = None
+
+abbrev pub state_fault : Name → Option ExamineFault
+state_fault whose.Cpu = None
+state_fault (whose.Device kind) = Some NoSuchName
+
+-- The fault of an item by what it names: an address that is not below the size, a range that is empty or ends behind
+-- the last word, or a name that is not there.
+unfoldable pub item_fault : ℕ → Name → Item → Option ExamineFault
+item_fault size device (At a) = memory_fault device (nat_lt a size)
+item_fault size device (Range a b) = memory_fault device (nat_le a b && nat_lt b size)
+item_fault size device (Count a n) = memory_fault device (nat_lt 0 n && nat_le (a + n) size)
+item_fault size device All = memory_fault device true
+item_fault size device (Reg i) = register_fault (register_at device i)
+item_fault size device State = state_fault device
+item_fault size device Unknown = Some NoSuchName
+
+-- the first fault of a list of items
+unfoldable pub items_fault : (Item → Option ExamineFault) → List Item → Option ExamineFault
+items_fault fault_of [] = None
+items_fault fault_of (item ∷ more) = or_fault (fault_of item) (items_fault fault_of more)
+
+abbrev pub largest_word : ℕ
+largest_word = 2 ^ 16 - 1
+
+abbrev pub mask_fits : ℕ → Option ℕ → Bool
+mask_fits largest None = true
+mask_fits largest (Some mask) = nat_le mask largest
+
+-- the mask and the value of a condition are at most the largest value of what they are compared with
+abbrev pub condition_fits : ℕ → Condition → Bool
+condition_fits largest c = mask_fits largest c.mask && nat_le c.value largest
+
+abbrev pub condition_fault : Option Condition → Option ExamineFault
+condition_fault None = None
+condition_fault (Some c) = out_of_range_unless (condition_fits largest_word c)
+
+-- the fault of a value for a place: a register that is read only takes none, and no place one above its largest
+abbrev pub value_fault : ℕ → Place → Option ExamineFault
+value_fault value (Cell a) = out_of_range_unless (nat_le value largest_word)
+value_fault value (Register Size) = Some ReadOnlyName
+value_fault value (Register r) = out_of_range_unless (nat_le value (largest_of r))
+
+-- the first fault of a value for the places of an item
+unfoldable pub values_fault : ℕ → List Place → Option ExamineFault
+values_fault value [] = None
+values_fault value (place ∷ more) = or_fault (value_fault value place) (values_fault value more)
+
+-- the fault of an item of a DEPOSIT: of what it names, and then of the value
+unfoldable pub deposit_fault : ℕ → Name → ℕ → Item → Option ExamineFault
+deposit_fault size device value item = or_fault (item_fault size device item) (values_fault value (places_of size device item))

@@ -1,0 +1,79 @@
+-- What EXAMINE, DEPOSIT and ASSERT do (SIMH Users' Guide, "Examining and Changing State").
+use Rattle.std.specs.Prelude.{◌≡◌, ℕ, Bool, List, [], ◌∷◌, ◌++◌, length, Option, Some, None, Result, Ok, Err, OnOk, OnErr, if◌then◌else◌}
+use Rattle.nova_memory.specs.Memory.{put}
+use Rattle.host_files.specs.Streams.{AddsPart}
+use Rattle.nova_machine.specs.Machine.{MachineState}
+use Rattle.nova_machine.specs.Registers.{register_of, with_register}
+use Rattle.nova_memory.specs.Memory.{get}
+use Rattle.scp_parser.specs.declared.listing.Name.{Name}
+use Rattle.scp_parser.specs.declared.listing.Condition.{Condition}
+use Rattle.scp_parser.specs.declared.listing.Item.{Item}
+use Rattle.scp_parser.specs.declared.listing.Listing.{Listing}
+use Rattle.scp_parser.specs.declared.listing.Test.{Test}
+use Rattle.scp_examine.specs.declared.fault.ExamineFault.{ExamineFault}
+use Rattle.scp_examine.specs.declared.fault.ExamineFault.TheVariants.{NoSuchName, OutOfRange, ReadOnlyName, Console}
+use Rattle.scp_examine.specs.Places.{Place, Cell, Register, places_of, place_text, is_chosen, meets, largest_at}
+use Rattle.scp_examine.specs.Checks.{or_fault, item_fault, items_fault, condition_fault, condition_fits, deposit_fault}
+
+-- the places of a list of items, in order
+unfoldable pub all_places : ℕ → Name → List Item → List Place
+all_places size device [] = []
+all_places size device (item ∷ more) = places_of size device item ++ all_places size device more
+
+-- what EXAMINE prints of places: each that is chosen, in order
+unfoldable pub listed : MachineState → Bool → Option Condition → List Place → List ℕ
+listed m symbolic condition [] = []
+listed m symbolic condition (place ∷ more) = (if is_chosen m condition place then place_text m symbolic place else []) ++ listed m symbolic condition more
+
+-- the fault of an EXAMINE: of its condition, and then of its items from the left
+unfoldable pub examine_fault : MachineState → Listing → Option ExamineFault
+examine_fault m l = or_fault (condition_fault l.condition) (items_fault (item_fault m.memory.size l.device) l.items)
+
+-- what an EXAMINE without a fault prints
+unfoldable pub examined : MachineState → Listing → List ℕ
+examined m l = listed m l.symbolic l.condition (all_places m.memory.size l.device l.items)
+
+-- A call of `examine`: it prints the whole text; or a byte of it was refused, and what comes before was printed; or a
+-- fault stood before all printing.
+abbrev pub Examines : MachineState → Listing → Result Unit ExamineFault → List ℕ → List ℕ → Type 0
+Examines m l (Ok _) before after = (examine_fault m l ≡ None) × (after ≡ before ++ examined m l)
+Examines m l (Err Console) before after = (examine_fault m l ≡ None) × AddsPart before (examined m l) after
+Examines m l (Err NoSuchName) before after = (examine_fault m l ≡ Some NoSuchName) × (after ≡ before)
+Examines m l (Err OutOfRange) before after = (examine_fault m l ≡ Some OutOfRange) × (after ≡ before)
+Examines m l (Err ReadOnlyName) before after = ⊥
+
+-- the machine with a value in a place
+abbrev pub with_value : ℕ → MachineState → Place → MachineState
+with_value value m (Cell a) = record m { memory = put m.memory a value }
+with_value value m (Register r) = with_register m r value
+
+-- the machine with a value in each of the places
+unfoldable pub filled : ℕ → MachineState → List Place → MachineState
+filled value m [] = m
+filled value m (place ∷ more) = filled value (with_value value m place) more
+
+-- the fault of a DEPOSIT: of its items from the left
+unfoldable pub fault_of_deposit : MachineState → Listing → ℕ → Option ExamineFault
+fault_of_deposit m l value = items_fault (deposit_fault m.memory.size l.device value) l.items
+
+-- the machine after a DEPOSIT without a fault
+unfoldable pub deposited : MachineState → Listing → ℕ → MachineState
+deposited m l value = filled value m (all_places m.memory.size l.device l.items)
+
+-- what a place holds
+abbrev pub value_at : MachineState → Place → ℕ
+value_at m (Cell a) = get m.memory a
+value_at m (Register r) = register_of m r
+
+-- a test of the one place of its item
+abbrev pub test_of : MachineState → Condition → List Place → Result Bool ExamineFault
+test_of m c [] = Err NoSuchName
+test_of m c (place ∷ more) = if condition_fits (largest_at place) c then Ok (meets c (value_at m place)) else Err OutOfRange
+
+abbrev pub test_after : Option ExamineFault → MachineState → Test → Result Bool ExamineFault
+test_after (Some fault) m t = Err fault
+test_after None m t = test_of m t.condition (places_of m.memory.size t.device t.item)
+
+-- what ASSERT tests: its item is checked first, and then its condition, up to the largest value of the item
+unfoldable pub tested : MachineState → Test → Result Bool ExamineFault
+tested m t = test_after (item_fault m.memory.size t.device t.item) m t
