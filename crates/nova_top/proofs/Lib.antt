@@ -1,5 +1,4 @@
-pub mod GrammarLemmas
-pub mod OctalLemmas
+pub mod CountLemmas
 pub mod ReadingLemmas
 pub mod SessionLemmas
 pub mod LineLemmas

@@ -1,19 +1,20 @@
 -- One line of the command loop, by what it came to.
-use Rattle.std.proofs.Common.{◌≡◌, ℕ, ◌+◌, ◌-◌, ◌<◌, ◌≤◌, Bool, true, false, List, [], ◌∷◌, ◌++◌, length, take, drop, refl, ap, sym, ◌∙◌, subst, arith, append_assoc, append-nil, zero-add, add-zero, length-take-le, Option}
-use Rattle.std.proofs.lemmas.Bool.{le-leb}
+use Rattle.std.proofs.Common.{◌≡◌, ℕ, ◌+◌, ◌-◌, ◌<◌, ◌≤◌, Bool, true, false, List, [], ◌∷◌, ◌++◌, length, take, drop, refl, ap, sym, ◌∙◌, subst, arith, append_assoc, append-nil, zero-add, add-zero, length-take-le, Option, Some, None, Err}
+use Rattle.std.proofs.lemmas.Bool.{le-leb, lt-leb}
 use Rattle.event_trace.specs.Events.{Prints, Reads, text_of, reads_of}
 use Rattle.event_trace.specs.Cut.{ends, cut, cut_trace}
 use Rattle.event_trace.proofs.CutLemmas.{cut-refused, cut-refused-after, cut-failed-after, cut-whole}
 use Rattle.event_trace.proofs.EventLemmas.{text_of-append, reads_of-append}
 use Rattle.host_files.specs.Streams.{AddsPart}
-use Rattle.nova_top.specs.declared.command.Command.{Command}
 use Rattle.nova_top.specs.declared.progress.Progress.{Progress}
 use Rattle.nova_top.specs.declared.progress.Progress.TheVariants.{GoesOn, IsOver}
 use Rattle.nova_top.specs.declared.progress.Finish.TheVariants.{Exit, EndOfInput, Commands, Console, Input}
-use Rattle.nova_top.specs.CommandGrammar.{command_of}
+use Rattle.scp_parser.specs.declared.fault.ParseFault.TheVariants.{TooLong}
+use Rattle.scp_parser.specs.Reading.{reading}
 use Rattle.nova_top.specs.Core.{Core}
-use Rattle.nova_top.specs.CommandEffect.{does, is_exit}
-use Rattle.nova_top.specs.Lines.{InputEnds, Unpaid, Comes, due, reads_due, reads_left, units, first_line, has_lf}
+use Rattle.nova_top.specs.FaultText.{line_fault, fault_text}
+use Rattle.nova_top.specs.CommandEffect.{Asked, does, exit_of}
+use Rattle.nova_top.specs.Lines.{longest_line, InputEnds, Unpaid, Comes, due, reads_due, reads_left, units, first_line, has_lf}
 use Rattle.nova_top.specs.Reading.{AreRead}
 use Rattle.nova_top.specs.Session.{Session, Going, Over, prompt_text, asking, behind_line, next_after, command_step, trace}
 use Rattle.nova_top.specs.Loop.{IsAnswer, AnswerCause, HasExitStatus}
@@ -118,14 +119,14 @@ input-failed old new before after made short core reads written = record {
 }
 
 -- the text and the reads of a line with its command
-line-text : (s : Session) (command : Option Command) → text_of (command_step s command).events ≡ prompt_text s.prompt ++ (does s.core command).text
+line-text : (s : Session) (command : Asked) → text_of (command_step s command).events ≡ prompt_text s.prompt ++ (does s.core command).text
 unfolding command_step
 line-text s command =
     text_of-append (asking s) (Prints (does s.core command).text (does s.core command).core ∷ [])
     ∙ ap (λ t. t ++ ((does s.core command).text ++ [])) (asking-text s)
     ∙ ap (λ t. prompt_text s.prompt ++ t) (append-nil (does s.core command).text)
 
-line-reads : (s : Session) (command : Option Command) → reads_of (command_step s command).events ≡ reads_due s.budget s.open_ s.input
+line-reads : (s : Session) (command : Asked) → reads_of (command_step s command).events ≡ reads_due s.budget s.open_ s.input
 unfolding command_step
 line-reads s command =
     reads_of-append (asking s) (Prints (does s.core command).text (does s.core command).core ∷ [])
@@ -148,20 +149,20 @@ session-equal s t core budget input open_ prompt =
     ∙ ap (λ p. record { core = t.core; budget = t.budget; input = t.input; open_ = t.open_; prompt = p }) prompt
 
 -- a session behind a line, as the code leaves it
-pub record IsBehind (old : Session) (command : Option Command) (new : Session) : Type 0 where
+pub record IsBehind (old : Session) (command : Asked) (new : Session) : Type 0 where
   pub core : new.core ≡ (does old.core command).core
   pub budget : new.budget ≡ old.budget - units (length (first_line old.input))
   pub open_ : new.open_ ≡ has_lf old.input
   pub prompt : new.prompt ≡ old.prompt
   pub reads : AreRead (reads_due old.budget old.open_ old.input) old.open_ old.input new.open_ new.input
 
-behind-is : (old new : Session) (line : List ℕ) (command : Option Command) → due old.budget old.open_ old.input ≡ Comes line → IsBehind old command new → behind_line old (does old.core command).core ≡ new
+behind-is : (old new : Session) (line : List ℕ) (command : Asked) → due old.budget old.open_ old.input ≡ Comes line → IsBehind old command new → behind_line old (does old.core command).core ≡ new
 unfolding behind_line
 behind-is old new line command e b =
     session-equal (behind_line old (does old.core command).core) new (sym b.core) (sym b.budget)
     (sym (b.reads.rest ∙ ap (λ n. drop n old.input) (comes-reads old.budget old.open_ old.input line e))) (sym b.open_) (sym b.prompt)
 
-command-next : (s : Session) (command : Option Command) (exits : Bool) → is_exit command ≡ exits → (command_step s command).next ≡ next_after exits (behind_line s (does s.core command).core)
+command-next : (s : Session) (command : Asked) (exits : Option ℕ) → exit_of command ≡ exits → (command_step s command).next ≡ next_after exits (behind_line s (does s.core command).core)
 unfolding command_step
 command-next s command exits e = ap (λ exits. next_after exits (behind_line s (does s.core command).core)) e
 
@@ -170,7 +171,7 @@ unfolding behind_line
 behind-core s core = refl
 
 -- a byte of the command's text is refused
-command-refused-cut : (s : Session) (line : List ℕ) (command : Option Command) (n gives : ℕ) → due s.budget s.open_ s.input ≡ Comes line → command_of line ≡ command
+command-refused-cut : (s : Session) (line : List ℕ) (command : Asked) (n gives : ℕ) → due s.budget s.open_ s.input ≡ Comes line → reading line ≡ command
     → n < length (does s.core command).text → reads_due s.budget s.open_ s.input ≤ gives
     → cut_trace (length (prompt_text s.prompt ++ take n (does s.core command).text)) gives (trace s)
     ≡ ends 102 (prompt_text s.prompt ++ take n (does s.core command).text) (reads_due s.budget s.open_ s.input) (does s.core command).core
@@ -191,7 +192,7 @@ command-refused-cut s line command n gives e c short enough =
     ∙ ap (λ n. ends 102 shown n reply.core) (asking-reads s)
 
 -- the session is over behind its command
-command-whole-cut : (s : Session) (status gives : ℕ) (core : Core) (command : Option Command) → trace s ≡ record { events = (command_step s command).events; ended = record { status = status; state = core } }
+command-whole-cut : (s : Session) (status gives : ℕ) (core : Core) (command : Asked) → trace s ≡ record { events = (command_step s command).events; ended = record { status = status; state = core } }
     → reads_due s.budget s.open_ s.input ≤ gives
     → cut_trace (length (prompt_text s.prompt ++ (does s.core command).text)) gives (trace s) ≡ ends status (prompt_text s.prompt ++ (does s.core command).text) (reads_due s.budget s.open_ s.input) core
 command-whole-cut s status gives core command is enough =
@@ -205,12 +206,12 @@ command-whole-cut s status gives core command is enough =
     ∙ ap (λ t. ends status t (reads_of events) core) (line-text s command)
     ∙ ap (λ n. ends status shown n core) (line-reads s command)
 
-pub answered : (old new : Session) (line : List ℕ) (command : Option Command) (result : Progress) (before mid after : List ℕ) → due old.budget old.open_ old.input ≡ Comes line → command_of line ≡ command
-    → IsBehind old command new → mid ≡ before ++ prompt_text old.prompt → IsAnswer (does old.core command).text (is_exit command) result mid after → Progresses old result new before after
+pub answered : (old new : Session) (line : List ℕ) (command : Asked) (result : Progress) (before mid after : List ℕ) → due old.budget old.open_ old.input ≡ Comes line → reading line ≡ command
+    → IsBehind old command new → mid ≡ before ++ prompt_text old.prompt → IsAnswer (does old.core command).text (exit_of command) result mid after → Progresses old result new before after
 answered old new line command GoesOn before mid after e c b asked a =
     let is = step-line old line command e c in
     record {
-      next = ap (λ s. s.next) is ∙ command-next old command false a.0 ∙ ap Going (behind-is old new line command e b);
+      next = ap (λ s. s.next) is ∙ command-next old command None a.0 ∙ ap Going (behind-is old new line command e b);
       written = a.1 ∙ ap (λ t. t ++ (does old.core command).text) asked ∙ append_assoc before (prompt_text old.prompt) (does old.core command).text
           ∙ ap (λ t. before ++ t) (sym (ap (λ s. text_of s.events) is ∙ line-text old command));
       reads = subst (λ n. AreRead n old.open_ old.input new.open_ new.input) (sym (ap (λ s. reads_of s.events) is ∙ line-reads old command)) b.reads;
@@ -218,9 +219,9 @@ answered old new line command GoesOn before mid after e c b asked a =
 answered old new line command (IsOver (Exit status)) before mid after e c b asked a =
     let is = step-line old line command e c in
     let core = (does old.core command).core in
-    let over = trace-over old 0 core (ap (λ s. s.next) is ∙ command-next old command true a.0 ∙ ap (Over 0) (behind-core old core))
-    ∙ ap (λ s. record { events = s.events; ended = record { status = 0; state = core } }) is in
-    let whole = command-whole-cut old 0 (reads_left old.open_ old.input) core command over (read-within _ old.open_ old.input new.open_ new.input b.reads) in
+    let over = trace-over old status core (ap (λ s. s.next) is ∙ command-next old command (Some status) a.0 ∙ ap (Over status) (behind-core old core))
+    ∙ ap (λ s. record { events = s.events; ended = record { status = status; state = core } }) is in
+    let whole = command-whole-cut old status (reads_left old.open_ old.input) core command over (read-within _ old.open_ old.input new.open_ new.input b.reads) in
     record {
       gives = reads_left old.open_ old.input;
       made = reads_due old.budget old.open_ old.input;
@@ -228,9 +229,8 @@ answered old new line command (IsOver (Exit status)) before mid after e c b aske
       reads = b.reads;
       end = record {
         taken = prompt_text old.prompt ++ (does old.core command).text;
-        written = a.2 ∙ ap (λ t. t ++ (does old.core command).text) asked ∙ append_assoc before (prompt_text old.prompt) (does old.core command).text;
-        outcome = whole ∙ ap (ends 0 (prompt_text old.prompt ++ (does old.core command).text) (reads_due old.budget old.open_ old.input)) (sym b.core)
-            ∙ ap (λ n. ends n (prompt_text old.prompt ++ (does old.core command).text) (reads_due old.budget old.open_ old.input) new.core) (sym a.1);
+        written = a.1 ∙ ap (λ t. t ++ (does old.core command).text) asked ∙ append_assoc before (prompt_text old.prompt) (does old.core command).text;
+        outcome = whole ∙ ap (ends status (prompt_text old.prompt ++ (does old.core command).text) (reads_due old.budget old.open_ old.input)) (sym b.core);
       };
     }
 answered old new line command (IsOver Console) before mid after e c b asked (n, short, written) =
@@ -263,3 +263,17 @@ answer-causes (IsOver Commands) sink sink_mid sink_now source source_now a b c s
 answer-causes (IsOver Console) sink sink_mid sink_now source source_now a b c s =
     record { sink_later = omega (arith, a, c.1); source_later = omega (arith, b); console = λ e. omega (arith, a, c.0); input = λ e. absurd (cc); console_only = λ n. absurd (n refl); input_only = λ _. b; exit = tt }
 answer-causes (IsOver Input) sink sink_mid sink_now source source_now a b c s = absurd c
+
+-- a line that is too long has that fault
+pub long-line : (line : List ℕ) → longest_line < length line → reading line ≡ Err TooLong
+unfolding reading
+long-line line long = rw (lt-leb (length line) longest_line long) refl
+
+pub long-core : (core : Core) → core ≡ (does core (Err TooLong)).core
+unfolding does
+long-core core = refl
+
+pub long-answer : (core : Core) (result : Progress) (before after : List ℕ) → IsAnswer (fault_text (line_fault TooLong)) None result before after
+    → IsAnswer (does core (Err TooLong)).text (exit_of (Err TooLong)) result before after
+unfolding does
+long-answer core result before after a = a

@@ -1,11 +1,10 @@
 -- The trace of a session, one text further.
-use Rattle.std.proofs.Common.{◌≡◌, ℕ, zero, suc, ◌-◌, ◌<◌, ◌≤◌, Bool, true, false, not, ◌||◌, nat_le, nat_eq, List, [], ◌++◌, length, refl, ap, sym, ◌∙◌, arith, if◌then◌else◌, append_assoc, append-nil, Option}
+use Rattle.std.proofs.Common.{◌≡◌, ℕ, zero, suc, ◌-◌, ◌<◌, ◌≤◌, Bool, not, ◌||◌, nat_le, nat_eq, List, [], ◌++◌, length, refl, ap, sym, ◌∙◌, arith, if◌then◌else◌, append_assoc, append-nil, Option, Some, None}
 use Rattle.std.proofs.lemmas.Bool.{leb-true, cond_both}
 use Rattle.event_trace.specs.Events.{Event, Ended, Trace, after_events}
-use Rattle.nova_top.specs.declared.command.Command.{Command}
-use Rattle.nova_top.specs.CommandGrammar.{command_of}
+use Rattle.scp_parser.specs.Reading.{reading}
 use Rattle.nova_top.specs.Core.{Core}
-use Rattle.nova_top.specs.CommandEffect.{does, is_exit}
+use Rattle.nova_top.specs.CommandEffect.{Asked, does, exit_of}
 use Rattle.nova_top.specs.Lines.{Due, InputEnds, Unpaid, Comes, due, units, first_line, line_of}
 use Rattle.nova_top.specs.Session.{Session, Next, Going, Over, asking, behind_line, next_after, command_step, step_due, step, after_step, texts, trace}
 
@@ -27,16 +26,16 @@ behind-budget : (s : Session) (core : Core) → (behind_line s core).budget ≡ 
 unfolding behind_line
 behind-budget s core = refl
 
-next-pays : (s t : Session) (exits : Bool) (core : Core) → next_after exits (behind_line s core) ≡ Going t → units (length (first_line s.input)) ≤ s.budget → t.budget < s.budget
-next-pays s t true core h paid = absurd (cc)
-next-pays s t false core h paid =
+next-pays : (s t : Session) (exits : Option ℕ) (core : Core) → next_after exits (behind_line s core) ≡ Going t → units (length (first_line s.input)) ≤ s.budget → t.budget < s.budget
+next-pays s t (Some status) core h paid = absurd (cc)
+next-pays s t None core h paid =
     omega (arith, paid, behind-budget s core, ap (λ (t : Session). t.budget) (going-equal h))
 
 due-pays : (s t : Session) (d : Due) → due s.budget s.open_ s.input ≡ d → (step_due s d).next ≡ Going t → t.budget < s.budget
 unfolding step_due command_step
 due-pays s t InputEnds e h = absurd (cc)
 due-pays s t Unpaid e h = absurd (cc)
-due-pays s t (Comes line) e h = next-pays s t (is_exit (command_of line)) (does s.core (command_of line)).core h (due-paid s.budget s.open_ s.input line e)
+due-pays s t (Comes line) e h = next-pays s t (exit_of (reading line)) (does s.core (reading line)).core h (due-paid s.budget s.open_ s.input line e)
 
 -- a text after which the session goes on costs a unit
 pub going-pays : (s t : Session) → (step s).next ≡ Going t → t.budget < s.budget
@@ -111,11 +110,11 @@ pub trace-asks : (s : Session) → Begins s (asking s)
 unfolding step
 trace-asks s = let asks = due-asks s (due s.budget s.open_ s.input) in begins-shorter s (step s).events (asking s) asks.0 (trace-begins s) asks.1
 
-due-line : (s : Session) (line : List ℕ) → due s.budget s.open_ s.input ≡ Comes line → step s ≡ command_step s (command_of line)
+due-line : (s : Session) (line : List ℕ) → due s.budget s.open_ s.input ≡ Comes line → step s ≡ command_step s (reading line)
 unfolding step step_due
 due-line s line e = ap (step_due s) e
 
-pub step-line : (s : Session) (line : List ℕ) (command : Option Command) → due s.budget s.open_ s.input ≡ Comes line → command_of line ≡ command → step s ≡ command_step s command
+pub step-line : (s : Session) (line : List ℕ) (command : Asked) → due s.budget s.open_ s.input ≡ Comes line → reading line ≡ command → step s ≡ command_step s command
 step-line s line command e c = due-line s line e ∙ ap (command_step s) c
 
 pub step-ends : (s : Session) → due s.budget s.open_ s.input ≡ InputEnds → step s ≡ record { events = asking s; next = Over 0 s.core }

@@ -137,7 +137,7 @@ pub record StatusCause (words : List (List ℕ)) (status sink sink_now source so
   pub input : status ≡ 106 → Rose source source_now
   pub console_only : status ≢ 102 → sink_now ≡ sink
   pub input_only : status ≢ 106 → source_now ≡ source
-  pub listed : (status ≡ 0) ⊎ (status ≡ 100) ⊎ (status ≡ 102) ⊎ (status ≡ 103) ⊎ (status ≡ 104) ⊎ (status ≡ 106)
+  pub listed : (status ≤ 99) ⊎ (status ≡ 100) ⊎ (status ≡ 102) ⊎ (status ≡ 103) ⊎ (status ≡ 104) ⊎ (status ≡ 106)
 
 -- there is no machine where the words are outside their grammar, and else only where memory ran out there may be none
 pub record MachineThere (words : List (List ℕ)) (status : ℕ) (machine : Option MachineState) : Type 0 where

@@ -1,4 +1,5 @@
-pub mod CommandGrammar
+pub mod Counts
+pub mod FaultText
 pub mod Core
 pub mod CommandEffect
 pub mod Lines

@@ -1,5 +1,5 @@
 -- The session that the command loop stands in.
-use Rattle.std.specs.Prelude.{◌≡◌, ℕ, ◌≤◌, Bool, true, false, List, ◌++◌}
+use Rattle.std.specs.Prelude.{◌≡◌, ℕ, ◌≤◌, List, ◌++◌, Option, Some, None}
 use Rattle.host_files.specs.Streams.{AddsPart}
 use Rattle.fault_counts.specs.Faults.{Rose}
 use Rattle.nova_top.specs.declared.progress.CommandLoop.{CommandLoop}
@@ -19,9 +19,9 @@ abbrev pub session_of : sessions.Session → CommandLoop → List ℕ → Sessio
 session_of session l input = record { core = session_core session; budget = l.budget; input = input; open_ = l.reader.open_; prompt = l.prompt }
 
 -- what a command's text comes to on the console: it was printed, or a byte of it refused
-abbrev pub IsAnswer : List ℕ → Bool → Progress → List ℕ → List ℕ → Type 0
-IsAnswer text exits GoesOn before after = (exits ≡ false) × (after ≡ before ++ text)
-IsAnswer text exits (IsOver (Exit status)) before after = (exits ≡ true) × (status ≡ 0) × (after ≡ before ++ text)
+abbrev pub IsAnswer : List ℕ → Option ℕ → Progress → List ℕ → List ℕ → Type 0
+IsAnswer text exits GoesOn before after = (exits ≡ None) × (after ≡ before ++ text)
+IsAnswer text exits (IsOver (Exit status)) before after = (exits ≡ Some status) × (after ≡ before ++ text)
 IsAnswer text exits (IsOver Console) before after = AddsPart before text after
 IsAnswer text exits (IsOver EndOfInput) before after = ⊥
 IsAnswer text exits (IsOver Commands) before after = ⊥
@@ -34,9 +34,9 @@ AnswerCause (IsOver Input) sink sink_now = ⊥
 AnswerCause (IsOver finish) sink sink_now = sink_now ≡ sink
 AnswerCause GoesOn sink sink_now = sink_now ≡ sink
 
--- the status of EXIT
+-- the status of EXIT is 0 to 99
 abbrev pub IsExitStatus : Finish → Type 0
-IsExitStatus (Exit status) = status ≡ 0
+IsExitStatus (Exit status) = status ≤ 99
 IsExitStatus finish = Unit {0}
 
 abbrev pub HasExitStatus : Progress → Type 0

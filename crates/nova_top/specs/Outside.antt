@@ -6,7 +6,7 @@ use Rattle.event_trace.specs.Events.{Prints, Trace, map_trace}
 use Rattle.event_trace.specs.Cut.{Outcome, cut_trace}
 use Rattle.nova_top.specs.declared.options.Options.{Options}
 use Rattle.nova_top.specs.declared.options.Choices.{Choices}
-use Rattle.nova_top.specs.CommandGrammar.{count_of}
+use Rattle.nova_top.specs.Counts.{count_of}
 use Rattle.nova_top.specs.Core.{Core, new_core}
 use Rattle.nova_top.specs.Session.{Session, trace}
 use Rattle.nova_top.specs.Perform.{beginning}

@@ -1,10 +1,9 @@
 -- A session: one line after another, to EXIT, the end of the input, or the end of the budget.
-use Rattle.std.specs.Prelude.{◌≡◌, ℕ, zero, suc, ◌+◌, ◌-◌, Bool, true, false, List, [], ◌∷◌, ◌++◌, length, drop, codes, Option, if◌then◌else◌}
+use Rattle.std.specs.Prelude.{◌≡◌, ℕ, zero, suc, ◌+◌, ◌-◌, Bool, List, [], ◌∷◌, ◌++◌, length, drop, codes, Option, Some, None, if◌then◌else◌}
 use Rattle.event_trace.specs.Events.{Event, Prints, Reads, Trace, after_events}
-use Rattle.nova_top.specs.declared.command.Command.{Command}
-use Rattle.nova_top.specs.CommandGrammar.{command_of}
+use Rattle.scp_parser.specs.Reading.{reading}
 use Rattle.nova_top.specs.Core.{Core}
-use Rattle.nova_top.specs.CommandEffect.{does, is_exit}
+use Rattle.nova_top.specs.CommandEffect.{Asked, does, exit_of}
 use Rattle.nova_top.specs.Lines.{Due, InputEnds, Unpaid, Comes, first_line, units, has_lf, due, reads_due}
 
 -- the core, the units of budget left, the rest of the input and whether its end is still to be read, and whether the
@@ -43,21 +42,21 @@ behind_line s core = record {
   prompt = s.prompt;
 }
 
-abbrev pub next_after : Bool → Session → Next
-next_after true s = Over 0 s.core
-next_after false s = Going s
+abbrev pub next_after : Option ℕ → Session → Next
+next_after (Some status) s = Over status s.core
+next_after None s = Going s
 
 -- a command's text is printed with the core that it leaves
-unfoldable pub command_step : Session → Option Command → Step
-command_step s command = let reply = does s.core command in record {
+unfoldable pub command_step : Session → Asked → Step
+command_step s asked = let reply = does s.core asked in record {
   events = asking s ++ Prints reply.text reply.core ∷ [];
-  next = next_after (is_exit command) (behind_line s reply.core);
+  next = next_after (exit_of asked) (behind_line s reply.core);
 }
 
 unfoldable pub step_due : Session → Due → Step
 step_due s InputEnds = record { events = asking s; next = Over 0 s.core }
 step_due s Unpaid = record { events = asking s; next = Over 104 s.core }
-step_due s (Comes line) = command_step s (command_of line)
+step_due s (Comes line) = command_step s (reading line)
 
 unfoldable pub step : Session → Step
 step s = step_due s (due s.budget s.open_ s.input)

@@ -1,19 +1,20 @@
-ghost use Rattle.std.specs.Prelude.{◌≡◌, ◌≤◌, ◌++◌, ◌^◌, IsTrue, OnOk, OnErr};
+ghost use Rattle.std.specs.Prelude.{◌≡◌, ◌≤◌, ◌++◌, ◌^◌, None, IsTrue, OnOk, OnErr};
 ghost use Rattle.fault_counts.specs.Faults.{HasCause};
 ghost use Rattle.host_files.specs.Streams.{AddsPart};
-ghost use Rattle.nova_top.specs.CommandGrammar.{FitsItsPlace};
-ghost use Rattle.nova_top.specs.CommandEffect.{does, is_exit};
+ghost use Rattle.scp_parser.specs.Reading.{reading};
+ghost use Rattle.nova_top.specs.FaultText.{line_fault, fault_text};
+ghost use Rattle.nova_top.specs.CommandEffect.{effect, does, exit_of_verb, exit_of};
 ghost use Rattle.nova_top.specs.Session.{prompt_text};
 ghost use Rattle.nova_top.specs.Loop.{IsAnswer, AnswerCause, HasExitStatus, session_core, session_of};
 ghost use Rattle.nova_top.specs.Ends.{Progresses, ProgressCause, PaysFor};
 
-use crate::command::Command;
-use crate::effect::execute;
-use crate::grammar::read_command;
+use crate::effect::{execute, refuse};
+use crate::fault::CommandFault;
 use crate::line_reader::Reading;
 use crate::progress::{CommandLoop, Finish, Progress};
 use crate::session::Session;
 use host_files::{Failed, Sink, Source, put_all};
+use scp_parser::{Command, ParseFault, read_command};
 
 /// Does the next line of a session: the prompt where it is on, the reading, and the command.
 pub fn next_line<C: Source, S: Sink>(
@@ -33,11 +34,8 @@ pub fn next_line<C: Source, S: Sink>(
         Err(_) => return Progress::IsOver(Finish::Console),
     }
     match lines.reader.read_line(input, &mut lines.budget) {
-        Reading::Line => {
-            let command = read_command(lines.reader.line());
-            answer(session, command, output)
-        }
-        Reading::TooLong => answer(session, None, output),
+        Reading::Line => answer(session, lines.reader.line(), output),
+        Reading::TooLong => deny(ParseFault::TooLong, output),
         Reading::End => Progress::IsOver(Finish::EndOfInput),
         Reading::Unpaid => Progress::IsOver(Finish::Commands),
         Reading::Failed => Progress::IsOver(Finish::Input),
@@ -57,18 +55,45 @@ fn ask<S: Sink>(prompt: bool, output: &mut S) -> Result<(), Failed>
     }
 }
 
-/// Does a command, and says whether the session goes on.
-fn answer<S: Sink>(session: &mut Session, command: Option<Command>, output: &mut S) -> Progress
-    requires { FitsItsPlace command }
-    ensures core { session_core session.new ≡ (does (session_core session.old) command).core }
+/// Does the command of a line, or answers its fault, and says whether the session goes on.
+#[tactic(auto, unfolding(crate::specs::CommandEffect::does))]
+fn answer<S: Sink>(session: &mut Session, line: &[u8], output: &mut S) -> Progress
+    ensures core { session_core session.new ≡ (does (session_core session.old) (reading line.now)).core }
     ensures limit { session.new.limit ≡ session.old.limit }
-    ensures told { IsTrue S.tells → IsAnswer (does (session_core session.old) command).text (is_exit command) result (S.written output.old) (S.written output.new) }
+    ensures told { IsTrue S.tells → IsAnswer (does (session_core session.old) (reading line.now)).text (exit_of (reading line.now)) result (S.written output.old) (S.written output.new) }
+    ensures cause { AnswerCause result (S.fault_count output.old) (S.fault_count output.new) }
+    ensures exit { HasExitStatus result }
+{
+    let mut command = Command::new();
+    match read_command(line, &mut command) {
+        Ok(()) => obey(session, &command, output),
+        Err(fault) => deny(fault, output),
+    }
+}
+
+/// Does a command.
+fn obey<S: Sink>(session: &mut Session, command: &Command, output: &mut S) -> Progress
+    ensures core { session_core session.new ≡ (effect (session_core session.old) command.now.verb).core }
+    ensures limit { session.new.limit ≡ session.old.limit }
+    ensures told { IsTrue S.tells → IsAnswer (effect (session_core session.old) command.now.verb).text (exit_of_verb command.now.verb) result (S.written output.old) (S.written output.new) }
     ensures cause { AnswerCause result (S.fault_count output.old) (S.fault_count output.new) }
     ensures exit { HasExitStatus result }
 {
     match execute(session, command, output) {
-        Ok(true) => Progress::IsOver(Finish::Exit(0)),
-        Ok(false) => Progress::GoesOn,
+        Ok(Some(status)) => Progress::IsOver(Finish::Exit(status)),
+        Ok(None) => Progress::GoesOn,
+        Err(_) => Progress::IsOver(Finish::Console),
+    }
+}
+
+/// Answers the fault of a line that is no command.
+fn deny<S: Sink>(fault: ParseFault, output: &mut S) -> Progress
+    ensures told { IsTrue S.tells → IsAnswer (fault_text (line_fault fault)) None result (S.written output.old) (S.written output.new) }
+    ensures cause { AnswerCause result (S.fault_count output.old) (S.fault_count output.new) }
+    ensures exit { HasExitStatus result }
+{
+    match refuse(CommandFault::of_line(fault), output) {
+        Ok(()) => Progress::GoesOn,
         Err(_) => Progress::IsOver(Finish::Console),
     }
 }

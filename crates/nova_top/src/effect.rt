@@ -1,102 +1,215 @@
 // What each command does: it changes the machine, and then prints.
-ghost use Rattle.std.specs.Prelude.{◌≡◌, ◌≤◌, ◌<◌, ◌^◌, ◌++◌, length, unwrap_or, IsTrue, OnOk, OnErr, IfOk};
+ghost use Rattle.std.specs.Prelude.{◌≡◌, ◌≤◌, ◌<◌, ◌^◌, ◌++◌, length, unwrap_or, nat_le, min, IsTrue, OnOk, OnErr, IfOk, Ok};
 ghost use Rattle.fault_counts.specs.Faults.{HasCause};
 ghost use Rattle.host_files.specs.Streams.{AddsPart};
-ghost use Rattle.nova_machine.specs.Registers.{largest_of};
-ghost use Rattle.nova_top.specs.CommandGrammar.{largest_at, FitsItsPlace};
+ghost use Rattle.nova_top.specs.FaultText.{fault_text};
 ghost use Rattle.nova_top.specs.Loop.{session_core};
-ghost use Rattle.nova_top.specs.CommandEffect.{digits_of, examined, deposited, stop_name, stop_text, refusal, running, starting_at, stepped, time_text, does, is_exit};
+ghost use Rattle.nova_top.specs.CommandEffect.{stop_name, stop_text, running, run_from, address_fits, starting_at, reset_where, stepped, step_of, time_text, list_reply, handed, fill_reply, is_device, exit_status, exit_of_verb, exit_text, show_text, said, effect};
 
-use crate::command::{Command, Place, register_name};
+use crate::counts::is_count;
+use crate::fault::CommandFault;
 use crate::session::Session;
-use crate::text::Text;
 use host_files::{Failed, Sink, put_all};
 use itoa::Buffer;
+use line_text::Text;
 use nova_machine::{CpuReg, Machine, RunLimit, Stop};
-use nova_word::{Addr, Word};
+use scp_examine::{ExamineFault, deposit, examine};
+use scp_parser::{Command, Listing, Name, Shown, Verb};
 
-/// Does a command, or answers a line that is none, and prints what it has to say. Answers whether it ends the session.
-/// The session is as the command leaves it, printed or not.
+/// The largest address.
+const LAST_ADDRESS: u64 = 0o77777;
+
+/// Does a command, and prints what it has to say. Answers the status, where it ends the session. The session is as the
+/// command leaves it, printed or not.
+#[tactic(auto, unfolding(crate::specs::CommandEffect::effect))]
 pub fn execute<S: Sink>(
     session: &mut Session,
-    command: Option<Command>,
+    command: &Command,
     output: &mut S,
-) -> Result<bool, Failed>
-    requires { FitsItsPlace command }
-    ensures core { session_core session.new ≡ (does (session_core session.old) command).core }
+) -> Result<Option<u8>, Failed>
+    ensures core { session_core session.new ≡ (effect (session_core session.old) command.now.verb).core }
     ensures limit { session.new.limit ≡ session.old.limit }
-    ensures exits { IfOk result (λ exits. exits ≡ is_exit command) }
-    ensures printed { IsTrue S.tells → OnOk result (S.written output.new ≡ S.written output.old ++ (does (session_core session.old) command).text) }
-    ensures part { IsTrue S.tells → OnErr result (AddsPart (S.written output.old) (does (session_core session.old) command).text (S.written output.new)) }
+    ensures exits { IfOk result (λ exits. exits ≡ exit_of_verb command.now.verb) }
+    ensures printed { IsTrue S.tells → OnOk result (S.written output.new ≡ S.written output.old ++ (effect (session_core session.old) command.now.verb).text) }
+    ensures part { IsTrue S.tells → OnErr result (AddsPart (S.written output.old) (effect (session_core session.old) command.now.verb).text (S.written output.new)) }
     ensures cause { HasCause (S.fault_count output.old) (S.fault_count output.new) result }
 {
-    let exits = is_exit(&command);
-    let text = reply(session, command);
-    put_all(output, text.as_slice())?;
-    Ok(exits)
-}
-
-fn is_exit(command: &Option<Command>) -> bool
-    ensures { result ≡ is_exit command.now }
-{
-    matches!(command, Some(Command::Exit))
-}
-
-/// Does a command, and answers what it prints.
-#[tactic(auto, unfolding(crate::specs::CommandEffect::does))]
-fn reply(session: &mut Session, command: Option<Command>) -> Text
-    requires { FitsItsPlace command }
-    ensures text { result ≡ (does (session_core session.old) command).text }
-    ensures core { session_core session.new ≡ (does (session_core session.old) command).core }
-    ensures limit { session.new.limit ≡ session.old.limit }
-{
-    match command {
-        None => refusal(),
-        Some(Command::Nothing) => Text::new(),
-        Some(Command::Deposit(place, value)) => {
-            deposit(&mut session.machine, place, value);
-            Text::new()
+    match &command.verb {
+        Verb::Examine(listing) => {
+            list(session, listing, output)?;
+            Ok(None)
         }
-        Some(Command::Examine(place)) => examined(&session.machine, place),
-        Some(Command::Run(address)) => run_from(session, address),
-        Some(Command::Go(address)) => run_from(session, address),
-        Some(Command::Cont) => run(session),
-        Some(Command::Step(count)) => step(session, count),
-        Some(Command::ShowTime) => time_text(&session.machine),
-        Some(Command::Exit) => Text::new(),
+        verb => {
+            let text = reply(session, verb);
+            put_all(output, text.as_slice())?;
+            Ok(exit_of(verb))
+        }
     }
 }
 
-#[tactic(auto, unfolding(crate::specs::CommandEffect::refusal))]
-fn refusal() -> Text
-    ensures { result ≡ refusal }
+/// Prints what an EXAMINE shows, or its fault.
+#[tactic(auto, unfolding(crate::specs::CommandEffect::examine_reply))]
+fn list<S: Sink>(session: &Session, listing: &Listing, output: &mut S) -> Result<(), Failed>
+    ensures core { (list_reply (session_core session.now) listing.now).core ≡ session_core session.now }
+    ensures printed { IsTrue S.tells → OnOk result (S.written output.new ≡ S.written output.old ++ (list_reply (session_core session.now) listing.now).text) }
+    ensures part { IsTrue S.tells → OnErr result (AddsPart (S.written output.old) (list_reply (session_core session.now) listing.now).text (S.written output.new)) }
+    ensures cause { HasCause (S.fault_count output.old) (S.fault_count output.new) result }
 {
-    let mut text = Text::new();
-    text.push_all(b"Not built");
-    text.push(b'\n');
-    text
+    if is_device(listing.device) {
+        return refuse(CommandFault::NotBuilt, output);
+    }
+    match examine(&session.machine, listing, output) {
+        Ok(()) => Ok(()),
+        Err(ExamineFault::Console) => Err(Failed),
+        Err(fault) => refuse(CommandFault::of_list(fault), output),
+    }
 }
 
-/// Runs up to the limit of the session, from that address where one is given.
-#[tactic(auto, unfolding(crate::specs::CommandEffect::ran))]
-fn run_from(session: &mut Session, address: Option<Addr>) -> Text
-    ensures text { result ≡ (running (session_core session.old) (starting_at address session.old.machine)).text }
-    ensures core { session_core session.new ≡ (running (session_core session.old) (starting_at address session.old.machine)).core }
+/// Prints a fault.
+pub fn refuse<S: Sink>(fault: CommandFault, output: &mut S) -> Result<(), Failed>
+    ensures printed { IsTrue S.tells → OnOk result (S.written output.new ≡ S.written output.old ++ fault_text fault) }
+    ensures part { IsTrue S.tells → OnErr result (AddsPart (S.written output.old) (fault_text fault) (S.written output.new)) }
+    ensures cause { HasCause (S.fault_count output.old) (S.fault_count output.new) result }
+{
+    put_all(output, fault.text().as_slice())
+}
+
+// Whether a list is of the registers of a device.
+fn is_device(name: Name) -> bool
+    ensures { result ≡ is_device name }
+{
+    match name {
+        Name::Cpu => false,
+        Name::Device(_) => true,
+    }
+}
+
+/// Does a command other than EXAMINE, and answers what it prints.
+#[tactic(auto, unfolding(crate::specs::CommandEffect::said))]
+fn reply(session: &mut Session, verb: &Verb) -> Text
+    ensures text { result ≡ (said (session_core session.old) verb.now).text }
+    ensures core { session_core session.new ≡ (said (session_core session.old) verb.now).core }
     ensures limit { session.new.limit ≡ session.old.limit }
 {
-    start_at(&mut session.machine, address);
+    match verb {
+        Verb::Nothing => Text::new(),
+        Verb::Deposit(listing, value) => fill(session, listing, *value),
+        Verb::Run(address) => run_from(session, true, *address),
+        Verb::Go(address) => run_from(session, false, *address),
+        Verb::Cont => run(session),
+        Verb::Step(count) => step(session, *count),
+        Verb::Show(subject) => show(&session.machine, *subject),
+        Verb::Exit(status) => exit_text(*status),
+        _ => CommandFault::NotBuilt.text(),
+    }
+}
+
+/// Puts the value of a DEPOSIT into its places, and answers its fault.
+#[tactic(auto, unfolding(crate::specs::CommandEffect::deposit_reply))]
+fn fill(session: &mut Session, listing: &Listing, value: u64) -> Text
+    ensures text { result ≡ (fill_reply (session_core session.old) listing.now value).text }
+    ensures core { session_core session.new ≡ (fill_reply (session_core session.old) listing.now value).core }
+    ensures limit { session.new.limit ≡ session.old.limit }
+{
+    if is_device(listing.device) {
+        return CommandFault::NotBuilt.text();
+    }
+    match deposit(&mut session.machine, listing, handed(value)) {
+        Ok(()) => Text::new(),
+        Err(fault) => CommandFault::of_list(fault).text(),
+    }
+}
+
+// A value as it is handed on: in 32 bits.
+fn handed(value: u64) -> u32
+    ensures { result ≡ handed value }
+{
+    value.min(u64::from(u32::MAX)) as u32
+}
+
+// What EXIT prints: its fault, where the status is above 99.
+fn exit_text(status: Option<u64>) -> Text
+    ensures { result ≡ exit_text (exit_status status) }
+{
+    match exit_status(status) {
+        Some(_) => Text::new(),
+        None => CommandFault::OutOfRange.text(),
+    }
+}
+
+// The status of an EXIT, 0 to 99.
+fn exit_status(status: Option<u64>) -> Option<u8>
+    ensures { result ≡ exit_status status }
+{
+    match status.unwrap_or(0) {
+        status @ 0..=99 => Some(status as u8),
+        _ => None,
+    }
+}
+
+// The status with which a command ends the session, if it does.
+fn exit_of(verb: &Verb) -> Option<u8>
+    ensures { result ≡ exit_of_verb verb.now }
+{
+    match verb {
+        Verb::Exit(status) => exit_status(*status),
+        _ => None,
+    }
+}
+
+// What SHOW prints.
+fn show(machine: &Machine, subject: Shown) -> Text
+    ensures { result ≡ show_text machine.now subject }
+{
+    match subject {
+        Shown::Time => time_text(machine),
+        _ => CommandFault::NotBuilt.text(),
+    }
+}
+
+/// Runs up to the limit of the session, from that address where one is given. RUN resets the machine first.
+#[tactic(auto, unfolding(crate::specs::CommandEffect::run_from, crate::specs::CommandEffect::ran))]
+fn run_from(session: &mut Session, resets: bool, address: Option<u64>) -> Text
+    ensures text { result ≡ (run_from (session_core session.old) resets address).text }
+    ensures core { session_core session.new ≡ (run_from (session_core session.old) resets address).core }
+    ensures limit { session.new.limit ≡ session.old.limit }
+{
+    if !address_fits(address) {
+        return CommandFault::OutOfRange.text();
+    }
+    start(&mut session.machine, resets, address);
     run(session)
 }
 
-/// Sets PC, where an address is given.
-fn start_at(machine: &mut Machine, address: Option<Addr>)
-    ensures { machine.new ≡ starting_at address machine.old }
+// Whether an address is one of memory's.
+fn address_fits(address: Option<u64>) -> bool
+    ensures { result ≡ address_fits address }
 {
+    match address {
+        Some(address) => address <= LAST_ADDRESS,
+        None => true,
+    }
+}
+
+// Readies a machine for a run: resets it, and sets PC, where that is asked for.
+fn start(machine: &mut Machine, resets: bool, address: Option<u64>)
+    requires { IsTrue (address_fits address) }
+    ensures { machine.new ≡ starting_at address (reset_where resets machine.old) }
+{
+    reset_where(machine, resets);
     match address {
         None => (),
         Some(address) => {
-            let _fits = machine.set_cpu_reg(CpuReg::Pc, u32::from(address.number()));
+            let _fits = machine.set_cpu_reg(CpuReg::Pc, address as u32);
         }
+    }
+}
+
+fn reset_where(machine: &mut Machine, resets: bool)
+    ensures { machine.new ≡ reset_where resets machine.old }
+{
+    if resets {
+        machine.reset();
     }
 }
 
@@ -115,13 +228,27 @@ fn run(session: &mut Session) -> Text
 }
 
 /// Runs that many instructions, or one, and answers the text of the stop.
-#[tactic(auto, unfolding(crate::specs::CommandEffect::stepped, crate::specs::CommandEffect::ran))]
+#[tactic(auto, unfolding(crate::specs::CommandEffect::step_of))]
 fn step(session: &mut Session, count: Option<u64>) -> Text
-    ensures text { result ≡ (stepped (session_core session.old) (unwrap_or count 1)).text }
-    ensures core { session_core session.new ≡ (stepped (session_core session.old) (unwrap_or count 1)).core }
+    ensures text { result ≡ (step_of (session_core session.old) (unwrap_or count 1)).text }
+    ensures core { session_core session.new ≡ (step_of (session_core session.old) (unwrap_or count 1)).core }
     ensures limit { session.new.limit ≡ session.old.limit }
 {
     let count = count.unwrap_or(1);
+    if is_count(count) {
+        step_by(session, count)
+    } else {
+        CommandFault::OutOfRange.text()
+    }
+}
+
+/// Runs that many instructions, and answers the text of the stop.
+#[tactic(auto, unfolding(crate::specs::CommandEffect::stepped, crate::specs::CommandEffect::ran))]
+fn step_by(session: &mut Session, count: u64) -> Text
+    ensures text { result ≡ (stepped (session_core session.old) count).text }
+    ensures core { session_core session.new ≡ (stepped (session_core session.old) count).core }
+    ensures limit { session.new.limit ≡ session.old.limit }
+{
     let stop = session.machine.run(RunLimit {
         count: count.min(session.limit),
         step: count <= session.limit,
@@ -140,55 +267,6 @@ fn time_text(machine: &Machine) -> Text
     text.push_all(buffer.format(machine.time()).as_bytes());
     text.push(b'\n');
     text
-}
-
-/// Puts a value into a place.
-#[tactic(auto, unfolding(crate::specs::CommandEffect::deposited))]
-fn deposit(machine: &mut Machine, place: Place, value: Word)
-    requires { value ≤ largest_at place }
-    ensures { machine.new ≡ deposited machine.old place value }
-{
-    match place {
-        Place::At(address) => machine.memory_mut().write(address, value),
-        Place::Register(register) => {
-            let _fits = machine.set_cpu_reg(register, u32::from(value.0));
-        }
-    }
-}
-
-/// What EXAMINE prints of a place.
-#[tactic(auto, unfolding(crate::specs::CommandEffect::examined))]
-fn examined(machine: &Machine, place: Place) -> Text
-    ensures { result ≡ examined machine.now place }
-{
-    let mut text = Text::new();
-    match place {
-        Place::At(address) => {
-            text.push_octal(u32::from(address.number()), 5);
-            text.push_all(b":\t");
-            text.push_octal(u32::from(machine.memory().read(address).0), 6);
-        }
-        Place::Register(register) => {
-            text.push_all(register_name(register));
-            text.push_all(b":\t");
-            text.push_octal(machine.cpu_reg(register), digits_of(register));
-        }
-    }
-    text.push(b'\n');
-    text
-}
-
-/// How many octal digits the largest value of a register has.
-fn digits_of(register: CpuReg) -> usize
-    ensures value { result ≡ digits_of register }
-    ensures some { 0 < result × result ≤ 6 }
-    ensures fits { largest_of register < 8 ^ result }
-{
-    match register {
-        CpuReg::C => 1,
-        CpuReg::Pc => 5,
-        _ => 6,
-    }
 }
 
 /// What a stop prints.

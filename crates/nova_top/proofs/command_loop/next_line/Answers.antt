@@ -1,8 +1,8 @@
-use Rattle.std.proofs.Common.{None, refl, ap, sym, ◌∙◌}
-use Rattle.nova_top.specs.CommandGrammar.{command_of}
-use Rattle.nova_top.specs.Loop.{session_of}
-use Rattle.nova_top.proofs.GrammarLemmas.{long-line}
-use Rattle.nova_top.proofs.LineLemmas.{prompt-refused, input-ended, unit-missing, input-failed, answered, answer-causes}
+use Rattle.std.proofs.Common.{Err, refl, ap, sym}
+use Rattle.scp_parser.specs.declared.fault.ParseFault.TheVariants.{TooLong}
+use Rattle.scp_parser.specs.Reading.{reading}
+use Rattle.nova_top.specs.Loop.{session_core, session_of}
+use Rattle.nova_top.proofs.LineLemmas.{prompt-refused, input-ended, unit-missing, input-failed, answered, answer-causes, long-line, long-core, long-answer}
 use Rattle.nova_top.proofs.command_loop.next_line.Goals as goal
 
 pub returns-in-Err-clause-told : goal.returns-in-Err-clause-told
@@ -14,9 +14,9 @@ returns-in-Line-clause-told g c = λ source sink.
     let reads = c.in-Line.ensures.reads source in
     answered (session_of c.args.session.now c.args.lines.now (g.C.Source.left c.args.input.now))
     (session_of c.answer.new.session (record { reader = c.read_line.new.self; budget = c.read_line.new.budget; prompt = c.args.lines.now.prompt }) (g.C.Source.left c.read_line.new.input))
-    c.read_line.new.self.line c.read_command-command.result c.answer.result
+    c.read_line.new.self.line (reading c.line.result.now) c.answer.result
     (g.S.Sink.written c.args.output.now) (g.S.Sink.written c.ask.new.output) (g.S.Sink.written c.answer.new.output)
-    reads.0 (ap command_of (sym c.line.ensures) ∙ sym c.read_command-command.ensures.value)
+    reads.0 (ap reading (sym c.line.ensures))
     (record { core = c.answer.ensures.core; budget = reads.1; open_ = reads.2; prompt = refl; reads = reads.3 })
     (c.in-Ok.ensures.printed sink) (c.answer.ensures.told sink)
 
@@ -29,17 +29,17 @@ pub returns-in-TooLong-clause-told : goal.returns-in-TooLong-clause-told
 returns-in-TooLong-clause-told g c = λ source sink.
     let reads = c.in-TooLong.ensures.reads source in
     answered (session_of c.args.session.now c.args.lines.now (g.C.Source.left c.args.input.now))
-    (session_of c.answer-in-TooLong.new.session (record { reader = c.read_line.new.self; budget = c.read_line.new.budget; prompt = c.args.lines.now.prompt }) (g.C.Source.left c.read_line.new.input))
-    reads.0 None c.answer-in-TooLong.result
-    (g.S.Sink.written c.args.output.now) (g.S.Sink.written c.ask.new.output) (g.S.Sink.written c.answer-in-TooLong.new.output)
+    (session_of c.args.session.now (record { reader = c.read_line.new.self; budget = c.read_line.new.budget; prompt = c.args.lines.now.prompt }) (g.C.Source.left c.read_line.new.input))
+    reads.0 (Err TooLong) c.deny.result
+    (g.S.Sink.written c.args.output.now) (g.S.Sink.written c.ask.new.output) (g.S.Sink.written c.deny.new.output)
     reads.1 (long-line reads.0 reads.2)
-    (record { core = c.answer-in-TooLong.ensures.core; budget = reads.3; open_ = reads.4; prompt = refl; reads = reads.5 })
-    (c.in-Ok.ensures.printed sink) (c.answer-in-TooLong.ensures.told sink)
+    (record { core = long-core (session_core c.args.session.now); budget = reads.3; open_ = reads.4; prompt = refl; reads = reads.5 })
+    (c.in-Ok.ensures.printed sink) (long-answer (session_core c.args.session.now) c.deny.result (g.S.Sink.written c.ask.new.output) (g.S.Sink.written c.deny.new.output) (c.deny.ensures.told sink))
 
 pub returns-in-TooLong-clause-cause : goal.returns-in-TooLong-clause-cause
 returns-in-TooLong-clause-cause g c =
-    answer-causes c.answer-in-TooLong.result (g.S.Sink.fault_count c.args.output.now) (g.S.Sink.fault_count c.ask.new.output) (g.S.Sink.fault_count c.answer-in-TooLong.new.output)
-    (g.C.Source.fault_count c.args.input.now) (g.C.Source.fault_count c.read_line.new.input) c.in-Ok.ensures.cause.quiet (c.in-TooLong.ensures.quiet (λ e. absurd (cc))) c.answer-in-TooLong.ensures.cause c.answer-in-TooLong.ensures.exit
+    answer-causes c.deny.result (g.S.Sink.fault_count c.args.output.now) (g.S.Sink.fault_count c.ask.new.output) (g.S.Sink.fault_count c.deny.new.output)
+    (g.C.Source.fault_count c.args.input.now) (g.C.Source.fault_count c.read_line.new.input) c.in-Ok.ensures.cause.quiet (c.in-TooLong.ensures.quiet (λ e. absurd (cc))) c.deny.ensures.cause c.deny.ensures.exit
 
 pub returns-in-End-clause-told : goal.returns-in-End-clause-told
 returns-in-End-clause-told g c = λ source sink.
