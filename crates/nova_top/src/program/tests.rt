@@ -48,7 +48,7 @@ const FIRST_RUN_PRINTS: &[u8] = b"\nStep expired, PC: 00101 (000000)\nAC0:\t0000
 #[test]
 fn sessions_print_and_end_as_the_tables_say(rt: HostRuntime) -> Result<(), Fail> {
     let quiet = ["-q"];
-    let cases: [(&[u8], &[u8], u8); 22] = [
+    let cases: [(&[u8], &[u8], u8); 27] = [
         (FIRST_RUN, FIRST_RUN_PRINTS, 0),
         (b"", b"", 0),
         (b"\n\n", b"", 0),
@@ -58,17 +58,17 @@ fn sessions_print_and_end_as_the_tables_say(rt: HostRuntime) -> Result<(), Fail>
             FIRST_RUN_PRINTS,
             0,
         ),
-        (b"EXIT\r", b"Not built\n", 0),
+        (b"EXIT\r", b"Unknown command\n", 0),
         // nothing behind EXIT is done
         (b"EXIT\nEXAMINE AC0\n", b"", 0),
         (
-            b"FOO\nexamine ac0\nEXAMINE  AC0\nEXAMINE AC0 \nSTEP -1\n",
-            b"Not built\nNot built\nNot built\nNot built\nNot built\n",
+            b"FOO\nexamine ac0\nE\tAC0 \nSTEP -1\nATTACH\nE PTR BUSY\nE PTR\nSHOW CPU\nSHOW FOO\n",
+            b"Unknown command\nAC0:\t000000\nAC0:\t000000\nInvalid number at 5\nNot built\nNot built\nToo few arguments\nNot built\nInvalid name at 5\n",
             0,
         ),
         (
-            b"DEPOSIT 100000 1\nDEPOSIT 077777 1\nDEPOSIT 8 1\nDEPOSIT 1 200000\nDEPOSIT 1 0000001\n",
-            b"Not built\nNot built\nNot built\nNot built\nNot built\n",
+            b"DEPOSIT 100000 1\nDEPOSIT 077777 1\nDEPOSIT 8 1\nDEPOSIT 1 200000\nDEPOSIT 1 0000001\nE 1\n",
+            b"Value out of range\nInvalid number at 8\nValue out of range\n00001:\t000001\n",
             0,
         ),
         (
@@ -78,7 +78,7 @@ fn sessions_print_and_end_as_the_tables_say(rt: HostRuntime) -> Result<(), Fail>
         ),
         (
             b"DEPOSIT PC 77777\nEXAMINE PC\nDEPOSIT PC 100000\nEXAMINE PC\n",
-            b"PC:\t77777\nNot built\nPC:\t77777\n",
+            b"PC:\t77777\nValue out of range\nPC:\t77777\n",
             0,
         ),
         (
@@ -136,13 +136,13 @@ fn sessions_print_and_end_as_the_tables_say(rt: HostRuntime) -> Result<(), Fail>
         // a count is decimal, may have leading zeros, and is at least 1
         (
             b"DEPOSIT 0 0\nSTEP 010\nSHOW TIME\nSTEP 0\nSTEP 281474976710657\nSTEP 8x\nDEPOSIT C 2\n",
-            b"\nStep expired, PC: 00000 (000000)\nTime: 10\nNot built\nNot built\nNot built\nNot built\n",
+            b"\nStep expired, PC: 00000 (000000)\nTime: 10\nValue out of range\nValue out of range\nInvalid number at 5\nValue out of range\n",
             0,
         ),
         // RUN and GO begin at their address, CONT at PC
         (
-            b"DEPOSIT 100 63077\nDEPOSIT 101 63077\nDEPOSIT 102 63077\nRUN 100\nCONT\nGO\nGO 100000\nRUN \n",
-            b"\nHALT instruction, PC: 00101 (063077)\n\nHALT instruction, PC: 00102 (063077)\n\nHALT instruction, PC: 00103 (000000)\nNot built\nNot built\n",
+            b"DEPOSIT 100 63077\nDEPOSIT 101 63077\nDEPOSIT 102 63077\nRUN 100\nCONT\nGO\nGO 100000\nRUN x\n",
+            b"\nHALT instruction, PC: 00101 (063077)\n\nHALT instruction, PC: 00102 (063077)\n\nHALT instruction, PC: 00103 (000000)\nValue out of range\nInvalid number at 4\n",
             0,
         ),
         // a displacement is signed on an index: LDA 0,-1,2
@@ -151,6 +151,31 @@ fn sessions_print_and_end_as_the_tables_say(rt: HostRuntime) -> Result<(), Fail>
             b"\nStep expired, PC: 00101 (000000)\nAC0:\t000005\n",
             0,
         ),
+        // symbolic text both ways
+        (
+            b"D -M 100 SUBZL 0,0\nE 100\nD PC 100\nSTEP\nE AC0,C\n",
+            b"00100:\t102520\n\nStep expired, PC: 00101 (000000)\nAC0:\t000001\nC:\t0\n",
+            0,
+        ),
+        (
+            b"D -M 100 ADDZL 1,2,SNC\nE 100\nE -M 100\n",
+            b"00100:\t133123\n00100:\tADDZL 1,2,SNC\n",
+            0,
+        ),
+        // each fault with its text
+        (
+            b"FOO\nE 8\nSTEP 0\nD SIZE 1\nE XYZ\nD AC0 200000\nGO 1 2\nD -M 1 FOO\n",
+            b"Unknown command\nInvalid number at 2\nValue out of range\nRead only name\nNo such name\nValue out of range\nToo many arguments at 5\nInvalid instruction at 7\n",
+            0,
+        ),
+        // RUN resets and GO does not
+        (
+            b"D ION 1\nD MASK 7\nD SR 5\nD 100 63077\nGO 100\nE ION,MASK\nRUN 100\nE ION,MASK,SR\n",
+            b"\nHALT instruction, PC: 00101 (000000)\nION:\t1\nMASK:\t000007\n\nHALT instruction, PC: 00101 (000000)\nION:\t0\nMASK:\t000000\nSR:\t000005\n",
+            0,
+        ),
+        // a status of EXIT is 0 to 99
+        (b"EXIT 100\nquit 42\nE AC0\n", b"Value out of range\n", 42),
     ];
     for (lines, prints, status) in cases {
         let seen = run(rt.alloc(), &quiet, lines, 4096, None)?;
@@ -283,10 +308,12 @@ fn a_long_line_is_no_command(rt: HostRuntime) -> Result<(), Fail> {
         let mut lines = vec![in rt.alloc(); b'A'; length]?;
         lines.extend_from_slice(b"\r\nEXAMINE PC\n")?;
         let seen = run(rt.alloc(), &quiet, lines.as_slice(), 4096, None)?;
-        assert_eq!(rt;
-            seen.console.as_slice(),
-            b"Not built\nPC:\t00000\n".as_slice()
-        );
+        let prints = if length == 512 {
+            b"Unknown command\nPC:\t00000\n".as_slice()
+        } else {
+            b"Line too long\nPC:\t00000\n".as_slice()
+        };
+        assert_eq!(rt; seen.console.as_slice(), prints);
         assert_eq!(rt; seen.status, 0);
     }
     Ok(())
