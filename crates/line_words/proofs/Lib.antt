@@ -1,1 +1,1 @@
-mod PlaceLemmas
+pub mod PlaceLemmas

@@ -4,9 +4,10 @@ use Rattle.std.proofs.lemmas.Bool.{ne_eqb}
 use Rattle.std.proofs.lemmas.List.{append-nil}
 use Rattle.std.proofs.lemmas.List.Elements.{All-head}
 use Rattle.nova_word.specs.Numbers.{IsNumber, IsDigit}
+use Rattle.line_words.specs.Words.{past_blanks}
 use Rattle.nova_symbols.specs.declared.fault.SymbolFault.{SymbolFault}
 use Rattle.nova_symbols.specs.declared.fault.SymbolFault.TheVariants.{BadField}
-use Rattle.nova_symbols.specs.Operands.{◌>>=◌, is_separator, operand_at, past_blanks, after_comma, index_found, is_octal, number, index_at, negative, relative, signed, indexed, not_indexed, absolute, address, indirect, target_at}
+use Rattle.nova_symbols.specs.Operands.{◌>>=◌, is_separator, operand_at, after_comma, index_found, is_octal, number, index_at, negative, relative, signed, indexed, not_indexed, absolute, address, indirect, target_at}
 use Rattle.nova_symbols.specs.Forms.{IsGap, IsPair, IsIndex, IsNegative, IsSigned, IsRelative, here as here_form, ahead as ahead_form, behind as behind_form, IsAddress, page_zero, indexed as indexed_form, relative as relative_form, IsTarget, direct, indirect as indirect_form}
 use Rattle.nova_symbols.proofs.SplitLemmas.{free, StartsWith, is_other, operand_split, after_gap, starts_gap, starts_other, number_free, number_reads}
 

@@ -8,13 +8,14 @@ use Rattle.std.proofs.Common.{drop, take, ◌≡◌, ℕ, ◌+◌, ◌-◌, ◌*
 use Rattle.std.proofs.lemmas.Bool.{eqb-true, eqb-false, ltb-true, ltb-false}
 use Rattle.std.proofs.lemmas.Slice.Eq.{bytes_eq-Decides}
 use Rattle.std.specs.Str.{bytes_eq}
+use Rattle.line_words.specs.Words.{is_blank, word_at, past_blanks}
 use Rattle.nova_symbols.specs.declared.fault.SymbolFault.{SymbolFault}
 use Rattle.nova_symbols.specs.declared.names.Shape.{Shape}
 use Rattle.nova_symbols.specs.declared.names.Shape.TheVariants.{Alone, Processor, Memory, Load, Arithmetic, Transfer, Device}
 use Rattle.nova_symbols.specs.declared.names.Naming.{Naming}
 use Rattle.nova_symbols.specs.Names.{entry, memory_names, load_names, indirect_marks, arithmetic_names, carry_letters, shift_letters, no_load_marks}
 use Rattle.nova_symbols.specs.Naming.{naming, memory_named, letter, arithmetic_letters, arithmetic_named, special_named, transfer_named, named, device_named}
-use Rattle.nova_symbols.specs.Operands.{◌>>=◌, is_blank, word_at, operand_at, past_blanks, after_comma, comma_at, is_octal, number, accumulator_at, index_at, device_number_at, device_at, skip_at, negative, relative, signed, indexed, not_indexed, absolute, address, indirect, target_at, ended}
+use Rattle.nova_symbols.specs.Operands.{◌>>=◌, operand_at, after_comma, comma_at, is_octal, number, accumulator_at, index_at, device_number_at, device_at, skip_at, negative, relative, signed, indexed, not_indexed, absolute, address, indirect, target_at, ended}
 use Rattle.nova_symbols.specs.Canon.{short_octal, signed_octal, address_text, target_text, memory_text, load_text, skip_text, arithmetic_text, canon, input_output_text, transfer_text, device_alone_text, accumulator_device_text, device_text}
 use Rattle.nova_symbols.specs.Reading.{reading, read_from_end, with_place, named_operands, operands, memory_operands, load_operands, arithmetic_operands, skip_operand, processor_operand, transfer_operands, device_operand, device_operands}
 

@@ -4,11 +4,12 @@ use Rattle.std.proofs.Common.{◌≡◌, ℕ, ◌+◌, ◌-◌, ◌*◌, ◌%◌
 use Rattle.std.proofs.lemmas.Bool.{and_parts, not-true, eqb-true, eqb-false, ltb-false, cases_Bool, cases_lt, or_parts, false_from_ne_true, false≢true}
 use Rattle.std.proofs.lemmas.Bool.Decides.{nat_tests}
 use Rattle.nova_word.specs.Numbers.{IsNumber, value_of}
+use Rattle.line_words.specs.Words.{past_blanks}
 use Rattle.nova_symbols.specs.declared.fault.SymbolFault.{SymbolFault}
 use Rattle.nova_symbols.specs.declared.fault.SymbolFault.TheVariants.{BadField, OutOfRange}
 use Rattle.nova_symbols.specs.Names.{skip_names}
 use Rattle.nova_symbols.specs.Naming.{name_place, device_named}
-use Rattle.nova_symbols.specs.Operands.{◌>>=◌, is_separator, operand_at, past_blanks, after_comma, is_octal, number, accumulator_at, index_at, device_number_at, device_found, device_at, skip_found, skip_at, negative, relative, signed, not_indexed, address}
+use Rattle.nova_symbols.specs.Operands.{◌>>=◌, is_separator, operand_at, after_comma, is_octal, number, accumulator_at, index_at, device_number_at, device_found, device_at, skip_found, skip_at, negative, relative, signed, not_indexed, address}
 use Rattle.nova_symbols.specs.Forms.{IsPair, IsAccumulator, IsIndex, IsSigned, IsRelative, here as here_form, ahead as ahead_form, behind as behind_form, IsAddress, page_zero, indexed as indexed_form, relative as relative_form, IsSkip, IsDevice, by_code}
 use Rattle.nova_symbols.specs.Faults.{IsAbove, IsNeverAbove, IsSignedAbove, plain_above, negative_above, IsAddressAbove, page_zero_above, ahead_above, behind_above}
 use Rattle.nova_symbols.proofs.OctalLemmas.{is_octal-number}

@@ -2,16 +2,17 @@
 use Rattle.std.proofs.Common.{◌≡◌, ◌↔◌, ℕ, ◌+◌, ◌-◌, ◌*◌, ◌<◌, Option, Some, None, Result, Ok, Err, List, [], ◌∷◌, ◌++◌, length, take, drop, All, refl, ap, sym, subst, ◌∙◌, inl, inr, arith, length-append}
 use Rattle.std.specs.List.{position_or_len}
 use Rattle.std.proofs.lemmas.List.{take-append-drop}
+use Rattle.line_words.specs.Words.{is_blank, word_at, past_blanks, IsBlank, StartsIn}
 use Rattle.nova_symbols.specs.declared.fault.SymbolFault.{SymbolFault}
 use Rattle.nova_symbols.specs.declared.fault.SymbolFault.TheVariants.{UnknownName, Extra}
 use Rattle.nova_symbols.specs.declared.names.Shape.{Shape}
 use Rattle.nova_symbols.specs.declared.names.Shape.TheVariants.{Alone, Processor, Memory, Load, Arithmetic, Transfer, Device}
 use Rattle.nova_symbols.specs.declared.names.Naming.{Naming}
 use Rattle.nova_symbols.specs.Naming.{named}
-use Rattle.nova_symbols.specs.Operands.{◌>>=◌, is_blank, word_at, operand_at, past_blanks, after_comma, comma_found, comma_at, accumulator_at, device_at, skip_at, number, ended}
+use Rattle.nova_symbols.specs.Operands.{◌>>=◌, operand_at, after_comma, comma_found, comma_at, accumulator_at, device_at, skip_at, number, ended}
 use Rattle.nova_symbols.specs.Reading.{memory_operands, load_operands, skip_operand, arithmetic_operands, device_operand, transfer_operands, one_or_two, device_operands, processor_operand, operands, named_operands, read_from_end, placed, with_place, reading}
-use Rattle.nova_symbols.specs.Forms.{IsBlank, IsAccumulator, IsSkip, IsDevice, IsNamed}
-use Rattle.nova_symbols.specs.Faults.{IsAbove, IsNeverAbove, IsLastAccumulator, IsFirstAccumulator, IsLastSkip, IsLastDevice, TargetFaults, SecondFaults, DeviceFaults, OperandFaults, StartsIn, Faults, unknown_name, behind_name, at_operands}
+use Rattle.nova_symbols.specs.Forms.{IsAccumulator, IsSkip, IsDevice, IsNamed}
+use Rattle.nova_symbols.specs.Faults.{IsAbove, IsNeverAbove, IsLastAccumulator, IsFirstAccumulator, IsLastSkip, IsLastDevice, TargetFaults, SecondFaults, DeviceFaults, OperandFaults, Faults, unknown_name, behind_name, at_operands}
 use Rattle.nova_symbols.proofs.FoundLemmas.{blank_is, blanked}
 use Rattle.nova_symbols.proofs.ReadsLemmas.{named_is}
 use Rattle.nova_symbols.proofs.SplitLemmas.{word_split, blank_passes, past_blanks_split}

@@ -10,12 +10,13 @@ use Rattle.std.proofs.lemmas.List.Quantifiers.{position-Some}
 use Rattle.std.proofs.lemmas.List.Sums.{prefix_len-le-length, prefix_len_passes}
 use Rattle.std.proofs.lemmas.Slice.Eq.{bytes_eq-Decides}
 use Rattle.nova_word.specs.Numbers.{IsNumber, IsDigit, value_of}
+use Rattle.line_words.specs.Words.{is_blank, past_blanks, IsBlank, IsBlanks}
 use Rattle.nova_symbols.specs.declared.fault.SymbolFault.{SymbolFault}
 use Rattle.nova_symbols.specs.declared.fault.SymbolFault.TheVariants.{BadField, OutOfRange}
 use Rattle.nova_symbols.specs.Names.{entry, skip_names, device_names, device_codes}
 use Rattle.nova_symbols.specs.Naming.{name_place, code_found, device_named}
-use Rattle.nova_symbols.specs.Operands.{◌>>=◌, is_blank, is_separator, is_octal_digit, operand_at, past_blanks, behind_comma, after_comma, comma_found, comma_at, is_octal, number, accumulator_at, index_at, device_number_at, device_found, device_at, skip_found, skip_at, negative, relative, signed, indexed, not_indexed, index_found, absolute, address, indirect, target_at}
-use Rattle.nova_symbols.specs.Forms.{IsEntry, IsBlank, IsBlanks, IsGap, IsPair, IsAccumulator, IsIndex, IsNegative, IsSigned, IsRelative, here as here_form, ahead as ahead_form, behind as behind_form, IsAddress, page_zero, indexed as indexed_form, relative as relative_form, IsTarget, direct, indirect as indirect_form, IsSkip, IsDevice, by_name, by_code}
+use Rattle.nova_symbols.specs.Operands.{◌>>=◌, is_separator, is_octal_digit, operand_at, behind_comma, after_comma, comma_found, comma_at, is_octal, number, accumulator_at, index_at, device_number_at, device_found, device_at, skip_found, skip_at, negative, relative, signed, indexed, not_indexed, index_found, absolute, address, indirect, target_at}
+use Rattle.nova_symbols.specs.Forms.{IsEntry, IsGap, IsPair, IsAccumulator, IsIndex, IsNegative, IsSigned, IsRelative, here as here_form, ahead as ahead_form, behind as behind_form, IsAddress, page_zero, indexed as indexed_form, relative as relative_form, IsTarget, direct, indirect as indirect_form, IsSkip, IsDevice, by_name, by_code}
 
 -- a step of a reader that answered
 pub record Answered {A B : Type 0} (r : Result A SymbolFault) (f : A → Result B SymbolFault) (y : B) : Type 0 where

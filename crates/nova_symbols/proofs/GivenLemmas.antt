@@ -1,12 +1,13 @@
 -- Texts of each form are read: the whole text, and no text is two words.
 use Rattle.std.proofs.Common.{◌≡◌, ◌↔◌, ℕ, ◌+◌, ◌*◌, ◌<◌, true, Option, Result, Ok, Err, List, [], ◌++◌, length, ap, sym, subst, ◌∙◌, arith}
 use Rattle.std.proofs.lemmas.List.{append-nil}
+use Rattle.line_words.specs.Words.{is_blank, word_at, past_blanks}
 use Rattle.nova_symbols.specs.declared.fault.SymbolFault.{SymbolFault}
 use Rattle.nova_symbols.specs.declared.names.Shape.{Shape}
 use Rattle.nova_symbols.specs.declared.names.Shape.TheVariants.{Alone}
 use Rattle.nova_symbols.specs.declared.names.Naming.{Naming}
 use Rattle.nova_symbols.specs.Naming.{named}
-use Rattle.nova_symbols.specs.Operands.{◌>>=◌, is_separator, is_blank, word_at, operand_at, past_blanks, after_comma, comma_found, comma_at, accumulator_at, ended}
+use Rattle.nova_symbols.specs.Operands.{◌>>=◌, is_separator, operand_at, after_comma, comma_found, comma_at, accumulator_at, ended}
 use Rattle.nova_symbols.specs.Reading.{memory_operands, load_operands, skip_operand, arithmetic_operands, device_operand, transfer_operands, one_or_two, device_operands, processor_operand, operands, named_operands, read_from_end, with_place, reading}
 use Rattle.nova_symbols.specs.Forms.{IsGap, IsPair, IsAccumulator, IsTarget, IsSkip, IsDevice, AreOperands, processor, memory, load, no_skip, skip, transfer, device, with_accumulator, Reads, name_alone, name_and_operands}
 use Rattle.nova_symbols.proofs.ReadsLemmas.{reads_found}

@@ -7,12 +7,12 @@ use Rattle.std.specs.Str.{bytes_eq, str_to_ascii_uppercase}
 use Rattle.std.proofs.lemmas.Bool.{eqb-true, and_parts}
 use Rattle.std.proofs.lemmas.Bool.Decides.{nat_tests}
 use Rattle.std.proofs.lemmas.List.{take-map, drop-map, map-append}
+use Rattle.line_words.specs.Words.{is_blank}
 use Rattle.nova_symbols.specs.declared.names.Shape.{Shape}
 use Rattle.nova_symbols.specs.declared.names.Shape.TheVariants.{Alone, Processor, Memory, Load, Arithmetic, Transfer, Device}
 use Rattle.nova_symbols.specs.declared.names.Naming.{Naming}
 use Rattle.nova_symbols.specs.Names.{entry, memory_names, load_names, arithmetic_names, carry_letters, shift_letters, no_load_marks, transfer_names, pulse_letters, test_names, lone_words, lone_names, processor_words, processor_names}
 use Rattle.nova_symbols.specs.Naming.{name_place, otherwise, naming, memory_found, load_found, memory_named, letter_found, letter, letters_end, arithmetic_letters, arithmetic_found, arithmetic_named, lone_found, processor_found, test_found, transfer_found, special_named, transfer_named, named}
-use Rattle.nova_symbols.specs.Operands.{is_blank}
 use Rattle.nova_symbols.specs.Forms.{IsEntry, AreLetters, IsNamed, memory_name, load_name, arithmetic_name, lone_name, processor_name, test_name, no_transfer_name, transfer_name}
 use Rattle.nova_symbols.proofs.CanonLemmas.{every, every_at}
 use Rattle.nova_symbols.proofs.SplitLemmas.{free, spelled_word}

@@ -6,15 +6,16 @@ use Rattle.std.specs.Str.{str_to_ascii_uppercase}
 use Rattle.std.proofs.lemmas.Bool.{eqb-true, eqb-false}
 use Rattle.std.proofs.lemmas.List.{take-append-drop, append-nil}
 use Rattle.std.proofs.lemmas.List.Elements.{All-cons}
+use Rattle.line_words.specs.Words.{is_blank, word_at, past_blanks, IsBlank}
 use Rattle.nova_symbols.specs.declared.fault.SymbolFault.{SymbolFault}
 use Rattle.nova_symbols.specs.declared.names.Shape.{Shape}
 use Rattle.nova_symbols.specs.declared.names.Shape.TheVariants.{Alone, Processor, Memory, Load, Arithmetic, Transfer, Device}
 use Rattle.nova_symbols.specs.declared.names.Naming.{Naming}
 use Rattle.nova_symbols.specs.Names.{entry, memory_names, load_names, arithmetic_names, carry_letters, shift_letters, no_load_marks, transfer_names, pulse_letters, test_names, lone_words, lone_names, processor_words, processor_names}
 use Rattle.nova_symbols.specs.Naming.{name_place, otherwise, naming, memory_found, load_found, memory_named, letter_found, letter, letters_end, arithmetic_letters, arithmetic_found, arithmetic_named, lone_found, processor_found, test_found, transfer_found, special_named, transfer_named, named, device_named}
-use Rattle.nova_symbols.specs.Operands.{◌>>=◌, is_blank, word_at, operand_at, past_blanks, after_comma, comma_at, accumulator_at, device_at, device_number_at, skip_at, target_at, is_octal, number, indirect, address, absolute, not_indexed, ended}
+use Rattle.nova_symbols.specs.Operands.{◌>>=◌, operand_at, after_comma, comma_at, accumulator_at, device_at, device_number_at, skip_at, target_at, is_octal, number, indirect, address, absolute, not_indexed, ended}
 use Rattle.nova_symbols.specs.Reading.{memory_operands, load_operands, skip_operand, arithmetic_operands, device_operand, transfer_operands, one_or_two, device_operands, processor_operand, operands, named_operands, read_from_end, with_place, reading}
-use Rattle.nova_symbols.specs.Forms.{IsEntry, IsBlank, IsPair, IsAccumulator, IsTarget, IsSkip, IsDevice, AreOperands, processor, memory, load, no_skip, skip, transfer, device, with_accumulator, AreLetters, IsNamed, memory_name, load_name, arithmetic_name, lone_name, processor_name, test_name, no_transfer_name, transfer_name, Reads, name_alone, name_and_operands}
+use Rattle.nova_symbols.specs.Forms.{IsEntry, IsPair, IsAccumulator, IsTarget, IsSkip, IsDevice, AreOperands, processor, memory, load, no_skip, skip, transfer, device, with_accumulator, AreLetters, IsNamed, memory_name, load_name, arithmetic_name, lone_name, processor_name, test_name, no_transfer_name, transfer_name, Reads, name_alone, name_and_operands}
 use Rattle.nova_symbols.proofs.FoundLemmas.{bind_ok, positive, entry_found, blanked, blank_is, Parted, after_comma_found, comma_found_at, Begins, whole_part, pair_found, accumulator_found, target_found_at, device_found_at, skip_found_at}
 
 -- the names

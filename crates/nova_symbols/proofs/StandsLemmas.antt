@@ -4,11 +4,12 @@ use Rattle.std.proofs.Common.{◌≡◌, ℕ, ◌+◌, ◌<◌, suc, Bool, true,
 use Rattle.std.specs.List.{position_or_len}
 use Rattle.std.proofs.lemmas.Bool.{and_parts, not-true, eqb-true, eq-eqb, ne_eqb, or_cases, or_right, and_from, not_from_false, false_from_ne_true, false≢true}
 use Rattle.std.proofs.lemmas.List.Elements.{All-cons, All-nil, All-head, All-tail}
+use Rattle.line_words.specs.Words.{is_blank, past_blanks, IsBlank, IsBlanks, StartsIn}
 use Rattle.nova_symbols.specs.declared.fault.SymbolFault.{SymbolFault}
 use Rattle.nova_symbols.specs.declared.fault.SymbolFault.TheVariants.{BadField, OutOfRange, Extra}
-use Rattle.nova_symbols.specs.Operands.{◌>>=◌, is_blank, is_separator, operand_at, past_blanks, behind_comma, after_comma, comma_found, comma_at, ended}
-use Rattle.nova_symbols.specs.Forms.{IsBlank, IsBlanks, IsGap}
-use Rattle.nova_symbols.specs.Faults.{IsSeparator, StartsIn, Stands, IsCommaNext, FieldFaults, too_large, bad, LastFaults, at_last, behind_last, IsBare, IsPastBlanks, FirstFaults, at_first, no_comma, behind_comma as behind_comma_form}
+use Rattle.nova_symbols.specs.Operands.{◌>>=◌, is_separator, operand_at, behind_comma, after_comma, comma_found, comma_at, ended}
+use Rattle.nova_symbols.specs.Forms.{IsGap}
+use Rattle.nova_symbols.specs.Faults.{IsSeparator, Stands, IsCommaNext, FieldFaults, too_large, bad, LastFaults, at_last, behind_last, IsBare, IsPastBlanks, FirstFaults, at_first, no_comma, behind_comma as behind_comma_form}
 use Rattle.nova_symbols.proofs.FoundLemmas.{operand_parts, blank_is, blanked, behind_found, after_comma_found, same_rest}
 use Rattle.nova_symbols.proofs.SplitLemmas.{free, StartsWith, is_other, operand_split, past_blanks_split, blank_passes}
 use Rattle.nova_symbols.proofs.GivenLemmas.{comma_given}

@@ -1,11 +1,10 @@
 -- Laws of names and of places in texts.
-use Rattle.std.proofs.Common.{◌≡◌, ℕ, ◌+◌, ◌<◌, ◌≤◌, Bool, true, false, ◌&&◌, cond, ltb, Option, Some, None, List, [], ◌∷◌, length, drop, get_or, map, refl, ap, ◌∙◌, arith, eqb, unwrap_or}
+use Rattle.std.proofs.Common.{◌≡◌, ℕ, ◌+◌, ◌<◌, Bool, true, false, ◌&&◌, cond, ltb, Option, Some, None, List, [], ◌∷◌, length, drop, get_or, map, refl, ap, ◌∙◌, arith, eqb}
 use Rattle.std.specs.Char.{to_ascii_uppercase}
 use Rattle.std.specs.List.{position, position_or_len, prefix_len}
 use Rattle.std.specs.Prelude.{not}
 use Rattle.std.specs.Str.{bytes_eq, str_to_ascii_uppercase}
 use Rattle.std.proofs.lemmas.List.{at_drop_more, get_or-map, length-map}
-use Rattle.std.proofs.lemmas.List.Sums.{prefix_len-le-length}
 use Rattle.std.proofs.lemmas.Bool.{eqb-true}
 use Rattle.std.proofs.lemmas.Bool.Decides.{nat_tests}
 
@@ -15,16 +14,6 @@ same_name-drop name word i h k =
     let capitals = str_to_ascii_uppercase word in
     let within : i < length capitals = omega (arith, length-map word to_ascii_uppercase) in
     at_drop_more (λ (x : List ℕ). bytes_eq x (drop i capitals)) name i 0 h ∙ at_drop_more (λ (y : List ℕ). bytes_eq (get_or name i 0 ∷ drop (i + 1) name) y) capitals i 0 within ∙ ap (λ (c : ℕ). eqb (get_or name i 0) c && bytes_eq (drop (i + 1) name) (drop (i + 1) capitals)) (get_or-map to_ascii_uppercase word i 0 0 k)
-
--- a place that is at most the end
-some_or_end : (a n : ℕ) → a ≤ n → unwrap_or (cond (ltb a n) (Some a) None) n ≡ a
-some_or_end a n h = grind (arith, nat_tests)
-
-pub place_or_length : (p : ℕ → Bool) (text : List ℕ) → unwrap_or (position p text) (length text) ≡ position_or_len p text
-place_or_length p text = some_or_end (position_or_len p text) (length text) (prefix_len-le-length _ text)
-
-pub place-le-length : (p : ℕ → Bool) (text : List ℕ) → position_or_len p text ≤ length text
-place-le-length p text = prefix_len-le-length _ text
 
 pub prefix_len-map : {X : Type 0} (p : List ℕ → Bool) (f : X → List ℕ) (xs : List X) → prefix_len p (map f xs) ≡ prefix_len (λ x. p (f x)) xs
 prefix_len-map p f [] = refl

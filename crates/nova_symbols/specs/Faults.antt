@@ -2,21 +2,17 @@
 -- A fault of an operand is said by how many bytes of the text are left at its place.
 use Rattle.std.specs.Prelude.{◌≡◌, ℕ, ◌+◌, ◌<◌, ◌⊎◌, All, List, [], ◌∷◌, ◌++◌, length}
 use Rattle.nova_word.specs.Numbers.{IsNumber}
+use Rattle.line_words.specs.Words.{IsBlank, IsBlanks, StartsIn}
 use Rattle.nova_symbols.specs.declared.fault.SymbolFault.{SymbolFault}
 use Rattle.nova_symbols.specs.declared.fault.SymbolFault.TheVariants.{UnknownName, BadField, OutOfRange, Extra}
 use Rattle.nova_symbols.specs.declared.names.Shape.{Shape}
 use Rattle.nova_symbols.specs.declared.names.Shape.TheVariants.{Alone, Processor, Memory, Load, Arithmetic, Transfer, Device}
-use Rattle.nova_symbols.specs.Forms.{IsBlank, IsBlanks, IsGap, IsAccumulator, IsIndex, IsSigned, IsAddress, IsSkip, IsDevice, IsNamed}
+use Rattle.nova_symbols.specs.Forms.{IsGap, IsAccumulator, IsIndex, IsSigned, IsAddress, IsSkip, IsDevice, IsNamed}
 use Rattle.nova_symbols.specs.Reading.{placed}
 
 -- blanks and commas end an operand
 abbrev pub IsSeparator : ℕ → Type 0
 IsSeparator b = IsBlank b ⊎ (b ≡ 44)
-
--- a text that begins with such a byte, or is empty
-abbrev pub StartsIn : (ℕ → Type 0) → List ℕ → Type 0
-StartsIn P [] = Unit {0}
-StartsIn P (b ∷ more) = P b
 
 -- a text that begins with that byte
 abbrev pub StartsAs : ℕ → List ℕ → Type 0

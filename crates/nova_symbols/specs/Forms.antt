@@ -1,7 +1,8 @@
 -- The texts of each word, form by form: a name with its letters, and operands behind blanks, with a comma
 -- between two operands. This says nothing of how a text is read or printed.
-use Rattle.std.specs.Prelude.{◌≡◌, ℕ, ◌+◌, ◌-◌, ◌*◌, ◌%◌, ◌<◌, ◌≤◌, ◌⊎◌, All, List, [], ◌∷◌, ◌++◌, length, slice_index}
+use Rattle.std.specs.Prelude.{◌≡◌, ℕ, ◌+◌, ◌-◌, ◌*◌, ◌%◌, ◌<◌, ◌≤◌, ◌⊎◌, List, [], ◌∷◌, ◌++◌, length, slice_index}
 use Rattle.std.specs.Str.{str_to_ascii_uppercase}
+use Rattle.line_words.specs.Words.{IsBlanks}
 use Rattle.nova_word.specs.Numbers.{IsNumber}
 use Rattle.nova_symbols.specs.declared.names.Shape.{Shape}
 use Rattle.nova_symbols.specs.declared.names.Shape.TheVariants.{Alone, Processor, Memory, Load, Arithmetic, Transfer, Device}
@@ -15,13 +16,6 @@ IsSpelled text capitals = str_to_ascii_uppercase text ≡ capitals
 pub record IsEntry (table : List (List ℕ)) (text : List ℕ) (k : ℕ) : Type 0 where
   pub within : k < length table
   pub spelled : IsSpelled text (entry table k)
-
--- spaces and tabs
-abbrev pub IsBlank : ℕ → Type 0
-IsBlank b = (b ≡ 32) ⊎ (b ≡ 9)
-
-abbrev pub IsBlanks : List ℕ → Type 0
-IsBlanks text = All IsBlank text
 
 -- a comma, and blanks round it
 pub record IsGap (text : List ℕ) : Type 0 where

@@ -1,7 +1,8 @@
 -- The operands of a text, one by one from the left. A fault is said by how many bytes of the text are
 -- left at its place.
-use Rattle.std.specs.Prelude.{◌≡◌, ℕ, ◌+◌, ◌-◌, ◌*◌, ◌%◌, ◌==◌, Bool, ◌||◌, ◌&&◌, Option, Some, None, Result, Ok, Err, List, [], ◌∷◌, length, take, drop, nat_lt, nat_le, not, if◌then◌else◌}
+use Rattle.std.specs.Prelude.{◌≡◌, ℕ, ◌+◌, ◌-◌, ◌*◌, ◌%◌, ◌==◌, Bool, ◌||◌, ◌&&◌, Option, Some, None, Result, Ok, Err, List, [], ◌∷◌, length, take, drop, nat_lt, nat_le, if◌then◌else◌}
 use Rattle.std.specs.List.{position_or_len, list_all}
+use Rattle.line_words.specs.Words.{is_blank, past_blanks}
 use Rattle.nova_word.specs.Numbers.{value_of}
 use Rattle.nova_symbols.specs.declared.fault.SymbolFault.{SymbolFault}
 use Rattle.nova_symbols.specs.declared.fault.SymbolFault.TheVariants.{BadField, OutOfRange, Extra}
@@ -18,24 +19,13 @@ abbrev pub Gives : {X Y : Type 0} → (X → Y) → Result X SymbolFault → Res
 Gives view (Ok x) reading = reading ≡ Ok (view x)
 Gives view (Err e) reading = reading ≡ Err e
 
--- a blank is a space or a tab
-abbrev pub is_blank : ℕ → Bool
-is_blank b = b == 32 || b == 9
-
 -- a comma ends an operand too
 abbrev pub is_separator : ℕ → Bool
 is_separator b = is_blank b || b == 44
 
--- the first word and what follows it
-unfoldable pub word_at : List ℕ → List ℕ × List ℕ
-word_at text = let n = position_or_len is_blank text in (take n text, drop n text)
-
 -- the operand with which a text begins and what follows it; it has no byte where none stands there
 unfoldable pub operand_at : List ℕ → List ℕ × List ℕ
 operand_at text = let n = position_or_len is_separator text in (take n text, drop n text)
-
-unfoldable pub past_blanks : List ℕ → List ℕ
-past_blanks text = drop (position_or_len (λ b. not (is_blank b)) text) text
 
 -- the text behind a comma, with blanks before and after it
 abbrev pub behind_comma : List ℕ → Option (List ℕ)

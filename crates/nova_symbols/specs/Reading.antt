@@ -1,12 +1,13 @@
 -- Which word a text stands for, or its leftmost fault.
 use Rattle.std.specs.Prelude.{ℕ, ◌+◌, ◌-◌, ◌*◌, Option, Some, None, Result, Ok, Err, List, length}
+use Rattle.line_words.specs.Words.{word_at, past_blanks}
 use Rattle.nova_symbols.specs.declared.fault.SymbolFault.{SymbolFault}
 use Rattle.nova_symbols.specs.declared.fault.SymbolFault.TheVariants.{UnknownName, BadField, OutOfRange, Extra}
 use Rattle.nova_symbols.specs.declared.names.Shape.{Shape}
 use Rattle.nova_symbols.specs.declared.names.Shape.TheVariants.{Alone, Processor, Memory, Load, Arithmetic, Transfer, Device}
 use Rattle.nova_symbols.specs.declared.names.Naming.{Naming}
 use Rattle.nova_symbols.specs.Naming.{named}
-use Rattle.nova_symbols.specs.Operands.{◌>>=◌, word_at, operand_at, past_blanks, after_comma, comma_at, accumulator_at, device_at, skip_at, target_at, ended}
+use Rattle.nova_symbols.specs.Operands.{◌>>=◌, operand_at, after_comma, comma_at, accumulator_at, device_at, skip_at, target_at, ended}
 
 unfoldable pub memory_operands : ℕ → List ℕ → Result ℕ SymbolFault
 memory_operands bits text = do

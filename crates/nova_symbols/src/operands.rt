@@ -2,28 +2,17 @@
 
 ghost use Rattle.std.specs.Prelude.{◌≡◌, ◌+◌, ◌<◌, ◌≤◌, ◌^◌, length, IfOk, IfSome, not, option_map, take, drop};
 ghost use Rattle.std.specs.List.{position_or_len, position};
-ghost use Rattle.nova_symbols.specs.Operands.{Gives, is_blank, is_separator, word_at, operand_at, past_blanks, after_comma, comma_at, number, accumulator_at, index_at, device_number_at, negative, relative, signed, indexed, not_indexed, absolute, address, indirect, target_at, ended};
+ghost use Rattle.line_words.specs.Words.{is_blank, word_at, past_blanks};
+ghost use Rattle.nova_symbols.specs.Operands.{Gives, is_separator, operand_at, after_comma, comma_at, number, accumulator_at, index_at, device_number_at, negative, relative, signed, indexed, not_indexed, absolute, address, indirect, target_at, ended};
 
 use crate::fault::SymbolFault;
+use line_words::{is_blank, past_blanks};
 use nova_word::{NumberFault, read_octal};
-
-fn is_blank(b: u8) -> bool
-    ensures { result ≡ is_blank b }
-{
-    b == b' ' || b == b'\t'
-}
 
 fn is_separator(b: u8) -> bool
     ensures { result ≡ is_separator b }
 {
     is_blank(b) || b == b','
-}
-
-// The place of the first blank.
-fn blank_place(text: &[u8]) -> Option<usize>
-    ensures { result ≡ position is_blank text.now }
-{
-    text.iter().position(|b| is_blank(*b))
 }
 
 // The place of the first blank or comma.
@@ -33,46 +22,13 @@ fn separator_place(text: &[u8]) -> Option<usize>
     text.iter().position(|b| is_separator(*b))
 }
 
-// The place of the first byte that is no blank.
-fn other_place(text: &[u8]) -> Option<usize>
-    ensures { result ≡ position (λ b. not (is_blank b)) text.now }
-{
-    text.iter().position(|b| !is_blank(*b))
-}
-
-// The first blank, or the end.
-#[tactic(auto, using(crate::proofs::TextLemmas::place_or_length))]
-fn first_blank(text: &[u8]) -> usize
-    ensures place { result ≡ position_or_len is_blank text.now }
-    ensures within { result ≤ length text.now }
-{
-    blank_place(text).unwrap_or(text.len())
-}
-
 // The first blank or comma, or the end.
-#[tactic(auto, using(crate::proofs::TextLemmas::place_or_length))]
+#[tactic(auto, using(line_words::proofs::PlaceLemmas::place_or_length))]
 fn first_separator(text: &[u8]) -> usize
     ensures place { result ≡ position_or_len is_separator text.now }
     ensures within { result ≤ length text.now }
 {
     separator_place(text).unwrap_or(text.len())
-}
-
-// The first byte that is no blank, or the end.
-#[tactic(auto, using(crate::proofs::TextLemmas::place_or_length))]
-fn first_other(text: &[u8]) -> usize
-    ensures place { result ≡ position_or_len (λ b. not (is_blank b)) text.now }
-    ensures within { result ≤ length text.now }
-{
-    other_place(text).unwrap_or(text.len())
-}
-
-// The first word and what follows it.
-#[tactic(auto, unfolding(crate::specs::Operands::word_at))]
-pub fn word_at(text: &[u8]) -> (&[u8], &[u8])
-    ensures { (result.0.now, result.1.now) ≡ word_at text.now }
-{
-    text.split_at(first_blank(text))
 }
 
 // The operand with which a text begins and what follows it.
@@ -82,13 +38,6 @@ pub fn operand_at(text: &[u8]) -> (&[u8], &[u8])
     ensures length { length result.0.now + length result.1.now ≡ length text.now }
 {
     text.split_at(first_separator(text))
-}
-
-#[tactic(auto, unfolding(crate::specs::Operands::past_blanks))]
-pub fn past_blanks(text: &[u8]) -> &[u8]
-    ensures { result.now ≡ past_blanks text.now }
-{
-    &text[first_other(text)..]
 }
 
 // The text behind a comma, with blanks before and after it.
