@@ -53,3 +53,6 @@ pub fn reg_text(kind: Kind, i: u8, out: &mut [u8; 8]) -> usize
         None => 0,
     }
 }
+
+#[cfg(test)]
+mod tests;

@@ -30,7 +30,11 @@ pub fn disk_register(i: u8) -> Option<Register>
         0 => up_to("BUSY", 1),
         1 => up_to("DONE", 1),
         2 => up_to("STOP_IOE", 1),
-        3 => Register { name: "TIME", least: 1, largest: 65535 },
+        3 => Register {
+            name: "TIME",
+            least: 1,
+            largest: 65535,
+        },
         4 => up_to("DA", 0o17777),
         5 => up_to("MA", 0o77777),
         6 => up_to("STAT", 0o17),
@@ -49,7 +53,11 @@ pub fn tape_register(i: u8) -> Option<Register>
         0 => up_to("BUSY", 1),
         1 => up_to("DONE", 1),
         2 => up_to("STOP_IOE", 1),
-        3 => Register { name: "TIME", least: 1, largest: 65535 },
+        3 => Register {
+            name: "TIME",
+            least: 1,
+            largest: 65535,
+        },
         4 => up_to("CMD", 7),
         5 => up_to("DRIVE", 7),
         6 => up_to("MA", 0o77777),
@@ -77,7 +85,11 @@ pub fn byte_register(largest: u32, i: u8) -> Option<Register>
         0 => up_to("BUSY", 1),
         1 => up_to("DONE", 1),
         2 => up_to("STOP_IOE", 1),
-        3 => Register { name: "TIME", least: 1, largest: 65535 },
+        3 => Register {
+            name: "TIME",
+            least: 1,
+            largest: 65535,
+        },
         4 => up_to("BUF", largest),
         5 => up_to("POS", 0o100000000),
         _ => return None,
@@ -107,7 +119,11 @@ pub fn terminal_register(i: u8) -> Option<Register>
     let register = match i {
         0 => up_to("BUSY", 1),
         1 => up_to("DONE", 1),
-        2 => Register { name: "TIME", least: 1, largest: 65535 },
+        2 => Register {
+            name: "TIME",
+            least: 1,
+            largest: 65535,
+        },
         3 => up_to("BUF", 0o377),
         _ => return None,
     };

@@ -1,0 +1,85 @@
+use super::*;
+use crate::kind::{UnitName, unit_text};
+use std::test::Fail;
+
+const KINDS: [Kind; 11] = [
+    Kind::Dsk,
+    Kind::Mta,
+    Kind::Lpt,
+    Kind::Ptr,
+    Kind::Ptp,
+    Kind::Clk,
+    Kind::Tti,
+    Kind::Tto,
+    Kind::Tti1,
+    Kind::Tto1,
+    Kind::Qty,
+];
+
+#[test]
+fn registers_stand_in_their_order(rt: HostRuntime) -> Result<(), Fail> {
+    let names: [&[u8]; 11] = [
+        b"BUSY DONE STOP_IOE TIME DA MA STAT WRITE ",
+        b"BUSY DONE STOP_IOE TIME CMD DRIVE MA WC STAT POS0 POS1 POS2 POS3 POS4 POS5 POS6 POS7 ",
+        b"BUSY DONE STOP_IOE TIME BUF POS ",
+        b"BUSY DONE STOP_IOE TIME BUF POS ",
+        b"BUSY DONE STOP_IOE TIME BUF POS ",
+        b"BUSY DONE SEL ",
+        b"BUSY DONE TIME BUF ",
+        b"BUSY DONE TIME BUF ",
+        b"BUSY DONE TIME BUF ",
+        b"BUSY DONE TIME BUF ",
+        b"",
+    ];
+    for (place, wanted) in names.iter().enumerate() {
+        let mut all = Vec::new(rt.alloc());
+        for i in 0..20u8 {
+            let mut out = [0; 8];
+            let count = reg_text(KINDS[place], i, &mut out);
+            if count > 0 {
+                all.extend_from_slice(&out[..count])?;
+                all.push(b' ')?;
+            }
+        }
+        assert_eq!(rt; all.as_slice(), *wanted);
+    }
+    Ok(())
+}
+
+#[test]
+fn registers_have_their_limits(rt: HostRuntime) -> Result<(), Fail> {
+    let cases: [(Kind, u8, Option<(u32, u32)>); 10] = [
+        (Kind::Dsk, 3, Some((1, 65535))),
+        (Kind::Dsk, 4, Some((0, 8191))),
+        (Kind::Dsk, 6, Some((0, 15))),
+        (Kind::Dsk, 8, None),
+        (Kind::Mta, 8, Some((0, 65535))),
+        (Kind::Mta, 16, Some((0, 67108864))),
+        (Kind::Mta, 17, None),
+        (Kind::Lpt, 4, Some((0, 127))),
+        (Kind::Ptr, 5, Some((0, 16777216))),
+        (Kind::Clk, 2, Some((0, 3))),
+    ];
+    for (kind, i, wanted) in cases {
+        assert!(rt; reg_limit(kind, i) == wanted);
+    }
+    Ok(())
+}
+
+#[test]
+fn units_have_their_names(rt: HostRuntime) -> Result<(), Fail> {
+    let cases: [(Kind, u8, &[u8]); 6] = [
+        (Kind::Ptr, 0, b"PTR"),
+        (Kind::Tto1, 0, b"TTO1"),
+        (Kind::Mta, 0, b"MTA0"),
+        (Kind::Mta, 7, b"MTA7"),
+        (Kind::Qty, 9, b"QTY9"),
+        (Kind::Qty, 63, b"QTY63"),
+    ];
+    for (kind, unit, wanted) in cases {
+        let mut out = [0; 8];
+        let count = unit_text(UnitName { kind, unit }, &mut out);
+        assert_eq!(rt; &out[..count.min(8)], wanted);
+    }
+    Ok(())
+}
