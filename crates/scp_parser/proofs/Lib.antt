@@ -1,1 +1,3 @@
 mod Decides
+pub mod NumberLemmas
+pub mod PlaceLemmas
