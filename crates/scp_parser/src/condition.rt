@@ -11,6 +11,7 @@ pub fn condition_of(word: &[u8]) -> Option<Condition>
     ensures { result ≡ condition_of word.now }
 {
     match word {
+        [] => None,
         [b'&', rest @ ..] => masked_condition(rest),
         _ => plain_condition(word),
     }

@@ -14,7 +14,7 @@ pub fn items_of(device: Name, word: &[u8]) -> Option<Items>
 {
     let mut items = Items::new();
     let mut rest = word;
-    for _room in 0..MOST_ITEMS {
+    for _used in 0..MOST_ITEMS {
         let (text, next) = split(rest, b',');
         items.push(item_of(device, text)?);
         match next {
@@ -120,6 +120,7 @@ fn numbered_item(text: &[u8]) -> Option<Item>
 }
 
 // An item with two addresses.
+#[tactic(auto, using(crate::proofs::MarkLemmas::range_none))]
 fn range_of(text: &[u8]) -> Option<Item>
     ensures { result ≡ range_of text.now }
 {
@@ -128,6 +129,7 @@ fn range_of(text: &[u8]) -> Option<Item>
 }
 
 // An item with an address and a count.
+#[tactic(auto, using(crate::proofs::MarkLemmas::count_none))]
 fn count_of(text: &[u8]) -> Option<Item>
     ensures { result ≡ count_of text.now }
 {

@@ -188,9 +188,13 @@ pub fn register_named(device: Name, word: &[u8]) -> Option<u8>
     ensures { result ≡ register_named device word.now }
 {
     for i in 0..u8::MAX {
-        let name = register_name(device, i)?;
-        if is_spelled(word, name.as_bytes()) {
-            return Some(i);
+        match register_name(device, i) {
+            Some(name) => {
+                if is_spelled(word, name.as_bytes()) {
+                    return Some(i);
+                }
+            }
+            None => return None,
         }
     }
     None

@@ -18,6 +18,7 @@ use line_words::past_blanks;
 ///
 /// Names are read in either case, and may be abbreviated; blanks (spaces and tabs) stand between words. Addresses and
 /// values are octal, counts and statuses decimal. A fault leaves `into` as it was.
+#[tactic(auto, unfolding(crate::specs::Reading::reading))]
 pub fn read_command(line: &[u8], into: &mut Command) -> Result<(), ParseFault>
     // A command exactly where the line is that command.
     // OPEN: ensures command { (c : CommandLine) → (IsOk result × (into.new ≡ c)) ↔ Parses line.now c }
