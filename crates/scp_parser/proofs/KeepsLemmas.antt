@@ -1,5 +1,5 @@
 -- What a line asks for keeps the facts of commands.
-use Rattle.std.proofs.Common.{◌≡◌, ◌⊎◌, eqb, length, take, drop, codes, ◌-◌, ◌<◌, ◌≤◌, ℕ, Bool, true, false, cond, leb, ltb, ◌&&◌, Option, Some, None, Result, Ok, Err, List, [], ◌∷◌, refl, ap, sym, tt, inl, inr, arith, subst}
+use Rattle.std.proofs.Common.{◌≡◌, ◌⊎◌, eqb, length, take, drop, codes, ◌-◌, ◌<◌, ◌≤◌, ℕ, Bool, true, false, cond, leb, ltb, ◌&&◌, Option, Some, None, Result, Ok, Err, List, [], ◌∷◌, refl, ap, sym, inl, inr, arith, subst}
 use Rattle.std.specs.Option.{option_map}
 use Rattle.std.proofs.lemmas.Option.{cond_some, same_Some}
 use Rattle.std.proofs.lemmas.Bool.{ltb-true, leb-true}
@@ -78,17 +78,22 @@ unit_of_keeps text u h =
         (λ alone. option_map_keeps IsNamedUnit unit_alone (kind_named unit_kinds text) u alone (λ kind is. kind_named_keeps text kind is))
         (λ drive. drive_of_keeps text u drive)
 
+one_of_seven : (a b c d e f g : Bool) (o : Option Shown) (s : Shown) →
+    cond a (Some shown.Time) (cond b (Some shown.Cpu) (cond c (Some shown.Queue) (cond d (Some shown.Break) (cond e (Some shown.Expect) (cond f (Some shown.Send) (cond g (Some shown.Version) o)))))) ≡ Some s → (o ≡ Some s → ShowsUnit s) → ShowsUnit s
+one_of_seven true b c d e f g o s h unit = subst ShowsUnit (same_Some shown.Time s h) tt
+one_of_seven false true c d e f g o s h unit = subst ShowsUnit (same_Some shown.Cpu s h) tt
+one_of_seven false false true d e f g o s h unit = subst ShowsUnit (same_Some shown.Queue s h) tt
+one_of_seven false false false true e f g o s h unit = subst ShowsUnit (same_Some shown.Break s h) tt
+one_of_seven false false false false true f g o s h unit = subst ShowsUnit (same_Some shown.Expect s h) tt
+one_of_seven false false false false false true g o s h unit = subst ShowsUnit (same_Some shown.Send s h) tt
+one_of_seven false false false false false false true o s h unit = subst ShowsUnit (same_Some shown.Version s h) tt
+one_of_seven false false false false false false false o s h unit = unit h
+
 subject_of_keeps : (text : List ℕ) (s : Shown) → subject_of text ≡ Some s → ShowsUnit s
 unfolding subject_of
 subject_of_keeps text s h =
-    step ShowsUnit shown.Time s _ _ tt h (λ h.
-    step ShowsUnit shown.Cpu s _ _ tt h (λ h.
-    step ShowsUnit shown.Queue s _ _ tt h (λ h.
-    step ShowsUnit shown.Break s _ _ tt h (λ h.
-    step ShowsUnit shown.Expect s _ _ tt h (λ h.
-    step ShowsUnit shown.Send s _ _ tt h (λ h.
-    step ShowsUnit shown.Version s _ _ tt h (λ h.
-    option_map_keeps ShowsUnit (λ u. shown.Unit u) (unit_of text) s h (λ u is. unit_of_keeps text u is))))))))
+    one_of_seven (is_spelled text (codes "TIME")) (is_spelled text (codes "CPU")) (is_spelled text (codes "QUEUE")) (is_spelled text (codes "BREAK")) (is_spelled text (codes "EXPECT")) (is_spelled text (codes "SEND")) (is_spelled text (codes "VERSION")) (option_map (λ u. shown.Unit u) (unit_of text)) s h
+        (λ later. option_map_keeps ShowsUnit (λ u. shown.Unit u) (unit_of text) s later (λ u is. unit_of_keeps text u is))
 
 -- a reader's value is that of its second part
 bind_keeps : {A : Type 0} (P : Verb → Type 0) (r : Result A ParseFault) (f : A → Result Verb ParseFault) (v : Verb) → (r >>= f) ≡ Ok v → ((a : A) → r ≡ Ok a → f a ≡ Ok v → P v) → P v
@@ -111,7 +116,8 @@ cond_either P true x y v h first second = first h
 cond_either P false x y v h first second = second h
 
 needed_some : {V : Type 0} (only_number : Bool) (o : Option V) (word rest : List ℕ) (a : V × List ℕ) → needed_found only_number o word rest ≡ Ok a → o ≡ Some a.0
-needed_some only_number (Some v) word rest a h = let same : (v, rest) ≡ a = cc h in ap (λ (p : V × List ℕ). Some p.0) same
+needed_some {V} only_number (Some v) word rest a h =
+    let same : (v, rest) ≡ a = cc h in ap (λ (p : (V × List ℕ)). Some p.0) same
 needed_some only_number None [] rest a h = absurd (cc h)
 needed_some only_number None (b ∷ more) rest a h = absurd (cc h)
 
