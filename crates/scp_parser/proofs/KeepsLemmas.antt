@@ -75,8 +75,8 @@ unit_of_keeps : (text : List ℕ) (u : UnitName) → unit_of text ≡ Some u →
 unfolding unit_of
 unit_of_keeps text u h =
     or_else_keeps IsNamedUnit (option_map unit_alone (kind_named unit_kinds text)) (drive_of text) u h
-        (λ alone. option_map_keeps IsNamedUnit unit_alone (kind_named unit_kinds text) u alone (λ kind is. kind_named_keeps text kind is))
-        (λ drive. drive_of_keeps text u drive)
+    (λ alone. option_map_keeps IsNamedUnit unit_alone (kind_named unit_kinds text) u alone (λ kind is. kind_named_keeps text kind is))
+    (λ drive. drive_of_keeps text u drive)
 
 one_of_seven : (a b c d e f g : Bool) (o : Option Shown) (s : Shown) →
     cond a (Some shown.Time) (cond b (Some shown.Cpu) (cond c (Some shown.Queue) (cond d (Some shown.Break) (cond e (Some shown.Expect) (cond f (Some shown.Send) (cond g (Some shown.Version) o)))))) ≡ Some s → (o ≡ Some s → ShowsUnit s) → ShowsUnit s
@@ -93,7 +93,7 @@ subject_of_keeps : (text : List ℕ) (s : Shown) → subject_of text ≡ Some s 
 unfolding subject_of
 subject_of_keeps text s h =
     one_of_seven (is_spelled text (codes "TIME")) (is_spelled text (codes "CPU")) (is_spelled text (codes "QUEUE")) (is_spelled text (codes "BREAK")) (is_spelled text (codes "EXPECT")) (is_spelled text (codes "SEND")) (is_spelled text (codes "VERSION")) (option_map (λ u. shown.Unit u) (unit_of text)) s h
-        (λ later. option_map_keeps ShowsUnit (λ u. shown.Unit u) (unit_of text) s later (λ u is. unit_of_keeps text u is))
+    (λ later. option_map_keeps ShowsUnit (λ u. shown.Unit u) (unit_of text) s later (λ u is. unit_of_keeps text u is))
 
 -- a reader's value is that of its second part
 bind_keeps : {A : Type 0} (P : Verb → Type 0) (r : Result A ParseFault) (f : A → Result Verb ParseFault) (v : Verb) → (r >>= f) ≡ Ok v → ((a : A) → r ≡ Ok a → f a ≡ Ok v → P v) → P v
@@ -132,16 +132,16 @@ deposit_keeps : (line text : List ℕ) (v : Verb) → deposit text ≡ Ok v → 
 unfolding deposit
 deposit_keeps line text v h =
     bind_keeps (Keeps line) (listing false text) valued v h (λ l is value.
-        cond_either (Keeps line v) l.0.symbolic (instruction l.1 >>= (λ w. Ok (verb.Deposit l.0 w))) (needed true octal l.1 >>= (λ n. ended (verb.Deposit l.0 n.0) n.1)) v value
-            (λ symbolic. bind_keeps (Keeps line) (instruction l.1) (λ w. Ok (verb.Deposit l.0 w)) v symbolic (λ w is last. subst (Keeps line) (same_Ok (verb.Deposit l.0 w) v last) tt))
-            (λ number. bind_keeps (Keeps line) (needed true octal l.1) (λ n. ended (verb.Deposit l.0 n.0) n.1) v number (λ n is last. ended_keeps (Keeps line) (verb.Deposit l.0 n.0) n.1 v last tt)))
+    cond_either (Keeps line v) l.0.symbolic (instruction l.1 >>= (λ w. Ok (verb.Deposit l.0 w))) (needed true octal l.1 >>= (λ n. ended (verb.Deposit l.0 n.0) n.1)) v value
+    (λ symbolic. bind_keeps (Keeps line) (instruction l.1) (λ w. Ok (verb.Deposit l.0 w)) v symbolic (λ w is last. subst (Keeps line) (same_Ok (verb.Deposit l.0 w) v last) tt))
+    (λ number. bind_keeps (Keeps line) (needed true octal l.1) (λ n. ended (verb.Deposit l.0 n.0) n.1) v number (λ n is last. ended_keeps (Keeps line) (verb.Deposit l.0 n.0) n.1 v last tt)))
 
 show_keeps : (line text : List ℕ) (v : Verb) → show text ≡ Ok v → Keeps line v
 unfolding show
 show_keeps line text v h =
     bind_keeps (Keeps line) (needed false subject_of text) (λ s. ended (verb.Show s.0) s.1) v h (λ s is last.
-        let subject : subject_of (next_word text).0 ≡ Some s.0 = needed_some false (subject_of (next_word text).0) (next_word text).0 (next_word text).1 s is in
-        ended_keeps (Keeps line) (verb.Show s.0) s.1 v last (subject_of_keeps (next_word text).0 s.0 subject))
+    let subject : subject_of (next_word text).0 ≡ Some s.0 = needed_some false (subject_of (next_word text).0) (next_word text).0 (next_word text).1 s is in
+    ended_keeps (Keeps line) (verb.Show s.0) s.1 v last (subject_of_keeps (next_word text).0 s.0 subject))
 
 operands_keeps : (line : List ℕ) (name : CommandName) (text : List ℕ) (v : Verb) → operands name text ≡ Ok v → Keeps line v
 unfolding operands
