@@ -5,3 +5,4 @@ pub mod Grammar
 pub mod Faults
 pub mod Operands
 pub mod Reading
+pub mod Views

@@ -75,8 +75,8 @@ behind mark text = after_first (λ b. b == mark) text
 unfoldable pub numbered_item : List ℕ → Option Item
 numbered_item text =
     or_else (option_map (λ a. At a) (octal text))
-        (or_else (both (λ a b. Range a b) (octal (front 45 text)) (octal (behind 45 text)))
-            (both (λ a n. Count a n) (octal (front 47 text)) (decimal (behind 47 text))))
+    (or_else (both (λ a b. Range a b) (octal (front 45 text)) (octal (behind 45 text)))
+    (both (λ a n. Count a n) (octal (front 47 text)) (decimal (behind 47 text))))
 
 unfoldable pub item_of : Name → List ℕ → Option Item
 item_of device text = or_else (named_item device text) (numbered_item text)

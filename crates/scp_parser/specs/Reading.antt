@@ -156,7 +156,7 @@ placed_in length (Err fault) = Err (placed length fault)
 unfoldable pub verb_of : List ℕ → Result Verb ParseFault
 verb_of line =
     if nat_le (length line) longest_line then
-        (if asks_nothing line then Ok verb.Nothing else placed_in (length line) (named line))
+    (if asks_nothing line then Ok verb.Nothing else placed_in (length line) (named line))
     else Err TooLong
 
 -- the command of a line, or its fault

@@ -1,6 +1,6 @@
-ghost use Rattle.std.specs.Prelude.{◌≡◌, ◌≤◌, length, option_map};
+ghost use Rattle.std.specs.Prelude.{◌≡◌, ◌≤◌, length, option_map, None};
 ghost use Rattle.std.specs.List.{position, position_or_len};
-ghost use Rattle.scp_parser.specs.Operands.{is_rel_byte, two_byte_rel, one_byte_rel, with_value, comparison_of, masked_condition, condition_of};
+ghost use Rattle.scp_parser.specs.Operands.{is_rel_byte, two_byte_rel, one_byte_rel, condition_with, with_value, comparison_of, masked_condition, condition_of};
 
 use crate::listing::{Condition, Rel};
 use crate::number::octal;
@@ -11,16 +11,22 @@ pub fn condition_of(word: &[u8]) -> Option<Condition>
     ensures { result ≡ condition_of word.now }
 {
     match word {
+        [] => None,
         [b'&', rest @ ..] => masked_condition(rest),
-        _ => {
-            let (rel, value) = comparison_of(word)?;
-            Some(Condition {
-                mask: None,
-                rel,
-                value,
-            })
-        }
+        _ => plain_condition(word),
     }
+}
+
+// A condition without a mask.
+fn plain_condition(text: &[u8]) -> Option<Condition>
+    ensures { result ≡ option_map (λ c. condition_with None c) (comparison_of text.now) }
+{
+    let (rel, value) = comparison_of(text)?;
+    Some(Condition {
+        mask: None,
+        rel,
+        value,
+    })
 }
 
 // A condition behind the `&` of its mask.
@@ -38,12 +44,20 @@ fn masked_condition(text: &[u8]) -> Option<Condition>
     })
 }
 
+// The place of the first byte of a comparison.
+fn first_rel_byte(text: &[u8]) -> Option<usize>
+    ensures { result ≡ position is_rel_byte text.now }
+{
+    text.iter().position(|b| is_rel_byte(*b))
+}
+
 // The place of the first byte of a comparison, or the end.
+#[tactic(auto, using(crate::proofs::PlaceLemmas::place_or_length, crate::proofs::PlaceLemmas::place_le_length))]
 fn rel_place(text: &[u8]) -> usize
     ensures place { result ≡ position_or_len is_rel_byte text.now }
     ensures within { result ≤ length text.now }
 {
-    text.iter().position(|b| is_rel_byte(*b)).unwrap_or(text.len())
+    first_rel_byte(text).unwrap_or(text.len())
 }
 
 fn is_rel_byte(b: u8) -> bool
@@ -58,11 +72,20 @@ fn comparison_of(text: &[u8]) -> Option<(Rel, u64)>
     ensures { result ≡ comparison_of text.now }
 {
     match text {
-        [a, b, rest @ ..] => match two_byte_rel(*a, *b) {
-            Some(rel) => Some((rel, octal(rest)?)),
-            None => Some((one_byte_rel(*a)?, octal(&text[1..])?)),
+        [a, b, rest @ ..] => match with_value(two_byte_rel(*a, *b), rest) {
+            Some(comparison) => Some(comparison),
+            None => with_value(one_byte_rel(*a), &text[1..]),
         },
         _ => None,
+    }
+}
+
+fn with_value(rel: Option<Rel>, digits: &[u8]) -> Option<(Rel, u64)>
+    ensures { result ≡ with_value rel digits.now }
+{
+    match rel {
+        Some(rel) => Some((rel, octal(digits)?)),
+        None => None,
     }
 }
 

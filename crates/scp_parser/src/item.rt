@@ -1,6 +1,7 @@
 ghost use Rattle.std.specs.Prelude.{◌≡◌, ◌+◌, ◌==◌, ◌≤◌, ◌++◌, length, take, drop, option_map};
 ghost use Rattle.std.specs.List.{list_all, before_first, after_first, position, position_or_len};
-ghost use Rattle.scp_parser.specs.Operands.{is_letter, is_name_byte, is_name, named_item, numbered_item, item_of, items_up_to, items_of, front, behind};
+ghost use Rattle.scp_parser.specs.Operands.{is_letter, is_name_byte, is_name, unknown_name, named_item, numbered_item, item_of, items_up_to, items_of, front, behind};
+ghost use Rattle.scp_parser.specs.Views.{some_behind, range_of, count_of};
 
 use crate::listing::{Item, Items, MOST_ITEMS, Name};
 use crate::names::{is_spelled, register_named};
@@ -13,7 +14,7 @@ pub fn items_of(device: Name, word: &[u8]) -> Option<Items>
 {
     let mut items = Items::new();
     let mut rest = word;
-    for _room in 0..MOST_ITEMS {
+    for _used in 0..MOST_ITEMS {
         let (text, next) = split(rest, b',');
         items.push(item_of(device, text)?);
         match next {
@@ -26,14 +27,23 @@ pub fn items_of(device: Name, word: &[u8]) -> Option<Items>
 
 // What stands before the first such byte of a text, and what stands behind it, if there is one.
 fn split(text: &[u8], mark: u8) -> (&[u8], Option<&[u8]>)
+    ensures front { result.0.now ≡ front mark text.now }
+    ensures behind { option_map (λ rest. rest.now) result.1 ≡ some_behind mark text.now }
 {
-    match text.iter().position(|b| *b == mark) {
+    match place_of(text, mark) {
         Some(place) => (&text[..place], Some(&text[place + 1..])),
         None => (text, None),
     }
 }
 
-/// An item.
+// The place of the first such byte.
+fn place_of(text: &[u8], mark: u8) -> Option<usize>
+    ensures { result ≡ position (λ b. b == mark) text.now }
+{
+    text.iter().position(|b| *b == mark)
+}
+
+// An item.
 #[tactic(auto, unfolding(crate::specs::Operands::item_of))]
 fn item_of(device: Name, text: &[u8]) -> Option<Item>
     ensures { result ≡ item_of device text.now }
@@ -61,7 +71,9 @@ fn named_item(device: Name, text: &[u8]) -> Option<Item>
     }
 }
 
+// A name that is the name of no register.
 fn unknown_name(text: &[u8]) -> Option<Item>
+    ensures { result ≡ unknown_name text.now }
 {
     if is_name(text) {
         Some(Item::Unknown)
@@ -76,9 +88,15 @@ fn is_name(text: &[u8]) -> bool
     ensures { result ≡ is_name text.now }
 {
     match text {
-        [first, rest @ ..] => first.is_ascii_alphabetic() && rest.iter().all(|b| is_name_byte(*b)),
+        [first, rest @ ..] => first.is_ascii_alphabetic() && are_name_bytes(rest),
         [] => false,
     }
+}
+
+fn are_name_bytes(text: &[u8]) -> bool
+    ensures { result ≡ list_all is_name_byte text.now }
+{
+    text.iter().all(|b| is_name_byte(*b))
 }
 
 fn is_name_byte(b: u8) -> bool
@@ -102,14 +120,18 @@ fn numbered_item(text: &[u8]) -> Option<Item>
 }
 
 // An item with two addresses.
+#[tactic(auto, using(crate::proofs::MarkLemmas::range_none))]
 fn range_of(text: &[u8]) -> Option<Item>
+    ensures { result ≡ range_of text.now }
 {
     let (from, to) = split(text, b'-');
     Some(Item::Range(octal(from)?, octal(to?)?))
 }
 
 // An item with an address and a count.
+#[tactic(auto, using(crate::proofs::MarkLemmas::count_none))]
 fn count_of(text: &[u8]) -> Option<Item>
+    ensures { result ≡ count_of text.now }
 {
     let (from, count) = split(text, b'/');
     Some(Item::Count(octal(from)?, decimal(count?)?))

@@ -135,9 +135,16 @@ pub fn is_spelled(word: &[u8], name: &[u8]) -> bool
 pub fn command_named(word: &[u8]) -> Option<CommandName>
     ensures { result ≡ command_named word.now }
 {
-    for name in CommandName::ALL {
+    first_named(&CommandName::ALL, word)
+}
+
+// The first command of a list that a word names.
+fn first_named(names: &[CommandName], word: &[u8]) -> Option<CommandName>
+    ensures { result ≡ first_of (is_command_name word.now) names.now }
+{
+    for name in names {
         if name.is_named(word) {
-            return Some(name);
+            return Some(*name);
         }
     }
     None
@@ -181,9 +188,13 @@ pub fn register_named(device: Name, word: &[u8]) -> Option<u8>
     ensures { result ≡ register_named device word.now }
 {
     for i in 0..u8::MAX {
-        let name = register_name(device, i)?;
-        if is_spelled(word, name.as_bytes()) {
-            return Some(i);
+        match register_name(device, i) {
+            Some(name) => {
+                if is_spelled(word, name.as_bytes()) {
+                    return Some(i);
+                }
+            }
+            None => return None,
         }
     }
     None

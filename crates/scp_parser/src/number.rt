@@ -4,25 +4,27 @@ ghost use Rattle.scp_parser.specs.Operands.{octal, decimal};
 use nova_word::{NumberFault, read_decimal, read_octal};
 
 /// The octal number of a word. One that is too large for its reader is held as 2^64 - 1.
-#[tactic(auto, unfolding(crate::specs::Operands::octal))]
+#[tactic(auto, using(crate::proofs::NumberLemmas::octal_number, crate::proofs::NumberLemmas::octal_large, crate::proofs::NumberLemmas::octal_bad, crate::proofs::NumberLemmas::octal_empty))]
 pub fn octal(word: &[u8]) -> Option<u64>
     ensures { result ≡ octal word.now }
 {
     match read_octal(word) {
         Ok(n) => Some(u64::from(n)),
         Err(NumberFault::TooLarge) => Some(u64::MAX),
-        Err(_) => None,
+        Err(NumberFault::BadDigit(_)) => None,
+        Err(NumberFault::Empty) => None,
     }
 }
 
 /// The decimal number of a word. One that is too large for its reader is held as 2^64 - 1.
-#[tactic(auto, unfolding(crate::specs::Operands::decimal))]
+#[tactic(auto, using(crate::proofs::NumberLemmas::decimal_number, crate::proofs::NumberLemmas::decimal_large, crate::proofs::NumberLemmas::decimal_bad, crate::proofs::NumberLemmas::decimal_empty))]
 pub fn decimal(word: &[u8]) -> Option<u64>
     ensures { result ≡ decimal word.now }
 {
     match read_decimal(word) {
         Ok(n) => Some(n),
         Err(NumberFault::TooLarge) => Some(u64::MAX),
-        Err(_) => None,
+        Err(NumberFault::BadDigit(_)) => None,
+        Err(NumberFault::Empty) => None,
     }
 }

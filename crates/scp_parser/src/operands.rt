@@ -1,8 +1,8 @@
 // The operands of a line, one by one from the left. A fault counts the bytes that are left at its place.
-ghost use Rattle.std.specs.Prelude.{◌≡◌, ◌+◌, length, Some};
-ghost use Rattle.scp_parser.specs.Faults.{bad_word};
+ghost use Rattle.std.specs.Prelude.{◌≡◌, true, false};
 ghost use Rattle.scp_parser.specs.Operands.{octal, decimal, items_of, device_of, condition_of, subject_of, symbolic_of};
 ghost use Rattle.scp_parser.specs.Reading.{next_word, maybe, needed, ended, last_number, choice, maybe_condition, listing, instruction};
+ghost use Rattle.scp_parser.specs.Views.{Gives, bad_operand, maybe_symbolic};
 
 use crate::command::{Shown, Verb};
 use crate::condition::condition_of;
@@ -26,6 +26,7 @@ pub fn next_word(text: &[u8]) -> (&[u8], &[u8])
 
 // The fault of a word that is not in the form of its operand, or of none.
 fn bad_operand(only_number: bool, word: &[u8], rest: &[u8]) -> ParseFault
+    ensures { result ≡ bad_operand only_number word.now rest.now }
 {
     match word {
         [] => ParseFault::Missing,
@@ -37,7 +38,9 @@ fn bad_operand(only_number: bool, word: &[u8], rest: &[u8]) -> ParseFault
 }
 
 // The option for symbolic text, which may be left out.
+#[tactic(auto, unfolding(crate::specs::Operands::symbolic_of))]
 fn maybe_symbolic(text: &[u8]) -> (bool, &[u8])
+    ensures { (result.0, result.1.now) ≡ maybe_symbolic text.now }
 {
     let (word, rest) = next_word(text);
     if is_spelled(word, b"-M") {
@@ -49,6 +52,7 @@ fn maybe_symbolic(text: &[u8]) -> (bool, &[u8])
 
 // A device, which may be left out.
 fn maybe_device(text: &[u8]) -> (Option<Kind>, &[u8])
+    ensures { (result.0, result.1.now) ≡ maybe device_of text.now }
 {
     let (word, rest) = next_word(text);
     match device_of(word) {
@@ -73,6 +77,7 @@ fn maybe_condition(conditions: bool, text: &[u8]) -> (Option<Condition>, &[u8])
 
 // A list, which must be there.
 fn needed_items(device: Name, text: &[u8]) -> Result<(Items, &[u8]), ParseFault>
+    ensures { Gives (λ x. (x.0, x.1.now)) result (needed false (items_of device) text.now) }
 {
     let (word, rest) = next_word(text);
     match items_of(device, word) {
@@ -83,6 +88,7 @@ fn needed_items(device: Name, text: &[u8]) -> Result<(Items, &[u8]), ParseFault>
 
 // An octal number, which must be there.
 pub fn needed_octal(text: &[u8]) -> Result<(u64, &[u8]), ParseFault>
+    ensures { Gives (λ x. (x.0, x.1.now)) result (needed true octal text.now) }
 {
     let (word, rest) = next_word(text);
     match octal(word) {
@@ -93,6 +99,7 @@ pub fn needed_octal(text: &[u8]) -> Result<(u64, &[u8]), ParseFault>
 
 // A decimal number, which must be there.
 fn needed_decimal(text: &[u8]) -> Result<(u64, &[u8]), ParseFault>
+    ensures { Gives (λ x. (x.0, x.1.now)) result (needed true decimal text.now) }
 {
     let (word, rest) = next_word(text);
     match decimal(word) {
@@ -103,6 +110,7 @@ fn needed_decimal(text: &[u8]) -> Result<(u64, &[u8]), ParseFault>
 
 // What SHOW shows, which must be there.
 pub fn needed_subject(text: &[u8]) -> Result<(Shown, &[u8]), ParseFault>
+    ensures { Gives (λ x. (x.0, x.1.now)) result (needed false subject_of text.now) }
 {
     let (word, rest) = next_word(text);
     match subject_of(word) {
@@ -125,6 +133,7 @@ pub fn ended(verb: Verb, text: &[u8]) -> Result<Verb, ParseFault>
 // An octal number that may be left out at the end of a line.
 #[tactic(auto, unfolding(crate::specs::Reading::last_number))]
 pub fn last_octal(text: &[u8]) -> Result<(Option<u64>, &[u8]), ParseFault>
+    ensures { Gives (λ x. (x.0, x.1.now)) result (last_number octal text.now) }
 {
     if past_blanks(text).is_empty() {
         return Ok((None, text));
@@ -136,6 +145,7 @@ pub fn last_octal(text: &[u8]) -> Result<(Option<u64>, &[u8]), ParseFault>
 // A decimal number that may be left out at the end of a line.
 #[tactic(auto, unfolding(crate::specs::Reading::last_number))]
 pub fn last_decimal(text: &[u8]) -> Result<(Option<u64>, &[u8]), ParseFault>
+    ensures { Gives (λ x. (x.0, x.1.now)) result (last_number decimal text.now) }
 {
     if past_blanks(text).is_empty() {
         return Ok((None, text));
@@ -147,6 +157,7 @@ pub fn last_decimal(text: &[u8]) -> Result<(Option<u64>, &[u8]), ParseFault>
 // What EXAMINE and DEPOSIT work on, and what follows it.
 #[tactic(auto, unfolding(crate::specs::Reading::listing, crate::specs::Reading::choice))]
 pub fn listing(conditions: bool, text: &[u8]) -> Result<(Listing, &[u8]), ParseFault>
+    ensures { Gives (λ x. (x.0, x.1.now)) result (listing conditions text.now) }
 {
     let (symbolic, text) = maybe_symbolic(text);
     let (kind, text) = maybe_device(text);

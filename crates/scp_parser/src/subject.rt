@@ -1,4 +1,4 @@
-ghost use Rattle.std.specs.Prelude.{◌≡◌, option_map};
+ghost use Rattle.std.specs.Prelude.{◌≡◌, ◌∷◌, [], option_map};
 ghost use Rattle.scp_parser.specs.Names.{device_kinds, unit_kinds};
 ghost use Rattle.scp_parser.specs.Operands.{device_of, kind_named, drive_at, drive_of, unit_of, subject_of};
 
@@ -75,6 +75,7 @@ fn drive_of(word: &[u8]) -> Option<UnitName>
 }
 
 fn drive_at(digit: u8) -> Option<UnitName>
+    ensures { result ≡ drive_at (digit ∷ []) }
 {
     match digit {
         b'0'..=b'7' => Some(UnitName {

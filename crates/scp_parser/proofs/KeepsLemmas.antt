@@ -1,0 +1,183 @@
+-- What a line asks for keeps the facts of commands.
+use Rattle.std.proofs.Common.{◌≡◌, ◌⊎◌, eqb, length, take, drop, codes, ◌-◌, ◌<◌, ◌≤◌, ℕ, Bool, true, false, cond, leb, ltb, ◌&&◌, Option, Some, None, Result, Ok, Err, List, [], ◌∷◌, refl, ap, sym, inl, inr, arith, subst}
+use Rattle.std.specs.Option.{option_map}
+use Rattle.std.proofs.lemmas.Option.{cond_some, same_Some}
+use Rattle.std.proofs.lemmas.Bool.{ltb-true, leb-true}
+use Rattle.std.proofs.lemmas.Bool.Decides.{nat_tests}
+use Rattle.unit_trait.specs.declared.kind.Kind.{Kind}
+use Rattle.unit_trait.specs.declared.kind.Kind.TheVariants.{Mta, Tti1}
+use Rattle.unit_trait.specs.declared.kind.UnitName.{UnitName}
+use Rattle.unit_trait.specs.Kinds.{kind_name}
+use Rattle.scp_parser.specs.declared.command.Shown.{Shown}
+use Rattle.scp_parser.specs.declared.command.Shown.TheVariants as shown
+use Rattle.scp_parser.specs.declared.command.Verb.{Verb}
+use Rattle.scp_parser.specs.declared.command.Verb.TheVariants as verb
+use Rattle.line_words.specs.Words.{past_blanks}
+use Rattle.scp_parser.specs.declared.fault.ParseFault.{ParseFault}
+use Rattle.scp_parser.specs.declared.names.CommandName.{CommandName}
+use Rattle.scp_parser.specs.declared.names.CommandName.TheVariants as name
+use Rattle.scp_parser.specs.Command.{TakesFile, IsNamedUnit, ShowsUnit, Keeps}
+use Rattle.scp_parser.specs.Names.{is_spelled, unit_kinds, first_of, command_named}
+use Rattle.scp_parser.specs.Operands.{or_else, unit_alone, drive_at, drive_of, kind_named, octal, decimal, unit_of, subject_of}
+use Rattle.scp_parser.specs.Reading.{◌>>=◌, next_word, needed, needed_found, ended, last_number, numbered, listing, examine, valued, instruction, deposit, show, operands, command_found, named}
+
+-- what holds of each of a list holds of the first that passes
+abbrev pub Each : {T : Type 0} → (T → Type 0) → List T → Type 0
+Each P [] = Unit {0}
+Each P (x ∷ more) = P x × Each P more
+
+step : {T : Type 0} (P : T → Type 0) (y x : T) (b : Bool) (rest : Option T) → P y → cond b (Some y) rest ≡ Some x → (rest ≡ Some x → P x) → P x
+step P y x true rest here h later = subst P (same_Some y x h) here
+step P y x false rest here h later = later h
+
+first_keeps : {T : Type 0} (P : T → Type 0) (test : T → Bool) (xs : List T) (x : T) → Each P xs → first_of test xs ≡ Some x → P x
+first_keeps P test [] x each h = absurd (cc h)
+first_keeps P test (y ∷ more) x each h = step P y x (test y) (first_of test more) each.0 h (λ later. first_keeps P test more x each.1 later)
+
+or_else_keeps : {T : Type 0} (P : T → Type 0) (a b : Option T) (x : T) → or_else a b ≡ Some x → (a ≡ Some x → P x) → (b ≡ Some x → P x) → P x
+or_else_keeps P (Some y) b x h first second = first h
+or_else_keeps P None b x h first second = second h
+
+option_map_keeps : {A B : Type 0} (P : B → Type 0) (f : A → B) (o : Option A) (y : B) → option_map f o ≡ Some y → ((x : A) → o ≡ Some x → P (f x)) → P y
+option_map_keeps P f None y h holds = absurd (cc h)
+option_map_keeps P f (Some x) y h holds = subst P (same_Some (f x) y h) (holds x refl)
+
+cond_passes : {T : Type 0} (b : Bool) (o : Option T) (x : T) → cond b o None ≡ Some x → o ≡ Some x
+cond_passes true o x h = h
+cond_passes false o x h = absurd (cc h)
+
+-- the kinds whose name alone names a unit
+abbrev pub NamesUnit : Kind → Type 0
+NamesUnit kind = TakesFile kind ⊎ (kind ≡ Tti1)
+
+unit_kinds_name : Each NamesUnit unit_kinds
+unit_kinds_name = (inl tt, (inl tt, (inl tt, (inl tt, (inl tt, (inr refl, tt))))))
+
+below_eight : (b : ℕ) → (leb 48 b && ltb b 56) ≡ true → b - 48 < 8
+below_eight b h = grind (arith, nat_tests)
+
+drive_at_keeps : (text : List ℕ) (u : UnitName) → drive_at text ≡ Some u → IsNamedUnit u
+drive_at_keeps [] u h = absurd (cc h)
+drive_at_keeps (b ∷ []) u h =
+    let parts = cond_some (leb 48 b && ltb b 56) (record { kind = Mta; unit = b - 48 }) u h in
+    subst IsNamedUnit parts.1 (inl tt, inl (refl, below_eight b parts.0))
+drive_at_keeps (b ∷ c ∷ more) u h = absurd (cc h)
+
+drive_of_keeps : (text : List ℕ) (u : UnitName) → drive_of text ≡ Some u → IsNamedUnit u
+unfolding drive_of
+drive_of_keeps text u h = drive_at_keeps (drop 3 text) u (cond_passes (is_spelled (take 3 text) (codes "MTA")) (drive_at (drop 3 text)) u h)
+
+kind_named_keeps : (text : List ℕ) (kind : Kind) → kind_named unit_kinds text ≡ Some kind → IsNamedUnit (unit_alone kind)
+unfolding kind_named
+kind_named_keeps text kind h = (first_keeps NamesUnit (λ k. is_spelled text (kind_name k)) unit_kinds kind unit_kinds_name h, inr refl)
+
+unit_of_keeps : (text : List ℕ) (u : UnitName) → unit_of text ≡ Some u → IsNamedUnit u
+unfolding unit_of
+unit_of_keeps text u h =
+    or_else_keeps IsNamedUnit (option_map unit_alone (kind_named unit_kinds text)) (drive_of text) u h
+    (λ alone. option_map_keeps IsNamedUnit unit_alone (kind_named unit_kinds text) u alone (λ kind is. kind_named_keeps text kind is))
+    (λ drive. drive_of_keeps text u drive)
+
+one_of_seven : (a b c d e f g : Bool) (o : Option Shown) (s : Shown) →
+    cond a (Some shown.Time) (cond b (Some shown.Cpu) (cond c (Some shown.Queue) (cond d (Some shown.Break) (cond e (Some shown.Expect) (cond f (Some shown.Send) (cond g (Some shown.Version) o)))))) ≡ Some s → (o ≡ Some s → ShowsUnit s) → ShowsUnit s
+one_of_seven true b c d e f g o s h unit = subst ShowsUnit (same_Some shown.Time s h) tt
+one_of_seven false true c d e f g o s h unit = subst ShowsUnit (same_Some shown.Cpu s h) tt
+one_of_seven false false true d e f g o s h unit = subst ShowsUnit (same_Some shown.Queue s h) tt
+one_of_seven false false false true e f g o s h unit = subst ShowsUnit (same_Some shown.Break s h) tt
+one_of_seven false false false false true f g o s h unit = subst ShowsUnit (same_Some shown.Expect s h) tt
+one_of_seven false false false false false true g o s h unit = subst ShowsUnit (same_Some shown.Send s h) tt
+one_of_seven false false false false false false true o s h unit = subst ShowsUnit (same_Some shown.Version s h) tt
+one_of_seven false false false false false false false o s h unit = unit h
+
+subject_of_keeps : (text : List ℕ) (s : Shown) → subject_of text ≡ Some s → ShowsUnit s
+unfolding subject_of
+subject_of_keeps text s h =
+    one_of_seven (is_spelled text (codes "TIME")) (is_spelled text (codes "CPU")) (is_spelled text (codes "QUEUE")) (is_spelled text (codes "BREAK")) (is_spelled text (codes "EXPECT")) (is_spelled text (codes "SEND")) (is_spelled text (codes "VERSION")) (option_map (λ u. shown.Unit u) (unit_of text)) s h
+    (λ later. option_map_keeps ShowsUnit (λ u. shown.Unit u) (unit_of text) s later (λ u is. unit_of_keeps text u is))
+
+-- a reader's value is that of its second part
+bind_keeps : {A : Type 0} (P : Verb → Type 0) (r : Result A ParseFault) (f : A → Result Verb ParseFault) (v : Verb) → (r >>= f) ≡ Ok v → ((a : A) → r ≡ Ok a → f a ≡ Ok v → P v) → P v
+bind_keeps P (Ok a) f v h holds = holds a refl h
+bind_keeps P (Err fault) f v h holds = absurd (cc h)
+
+same_Ok : (x y : Verb) → ◌≡◌ {A = Result Verb ParseFault} (Ok x) (Ok y) → x ≡ y
+same_Ok x y h = cc h
+
+cond_ok : (b : Bool) (what v : Verb) (fault : ParseFault) → ◌≡◌ {A = Result Verb ParseFault} (cond b (Ok what) (Err fault)) (Ok v) → what ≡ v
+cond_ok true what v fault h = same_Ok what v h
+cond_ok false what v fault h = absurd (cc h)
+
+ended_keeps : (P : Verb → Type 0) (what : Verb) (text : List ℕ) (v : Verb) → ended what text ≡ Ok v → P what → P v
+unfolding ended
+ended_keeps P what text v h holds = subst P (cond_ok (eqb (length (past_blanks text)) 0) what v _ h) holds
+
+cond_either : (P : Type 0) (b : Bool) (x y : Result Verb ParseFault) (v : Verb) → cond b x y ≡ Ok v → (x ≡ Ok v → P) → (y ≡ Ok v → P) → P
+cond_either P true x y v h first second = first h
+cond_either P false x y v h first second = second h
+
+needed_some : {V : Type 0} (only_number : Bool) (o : Option V) (word rest : List ℕ) (a : V × List ℕ) → needed_found only_number o word rest ≡ Ok a → o ≡ Some a.0
+needed_some {V} only_number (Some v) word rest a h =
+    let same : (v, rest) ≡ a = cc h in ap (λ (p : (V × List ℕ)). Some p.0) same
+needed_some only_number None [] rest a h = absurd (cc h)
+needed_some only_number None (b ∷ more) rest a h = absurd (cc h)
+
+numbered_keeps : (line : List ℕ) (make : Option ℕ → Verb) (number : Result (Option ℕ × List ℕ) ParseFault) (v : Verb) → ((n : Option ℕ) → Keeps line (make n)) → numbered make number ≡ Ok v → Keeps line v
+numbered_keeps line make number v holds h = bind_keeps (Keeps line) number (λ n. ended (make n.0) n.1) v h (λ n is last. ended_keeps (Keeps line) (make n.0) n.1 v last (holds n.0))
+
+examine_keeps : (line text : List ℕ) (v : Verb) → examine text ≡ Ok v → Keeps line v
+unfolding examine
+examine_keeps line text v h = bind_keeps (Keeps line) (listing true text) (λ l. ended (verb.Examine l.0) l.1) v h (λ l is last. ended_keeps (Keeps line) (verb.Examine l.0) l.1 v last tt)
+
+deposit_keeps : (line text : List ℕ) (v : Verb) → deposit text ≡ Ok v → Keeps line v
+unfolding deposit
+deposit_keeps line text v h =
+    bind_keeps (Keeps line) (listing false text) valued v h (λ l is value.
+    cond_either (Keeps line v) l.0.symbolic (instruction l.1 >>= (λ w. Ok (verb.Deposit l.0 w))) (needed true octal l.1 >>= (λ n. ended (verb.Deposit l.0 n.0) n.1)) v value
+    (λ symbolic. bind_keeps (Keeps line) (instruction l.1) (λ w. Ok (verb.Deposit l.0 w)) v symbolic (λ w is last. subst (Keeps line) (same_Ok (verb.Deposit l.0 w) v last) tt))
+    (λ number. bind_keeps (Keeps line) (needed true octal l.1) (λ n. ended (verb.Deposit l.0 n.0) n.1) v number (λ n is last. ended_keeps (Keeps line) (verb.Deposit l.0 n.0) n.1 v last tt)))
+
+show_keeps : (line text : List ℕ) (v : Verb) → show text ≡ Ok v → Keeps line v
+unfolding show
+show_keeps line text v h =
+    bind_keeps (Keeps line) (needed false subject_of text) (λ s. ended (verb.Show s.0) s.1) v h (λ s is last.
+    let subject : subject_of (next_word text).0 ≡ Some s.0 = needed_some false (subject_of (next_word text).0) (next_word text).0 (next_word text).1 s is in
+    ended_keeps (Keeps line) (verb.Show s.0) s.1 v last (subject_of_keeps (next_word text).0 s.0 subject))
+
+operands_keeps : (line : List ℕ) (name : CommandName) (text : List ℕ) (v : Verb) → operands name text ≡ Ok v → Keeps line v
+unfolding operands
+operands_keeps line name.Examine text v h = examine_keeps line text v h
+operands_keeps line name.Deposit text v h = deposit_keeps line text v h
+operands_keeps line name.Run text v h = numbered_keeps line (λ n. verb.Run n) (last_number octal text) v (λ n. tt) h
+operands_keeps line name.Go text v h = numbered_keeps line (λ n. verb.Go n) (last_number octal text) v (λ n. tt) h
+operands_keeps line name.Cont text v h = ended_keeps (Keeps line) verb.Cont text v h tt
+operands_keeps line name.Step text v h = numbered_keeps line (λ n. verb.Step n) (last_number decimal text) v (λ n. tt) h
+operands_keeps line name.Show text v h = show_keeps line text v h
+operands_keeps line name.Exit text v h = numbered_keeps line (λ n. verb.Exit n) (last_number decimal text) v (λ n. tt) h
+operands_keeps line name.Quit text v h = numbered_keeps line (λ n. verb.Exit n) (last_number decimal text) v (λ n. tt) h
+operands_keeps line name.Bye text v h = numbered_keeps line (λ n. verb.Exit n) (last_number decimal text) v (λ n. tt) h
+operands_keeps line name.Reset text v h = absurd (cc h)
+operands_keeps line name.NoExpect text v h = absurd (cc h)
+operands_keeps line name.NoSend text v h = absurd (cc h)
+operands_keeps line name.Break text v h = absurd (cc h)
+operands_keeps line name.NoBreak text v h = absurd (cc h)
+operands_keeps line name.Expect text v h = absurd (cc h)
+operands_keeps line name.Send text v h = absurd (cc h)
+operands_keeps line name.Attach text v h = absurd (cc h)
+operands_keeps line name.Detach text v h = absurd (cc h)
+operands_keeps line name.Load text v h = absurd (cc h)
+operands_keeps line name.Save text v h = absurd (cc h)
+operands_keeps line name.Dump text v h = absurd (cc h)
+operands_keeps line name.Restore text v h = absurd (cc h)
+operands_keeps line name.Set text v h = absurd (cc h)
+operands_keeps line name.Do text v h = absurd (cc h)
+operands_keeps line name.Goto text v h = absurd (cc h)
+operands_keeps line name.Assert text v h = absurd (cc h)
+operands_keeps line name.Echo text v h = absurd (cc h)
+
+found_keeps : (line : List ℕ) (found : Option CommandName) (rest : List ℕ) (v : Verb) → command_found found rest ≡ Ok v → Keeps line v
+found_keeps line None rest v h = absurd (cc h)
+found_keeps line (Some name) rest v h = operands_keeps line name rest v h
+
+pub named_keeps : (line : List ℕ) (v : Verb) → named line ≡ Ok v → Keeps line v
+unfolding named
+named_keeps line v h = found_keeps line (command_named (next_word line).0) (next_word line).1 v h

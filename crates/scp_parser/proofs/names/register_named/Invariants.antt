@@ -1,0 +1,10 @@
+use Rattle.std.proofs.Common.{◌≡◌, ℕ, ◌<◌, ◌≤◌, false, [], length, get_or}
+use Rattle.scp_parser.specs.Names.{is_spelled, register_names}
+use Rattle.scp_parser.proofs.names.register_named.Given as goal
+
+-- no register before this number has the name
+abbrev pub invariant-loop-i : goal.invariant-loop-i
+invariant-loop-i l = record {
+  within : l.i ≤ length (register_names l.device);
+  before : (k : ℕ) → k < l.i → is_spelled l.word (get_or (register_names l.device) k []) ≡ false;
+}
