@@ -2,6 +2,6 @@ mod Decides
 pub mod ItemsLemmas
 pub mod KeepsLemmas
 pub mod MarkLemmas
-pub mod NumberLemmas
+pub mod ReaderNumberLemmas
 pub mod PlaceLemmas
 pub mod RegisterLemmas
