@@ -1,1 +1,9 @@
 mod Decides
+mod ChoiceLemmas
+mod SpellingLemmas
+mod NumberLemmas
+mod ListLemmas
+mod SplitLemmas
+mod UnitLemmas
+mod CommandNameLemmas
+mod ItemLemmas
