@@ -9,7 +9,6 @@ use Rattle.std.proofs.lemmas.List.{take-map, take-take}
 use Rattle.scp_parser.specs.declared.names.CommandName.{CommandName}
 use Rattle.scp_parser.specs.declared.names.CommandName.TheVariants.{Examine, Deposit, Run, Go, Cont, Reset, NoExpect, NoSend, Step, Break, NoBreak, Expect, Send, Attach, Detach, Load, Save, Dump, Restore, Set, Show, Do, Goto, Assert, Echo, Exit, Quit, Bye}
 use Rattle.scp_parser.specs.Names.{IsSpelled, is_spelled, full_name, least_letters, IsCommandName, is_command_name, all_names, command_named}
-use Rattle.scp_parser.proofs.Decides.{Decides}
 use Rattle.scp_parser.proofs.SpellingLemmas.{spelled_is, is_spelled_so, are_alike}
 use Rattle.scp_parser.proofs.ListLemmas.{are_apart, first_found, first_is}
 
@@ -82,13 +81,10 @@ all_listed Bye = stands 27 Bye (omega arith) refl
 names_apart : are_apart share all_names ≡ true
 names_apart = refl
 
-command_found : (word : List ℕ) (name : CommandName) → command_named word ≡ Some name → IsCommandName word name
+pub command_found : (word : List ℕ) (name : CommandName) → command_named word ≡ Some name → IsCommandName word name
 unfolding command_named
 command_found word name h = name_is word name (first_found (is_command_name word) all_names name h).1
 
-command_reads : (word : List ℕ) (name : CommandName) → IsCommandName word name → command_named word ≡ Some name
+pub command_reads : (word : List ℕ) (name : CommandName) → IsCommandName word name → command_named word ≡ Some name
 unfolding command_named
 command_reads word name h = first_is (is_command_name word) share all_names name (two_share word) names_apart (all_listed name) (name_passes word name h)
-
-pub command_decides : Decides IsCommandName command_named
-command_decides word name = (command_found word name, command_reads word name)

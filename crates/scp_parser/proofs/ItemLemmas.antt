@@ -17,10 +17,9 @@ use Rattle.scp_parser.specs.declared.listing.Item.TheVariants.{At, Range, Count,
 use Rattle.scp_parser.specs.Names.{IsSpelled, is_spelled, register_names}
 use Rattle.scp_parser.specs.Forms.{IsOctal, IsDecimal, IsLetter, IsDecimalDigit, IsName, IsRegister, IsItem, at, range, count, all_words, state, register, unknown, AreItems, last, more, IsList}
 use Rattle.scp_parser.specs.Operands.{or_else, both, octal, decimal, is_digit, is_letter, is_name_byte, is_name, register_named, unknown_name, named_item, front, behind, numbered_item, item_of, has_comma, items_up_to, items_of}
-use Rattle.scp_parser.proofs.Decides.{Decides}
 use Rattle.scp_parser.proofs.ChoiceLemmas.{chosen, same_some, none_from, either_answer, first_answer, second_answer, mapped, Two, two_answers, put_together, not_first}
 use Rattle.scp_parser.proofs.SpellingLemmas.{spelled_is, is_spelled_so, are_alike, alike, starts_digit, spelled_starts, lacks, spelled_lacks}
-use Rattle.scp_parser.proofs.NumberLemmas.{octal_decides, decimal_decides, number_lacks, number_starts}
+use Rattle.scp_parser.proofs.NumberLemmas.{octal_found, octal_reads, decimal_found, decimal_reads, number_lacks, number_starts}
 use Rattle.scp_parser.proofs.ListLemmas.{are_apart, place_found, place_is}
 use Rattle.scp_parser.proofs.SplitLemmas.{front_is, behind_is, split_behind, split_comma, holds_mark, no_comma, a_comma}
 
@@ -248,16 +247,16 @@ not_digit base mark low digit = omega (arith, digit.0)
 range_found : (device : Name) (text : List ℕ) (item : Item) → both (λ a b. Range a b) (octal (front 45 text)) (octal (behind 45 text)) ≡ Some item → IsItem device text item
 range_found device text item h =
     let two = two_answers (λ a b. Range a b) (octal (front 45 text)) (octal (behind 45 text)) item h in
-    let from = (octal_decides (front 45 text) two.left).0 two.first in
-    let to = (octal_decides (behind 45 text) two.right).0 two.second in
+    let from = octal_found (front 45 text) two.left two.first in
+    let to = octal_found (behind 45 text) two.right two.second in
     subst (λ (t : List ℕ). IsItem device t item) (sym (split_behind 45 text to.is.some))
     (subst (λ (i : Item). IsItem device (front 45 text ++ 45 ∷ behind 45 text) i) two.made (range (front 45 text) (behind 45 text) two.left two.right from to))
 
 count_found : (device : Name) (text : List ℕ) (item : Item) → both (λ a n. Count a n) (octal (front 47 text)) (decimal (behind 47 text)) ≡ Some item → IsItem device text item
 count_found device text item h =
     let two = two_answers (λ a n. Count a n) (octal (front 47 text)) (decimal (behind 47 text)) item h in
-    let from = (octal_decides (front 47 text) two.left).0 two.first in
-    let number = (decimal_decides (behind 47 text) two.right).0 two.second in
+    let from = octal_found (front 47 text) two.left two.first in
+    let number = decimal_found (behind 47 text) two.right two.second in
     subst (λ (t : List ℕ). IsItem device t item) (sym (split_behind 47 text number.is.some))
     (subst (λ (i : Item). IsItem device (front 47 text ++ 47 ∷ behind 47 text) i) two.made (count (front 47 text) (behind 47 text) two.left two.right from number))
 
@@ -267,7 +266,7 @@ numbered_found device text item h =
     elim (either_answer (option_map (λ a. At a) (octal text)) (or_else (both (λ a b. Range a b) (octal (front 45 text)) (octal (behind 45 text))) (both (λ a n. Count a n) (octal (front 47 text)) (decimal (behind 47 text)))) item h) [
       | inl one ↦
           let (a, read, same) = mapped (λ a. At a) (octal text) item one in
-          subst (λ (i : Item). IsItem device text i) same (at text a ((octal_decides text a).0 read))
+          subst (λ (i : Item). IsItem device text i) same (at text a (octal_found text a read))
       | inr rest ↦ elim (either_answer (both (λ a b. Range a b) (octal (front 45 text)) (octal (behind 45 text))) (both (λ a n. Count a n) (octal (front 47 text)) (decimal (behind 47 text))) item rest.1) [
         | inl two ↦ range_found device text item two
         | inr number ↦ count_found device text item number.1
@@ -279,14 +278,14 @@ no_octal : (mark : ℕ) (from to : List ℕ) → mark < 48 → octal (from ++ ma
 no_octal mark from to low =
     none_from (octal (from ++ mark ∷ to))
     (λ n read. both_ways (lacks mark (from ++ mark ∷ to)) (holds_mark mark from to)
-    (number_lacks 8 _ mark (from ++ mark ∷ to) n ((octal_decides (from ++ mark ∷ to) n).0 read) (not_digit 8 mark low)))
+    (number_lacks 8 _ mark (from ++ mark ∷ to) n (octal_found (from ++ mark ∷ to) n read) (not_digit 8 mark low)))
 
 range_reads : (from to : List ℕ) (a b : ℕ) → IsOctal from a → IsOctal to b → numbered_item (from ++ 45 ∷ to) ≡ Some (Range a b)
 unfolding numbered_item
 range_reads from to a b first second =
     let none : lacks 45 from ≡ true = number_lacks 8 _ 45 from a first (not_digit 8 45 (omega arith)) in
-    let left : octal (front 45 (from ++ 45 ∷ to)) ≡ Some a = ap octal (front_is 45 from to none) ∙ (octal_decides from a).1 first in
-    let right : octal (behind 45 (from ++ 45 ∷ to)) ≡ Some b = ap octal (behind_is 45 from to none) ∙ (octal_decides to b).1 second in
+    let left : octal (front 45 (from ++ 45 ∷ to)) ≡ Some a = ap octal (front_is 45 from to none) ∙ octal_reads from a first in
+    let right : octal (behind 45 (from ++ 45 ∷ to)) ≡ Some b = ap octal (behind_is 45 from to none) ∙ octal_reads to b second in
     second_answer _ _ (Some (Range a b)) (ap (option_map (λ a. At a)) (no_octal 45 from to (omega arith)))
     (first_answer _ _ (Range a b) (put_together (λ a b. Range a b) _ _ a b left right))
 
@@ -298,7 +297,7 @@ no_range from number a n first second =
     none_from (both (λ a b. Range a b) (octal (front 45 text)) (octal (behind 45 text)))
     (λ item h.
     let two = two_answers (λ a b. Range a b) (octal (front 45 text)) (octal (behind 45 text)) item h in
-    let to = (octal_decides (behind 45 text) two.right).0 two.second in
+    let to = octal_found (behind 45 text) two.right two.second in
     let held = ap (lacks 45) (split_behind 45 text to.is.some) ∙ holds_mark 45 (front 45 text) (behind 45 text) in
     let none = list_all-append (λ c. not (c == 45)) from (47 ∷ number) in
     let left : lacks 45 from ≡ true = number_lacks 8 _ 45 from a first (not_digit 8 45 (omega arith)) in
@@ -309,14 +308,14 @@ count_reads : (from number : List ℕ) (a n : ℕ) → IsOctal from a → IsDeci
 unfolding numbered_item
 count_reads from number a n first second =
     let none : lacks 47 from ≡ true = number_lacks 8 _ 47 from a first (not_digit 8 47 (omega arith)) in
-    let left : octal (front 47 (from ++ 47 ∷ number)) ≡ Some a = ap octal (front_is 47 from number none) ∙ (octal_decides from a).1 first in
-    let right : decimal (behind 47 (from ++ 47 ∷ number)) ≡ Some n = ap decimal (behind_is 47 from number none) ∙ (decimal_decides number n).1 second in
+    let left : octal (front 47 (from ++ 47 ∷ number)) ≡ Some a = ap octal (front_is 47 from number none) ∙ octal_reads from a first in
+    let right : decimal (behind 47 (from ++ 47 ∷ number)) ≡ Some n = ap decimal (behind_is 47 from number none) ∙ decimal_reads number n second in
     second_answer _ _ (Some (Count a n)) (ap (option_map (λ a. At a)) (no_octal 47 from number (omega arith)))
     (second_answer _ _ (Some (Count a n)) (no_range from number a n first second) (put_together (λ a n. Count a n) _ _ a n left right))
 
 at_reads : (text : List ℕ) (a : ℕ) → IsOctal text a → numbered_item text ≡ Some (At a)
 unfolding numbered_item
-at_reads text a h = first_answer _ _ (At a) (ap (option_map (λ a. At a)) ((octal_decides text a).1 h))
+at_reads text a h = first_answer _ _ (At a) (ap (option_map (λ a. At a)) (octal_reads text a h))
 
 -- an item that begins with a digit is no name
 numbered_reads : (device : Name) (text : List ℕ) (item : Item) → starts_digit text ≡ true → numbered_item text ≡ Some item → item_of device text ≡ Some item
@@ -352,7 +351,7 @@ unknown_item device text name no_all no_state no_register =
     let none = none_from (register_named device text) (λ k h. no_register k (register_found device text k h)) in
     rw (not_all, not_state, none, name_passes text name) refl
 
-item_found : (device : Name) (text : List ℕ) (item : Item) → item_of device text ≡ Some item → IsItem device text item
+pub item_found : (device : Name) (text : List ℕ) (item : Item) → item_of device text ≡ Some item → IsItem device text item
 unfolding item_of
 item_found device text item h =
     elim (either_answer (named_item device text) (numbered_item text) item h) [
@@ -360,7 +359,7 @@ item_found device text item h =
       | inr numbered ↦ numbered_found device text item numbered.1
     ]
 
-item_reads : (device : Name) (text : List ℕ) (item : Item) → IsItem device text item → item_of device text ≡ Some item
+pub item_reads : (device : Name) (text : List ℕ) (item : Item) → IsItem device text item → item_of device text ≡ Some item
 item_reads device text item (at _ a is) = numbered_reads device text (At a) (subst (λ (t : List ℕ). starts_digit t ≡ true) (append-nil text) (number_starts text [] a is)) (at_reads text a is)
 item_reads device text item (range from to a b first second) = numbered_reads device (from ++ 45 ∷ to) (Range a b) (number_starts from (45 ∷ to) a first) (range_reads from to a b first second)
 item_reads device text item (count from number a n first second) = numbered_reads device (from ++ 47 ∷ number) (Count a n) (number_starts from (47 ∷ number) a first) (count_reads from number a n first second)
@@ -368,9 +367,6 @@ item_reads device text item (all_words _ is) = named_reads device text AllWords 
 item_reads device text item (state _ is) = named_reads device text State (state_reads device text is)
 item_reads device text item (register _ k is) = named_reads device text (Reg k) (register_item device text k is)
 item_reads device text item (unknown _ name no_all no_state no_register) = named_reads device text Unknown (unknown_item device text name no_all no_state no_register)
-
-pub item_decides : (device : Name) → Decides (IsItem device) (item_of device)
-item_decides device text item = (item_found device text item, item_reads device text item)
 
 -- an item holds no comma
 
@@ -433,13 +429,10 @@ items_read (suc room) device text items (more front_text rest item others is are
     let lacks_it = item_lacks device front_text item is in
     rw (a_comma front_text rest lacks_it, front_is 44 front_text rest lacks_it, behind_is 44 front_text rest lacks_it, item_reads device front_text item is, items_read room device rest others are (omega arith)) refl
 
-list_found : (device : Name) (text : List ℕ) (items : List Item) → items_of device text ≡ Some items → IsList device text items
+pub list_found : (device : Name) (text : List ℕ) (items : List Item) → items_of device text ≡ Some items → IsList device text items
 unfolding items_of
 list_found device text items h = let listed = items_found 16 device text items h in record { each = listed.each; few = listed.few }
 
-list_reads : (device : Name) (text : List ℕ) (items : List Item) → IsList device text items → items_of device text ≡ Some items
+pub list_reads : (device : Name) (text : List ℕ) (items : List Item) → IsList device text items → items_of device text ≡ Some items
 unfolding items_of
 list_reads device text items h = items_read 16 device text items h.each h.few
-
-pub items_decide : (device : Name) → Decides (IsList device) (items_of device)
-items_decide device text items = (list_found device text items, list_reads device text items)

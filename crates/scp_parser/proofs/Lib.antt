@@ -7,3 +7,5 @@ mod SplitLemmas
 mod UnitLemmas
 mod CommandNameLemmas
 mod ItemLemmas
+mod ConditionLemmas
+mod FormLemmas

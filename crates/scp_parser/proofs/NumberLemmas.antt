@@ -7,7 +7,6 @@ use Rattle.std.proofs.lemmas.List.Sums.{AllPass-from_list_all, list_all-from_All
 use Rattle.nova_word.specs.Numbers.{IsNumber, IsDigit, value_of}
 use Rattle.scp_parser.specs.Forms.{IsHeld, held, largest_octal, largest_decimal, IsOctal, IsDecimal}
 use Rattle.scp_parser.specs.Operands.{is_digit, is_number, octal, decimal}
-use Rattle.scp_parser.proofs.Decides.{Decides}
 use Rattle.scp_parser.proofs.ChoiceLemmas.{chosen, same_some}
 use Rattle.scp_parser.proofs.SpellingLemmas.{starts_digit, lacks}
 
@@ -46,13 +45,21 @@ held_reads : (base largest : ℕ) (text : List ℕ) (v : ℕ) → IsHeld base la
 held_reads base largest text v h =
     rw (number_passes base text h.number h.is) (ap (λ (n : ℕ). Some (held largest n)) h.is.value ∙ ap (λ (n : ℕ). Some n) (sym h.counts))
 
-pub octal_decides : Decides IsOctal octal
+pub octal_found : (text : List ℕ) (v : ℕ) → octal text ≡ Some v → IsOctal text v
 unfolding octal
-octal_decides text v = (held_found 8 largest_octal text v, held_reads 8 largest_octal text v)
+octal_found text v h = held_found 8 largest_octal text v h
 
-pub decimal_decides : Decides IsDecimal decimal
+pub octal_reads : (text : List ℕ) (v : ℕ) → IsOctal text v → octal text ≡ Some v
+unfolding octal
+octal_reads text v h = held_reads 8 largest_octal text v h
+
+pub decimal_found : (text : List ℕ) (v : ℕ) → decimal text ≡ Some v → IsDecimal text v
 unfolding decimal
-decimal_decides text v = (held_found 10 largest_decimal text v, held_reads 10 largest_decimal text v)
+decimal_found text v h = held_found 10 largest_decimal text v h
+
+pub decimal_reads : (text : List ℕ) (v : ℕ) → IsDecimal text v → decimal text ≡ Some v
+unfolding decimal
+decimal_reads text v h = held_reads 10 largest_decimal text v h
 
 -- no byte of a number is any other than a digit
 pub number_lacks : (base largest mark : ℕ) (text : List ℕ) (n : ℕ) → IsHeld base largest text n → (IsDigit base mark → ⊥) → lacks mark text ≡ true

@@ -16,7 +16,6 @@ use Rattle.scp_parser.specs.declared.command.Shown.TheVariants.{Time, Cpu, Queue
 use Rattle.scp_parser.specs.Names.{IsSpelled, is_spelled, device_kinds, unit_kinds, first_of}
 use Rattle.scp_parser.specs.Forms.{IsKind, IsDevice, IsUnit, alone, drive, IsSubject, time, cpu, queue, breaks, expects, sends, version, unit, IsSymbolic}
 use Rattle.scp_parser.specs.Operands.{or_else, kind_named, device_of, unit_alone, drive_at, drive_of, unit_of, subject_of, symbolic_of}
-use Rattle.scp_parser.proofs.Decides.{Decides}
 use Rattle.scp_parser.proofs.ChoiceLemmas.{chosen, same_some, none_from, either_answer, first_answer, second_answer, mapped}
 use Rattle.scp_parser.proofs.SpellingLemmas.{spelled_is, is_spelled_so, are_alike, alike}
 use Rattle.scp_parser.proofs.ListLemmas.{are_apart, first_found, first_is}
@@ -39,9 +38,13 @@ kind_reads kinds text kind apart h =
     (λ a b first second. alike text (kind_name a) (kind_name b) (spelled_is text (kind_name a) first) (spelled_is text (kind_name b) second))
     apart h.listed (is_spelled_so text (kind_name kind) h.spelled)
 
-pub device_decides : Decides IsDevice device_of
+pub device_found : (text : List ℕ) (kind : Kind) → device_of text ≡ Some kind → IsDevice text kind
 unfolding device_of
-device_decides text kind = (kind_found device_kinds text kind, kind_reads device_kinds text kind refl)
+device_found text kind h = kind_found device_kinds text kind h
+
+pub device_reads : (text : List ℕ) (kind : Kind) → IsDevice text kind → device_of text ≡ Some kind
+unfolding device_of
+device_reads text kind h = kind_reads device_kinds text kind refl h
 
 -- units
 
@@ -117,7 +120,7 @@ kind_is_no_drive : (text : List ℕ) (kind : Kind) (n : ℕ) → IsSpelled text 
 kind_is_no_drive text kind n one other =
     both_ways (are_alike (kind_name kind) (drive_name n)) (drive_apart kind n) (alike text (kind_name kind) (drive_name n) one other)
 
-unit_found : (text : List ℕ) (u : UnitName) → unit_of text ≡ Some u → IsUnit text u
+pub unit_found : (text : List ℕ) (u : UnitName) → unit_of text ≡ Some u → IsUnit text u
 unfolding unit_of
 unit_found text u h =
     elim (either_answer (option_map unit_alone (kind_named unit_kinds text)) (drive_of text) u h) [
@@ -127,7 +130,7 @@ unit_found text u h =
       | inr other ↦ drive_found text u other.1
     ]
 
-unit_reads : (text : List ℕ) (u : UnitName) → IsUnit text u → unit_of text ≡ Some u
+pub unit_reads : (text : List ℕ) (u : UnitName) → IsUnit text u → unit_of text ≡ Some u
 unfolding unit_of
 unit_reads text u (alone _ kind is) =
     first_answer (option_map unit_alone (kind_named unit_kinds text)) (drive_of text) (unit_alone kind)
@@ -135,9 +138,6 @@ unit_reads text u (alone _ kind is) =
 unit_reads text u (drive _ n below is) =
     let no_kind = none_from (kind_named unit_kinds text) (λ kind named. kind_is_no_drive text kind n (kind_found unit_kinds text kind named).spelled is) in
     second_answer (option_map unit_alone (kind_named unit_kinds text)) (drive_of text) (Some (drive_unit n)) (ap (option_map unit_alone) no_kind) (drive_reads text n below is)
-
-pub unit_decides : Decides IsUnit unit_of
-unit_decides text u = (unit_found text u, unit_reads text u)
 
 -- subjects
 
@@ -154,7 +154,7 @@ subject_unit text shown h =
     let (u, named, same) = mapped (λ u. AUnit u) (unit_of text) shown h in
     subst (λ (s : Shown). IsSubject text s) same (unit text u (unit_found text u named))
 
-subject_found : (text : List ℕ) (shown : Shown) → subject_of text ≡ Some shown → IsSubject text shown
+pub subject_found : (text : List ℕ) (shown : Shown) → subject_of text ≡ Some shown → IsSubject text shown
 unfolding subject_of
 subject_found text shown =
     subject_choice text shown _ _ _ (subject_named text (codes "TIME") Time shown (time text))
@@ -188,7 +188,7 @@ unit_shown : (text : List ℕ) (u : UnitName) → IsUnit text u → subject_of t
 unit_shown text u (alone _ kind is) = kind_shown text kind is.spelled
 unit_shown text u (drive _ n below is) = drive_shown text n is
 
-subject_reads : (text : List ℕ) (shown : Shown) → IsSubject text shown → subject_of text ≡ Some shown
+pub subject_reads : (text : List ℕ) (shown : Shown) → IsSubject text shown → subject_of text ≡ Some shown
 unfolding subject_of
 subject_reads text shown (time _ h) = rw h refl
 subject_reads text shown (cpu _ h) = rw h refl
@@ -199,12 +199,9 @@ subject_reads text shown (sends _ h) = rw h refl
 subject_reads text shown (version _ h) = rw h refl
 subject_reads text shown (unit _ u is) = unit_shown text u is ∙ ap (option_map (λ u. AUnit u)) (unit_reads text u is)
 
-pub subject_decides : Decides IsSubject subject_of
-subject_decides text shown = (subject_found text shown, subject_reads text shown)
-
 -- the option for symbolic text
 
-symbolic_found : (text : List ℕ) (on : Bool) → symbolic_of text ≡ Some on → IsSymbolic text × (on ≡ true)
+pub symbolic_found : (text : List ℕ) (on : Bool) → symbolic_of text ≡ Some on → IsSymbolic text × (on ≡ true)
 unfolding symbolic_of
 symbolic_found text on h =
     elim (chosen (is_spelled text (codes "-M")) (Some true) None (Some on) h) [
@@ -212,9 +209,6 @@ symbolic_found text on h =
       | inr other ↦ absurd (cc)
     ]
 
-symbolic_reads : (text : List ℕ) (on : Bool) → IsSymbolic text × (on ≡ true) → symbolic_of text ≡ Some on
+pub symbolic_reads : (text : List ℕ) (on : Bool) → IsSymbolic text × (on ≡ true) → symbolic_of text ≡ Some on
 unfolding symbolic_of
 symbolic_reads text on (is, here) = rw (is_spelled_so text (codes "-M") is) (ap (λ (b : Bool). Some b) (sym here))
-
-pub symbolic_decides : Decides (λ text on. IsSymbolic text × (on ≡ true)) symbolic_of
-symbolic_decides text on = (symbolic_found text on, symbolic_reads text on)
