@@ -1,5 +1,5 @@
 -- What a choice between answers tells of its parts.
-use Rattle.std.proofs.Common.{◌≡◌, ◌⊎◌, inl, inr, Bool, true, false, cond, Option, Some, None, refl, ap, sym, ◌∙◌}
+use Rattle.std.proofs.Common.{◌≡◌, ◌⊎◌, inl, inr, Bool, true, false, cond, Option, Some, None, refl}
 use Rattle.std.specs.Option.{option_map}
 use Rattle.scp_parser.specs.Operands.{or_else, both}
 
@@ -50,6 +50,3 @@ two_answers f None p z h = absurd (cc)
 pub put_together : {A B C : Type 0} (f : A → B → C) (o : Option A) (p : Option B) (x : A) (y : B)
     → o ≡ Some x → p ≡ Some y → both f o p ≡ Some (f x y)
 put_together f o p x y first second = rw (first, second) refl
-
-pub not_first : {A B C : Type 0} (f : A → B → C) (o : Option A) (p : Option B) → o ≡ None → both f o p ≡ None
-not_first f o p h = rw h refl

@@ -1,9 +1,9 @@
 -- Conditions: a comparison with a value, and before it a mask or none.
 use Rattle.std.specs.Prelude.{not}
-use Rattle.std.proofs.Common.{◌≡◌, ◌⊎◌, inl, inr, ℕ, ◌+◌, ◌<◌, ◌≤◌, Bool, true, false, cond, ◌&&◌, ◌||◌, ◌==◌, Option, Some, None, List, [], ◌∷◌, ◌++◌, length, take, drop, refl, ap, sym, ◌∙◌, subst, arith}
+use Rattle.std.proofs.Common.{◌≡◌, inl, inr, ℕ, Bool, true, false, cond, ◌==◌, Option, Some, None, List, [], ◌∷◌, ◌++◌, length, take, drop, refl, ap, sym, ◌∙◌, subst, arith}
 use Rattle.std.specs.List.{list_all, position_or_len}
 use Rattle.std.specs.Option.{option_map}
-use Rattle.std.proofs.lemmas.Bool.{eqb-true, ne_eqb, not_from_false, or_from}
+use Rattle.std.proofs.lemmas.Bool.{eqb-true, ne_eqb}
 use Rattle.std.proofs.lemmas.List.{take-append-drop, take_at, drop_at}
 use Rattle.std.proofs.lemmas.List.Sums.{list_all-from_AllPass}
 use Rattle.nova_word.specs.Numbers.{IsDigit}
@@ -11,8 +11,8 @@ use Rattle.scp_parser.specs.declared.listing.Rel.{Rel}
 use Rattle.scp_parser.specs.declared.listing.Rel.TheVariants.{Eq, Ne, Lt, Le, Gt, Ge}
 use Rattle.scp_parser.specs.declared.listing.Condition.{Condition}
 use Rattle.scp_parser.specs.Forms.{IsOctal, rel_text, IsCondition, plain, masked}
-use Rattle.scp_parser.specs.Operands.{or_else, both, octal, two_byte_rel, one_byte_rel, Compared, with_value, comparison_of, is_rel_byte, condition_with, masked_condition, condition_of}
-use Rattle.scp_parser.proofs.ChoiceLemmas.{chosen, same_some, either_answer, first_answer, mapped, two_answers, put_together}
+use Rattle.scp_parser.specs.Operands.{octal, two_byte_rel, one_byte_rel, Compared, with_value, comparison_of, is_rel_byte, condition_with, masked_condition, condition_of}
+use Rattle.scp_parser.proofs.ChoiceLemmas.{chosen, same_some, either_answer, mapped, two_answers, put_together}
 use Rattle.scp_parser.proofs.NumberLemmas.{octal_found, octal_reads}
 use Rattle.scp_parser.proofs.SplitLemmas.{first_place}
 

@@ -1,11 +1,10 @@
 -- Items and lists of items.
-use Rattle.std.specs.Prelude.{not, nat_le, nat_lt, codes, slice_get}
-use Rattle.std.proofs.Common.{◌≡◌, ◌⊎◌, inl, inr, ℕ, ◌+◌, ◌-◌, ◌<◌, ◌≤◌, zero, suc, Bool, true, false, cond, ◌&&◌, ◌||◌, ◌==◌, Option, Some, None, List, [], ◌∷◌, ◌++◌, length, get_or, refl, ap, sym, ◌∙◌, subst, arith, append-nil}
-use Rattle.std.specs.List.{list_all, position}
+use Rattle.std.specs.Prelude.{not, nat_le, nat_lt, codes}
+use Rattle.std.proofs.Common.{◌≡◌, ◌⊎◌, inl, inr, ℕ, ◌<◌, ◌≤◌, zero, suc, Bool, true, false, cond, ◌&&◌, ◌||◌, ◌==◌, Some, None, List, [], ◌∷◌, ◌++◌, length, refl, ap, sym, ◌∙◌, subst, arith, append-nil}
+use Rattle.std.specs.List.{list_all}
 use Rattle.std.specs.Option.{option_map}
 use Rattle.std.proofs.lemmas.Bool.{both_ways, and_parts, and_from, or_cases, or_left, or_right, not-true, false_from_ne_true, leb-true, le-leb, ltb-true, lt-ltb, eqb-true, eq-eqb, not_from_false, ne_eqb}
 use Rattle.std.proofs.lemmas.List.Sums.{AllPass-from_list_all, list_all-from_AllPass}
-use Rattle.std.proofs.lemmas.List.Elements.{All-nil, All-cons, All-head, All-tail}
 use Rattle.std.proofs.lemmas.List.Folds.{list_all-append}
 use Rattle.std.proofs.lemmas.Option.{slice_get_within, get_or_from_slice_get}
 use Rattle.nova_word.specs.Numbers.{IsDigit}
@@ -17,7 +16,7 @@ use Rattle.scp_parser.specs.declared.listing.Item.TheVariants.{At, Range, Count,
 use Rattle.scp_parser.specs.Names.{IsSpelled, is_spelled, register_names}
 use Rattle.scp_parser.specs.Forms.{IsOctal, IsDecimal, IsLetter, IsDecimalDigit, IsName, IsRegister, IsItem, at, range, count, all_words, state, register, unknown, AreItems, last, more, IsList}
 use Rattle.scp_parser.specs.Operands.{or_else, both, octal, decimal, is_digit, is_letter, is_name_byte, is_name, register_named, unknown_name, named_item, front, behind, numbered_item, item_of, has_comma, items_up_to, items_of}
-use Rattle.scp_parser.proofs.ChoiceLemmas.{chosen, same_some, none_from, either_answer, first_answer, second_answer, mapped, Two, two_answers, put_together, not_first}
+use Rattle.scp_parser.proofs.ChoiceLemmas.{chosen, same_some, none_from, either_answer, first_answer, second_answer, mapped, two_answers, put_together}
 use Rattle.scp_parser.proofs.SpellingLemmas.{spelled_is, is_spelled_so, are_alike, alike, starts_digit, spelled_starts, lacks, spelled_lacks}
 use Rattle.scp_parser.proofs.NumberLemmas.{octal_found, octal_reads, decimal_found, decimal_reads, number_lacks, number_starts}
 use Rattle.scp_parser.proofs.ListLemmas.{are_apart, place_found, place_is}

@@ -1,8 +1,8 @@
 -- Texts split at the first byte of a kind.
 use Rattle.std.specs.Prelude.{not}
-use Rattle.std.proofs.Common.{◌≡◌, ◌⊎◌, inl, inr, ℕ, ◌+◌, ◌<◌, ◌≤◌, suc, Bool, true, false, cond, ltb, ◌&&◌, ◌==◌, List, [], ◌∷◌, ◌++◌, length, take, drop, refl, ap, sym, ◌∙◌, arith, append_assoc, length-append, length-drop}
+use Rattle.std.proofs.Common.{◌≡◌, ℕ, ◌+◌, ◌<◌, Bool, true, false, ◌==◌, List, [], ◌∷◌, ◌++◌, length, drop, refl, ap, sym, ◌∙◌, arith, append_assoc, length-append, length-drop}
 use Rattle.std.specs.List.{list_all, before_first, after_first, position_or_len}
-use Rattle.std.proofs.lemmas.Bool.{and_parts, and_right, eqb-true, ltb-true, ltb-false, cases_lt, le-ltb, lt-ltb}
+use Rattle.std.proofs.lemmas.Bool.{and_parts, and_right, eqb-true, ltb-true, le-ltb, lt-ltb}
 use Rattle.std.proofs.lemmas.List.{take_at, drop_at}
 use Rattle.std.proofs.lemmas.List.Sums.{split_at_first, passes_at_first}
 use Rattle.scp_parser.specs.Operands.{front, behind, has_comma}

@@ -1,10 +1,10 @@
 -- Kinds, units and subjects by their names.
-use Rattle.std.specs.Prelude.{not, nat_le, nat_lt, codes, Contains}
-use Rattle.std.proofs.Common.{◌≡◌, ◌⊎◌, ◌↔◌, inl, inr, ℕ, ◌+◌, ◌-◌, ◌<◌, ◌≤◌, Bool, true, false, cond, ◌&&◌, Option, Some, None, List, [], ◌∷◌, ◌++◌, length, take, drop, refl, ap, sym, ◌∙◌, subst, arith}
+use Rattle.std.specs.Prelude.{nat_le, nat_lt, codes}
+use Rattle.std.proofs.Common.{◌≡◌, inl, inr, ℕ, ◌+◌, ◌-◌, ◌<◌, Bool, true, false, cond, ◌&&◌, Option, Some, None, List, [], ◌∷◌, ◌++◌, take, drop, refl, ap, sym, ◌∙◌, subst, arith}
 use Rattle.std.specs.Char.{to_ascii_lowercase}
 use Rattle.std.specs.Str.{str_to_ascii_lowercase}
 use Rattle.std.specs.Option.{option_map}
-use Rattle.std.proofs.lemmas.Bool.{both_ways, and_parts, and_from, leb-true, le-leb, ltb-true, lt-ltb}
+use Rattle.std.proofs.lemmas.Bool.{both_ways, and_parts, leb-true, le-leb, ltb-true, lt-ltb}
 use Rattle.std.proofs.lemmas.Bool.Decides.{nat_tests}
 use Rattle.std.proofs.lemmas.List.{take-append-drop, take-map, drop-map, map-append}
 use Rattle.unit_trait.specs.declared.kind.Kind.{Kind}
@@ -13,9 +13,9 @@ use Rattle.unit_trait.specs.declared.kind.UnitName.{UnitName}
 use Rattle.unit_trait.specs.Kinds.{kind_name}
 use Rattle.scp_parser.specs.declared.command.Shown.{Shown}
 use Rattle.scp_parser.specs.declared.command.Shown.TheVariants.{Time, Cpu, Queue, Break, Expect, Send, Version, Unit as AUnit}
-use Rattle.scp_parser.specs.Names.{IsSpelled, is_spelled, device_kinds, unit_kinds, first_of}
+use Rattle.scp_parser.specs.Names.{IsSpelled, is_spelled, device_kinds, unit_kinds}
 use Rattle.scp_parser.specs.Forms.{IsKind, IsDevice, IsUnit, alone, drive, IsSubject, time, cpu, queue, breaks, expects, sends, version, unit, IsSymbolic}
-use Rattle.scp_parser.specs.Operands.{or_else, kind_named, device_of, unit_alone, drive_at, drive_of, unit_of, subject_of, symbolic_of}
+use Rattle.scp_parser.specs.Operands.{kind_named, device_of, unit_alone, drive_at, drive_of, unit_of, subject_of, symbolic_of}
 use Rattle.scp_parser.proofs.ChoiceLemmas.{chosen, same_some, none_from, either_answer, first_answer, second_answer, mapped}
 use Rattle.scp_parser.proofs.SpellingLemmas.{spelled_is, is_spelled_so, are_alike, alike}
 use Rattle.scp_parser.proofs.ListLemmas.{are_apart, first_found, first_is}
