@@ -37,15 +37,15 @@ between_passes low high b h = and_from (nat_le low b) (nat_le b high) (le-leb lo
 
 letter_is : (b : ℕ) → is_letter b ≡ true → IsLetter b
 letter_is b h = elim (or_cases (nat_le 65 b && nat_le b 90) (nat_le 97 b && nat_le b 122) h) [
-    | inl capital ↦ inl (between_is 65 90 b capital)
-    | inr small ↦ inr (between_is 97 122 b small)
-  ]
+  | inl capital ↦ inl (between_is 65 90 b capital)
+  | inr small ↦ inr (between_is 97 122 b small)
+]
 
 letter_passes : (b : ℕ) → IsLetter b → is_letter b ≡ true
 letter_passes b h = elim h [
-    | inl capital ↦ or_left (nat_le 65 b && nat_le b 90) (nat_le 97 b && nat_le b 122) (between_passes 65 90 b capital)
-    | inr small ↦ or_right (nat_le 65 b && nat_le b 90) (nat_le 97 b && nat_le b 122) (between_passes 97 122 b small)
-  ]
+  | inl capital ↦ or_left (nat_le 65 b && nat_le b 90) (nat_le 97 b && nat_le b 122) (between_passes 65 90 b capital)
+  | inr small ↦ or_right (nat_le 65 b && nat_le b 90) (nat_le 97 b && nat_le b 122) (between_passes 97 122 b small)
+]
 
 digit_is : (b : ℕ) → is_digit 10 b ≡ true → IsDecimalDigit b
 digit_is b h =
@@ -58,21 +58,21 @@ digit_passes b h = and_from (nat_le 48 b) (nat_lt b 58) (le-leb 48 b h.0) (lt-lt
 
 name_byte_is : (b : ℕ) → is_name_byte b ≡ true → IsNameByte b
 name_byte_is b h = elim (or_cases (is_letter b) (is_digit 10 b || b == 95) h) [
-    | inl letter ↦ inl (letter_is b letter)
-    | inr rest ↦ elim (or_cases (is_digit 10 b) (b == 95) rest) [
-      | inl digit ↦ inr (inl (digit_is b digit))
-      | inr low_line ↦ inr (inr (eqb-true b 95 low_line))
-    ]
+  | inl letter ↦ inl (letter_is b letter)
+  | inr rest ↦ elim (or_cases (is_digit 10 b) (b == 95) rest) [
+    | inl digit ↦ inr (inl (digit_is b digit))
+    | inr low_line ↦ inr (inr (eqb-true b 95 low_line))
   ]
+]
 
 name_byte_passes : (b : ℕ) → IsNameByte b → is_name_byte b ≡ true
 name_byte_passes b h = elim h [
-    | inl letter ↦ or_left (is_letter b) (is_digit 10 b || b == 95) (letter_passes b letter)
-    | inr rest ↦ or_right (is_letter b) (is_digit 10 b || b == 95) (elim rest [
-      | inl digit ↦ or_left (is_digit 10 b) (b == 95) (digit_passes b digit)
-      | inr low_line ↦ or_right (is_digit 10 b) (b == 95) (eq-eqb b 95 low_line)
-    ])
-  ]
+  | inl letter ↦ or_left (is_letter b) (is_digit 10 b || b == 95) (letter_passes b letter)
+  | inr rest ↦ or_right (is_letter b) (is_digit 10 b || b == 95) (elim rest [
+    | inl digit ↦ or_left (is_digit 10 b) (b == 95) (digit_passes b digit)
+    | inr low_line ↦ or_right (is_digit 10 b) (b == 95) (eq-eqb b 95 low_line)
+  ])
+]
 
 name_is : (text : List ℕ) → is_name text ≡ true → IsName text
 unfolding is_name
@@ -101,18 +101,18 @@ name_starts (b ∷ rest) h = letter_no_digit b h.0
 
 letter_no_comma : (b : ℕ) → IsLetter b → not (b == 44) ≡ true
 letter_no_comma b letter = elim letter [
-    | inl capital ↦ not_from_false (b == 44) (ne_eqb b 44 (λ e. omega (arith, e, capital.0)))
-    | inr small ↦ not_from_false (b == 44) (ne_eqb b 44 (λ e. omega (arith, e, small.0)))
-  ]
+  | inl capital ↦ not_from_false (b == 44) (ne_eqb b 44 (λ e. omega (arith, e, capital.0)))
+  | inr small ↦ not_from_false (b == 44) (ne_eqb b 44 (λ e. omega (arith, e, small.0)))
+]
 
 name_byte_no_comma : (b : ℕ) → IsNameByte b → not (b == 44) ≡ true
 name_byte_no_comma b h = elim h [
-    | inl letter ↦ letter_no_comma b letter
-    | inr rest ↦ elim rest [
-      | inl digit ↦ not_from_false (b == 44) (ne_eqb b 44 (λ e. omega (arith, e, digit.0)))
-      | inr low_line ↦ not_from_false (b == 44) (ne_eqb b 44 (λ e. omega (arith, e, low_line)))
-    ]
+  | inl letter ↦ letter_no_comma b letter
+  | inr rest ↦ elim rest [
+    | inl digit ↦ not_from_false (b == 44) (ne_eqb b 44 (λ e. omega (arith, e, digit.0)))
+    | inr low_line ↦ not_from_false (b == 44) (ne_eqb b 44 (λ e. omega (arith, e, low_line)))
   ]
+]
 
 name_lacks : (text : List ℕ) → IsName text → lacks 44 text ≡ true
 name_lacks [] h = refl

@@ -68,17 +68,19 @@ drive_at_found (b ∷ []) u h =
     ]
 drive_at_found (b ∷ c ∷ more) u h = absurd (cc)
 
+drive_spelled : (text : List ℕ) (n : ℕ) → IsSpelled (take 3 text) (codes "MTA") → drop 3 text ≡ (48 + n) ∷ [] → IsSpelled text (drive_name n)
+drive_spelled text n tape digit =
+    ap str_to_ascii_lowercase (sym (take-append-drop 3 text)) ∙ map-append to_ascii_lowercase (take 3 text) (drop 3 text)
+    ∙ ap (λ (t : List ℕ). t ++ str_to_ascii_lowercase (drop 3 text)) tape
+    ∙ ap (λ (t : List ℕ). str_to_ascii_lowercase (codes "MTA") ++ str_to_ascii_lowercase t) digit
+
 drive_found : (text : List ℕ) (u : UnitName) → drive_of text ≡ Some u → IsUnit text u
 unfolding drive_of
 drive_found text u h =
     elim (chosen (is_spelled (take 3 text) (codes "MTA")) (drive_at (drop 3 text)) None (Some u) h) [
       | inl tape ↦
           let (n, below, digit, same) = drive_at_found (drop 3 text) u tape.1 in
-          let split = sym (take-append-drop 3 text) in
-          let spelled : IsSpelled text (drive_name n) =
-              ap str_to_ascii_lowercase split ∙ map-append to_ascii_lowercase (take 3 text) (drop 3 text)
-              ∙ ap (λ (t : List ℕ). t ++ str_to_ascii_lowercase (drop 3 text)) (spelled_is (take 3 text) (codes "MTA") tape.0)
-              ∙ ap (λ (t : List ℕ). str_to_ascii_lowercase (codes "MTA") ++ str_to_ascii_lowercase t) digit in
+          let spelled = drive_spelled text n (spelled_is (take 3 text) (codes "MTA") tape.0) digit in
           subst (λ (v : UnitName). IsUnit text v) same (drive text n below spelled)
       | inr other ↦ absurd (cc)
     ]
