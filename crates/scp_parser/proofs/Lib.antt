@@ -5,3 +5,13 @@ pub mod MarkLemmas
 pub mod ReaderNumberLemmas
 pub mod PlaceLemmas
 pub mod RegisterLemmas
+mod ChoiceLemmas
+mod SpellingLemmas
+mod NumberLemmas
+mod ListLemmas
+mod SplitLemmas
+mod UnitLemmas
+mod CommandNameLemmas
+mod ItemLemmas
+mod ConditionLemmas
+mod FormLemmas
