@@ -1,1 +1,2 @@
 mod Decides
+mod WordLemmas
