@@ -1,2 +1,4 @@
 mod Decides
 mod WordLemmas
+mod Settles
+mod OperandLemmas
