@@ -6,3 +6,4 @@ mod NothingLemmas
 mod OperandLemmas
 mod LastNumberLemmas
 mod ListingLemmas
+mod ValueLemmas
