@@ -7,3 +7,4 @@ mod OperandLemmas
 mod LastNumberLemmas
 mod ListingLemmas
 mod ValueLemmas
+mod OperatesLemmas

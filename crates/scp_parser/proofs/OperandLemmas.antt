@@ -11,7 +11,7 @@ use Rattle.scp_parser.specs.Faults.{bad_word, WordFaults, missing, bad, EndFault
 use Rattle.scp_parser.specs.Reading.{◌>>=◌, next_word, maybe_found, maybe, needed_found, needed, ended, given, last_number, numbered}
 use Rattle.scp_parser.proofs.Decides.{Decides}
 use Rattle.scp_parser.proofs.WordLemmas.{first_word, begins_next, begins_past, blanks_next, begins_not_blank, past_of_blanks, blanks_from_past}
-use Rattle.scp_parser.proofs.Settles.{Sound, Settles, sound_weaker, Then, FaultThen, step_settles, restated, settled_value}
+use Rattle.scp_parser.proofs.Settles.{Sound, Settles, sound_weaker, Then, FaultThen, then_settles, restated, settled_value}
 
 -- the end of a line
 

@@ -29,23 +29,23 @@ Then {A} R Q y = (x : A) × R x × Q x y
 abbrev pub FaultThen : {A : Type 0} → (ParseFault → Type 0) → (A → Type 0) → (A → ParseFault → Type 0) → ParseFault → Type 0
 FaultThen {A} F R G e = F e ⊎ ((x : A) × R x × G x e)
 
-step_found : {A B : Type 0} (R : A → Type 0) (F : ParseFault → Type 0) (f : A → Result B ParseFault) (Q : A → B → Type 0) (G : A → ParseFault → Type 0) (r : Result A ParseFault) → Sound R F r
+then_found : {A B : Type 0} (R : A → Type 0) (F : ParseFault → Type 0) (f : A → Result B ParseFault) (Q : A → B → Type 0) (G : A → ParseFault → Type 0) (r : Result A ParseFault) → Sound R F r
     → ((x : A) → R x → Settles (f x) (Q x) (G x)) → Sound (Then R Q) (FaultThen F R G) (r >>= f)
-step_found R F f Q G (Ok x) h next =
+then_found R F f Q G (Ok x) h next =
     sound_weaker (Q x) (Then R Q) (G x) (FaultThen F R G) (f x) (λ y is. (x, h, is)) (λ e is. inr (x, h, is)) (next x h).found
-step_found R F f Q G (Err e) h next = inl h
+then_found R F f Q G (Err e) h next = inl h
 
-step_faults : {A B : Type 0} (R : A → Type 0) (F : ParseFault → Type 0) (f : A → Result B ParseFault) (Q : A → B → Type 0) (G : A → ParseFault → Type 0) (r : Result A ParseFault) → Settles r R F
+then_faults : {A B : Type 0} (R : A → Type 0) (F : ParseFault → Type 0) (f : A → Result B ParseFault) (Q : A → B → Type 0) (G : A → ParseFault → Type 0) (r : Result A ParseFault) → Settles r R F
     → ((x : A) → R x → Settles (f x) (Q x) (G x)) → (e : ParseFault) → FaultThen F R G e → (r >>= f) ≡ Err e
-step_faults R F f Q G r first next e (inl is) = ap (λ t. t >>= f) (first.faults e is)
-step_faults R F f Q G r first next e (inr is) = ap (λ t. t >>= f) (first.reads is.0 is.1) ∙ (next is.0 is.1).faults e is.2
+then_faults R F f Q G r first next e (inl is) = ap (λ t. t >>= f) (first.faults e is)
+then_faults R F f Q G r first next e (inr is) = ap (λ t. t >>= f) (first.reads is.0 is.1) ∙ (next is.0 is.1).faults e is.2
 
-pub step_settles : {A B : Type 0} (R : A → Type 0) (F : ParseFault → Type 0) (f : A → Result B ParseFault) (Q : A → B → Type 0) (G : A → ParseFault → Type 0) (r : Result A ParseFault) → Settles r R F
+pub then_settles : {A B : Type 0} (R : A → Type 0) (F : ParseFault → Type 0) (f : A → Result B ParseFault) (Q : A → B → Type 0) (G : A → ParseFault → Type 0) (r : Result A ParseFault) → Settles r R F
     → ((x : A) → R x → Settles (f x) (Q x) (G x)) → Settles (r >>= f) (Then R Q) (FaultThen F R G)
-step_settles R F f Q G r first next = record {
+then_settles R F f Q G r first next = record {
   reads = λ y is. ap (λ t. t >>= f) (first.reads is.0 is.1) ∙ (next is.0 is.1).reads y is.2;
-  faults = step_faults R F f Q G r first next;
-  found = step_found R F f Q G r first.found next;
+  faults = then_faults R F f Q G r first next;
+  found = then_found R F f Q G r first.found next;
 }
 
 -- the same relations in other words
