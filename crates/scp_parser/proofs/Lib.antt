@@ -8,3 +8,4 @@ mod LastNumberLemmas
 mod ListingLemmas
 mod ValueLemmas
 mod OperatesLemmas
+mod LineLemmas

@@ -259,13 +259,74 @@ module _ (d : Forms_decided) where
   bye_fault : (text : List ℕ) (e : ParseFault) → OperandFaults Bye text e → LastNumberFaults IsDecimal text e
   bye_fault text e (in_bye _ _ faulty) = faulty
 
-  pub bye_settles : (text : List ℕ) → Settles (numbered (λ n. verb.Exit n) (last_number decimal text)) (Operates Bye text) (OperandFaults Bye text)
+  bye_settles : (text : List ℕ) → Settles (numbered (λ n. verb.Exit n) (last_number decimal text)) (Operates Bye text) (OperandFaults Bye text)
   bye_settles text =
       restated (HasNumber IsDecimal text (λ n. verb.Exit n)) (Operates Bye text) (LastNumberFaults IsDecimal text) (OperandFaults Bye text) (numbered (λ n. verb.Exit n) (last_number decimal text))
       (number_settles IsDecimal decimal d.decimal no_decimal (λ n. verb.Exit n) text) (bye_whole text) (bye_parts text) (λ e faulty. in_bye text e faulty) (bye_fault text)
 
-  -- each command
+-- a command that is not built has no operands, and the fault NotBuilt
+abbrev pub NamedFaults : CommandName → List ℕ → ParseFault → Type 0
+NamedFaults name text e = OperandFaults name text e ⊎ ((is_built name ≡ false) × (e ≡ NotBuilt))
 
-  -- a command that is not built has no operands, and the fault NotBuilt
-  abbrev pub NamedFaults : CommandName → List ℕ → ParseFault → Type 0
-  NamedFaults name text e = OperandFaults name text e ⊎ ((is_built name ≡ false) × (e ≡ NotBuilt))
+abbrev IsSettled : CommandName → List ℕ → Result Verb ParseFault → Type 0
+IsSettled name text r = Settles r (Operates name text) (NamedFaults name text)
+
+operates_built : (name : CommandName) (text : List ℕ) (v : Verb) → Operates name text v → is_built name ≡ true
+operates_built _ _ _ (examine_form _ _ _ _ _) = refl
+operates_built _ _ _ (deposit_form _ _ _ _ _ _) = refl
+operates_built _ _ _ (run_form _ _ _) = refl
+operates_built _ _ _ (go_form _ _ _) = refl
+operates_built _ _ _ (cont_form _ _) = refl
+operates_built _ _ _ (step_form _ _ _) = refl
+operates_built _ _ _ (show_form _ _ _ _ _ _ _) = refl
+operates_built _ _ _ (exit_form _ _ _) = refl
+operates_built _ _ _ (quit_form _ _ _) = refl
+operates_built _ _ _ (bye_form _ _ _) = refl
+
+faults_built : (name : CommandName) (text : List ℕ) (e : ParseFault) → OperandFaults name text e → is_built name ≡ true
+faults_built _ _ _ (in_examine _ _ _) = refl
+faults_built _ _ _ (behind_examine _ _ _ _ _ _) = refl
+faults_built _ _ _ (in_deposit _ _ _) = refl
+faults_built _ _ _ (in_value _ _ _ _ _ _) = refl
+faults_built _ _ _ (in_run _ _ _) = refl
+faults_built _ _ _ (in_go _ _ _) = refl
+faults_built _ _ _ (behind_cont _ _ _) = refl
+faults_built _ _ _ (in_step _ _ _) = refl
+faults_built _ _ _ (in_show _ _ _) = refl
+faults_built _ _ _ (behind_show _ _ _ _ _ _ _ _) = refl
+faults_built _ _ _ (in_exit _ _ _) = refl
+faults_built _ _ _ (in_quit _ _ _) = refl
+faults_built _ _ _ (in_bye _ _ _) = refl
+
+built_fault : (name : CommandName) (text : List ℕ) (e : ParseFault) → is_built name ≡ true → NamedFaults name text e → OperandFaults name text e
+built_fault name text e built (inl faulty) = faulty
+built_fault name text e built (inr (unbuilt, same)) = absurd (false≢true (sym unbuilt ∙ built))
+
+built_settles : (name : CommandName) (text : List ℕ) (r : Result Verb ParseFault) → is_built name ≡ true → Settles r (Operates name text) (OperandFaults name text) → IsSettled name text r
+built_settles name text r built s =
+    restated (Operates name text) (Operates name text) (OperandFaults name text) (NamedFaults name text) r s (λ v is. is) (λ v is. is) (λ e faulty. inl faulty) (λ e faulty. built_fault name text e built faulty)
+
+unbuilt_faults : (name : CommandName) (text : List ℕ) (r : Result Verb ParseFault) → is_built name ≡ false → r ≡ Err NotBuilt → (e : ParseFault) → NamedFaults name text e → r ≡ Err e
+unbuilt_faults name text r unbuilt is e (inl faulty) = absurd (false≢true (sym unbuilt ∙ faults_built name text e faulty))
+unbuilt_faults name text r unbuilt is e (inr (_, same)) = is ∙ ap (λ (f : ParseFault). Err f) (sym same)
+
+unbuilt_settles : (name : CommandName) (text : List ℕ) (r : Result Verb ParseFault) → is_built name ≡ false → r ≡ Err NotBuilt → IsSettled name text r
+unbuilt_settles name text r unbuilt is = record {
+  reads = λ v operates. absurd (false≢true (sym unbuilt ∙ operates_built name text v operates));
+  faults = unbuilt_faults name text r unbuilt is;
+  found = subst (Sound (Operates name text) (NamedFaults name text)) (sym is) (inr (unbuilt, refl));
+}
+
+pub operands_settle : (d : Forms_decided) (name : CommandName) (text : List ℕ) → Settles (operands name text) (Operates name text) (NamedFaults name text)
+unfolding operands
+operands_settle d Examine text = built_settles Examine text (examine text) refl (examine_settles d text)
+operands_settle d Deposit text = built_settles Deposit text (deposit text) refl (deposit_settles d text)
+operands_settle d Run text = built_settles Run text (numbered (λ n. verb.Run n) (last_number octal text)) refl (run_settles d text)
+operands_settle d Go text = built_settles Go text (numbered (λ n. verb.Go n) (last_number octal text)) refl (go_settles d text)
+operands_settle d Cont text = built_settles Cont text (ended verb.Cont text) refl (cont_settles d text)
+operands_settle d Step text = built_settles Step text (numbered (λ n. verb.Step n) (last_number decimal text)) refl (step_settles d text)
+operands_settle d Show text = built_settles Show text (show text) refl (show_settles d text)
+operands_settle d Exit text = built_settles Exit text (numbered (λ n. verb.Exit n) (last_number decimal text)) refl (exit_settles d text)
+operands_settle d Quit text = built_settles Quit text (numbered (λ n. verb.Exit n) (last_number decimal text)) refl (quit_settles d text)
+operands_settle d Bye text = built_settles Bye text (numbered (λ n. verb.Exit n) (last_number decimal text)) refl (bye_settles d text)
+operands_settle d name text = unbuilt_settles name text (Err NotBuilt) refl refl
