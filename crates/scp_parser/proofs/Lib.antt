@@ -9,3 +9,5 @@ mod ListingLemmas
 mod ValueLemmas
 mod OperatesLemmas
 mod LineLemmas
+mod Decided
+mod LawLemmas
