@@ -1,5 +1,5 @@
 -- The laws of lines, commands and faults, and what a reader whose answer is the reading of a line says of it.
-use Rattle.std.proofs.Common.{◌≡◌, ◌↔◌, ℕ, Result, Ok, Err, List, refl, ap, sym, subst, ◌∙◌, ◌⊎◌, inl, inr}
+use Rattle.std.proofs.Common.{◌≡◌, ◌↔◌, ℕ, Result, Ok, Err, List, refl, ap, subst, ◌⊎◌, inl, inr}
 use Rattle.std.specs.Prelude.{IsOk, IfOk}
 use Rattle.std.proofs.lemmas.Bool.{false≢true}
 use Rattle.scp_parser.specs.declared.fault.ParseFault.{ParseFault}
@@ -7,7 +7,7 @@ use Rattle.scp_parser.specs.Command.{CommandLine}
 use Rattle.scp_parser.specs.Grammar.{Parses}
 use Rattle.scp_parser.specs.Faults.{Faults}
 use Rattle.scp_parser.specs.Reading.{reading}
-use Rattle.scp_parser.proofs.Forms_decided.{Forms_decided}
+use Rattle.scp_parser.proofs.FormsDecided.{Forms_decided}
 use Rattle.scp_parser.proofs.LineLemmas.{parses_reading, faults_reading}
 
 module _ (d : Forms_decided) where

@@ -1,5 +1,5 @@
 mod Decides
-mod Forms_decided
+mod FormsDecided
 mod WordLemmas
 mod Settles
 mod NothingLemmas

@@ -1,11 +1,11 @@
 -- Which line is which command and which fault: the function of lines gives exactly what the grammar says.
-use Rattle.std.proofs.Common.{◌≡◌, ◌↔◌, ℕ, ◌+◌, ◌<◌, ◌≤◌, suc, Bool, true, false, ◌||◌, cond, eqb, leb, Option, Some, None, Result, Ok, Err, List, [], ◌∷◌, ◌++◌, length, take, refl, ap, sym, subst, ◌∙◌, ◌⊎◌, inl, inr, arith, length-append}
+use Rattle.std.proofs.Common.{◌≡◌, ◌↔◌, ℕ, ◌<◌, ◌≤◌, suc, true, false, ◌||◌, cond, eqb, leb, Option, Some, None, Result, Ok, Err, List, [], ◌∷◌, ◌++◌, length, take, refl, ap, sym, subst, ◌∙◌, inl, inr, arith}
 use Rattle.std.specs.Char.{to_ascii_lowercase}
 use Rattle.std.specs.Str.{str_to_ascii_lowercase}
-use Rattle.std.proofs.lemmas.Bool.{eqb-true, eq-eqb, leb-true, le-leb, lt-leb, cases_Bool, cases_lt, or_cases, or_left, or_right, cond-true, cond-false, false_from_ne_true}
+use Rattle.std.proofs.lemmas.Bool.{eqb-true, eq-eqb, le-leb, lt-leb, cases_Bool, cases_lt, or_cases, or_left, or_right, cond-true, cond-false, false_from_ne_true}
 use Rattle.std.proofs.lemmas.List.{nil_from_length}
 use Rattle.std.proofs.lemmas.List.Elements.{All-nil}
-use Rattle.line_words.specs.Words.{IsBlank, IsBlanks, StartsIn, Begins, past_blanks}
+use Rattle.line_words.specs.Words.{IsBlank, StartsIn, Begins, past_blanks}
 use Rattle.scp_parser.specs.declared.command.Verb.{Verb}
 use Rattle.scp_parser.specs.declared.command.Verb.TheVariants as verb
 use Rattle.scp_parser.specs.declared.fault.ParseFault.{ParseFault}
@@ -17,8 +17,8 @@ use Rattle.scp_parser.specs.Names.{full_name, IsCommandName, command_named}
 use Rattle.scp_parser.specs.Grammar.{longest_line, IsMark, BeginsWithMark, AsksNothing, Operates, Parses, nothing as nothing_form, command as command_form}
 use Rattle.scp_parser.specs.Faults.{placed, Faults, too_long, unknown, not_built, operands as operands_form}
 use Rattle.scp_parser.specs.Reading.{next_word, operands, is_mark, begins_with_mark, asks_nothing, command_found, named, placed_in, verb_of, with_line, reading}
-use Rattle.scp_parser.proofs.Forms_decided.{Forms_decided}
-use Rattle.scp_parser.proofs.WordLemmas.{IsBare, first_word, begins_next, begins_past, begins_not_blank, past_blanks_split, past_of_blanks, blanks_from_past}
+use Rattle.scp_parser.proofs.FormsDecided.{Forms_decided}
+use Rattle.scp_parser.proofs.WordLemmas.{first_word, begins_next, begins_past, begins_not_blank, past_blanks_split, past_of_blanks, blanks_from_past}
 use Rattle.scp_parser.proofs.Settles.{Sound, Settles}
 use Rattle.scp_parser.proofs.OperatesLemmas.{NamedFaults, operands_settle}
 

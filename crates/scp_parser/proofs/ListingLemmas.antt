@@ -1,8 +1,7 @@
 -- What EXAMINE and DEPOSIT work on: the option, the device and the condition, each of which may be left out, and a list.
-use Rattle.std.proofs.Common.{◌≡◌, ℕ, Bool, true, false, Option, Some, None, Result, Ok, Err, List, [], refl, ap, sym, subst, ◌∙◌}
+use Rattle.std.proofs.Common.{◌≡◌, ℕ, Bool, true, false, Option, Result, Ok, Err, List, refl, ap, sym, ◌∙◌}
 use Rattle.std.specs.Option.{is_some}
 use Rattle.unit_trait.specs.declared.kind.Kind.{Kind}
-use Rattle.line_words.specs.Words.{Begins}
 use Rattle.scp_parser.specs.declared.listing.Name.{Name}
 use Rattle.scp_parser.specs.declared.listing.Condition.{Condition}
 use Rattle.scp_parser.specs.declared.listing.Item.{Item}
@@ -10,11 +9,10 @@ use Rattle.scp_parser.specs.declared.listing.Listing.{Listing}
 use Rattle.scp_parser.specs.declared.fault.ParseFault.{ParseFault}
 use Rattle.scp_parser.specs.Forms.{IsCondition, IsDevice, IsList}
 use Rattle.scp_parser.specs.Operands.{condition_of, device_of, symbolic_of, items_of}
-use Rattle.scp_parser.specs.Grammar.{IsSymbolicOption, MayBegin, MayBeginCondition, Chooses, Lists, name_of}
+use Rattle.scp_parser.specs.Grammar.{IsSymbolicOption, MayBeginCondition, Chooses, Lists, name_of}
 use Rattle.scp_parser.specs.Faults.{WordFaults, ListFaults, at_list}
 use Rattle.scp_parser.specs.Reading.{◌>>=◌, maybe, maybe_condition, needed, Choice, choice, listing_with, listing}
-use Rattle.scp_parser.proofs.Decides.{Decides}
-use Rattle.scp_parser.proofs.Forms_decided.{Forms_decided}
+use Rattle.scp_parser.proofs.FormsDecided.{Forms_decided}
 use Rattle.scp_parser.proofs.NothingLemmas.{no_symbolic, no_device, no_condition, no_items}
 use Rattle.scp_parser.proofs.Settles.{Sound, Settles}
 use Rattle.scp_parser.proofs.OperandLemmas.{Takes, maybe_given, maybe_begins, needed_settles}

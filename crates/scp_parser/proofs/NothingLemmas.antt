@@ -1,6 +1,5 @@
 -- The text without a byte has no form.
-use Rattle.std.proofs.Common.{◌≡◌, ℕ, List, [], Option, None, refl}
-use Rattle.unit_trait.specs.declared.kind.Kind.{Kind}
+use Rattle.std.proofs.Common.{◌≡◌, [], None, refl}
 use Rattle.unit_trait.specs.declared.kind.Kind.TheVariants.{Dsk, Mta, Lpt, Ptr, Ptp, Clk, Tti, Tto, Tti1, Tto1, Qty}
 use Rattle.scp_parser.specs.declared.listing.Name.{Name}
 use Rattle.scp_parser.specs.declared.listing.Name.TheVariants as whose

@@ -1,17 +1,16 @@
 -- One operand: one that may be left out, one that must be there, and the end of a line.
-use Rattle.std.proofs.Common.{◌≡◌, ℕ, ◌+◌, ◌<◌, suc, Bool, true, false, cond, eqb, Option, Some, None, Result, Ok, Err, List, [], ◌∷◌, ◌++◌, length, refl, ap, sym, subst, ◌∙◌, ◌⊎◌, inl, inr, arith, length-append}
-use Rattle.std.proofs.lemmas.Bool.{eqb-true, eqb-false, eq-eqb, ne_eqb, cond-true, cond-false}
-use Rattle.std.proofs.lemmas.List.{nil_from_length}
+use Rattle.std.proofs.Common.{◌≡◌, ℕ, ◌<◌, Bool, cond, eqb, Option, Some, None, Ok, Err, List, [], ◌∷◌, ◌++◌, length, refl, ap, sym, subst, ◌∙◌, inl, inr, arith, length-append}
+use Rattle.std.proofs.lemmas.Bool.{eq-eqb, ne_eqb, cond-true, cond-false}
 use Rattle.line_words.specs.Words.{IsBlanks, Begins, past_blanks}
 use Rattle.scp_parser.specs.declared.fault.ParseFault.{ParseFault}
-use Rattle.scp_parser.specs.declared.fault.ParseFault.TheVariants.{Missing, BadNumber, Extra}
+use Rattle.scp_parser.specs.declared.fault.ParseFault.TheVariants.{Missing, Extra}
 use Rattle.scp_parser.specs.declared.command.Verb.{Verb}
-use Rattle.scp_parser.specs.Grammar.{MayBegin, there, not_there, IsLastNumber, left_out, given as given_form}
-use Rattle.scp_parser.specs.Faults.{bad_word, WordFaults, missing, bad, EndFaults, extra, LastNumberFaults, bad_number, behind_number}
-use Rattle.scp_parser.specs.Reading.{◌>>=◌, next_word, maybe_found, maybe, needed_found, needed, ended, given, last_number, numbered}
+use Rattle.scp_parser.specs.Grammar.{MayBegin, there, not_there}
+use Rattle.scp_parser.specs.Faults.{bad_word, WordFaults, missing, bad, EndFaults, extra}
+use Rattle.scp_parser.specs.Reading.{next_word, maybe_found, maybe, needed_found, needed, ended}
 use Rattle.scp_parser.proofs.Decides.{Decides}
-use Rattle.scp_parser.proofs.WordLemmas.{first_word, begins_next, begins_past, blanks_next, begins_not_blank, past_of_blanks, blanks_from_past}
-use Rattle.scp_parser.proofs.Settles.{Sound, Settles, sound_weaker, Then, FaultThen, then_settles, restated, settled_value}
+use Rattle.scp_parser.proofs.WordLemmas.{first_word, begins_next, begins_past, blanks_next, past_of_blanks}
+use Rattle.scp_parser.proofs.Settles.{Sound, Settles}
 
 -- the end of a line
 

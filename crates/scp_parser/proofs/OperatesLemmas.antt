@@ -1,9 +1,7 @@
 -- What each command asks for, by the operands behind its name.
-use Rattle.std.proofs.Common.{◌≡◌, ℕ, Bool, true, false, cond, Option, Some, None, Result, Ok, Err, List, refl, ap, sym, subst, ◌∙◌, ◌⊎◌, inl, inr}
+use Rattle.std.proofs.Common.{◌≡◌, ℕ, Bool, true, false, cond, Result, Ok, Err, List, refl, ap, sym, subst, ◌∙◌, ◌⊎◌, inl, inr}
 use Rattle.std.proofs.lemmas.Bool.{false≢true}
-use Rattle.line_words.specs.Words.{IsBlanks, Begins}
 use Rattle.scp_parser.specs.declared.listing.Listing.{Listing}
-use Rattle.scp_parser.specs.declared.command.Shown.{Shown}
 use Rattle.scp_parser.specs.declared.command.Verb.{Verb}
 use Rattle.scp_parser.specs.declared.command.Verb.TheVariants as verb
 use Rattle.scp_parser.specs.declared.fault.ParseFault.{ParseFault}
@@ -13,10 +11,10 @@ use Rattle.scp_parser.specs.declared.names.CommandName.TheVariants.{Examine, Dep
 use Rattle.scp_parser.specs.Names.{is_built}
 use Rattle.scp_parser.specs.Forms.{IsOctal, IsDecimal, IsSubject}
 use Rattle.scp_parser.specs.Operands.{octal, decimal, subject_of}
-use Rattle.scp_parser.specs.Grammar.{Lists, IsValue, number as number_form, IsLastNumber, Operates, examine as examine_form, deposit as deposit_form, run as run_form, go as go_form, cont as cont_form, step as step_form, show as show_form, exit as exit_form, quit as quit_form, bye as bye_form}
+use Rattle.scp_parser.specs.Grammar.{Lists, IsValue, number as number_form, Operates, examine as examine_form, deposit as deposit_form, run as run_form, go as go_form, cont as cont_form, step as step_form, show as show_form, exit as exit_form, quit as quit_form, bye as bye_form}
 use Rattle.scp_parser.specs.Faults.{WordFaults, EndFaults, LastNumberFaults, ListFaults, ValueFaults, at_number, behind_value, OperandFaults, in_examine, behind_examine, in_deposit, in_value, in_run, in_go, behind_cont, in_step, in_show, behind_show, in_exit, in_quit, in_bye}
 use Rattle.scp_parser.specs.Reading.{◌>>=◌, needed, ended, last_number, numbered, listing, instruction, examine, valued, deposit, show, operands}
-use Rattle.scp_parser.proofs.Forms_decided.{Forms_decided}
+use Rattle.scp_parser.proofs.FormsDecided.{Forms_decided}
 use Rattle.scp_parser.proofs.NothingLemmas.{no_octal, no_decimal, no_subject}
 use Rattle.scp_parser.proofs.Settles.{Sound, Settles, Then, FaultThen, then_settles, restated, settled_value}
 use Rattle.scp_parser.proofs.OperandLemmas.{Ends, Takes, ended_settles, needed_settles}

@@ -1,24 +1,21 @@
 -- The value of a DEPOSIT: symbolic text up to the end of the line, or an octal number.
 use Rattle.std.specs.Prelude.{reverse}
-use Rattle.std.proofs.Common.{◌≡◌, ℕ, ◌+◌, ◌-◌, ◌<◌, ◌≤◌, zero, suc, Bool, true, false, Option, Some, None, Result, Ok, Err, List, [], ◌∷◌, ◌++◌, length, take, drop, get_or, refl, ap, sym, subst, ◌∙◌, ◌⊎◌, inl, inr, arith, length-append}
-use Rattle.std.specs.List.{suffix_len, prefix_len}
-use Rattle.std.proofs.lemmas.Bool.{cases_Bool, cases_lt, false≢true}
-use Rattle.std.proofs.lemmas.List.{take-append-drop, take_at, append-nil, append_cancel_left, get_or-take, get_or-drop, get_or-reverse, get_or_append_left, get_or-append-add, length-take-le, length-drop, length-reverse, get_or_default}
-use Rattle.std.proofs.Math.Numerals.{add-one}
+use Rattle.std.proofs.Common.{◌≡◌, ℕ, ◌+◌, ◌-◌, ◌<◌, ◌≤◌, zero, suc, true, false, Result, Ok, Err, List, [], ◌∷◌, ◌++◌, length, take, drop, get_or, refl, ap, sym, subst, ◌∙◌, inl, inr, arith, length-append}
+use Rattle.std.specs.List.{suffix_len}
+use Rattle.std.proofs.lemmas.Bool.{cases_lt}
+use Rattle.std.proofs.lemmas.List.{take-append-drop, take_at, get_or-take, get_or-drop, get_or-reverse, get_or_append_left, get_or-append-add, length-take-le, length-drop, length-reverse, get_or_default}
 use Rattle.std.proofs.Math.Nat.{add-zero}
 use Rattle.std.proofs.lemmas.List.Sums.{suffix_len-le-length, suffix_len_is, prefix_len_passes, prefix_len_stops}
-use Rattle.line_words.specs.Words.{IsBlank, IsBlanks, StartsIn, Begins, is_blank, past_blanks, trimmed}
+use Rattle.line_words.specs.Words.{IsBlank, IsBlanks, is_blank, past_blanks, trimmed}
 use Rattle.nova_symbols.specs.declared.fault.SymbolFault.{SymbolFault}
 use Rattle.nova_symbols.specs.Reading as symbols
-use Rattle.nova_symbols.specs.Forms.{Reads}
 use Rattle.nova_symbols.specs.Faults as symbol_faults
 use Rattle.nova_symbols.proofs.LawLemmas.{answers_word, answers_fault}
 use Rattle.scp_parser.specs.declared.fault.ParseFault.{ParseFault}
-use Rattle.scp_parser.specs.declared.fault.ParseFault.TheVariants.{Missing, BadSymbol}
-use Rattle.scp_parser.specs.Grammar.{EndsWithoutBlank, IsInside, IsValue, instruction as instruction_form, number as number_form}
+use Rattle.scp_parser.specs.Grammar.{EndsWithoutBlank, IsInside, IsValue, instruction as instruction_form}
 use Rattle.scp_parser.specs.Faults.{ValueFaults, no_instruction, bad_symbol}
 use Rattle.scp_parser.specs.Reading.{instruction_found, instruction_in, instruction}
-use Rattle.scp_parser.proofs.WordLemmas.{blank_is, blank_passes, not_blank, not_blank_is, IsBare, past_blanks_split, past_is_bare, Blanked, blanked, past_of_blanks, blanks_from_past}
+use Rattle.scp_parser.proofs.WordLemmas.{blank_is, blank_passes, not_blank, not_blank_is, IsBare, past_blanks_split, past_is_bare, blanked, past_of_blanks, blanks_from_past}
 use Rattle.scp_parser.proofs.Settles.{Sound, Settles}
 
 -- a text without the blanks at its end

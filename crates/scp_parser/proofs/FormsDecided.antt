@@ -1,5 +1,4 @@
 -- Each form of a word is decided by its function.
-use Rattle.std.proofs.Common.{ℕ, List}
 use Rattle.scp_parser.specs.declared.listing.Name.{Name}
 use Rattle.scp_parser.specs.Names.{IsCommandName, command_named}
 use Rattle.scp_parser.specs.Forms.{IsOctal, IsDecimal, IsList, IsCondition, IsDevice, IsSubject}
