@@ -15,3 +15,15 @@ mod CommandNameLemmas
 mod ItemLemmas
 mod ConditionLemmas
 mod FormLemmas
+mod FormsDecided
+mod WordLemmas
+mod Settles
+mod NothingLemmas
+mod OperandLemmas
+mod LastNumberLemmas
+mod ListingLemmas
+mod ValueLemmas
+mod OperatesLemmas
+mod LineLemmas
+mod Decided
+mod LawLemmas
