@@ -1,5 +1,15 @@
 -- Each form of a word is decided by its function.
+use Rattle.scp_parser.proofs.FormLemmas.{octal_decides, decimal_decides, items_decide, condition_decides, device_decides, subject_decides, symbolic_decides, command_decides}
 use Rattle.scp_parser.proofs.FormsDecided.{Forms_decided}
 
 pub decided : Forms_decided
-decided = ?
+decided = record {
+  octal = octal_decides;
+  decimal = decimal_decides;
+  items = items_decide;
+  condition = condition_decides;
+  device = device_decides;
+  subject = subject_decides;
+  symbolic = symbolic_decides;
+  command = command_decides;
+}

@@ -9,7 +9,6 @@ use Rattle.std.proofs.lemmas.List.Sums.{suffix_len-le-length, suffix_len_is, pre
 use Rattle.line_words.specs.Words.{IsBlank, IsBlanks, is_blank, past_blanks, trimmed}
 use Rattle.nova_symbols.specs.declared.fault.SymbolFault.{SymbolFault}
 use Rattle.nova_symbols.specs.Reading as symbols
-use Rattle.nova_symbols.specs.Faults as symbol_faults
 use Rattle.nova_symbols.proofs.LawLemmas.{answers_word, answers_fault}
 use Rattle.scp_parser.specs.declared.fault.ParseFault.{ParseFault}
 use Rattle.scp_parser.specs.Grammar.{EndsWithoutBlank, IsInside, IsValue, instruction as instruction_form}

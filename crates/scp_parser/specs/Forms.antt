@@ -1,5 +1,5 @@
 -- The forms of the words of a line: numbers, names, items, conditions, devices, units and subjects.
-use Rattle.std.specs.Prelude.{◌≡◌, ◌⊎◌, ℕ, ◌+◌, ◌-◌, ◌<◌, ◌≤◌, ◌^◌, All, List, [], ◌∷◌, ◌++◌, length, codes, nat_le, slice_get, Option, Some, None, Contains, if◌then◌else◌}
+use Rattle.std.specs.Prelude.{◌≡◌, ◌⊎◌, ℕ, ◌+◌, ◌-◌, ◌<◌, ◌≤◌, ◌^◌, All, List, [], ◌∷◌, ◌++◌, length, codes, nat_le, slice_get, Some, None, Contains, if◌then◌else◌}
 use Rattle.nova_word.specs.Numbers.{IsNumber}
 use Rattle.unit_trait.specs.declared.kind.Kind.{Kind}
 use Rattle.unit_trait.specs.declared.kind.Kind.TheVariants.{Mta}

@@ -1,5 +1,5 @@
 -- Which line is which command: a relation by the forms of the lines (SIMH Users' Guide, "Commands").
-use Rattle.std.specs.Prelude.{◌≡◌, ◌⊎◌, ℕ, ◌<◌, ◌≤◌, Bool, true, false, IsTrue, List, [], ◌∷◌, ◌++◌, length, Option, Some, None, is_some, Result, Ok, Err}
+use Rattle.std.specs.Prelude.{◌≡◌, ◌⊎◌, ℕ, ◌<◌, ◌≤◌, Bool, true, false, List, [], ◌∷◌, ◌++◌, length, Option, Some, None, is_some}
 use Rattle.unit_trait.specs.declared.kind.Kind.{Kind}
 use Rattle.line_words.specs.Words.{IsBlank, IsBlanks, StartsIn, Begins}
 use Rattle.nova_symbols.specs.Forms.{Reads}
@@ -10,11 +10,10 @@ use Rattle.scp_parser.specs.declared.listing.Listing.{Listing}
 use Rattle.scp_parser.specs.declared.command.Shown.{Shown}
 use Rattle.scp_parser.specs.declared.command.Verb.{Verb}
 use Rattle.scp_parser.specs.declared.command.Verb.TheVariants as verb
-use Rattle.scp_parser.specs.declared.fault.ParseFault.{ParseFault}
 use Rattle.scp_parser.specs.declared.names.CommandName.{CommandName}
 use Rattle.scp_parser.specs.declared.names.CommandName.TheVariants.{Examine, Deposit, Run, Go, Cont, Step, Show, Exit, Quit, Bye}
 use Rattle.scp_parser.specs.Command.{CommandLine}
-use Rattle.scp_parser.specs.Names.{IsCommandName, is_built}
+use Rattle.scp_parser.specs.Names.{IsCommandName}
 use Rattle.scp_parser.specs.Forms.{IsOctal, IsDecimal, IsList, IsCondition, IsDevice, IsSubject, IsSymbolic}
 
 -- how many bytes a command line has at most

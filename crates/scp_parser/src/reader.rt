@@ -18,14 +18,22 @@ use line_words::past_blanks;
 ///
 /// Names are read in either case, and may be abbreviated; blanks (spaces and tabs) stand between words. Addresses and
 /// values are octal, counts and statuses decimal. A fault leaves `into` as it was.
-#[tactic(auto, unfolding(crate::specs::Reading::reading))]
 pub fn read_command(line: &[u8], into: &mut Command) -> Result<(), ParseFault>
     // A command exactly where the line is that command.
-    // OPEN: ensures command { (c : CommandLine) → (IsOk result × (into.new ≡ c)) ↔ Parses line.now c }
+    ensures command { (c : CommandLine) → (IsOk result × (into.new ≡ c)) ↔ Parses line.now c }
     // A fault exactly where the line has that fault.
-    // OPEN: ensures fault { (fault : ParseFault) → (result ≡ Err fault) ↔ Faults line.now fault }
+    ensures fault { (fault : ParseFault) → (result ≡ Err fault) ↔ Faults line.now fault }
     ensures kept { OnErr result (into.new ≡ into.old) }
     // Which of them, as a function of the line.
+    ensures exact { IfOk result (λ _. reading line.now ≡ Ok into.new) }
+    ensures faulty { (fault : ParseFault) → result ≡ Err fault → reading line.now ≡ Err fault }
+{
+    read_into(line, into)
+}
+
+#[tactic(auto, unfolding(crate::specs::Reading::reading))]
+fn read_into(line: &[u8], into: &mut Command) -> Result<(), ParseFault>
+    ensures kept { OnErr result (into.new ≡ into.old) }
     ensures exact { IfOk result (λ _. reading line.now ≡ Ok into.new) }
     ensures faulty { (fault : ParseFault) → result ≡ Err fault → reading line.now ≡ Err fault }
 {
