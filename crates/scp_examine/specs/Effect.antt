@@ -1,6 +1,7 @@
 -- What EXAMINE, DEPOSIT and ASSERT do (SIMH Users' Guide, "Examining and Changing State").
-use Rattle.std.specs.Prelude.{◌≡◌, ℕ, Bool, List, [], ◌∷◌, ◌++◌, length, Option, Some, None, Result, Ok, Err, OnOk, OnErr, if◌then◌else◌}
+use Rattle.std.specs.Prelude.{◌≡◌, ℕ, ◌≤◌, Bool, List, [], ◌∷◌, ◌++◌, length, Option, Some, None, Result, Ok, Err, OnOk, OnErr, MatchResult, if◌then◌else◌}
 use Rattle.nova_memory.specs.Memory.{put}
+use Rattle.fault_counts.specs.Faults.{Rose}
 use Rattle.host_files.specs.Streams.{AddsPart}
 use Rattle.nova_machine.specs.Machine.{MachineState}
 use Rattle.nova_machine.specs.Registers.{register_of, with_register}
@@ -33,14 +34,33 @@ examine_fault m l = or_fault (condition_fault l.condition) (items_fault (item_fa
 unfoldable pub examined : MachineState → Listing → List ℕ
 examined m l = listed m l.symbolic l.condition (all_places m.memory.size l.device l.items)
 
+-- what is printed of a text: the whole, or first bytes of it where the console refused one
+abbrev pub Prints : {T E : Type 0} → List ℕ → List ℕ → Result T E → List ℕ → Type 0
+Prints before text result after = MatchResult result (λ _. after ≡ before ++ text) (λ _. AddsPart before text after)
+
 -- A call of `examine`: it prints the whole text; or a byte of it was refused, and what comes before was printed; or a
 -- fault stood before all printing.
-abbrev pub Examines : MachineState → Listing → Result Unit ExamineFault → List ℕ → List ℕ → Type 0
+abbrev pub Examines : {T : Type 0} → MachineState → Listing → Result T ExamineFault → List ℕ → List ℕ → Type 0
 Examines m l (Ok _) before after = (examine_fault m l ≡ None) × (after ≡ before ++ examined m l)
 Examines m l (Err Console) before after = (examine_fault m l ≡ None) × AddsPart before (examined m l) after
 Examines m l (Err NoSuchName) before after = (examine_fault m l ≡ Some NoSuchName) × (after ≡ before)
 Examines m l (Err OutOfRange) before after = (examine_fault m l ≡ Some OutOfRange) × (after ≡ before)
 Examines m l (Err ReadOnlyName) before after = ⊥
+
+-- The faults of an EXAMINE, where the first one by the rules is given: that one is answered, or where there is none, that
+-- the console refused a byte.
+abbrev pub FaultIs : {T : Type 0} → Option ExamineFault → Result T ExamineFault → Type 0
+FaultIs first (Ok _) = first ≡ None
+FaultIs first (Err Console) = first ≡ None
+FaultIs first (Err NoSuchName) = first ≡ Some NoSuchName
+FaultIs first (Err OutOfRange) = first ≡ Some OutOfRange
+FaultIs first (Err ReadOnlyName) = ⊥
+
+-- The console's count of faults has not fallen. It rose where the answer is that a byte was refused, and stands still
+-- with every other answer.
+abbrev pub ConsoleCause : {T : Type 0} → ℕ → ℕ → Result T ExamineFault → Type 0
+ConsoleCause before now (Err Console) = (before ≤ now) × Rose before now
+ConsoleCause before now result = now ≡ before
 
 -- the machine with a value in a place
 abbrev pub with_value : ℕ → MachineState → Place → MachineState

@@ -1,3 +1,4 @@
 pub mod Places
 pub mod Checks
+pub mod Named
 pub mod Effect

@@ -14,7 +14,6 @@ use Rattle.scp_parser.specs.declared.listing.Rel.TheVariants.{Eq, Ne, Lt, Le, Gt
 use Rattle.scp_parser.specs.declared.listing.Condition.{Condition}
 use Rattle.scp_parser.specs.declared.listing.Item.{Item}
 use Rattle.scp_parser.specs.declared.listing.Item.TheVariants.{At, Range, Count, All, Reg, State, Unknown}
-use Rattle.scp_parser.specs.Names.{processor_registers}
 
 -- a word of memory, or a register of the processor
 pub data Place : Type 0 where

@@ -1,14 +1,17 @@
 //! EXAMINE, DEPOSIT and the test of ASSERT, on a machine.
 #![tactic(auto)]
 
+pub mod assert_command;
 mod check;
-pub mod deposit;
-pub mod examine;
+pub mod deposit_command;
+pub mod examine_command;
 pub mod fault;
-pub mod holds;
+mod fill;
+mod item;
 mod place;
+mod show;
 
-pub use deposit::deposit;
-pub use examine::examine;
+pub use assert_command::holds;
+pub use deposit_command::deposit;
+pub use examine_command::examine;
 pub use fault::ExamineFault;
-pub use holds::holds;

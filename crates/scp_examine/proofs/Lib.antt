@@ -1,0 +1,4 @@
+pub mod FaultLemmas
+pub mod ShowLemmas
+pub mod KindLemmas
+pub mod FillLemmas

@@ -1,0 +1,189 @@
+// The faults of items, values and conditions.
+ghost use Rattle.std.specs.Prelude.{◌≡◌, ℕ, ◌+◌, ◌≤◌, ◌^◌, ◌&&◌, nat_le, nat_lt};
+ghost use Rattle.nova_machine.specs.Registers.{largest_of};
+ghost use Rattle.scp_examine.specs.Places.{Register, all_registers, cells, places_of, register_at, registers_of};
+ghost use Rattle.scp_examine.specs.Checks.{condition_fault, condition_fits, deposit_fault, item_fault, items_fault, mask_fits, memory_fault, out_of_range_unless, register_fault, state_fault, value_fault, values_fault};
+ghost use Rattle.scp_examine.specs.Named.{places_in, IsWithin};
+
+use crate::fault::ExamineFault;
+use crate::item::{Named, named_by};
+use crate::place::{ALL_REGISTERS, register_at};
+use nova_machine::CpuReg;
+use scp_parser::{Condition, Item, Name};
+
+/// The largest value of a word.
+pub const LARGEST_WORD: u32 = 0o177777;
+
+fn out_of_range_unless(fits: bool) -> Option<ExamineFault>
+    ensures { result ≡ out_of_range_unless fits }
+{
+    if fits { None } else { Some(ExamineFault::OutOfRange) }
+}
+
+// The fault of words of memory, which belong to no device.
+fn memory_fault(device: Name, fits: bool) -> Option<ExamineFault>
+    ensures { result ≡ memory_fault device fits }
+{
+    match device {
+        Name::Cpu => out_of_range_unless(fits),
+        Name::Device(_) => Some(ExamineFault::NoSuchName),
+    }
+}
+
+fn register_fault(register: Option<CpuReg>) -> Option<ExamineFault>
+    ensures { result ≡ register_fault register }
+{
+    match register {
+        Some(_) => None,
+        None => Some(ExamineFault::NoSuchName),
+    }
+}
+
+fn state_fault(device: Name) -> Option<ExamineFault>
+    ensures { result ≡ state_fault device }
+{
+    match device {
+        Name::Cpu => None,
+        Name::Device(_) => Some(ExamineFault::NoSuchName),
+    }
+}
+
+fn range_fits(size: u64, from: u64, to: u64) -> bool
+    ensures { result ≡ (nat_le from to && nat_lt to size) }
+{
+    from <= to && to < size
+}
+
+// Whether there are so many words from an address. The sum of the two may be too large for its type.
+fn count_fits(size: u64, from: u64, count: u64) -> bool
+    ensures { result ≡ (nat_lt 0 count && nat_le (from + count) size) }
+{
+    0 < count && from <= size && count <= size - from
+}
+
+/// The fault of an item by what it names.
+#[tactic(auto, unfolding(crate::specs::Checks::item_fault))]
+pub fn item_fault(size: u16, device: Name, item: Item) -> Option<ExamineFault>
+    ensures { result ≡ item_fault size device item }
+{
+    let size = u64::from(size);
+    match item {
+        Item::At(at) => memory_fault(device, at < size),
+        Item::Range(from, to) => memory_fault(device, range_fits(size, from, to)),
+        Item::Count(from, count) => memory_fault(device, count_fits(size, from, count)),
+        Item::All => memory_fault(device, true),
+        Item::Reg(number) => register_fault(register_at(device, number)),
+        Item::State => state_fault(device),
+        Item::Unknown => Some(ExamineFault::NoSuchName),
+    }
+}
+
+/// The first fault of the items of an EXAMINE.
+pub fn items_fault(size: u16, device: Name, items: &[Item]) -> Option<ExamineFault>
+    ensures { result ≡ items_fault (item_fault size device) items.now }
+{
+    for item in items {
+        match item_fault(size, device, *item) {
+            Some(fault) => return Some(fault),
+            None => (),
+        }
+    }
+    None
+}
+
+fn mask_fits(largest: u32, mask: Option<u64>) -> bool
+    ensures { result ≡ mask_fits largest mask }
+{
+    match mask {
+        None => true,
+        Some(mask) => mask <= u64::from(largest),
+    }
+}
+
+/// Whether the numbers of a condition are at most the largest value of what they are compared with.
+pub fn condition_fits(largest: u32, condition: Condition) -> bool
+    ensures { result ≡ condition_fits largest condition }
+{
+    mask_fits(largest, condition.mask) && condition.value <= u64::from(largest)
+}
+
+/// The fault of the condition of an EXAMINE.
+pub fn condition_fault(condition: Option<Condition>) -> Option<ExamineFault>
+    ensures { result ≡ condition_fault condition }
+{
+    match condition {
+        None => None,
+        Some(condition) => out_of_range_unless(condition_fits(LARGEST_WORD, condition)),
+    }
+}
+
+// The fault of a value for words of memory, of which there may be none.
+fn words_value_fault(value: u32, count: u16) -> Option<ExamineFault>
+    ensures { (from : ℕ) → result ≡ values_fault value (cells from count) }
+{
+    if count == 0 {
+        None
+    } else {
+        out_of_range_unless(value <= LARGEST_WORD)
+    }
+}
+
+// The fault of a value for a register.
+fn register_value_fault(value: u32, register: CpuReg) -> Option<ExamineFault>
+    ensures { result ≡ value_fault value (Register register) }
+{
+    match register {
+        CpuReg::Size => Some(ExamineFault::ReadOnlyName),
+        _ => out_of_range_unless(value <= register.largest()),
+    }
+}
+
+// The first fault of a value for registers.
+fn registers_value_fault(value: u32, registers: &[CpuReg]) -> Option<ExamineFault>
+    ensures { result ≡ values_fault value (registers_of registers.now) }
+{
+    for register in registers {
+        match register_value_fault(value, *register) {
+            Some(fault) => return Some(fault),
+            None => (),
+        }
+    }
+    None
+}
+
+// The first fault of a value for what an item names.
+fn value_fault(value: u32, named: Named) -> Option<ExamineFault>
+    ensures { result ≡ values_fault value (places_in named) }
+{
+    match named {
+        Named::Words(_, count) => words_value_fault(value, count),
+        Named::Register(register) => registers_value_fault(value, &[register]),
+        Named::State => registers_value_fault(value, &ALL_REGISTERS),
+    }
+}
+
+// The fault of an item of a DEPOSIT.
+#[tactic(auto, unfolding(crate::specs::Checks::deposit_fault))]
+fn deposit_fault(size: u16, device: Name, value: u32, item: Item) -> Option<ExamineFault>
+    requires { size ≤ 2 ^ 15 }
+    ensures { result ≡ deposit_fault size device value item }
+{
+    match item_fault(size, device, item) {
+        Some(fault) => Some(fault),
+        None => value_fault(value, named_by(size, device, item)),
+    }
+}
+
+/// The first fault of the items of a DEPOSIT.
+pub fn deposits_fault(size: u16, device: Name, value: u32, items: &[Item]) -> Option<ExamineFault>
+    requires { size ≤ 2 ^ 15 }
+    ensures { result ≡ items_fault (deposit_fault size device value) items.now }
+{
+    for item in items {
+        match deposit_fault(size, device, value, *item) {
+            Some(fault) => return Some(fault),
+            None => (),
+        }
+    }
+    None
+}
