@@ -10,7 +10,7 @@ use Rattle.nova_top.specs.declared.progress.Progress.{Progress}
 use Rattle.nova_top.specs.declared.progress.Progress.TheVariants.{GoesOn, IsOver}
 use Rattle.nova_top.specs.declared.progress.Finish.TheVariants.{Exit, EndOfInput, Commands, Console, Input}
 use Rattle.scp_parser.specs.declared.fault.ParseFault.TheVariants.{TooLong}
-use Rattle.scp_parser.specs.Reading.{reading}
+use Rattle.scp_parser.specs.Reading.{verb_of, reading}
 use Rattle.nova_top.specs.Core.{Core}
 use Rattle.nova_top.specs.FaultText.{line_fault, fault_text}
 use Rattle.nova_top.specs.CommandEffect.{Asked, does, exit_of}
@@ -266,7 +266,7 @@ answer-causes (IsOver Input) sink sink_mid sink_now source source_now a b c s = 
 
 -- a line that is too long has that fault
 pub long-line : (line : List ℕ) → longest_line < length line → reading line ≡ Err TooLong
-unfolding reading
+unfolding reading verb_of
 long-line line long = rw (lt-leb (length line) longest_line long) refl
 
 pub long-core : (core : Core) → core ≡ (does core (Err TooLong)).core
