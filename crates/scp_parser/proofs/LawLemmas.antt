@@ -51,9 +51,10 @@ module _ (d : Forms_decided) where
   no_command_read T line e new is c = ((λ h. absurd (false≢true h.0)), (λ h. absurd (never_both line c e h ((faults_reading d line e).0 is))))
 
   pub fault_read : (T : Type 0) (line : List ℕ) (e : ParseFault) → reading line ≡ Err e → (fault : ParseFault) → (◌≡◌ {A = Result T ParseFault} (Err e) (Err fault)) ↔ Faults line fault
-  fault_read T line e is fault =
-      ((λ h. let same : e ≡ fault = cc in subst (Faults line) same ((faults_reading d line e).0 is)),
-      (λ h. ap (λ (f : ParseFault). Err f) (one_fault line e fault ((faults_reading d line e).0 is) h)))
+  fault_read T line e is fault = (
+    (λ h. let same : e ≡ fault = cc in subst (Faults line) same ((faults_reading d line e).0 is)),
+    (λ h. ap (λ (f : ParseFault). Err f) (one_fault line e fault ((faults_reading d line e).0 is) h)),
+  )
 
   -- the same of a result that is either
 
