@@ -1,14 +1,32 @@
 -- The laws of lines, commands and faults, and what a reader whose answer is the reading of a line says of it.
-use Rattle.std.proofs.Common.{◌≡◌, ◌↔◌, ℕ, Result, Ok, Err, List, refl, ap, subst, ◌⊎◌, inl, inr}
+use Rattle.std.proofs.Common.{◌≡◌, ◌↔◌, ℕ, Result, Ok, Err, List, ◌++◌, length, take, refl, ap, sym, ◌∙◌, subst, ◌⊎◌, inl, inr}
 use Rattle.std.specs.Prelude.{IsOk, IfOk}
 use Rattle.std.proofs.lemmas.Bool.{false≢true}
+use Rattle.std.proofs.lemmas.List.{take_at}
+use Rattle.scp_parser.specs.declared.command.Verb.{Verb}
 use Rattle.scp_parser.specs.declared.fault.ParseFault.{ParseFault}
 use Rattle.scp_parser.specs.Command.{CommandLine}
 use Rattle.scp_parser.specs.Grammar.{Parses}
 use Rattle.scp_parser.specs.Faults.{Faults}
-use Rattle.scp_parser.specs.Reading.{reading}
+use Rattle.scp_parser.specs.Reading.{verb_of, with_line, reading}
 use Rattle.scp_parser.proofs.FormsDecided.{Forms_decided}
 use Rattle.scp_parser.proofs.LineLemmas.{parses_reading, faults_reading}
+
+-- the reading of a line by its verb
+
+pub verb_read : (line : List ℕ) (what : Verb) → verb_of line ≡ Ok what → reading line ≡ Ok (record { text = line; verb = what })
+unfolding reading
+verb_read line what is = ap (with_line line) is
+
+-- the same where the line was copied to the front of a buffer
+pub copied_read : (line copied behind : List ℕ) (what : Verb) → copied ≡ line → verb_of line ≡ Ok what → reading line ≡ Ok (record { text = take (length line) (copied ++ behind); verb = what })
+copied_read line copied behind what same is =
+    let text : take (length line) (copied ++ behind) ≡ line = take_at copied behind (length line) (ap length same) ∙ same in
+    verb_read line what is ∙ ap (λ (t : List ℕ). Ok (record { text = t; verb = what })) (sym text)
+
+pub verb_fault : (line : List ℕ) (fault : ParseFault) → verb_of line ≡ Err fault → reading line ≡ Err fault
+unfolding reading
+verb_fault line fault is = ap (with_line line) is
 
 module _ (d : Forms_decided) where
   pub one_command : (line : List ℕ) (one other : CommandLine) → Parses line one → Parses line other → one ≡ other
@@ -51,9 +69,10 @@ module _ (d : Forms_decided) where
   no_command_read T line e new is c = ((λ h. absurd (false≢true h.0)), (λ h. absurd (never_both line c e h ((faults_reading d line e).0 is))))
 
   pub fault_read : (T : Type 0) (line : List ℕ) (e : ParseFault) → reading line ≡ Err e → (fault : ParseFault) → (◌≡◌ {A = Result T ParseFault} (Err e) (Err fault)) ↔ Faults line fault
-  fault_read T line e is fault =
-      ((λ h. let same : e ≡ fault = cc in subst (Faults line) same ((faults_reading d line e).0 is)),
-      (λ h. ap (λ (f : ParseFault). Err f) (one_fault line e fault ((faults_reading d line e).0 is) h)))
+  fault_read T line e is fault = (
+    (λ h. let same : e ≡ fault = cc in subst (Faults line) same ((faults_reading d line e).0 is)),
+    (λ h. ap (λ (f : ParseFault). Err f) (one_fault line e fault ((faults_reading d line e).0 is) h)),
+  )
 
   -- the same of a result that is either
 

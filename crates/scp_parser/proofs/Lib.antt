@@ -22,6 +22,7 @@ mod NothingLemmas
 mod OperandLemmas
 mod LastNumberLemmas
 mod ListingLemmas
+mod InsideLemmas
 mod ValueLemmas
 mod OperatesLemmas
 mod LineLemmas
