@@ -66,3 +66,6 @@ impl Text {
         self.push_all(&out[..count]);
     }
 }
+
+#[cfg(test)]
+mod tests;

@@ -69,3 +69,6 @@ fn first_other(text: &[u8]) -> usize
 {
     other_place(text).unwrap_or(text.len())
 }
+
+#[cfg(test)]
+mod tests;
