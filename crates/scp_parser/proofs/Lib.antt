@@ -1,3 +1,4 @@
+pub mod AnswerLemmas
 mod Decides
 pub mod ItemsLemmas
 pub mod KeepsLemmas

@@ -1,8 +1,9 @@
-ghost use Rattle.std.specs.Prelude.{◌≡◌, ◌↔◌, ◌⊎◌, ◌≤◌, List, ℕ, length, IsOk, OnErr, IfOk};
+ghost use Rattle.std.specs.Prelude.{◌≡◌, ◌↔◌, ◌⊎◌, ◌≤◌, List, ℕ, length, Ok, IsOk, OnErr, IfOk};
 ghost use Rattle.scp_parser.specs.Command.{CommandLine, Keeps};
 ghost use Rattle.scp_parser.specs.Faults.{Faults, placed};
 ghost use Rattle.scp_parser.specs.Grammar.{Parses};
-ghost use Rattle.scp_parser.specs.Reading.{operands, examine, deposit, show, asks_nothing, named, verb_of, reading};
+ghost use Rattle.scp_parser.specs.Reading.{operands, examine, deposit, show, asks_nothing, named, verb_of};
+ghost use Rattle.scp_parser.specs.Reading.{with_line, reading};
 ghost use Rattle.scp_parser.specs.Views.{run, go, step, exit};
 ghost use Rattle.scp_parser.specs.declared.fault.ParseFault.{ParseFault};
 
@@ -21,19 +22,32 @@ use line_words::past_blanks;
 #[tactic(auto, unfolding(crate::specs::Reading::reading))]
 pub fn read_command(line: &[u8], into: &mut Command) -> Result<(), ParseFault>
     // A command exactly where the line is that command.
-    // OPEN: ensures command { (c : CommandLine) → (IsOk result × (into.new ≡ c)) ↔ Parses line.now c }
+    ensures command { (c : CommandLine) → (IsOk result × (into.new ≡ c)) ↔ Parses line.now c }
     // A fault exactly where the line has that fault.
-    // OPEN: ensures fault { (fault : ParseFault) → (result ≡ Err fault) ↔ Faults line.now fault }
+    ensures fault { (fault : ParseFault) → (result ≡ Err fault) ↔ Faults line.now fault }
     ensures kept { OnErr result (into.new ≡ into.old) }
     // Which of them, as a function of the line.
     ensures exact { IfOk result (λ _. reading line.now ≡ Ok into.new) }
     ensures faulty { (fault : ParseFault) → result ≡ Err fault → reading line.now ≡ Err fault }
 {
-    let verb = verb_of(line)?;
+    match verb_of(line) {
+        Ok(verb) => {
+            store(line, verb, into);
+            Ok(())
+        }
+        Err(fault) => Err(fault),
+    }
+}
+
+// Makes a command of a line and what it asks for.
+fn store(line: &[u8], verb: Verb, into: &mut Command)
+    requires short { length line.now ≤ 512 }
+    requires keeps { Keeps line.now verb }
+    ensures { Ok into.new ≡ with_line line.now (Ok verb) }
+{
     into.length = line.len();
     into.line[..line.len()].copy_from_slice(line);
     into.verb = verb;
-    Ok(())
 }
 
 // What a line asks for.
