@@ -1,6 +1,6 @@
 -- What the reader of commands answered, by the grammar.
 use Rattle.std.proofs.Common.{◌≡◌, ◌↔◌, ◌∙◌, ℕ, Result, Ok, Err, List, refl, ap, sym}
-use Rattle.std.specs.Prelude.{IsOk, IfOk}
+use Rattle.std.specs.Prelude.{IsOk}
 use Rattle.scp_parser.specs.declared.command.Verb.{Verb}
 use Rattle.scp_parser.specs.declared.fault.ParseFault.{ParseFault}
 use Rattle.scp_parser.specs.Command.{CommandLine}

@@ -1,10 +1,10 @@
 -- Items with a mark between two numbers, where the mark is missing.
-use Rattle.std.proofs.Common.{◌≡◌, ◌+◌, ◌<◌, ◌≤◌, ℕ, Bool, true, false, cond, eqb, ltb, Option, Some, None, List, [], length, drop, refl, ap, arith}
+use Rattle.std.proofs.Common.{◌≡◌, ◌+◌, ◌≤◌, ℕ, eqb, Option, Some, None, List, [], length, refl, arith}
 use Rattle.std.specs.List.{position_or_len}
 use Rattle.std.proofs.lemmas.List.{drop_all}
 use Rattle.std.proofs.lemmas.Bool.Decides.{nat_tests}
 use Rattle.scp_parser.specs.Operands.{is_number, octal, decimal, front, behind, both}
-use Rattle.scp_parser.specs.Views.{has_mark, some_behind, range_of, count_of}
+use Rattle.scp_parser.specs.Views.{some_behind, range_of, count_of}
 
 -- where nothing stands behind a mark, no byte is left behind it
 behind_none : (mark : ℕ) (text : List ℕ) → some_behind mark text ≡ None → behind mark text ≡ []

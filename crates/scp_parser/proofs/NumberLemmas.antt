@@ -1,12 +1,12 @@
 -- What a reader of numbers answered, as the number that is held.
-use Rattle.std.proofs.Common.{◌≡◌, ℕ, ◌<◌, ◌≤◌, ◌+◌, Bool, true, false, ◌&&◌, cond, ltb, leb, Some, None, Ok, Err, List, [], ◌∷◌, length, All, refl, ap, arith}
+use Rattle.std.proofs.Common.{◌≡◌, ℕ, ◌<◌, ◌≤◌, ◌+◌, Bool, true, false, ◌&&◌, ltb, leb, Some, None, Ok, Err, List, [], ◌∷◌, All, refl, ap, arith}
 use Rattle.std.specs.List.{list_all}
 use Rattle.std.proofs.lemmas.Bool.{ltb-true, leb-true}
 use Rattle.std.proofs.lemmas.List.Folds.{list_all_at}
 use Rattle.std.proofs.lemmas.List.Elements.{All-head, All-tail}
 use Rattle.std.proofs.lemmas.Bool.Decides.{nat_tests}
 use Rattle.nova_word.specs.declared.numbers.NumberFault.TheVariants.{Empty, BadDigit, TooLarge}
-use Rattle.nova_word.specs.Numbers.{IsDigit, IsNumber, IsFirstBad, ReadsNumber, value_of}
+use Rattle.nova_word.specs.Numbers.{IsDigit, IsNumber, IsFirstBad, ReadsNumber}
 use Rattle.scp_parser.specs.Forms.{held}
 use Rattle.scp_parser.specs.Operands.{is_digit, is_number, octal, decimal}
 

@@ -81,6 +81,7 @@ fn comparison_of(text: &[u8]) -> Option<(Rel, u64)>
     }
 }
 
+// A comparison with its value, where both are there.
 fn with_value(rel: Option<Rel>, digits: &[u8]) -> Option<(Rel, u64)>
     ensures { result ≡ with_value rel digits.now }
 {

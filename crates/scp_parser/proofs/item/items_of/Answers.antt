@@ -1,5 +1,5 @@
-use Rattle.std.proofs.Common.{◌≡◌, ◌-◌, ◌++◌, ◌∷◌, [], ◌∙◌, Some, None, sym, ap, refl, arith}
-use Rattle.scp_parser.specs.Operands.{front, item_of, items_of}
+use Rattle.std.proofs.Common.{◌≡◌, ◌-◌, Some, None, sym, arith}
+use Rattle.scp_parser.specs.Operands.{front, item_of}
 use Rattle.scp_parser.specs.Views.{some_behind}
 use Rattle.scp_parser.proofs.ItemsLemmas.{with_rest, rest_bad, rest_last, rest_more, rest_full, one_longer}
 use Rattle.scp_parser.proofs.item.items_of.Goals as goal
