@@ -100,3 +100,7 @@ decimal_bad text place h = rw (is_number-bad 10 text place h) refl
 pub decimal_empty : (text : List ℕ) → ReadsNumber 10 9223372036854775808 text (Err Empty) → decimal text ≡ None
 unfolding decimal
 decimal_empty text h = rw h (rw (is_number-empty 10) refl)
+
+pub ruleset octal_answers = (octal_number, octal_large, octal_bad, octal_empty)
+
+pub ruleset decimal_answers = (decimal_number, decimal_large, decimal_bad, decimal_empty)

@@ -1,4 +1,4 @@
-ghost use Rattle.std.specs.Prelude.{◌≡◌, []};
+ghost use Rattle.std.specs.Prelude.{◌≡◌};
 
 use crate::listing::{Listing, Test};
 use std::marker::Model;
@@ -29,8 +29,8 @@ pub enum Shown {
 
 /// What a line asks for.
 ///
-/// A number that is too large for its reader is held as 2^64 - 1. An operand that was left out is `None`; in NOBREAK and
-/// DETACH `None` is ALL. A text piece is a quoted text with its quotes.
+/// A number that is too large for its reader is held as 2^64 - 1. An operand that was left out is `None`; in NOBREAK
+/// and DETACH `None` is ALL. A text piece is a quoted text with its quotes.
 #[derive(Drop)]
 pub enum Verb {
     /// A blank line, a comment or a label.

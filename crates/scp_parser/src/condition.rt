@@ -1,6 +1,7 @@
 ghost use Rattle.std.specs.Prelude.{◌≡◌, ◌≤◌, length, option_map, None};
 ghost use Rattle.std.specs.List.{position, position_or_len};
-ghost use Rattle.scp_parser.specs.Operands.{is_rel_byte, two_byte_rel, one_byte_rel, condition_with, with_value, comparison_of, masked_condition, condition_of};
+ghost use Rattle.scp_parser.specs.Operands.{is_rel_byte, two_byte_rel, one_byte_rel, condition_with, with_value};
+ghost use Rattle.scp_parser.specs.Operands.{comparison_of, masked_condition, condition_of};
 
 use crate::listing::{Condition, Rel};
 use crate::number::octal;
@@ -80,6 +81,7 @@ fn comparison_of(text: &[u8]) -> Option<(Rel, u64)>
     }
 }
 
+// A comparison with its value, where both are there.
 fn with_value(rel: Option<Rel>, digits: &[u8]) -> Option<(Rel, u64)>
     ensures { result ≡ with_value rel digits.now }
 {

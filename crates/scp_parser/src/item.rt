@@ -1,6 +1,7 @@
-ghost use Rattle.std.specs.Prelude.{◌≡◌, ◌+◌, ◌==◌, ◌≤◌, ◌++◌, length, take, drop, option_map};
-ghost use Rattle.std.specs.List.{list_all, before_first, after_first, position, position_or_len};
-ghost use Rattle.scp_parser.specs.Operands.{is_letter, is_name_byte, is_name, unknown_name, named_item, numbered_item, item_of, items_up_to, items_of, front, behind};
+ghost use Rattle.std.specs.Prelude.{◌≡◌, ◌==◌, option_map};
+ghost use Rattle.std.specs.List.{list_all, position};
+ghost use Rattle.scp_parser.specs.Operands.{is_name_byte, is_name, unknown_name, named_item, numbered_item, item_of};
+ghost use Rattle.scp_parser.specs.Operands.{items_of, front, behind};
 ghost use Rattle.scp_parser.specs.Views.{some_behind, range_of, count_of};
 
 use crate::listing::{Item, Items, MOST_ITEMS, Name};

@@ -1,5 +1,6 @@
-ghost use Rattle.std.specs.Prelude.{◌≡◌, ◌+◌, ◌<◌, ◌≤◌, length, take, drop, position, option_map, slice_get, IsTrue, Some, IfSome};
-ghost use Rattle.scp_parser.specs.Names.{full_name, least_letters, is_command_name, all_names, first_of, command_named, is_spelled, processor_registers, register_names};
+ghost use Rattle.std.specs.Prelude.{◌≡◌, take, option_map, slice_get};
+ghost use Rattle.scp_parser.specs.Names.{full_name, least_letters, is_command_name, first_of, command_named};
+ghost use Rattle.scp_parser.specs.Names.{is_spelled, processor_registers, register_names};
 ghost use Rattle.scp_parser.specs.Operands.{register_named};
 
 use crate::listing::Name;

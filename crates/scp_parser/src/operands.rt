@@ -1,7 +1,8 @@
 // The operands of a line, one by one from the left. A fault counts the bytes that are left at its place.
 ghost use Rattle.std.specs.Prelude.{◌≡◌, true, false};
-ghost use Rattle.scp_parser.specs.Operands.{octal, decimal, items_of, device_of, condition_of, subject_of, symbolic_of};
-ghost use Rattle.scp_parser.specs.Reading.{next_word, maybe, needed, ended, last_number, choice, maybe_condition, listing, instruction};
+ghost use Rattle.scp_parser.specs.Operands.{octal, decimal, items_of, device_of, subject_of};
+ghost use Rattle.scp_parser.specs.Reading.{next_word, maybe, needed, ended, last_number, maybe_condition, listing};
+ghost use Rattle.scp_parser.specs.Reading.{instruction};
 ghost use Rattle.scp_parser.specs.Views.{Gives, bad_operand, maybe_symbolic};
 
 use crate::command::{Shown, Verb};

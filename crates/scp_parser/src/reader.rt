@@ -1,8 +1,9 @@
-ghost use Rattle.std.specs.Prelude.{◌≡◌, ◌↔◌, ◌⊎◌, ◌≤◌, List, ℕ, length, IsOk, OnErr, IfOk};
+ghost use Rattle.std.specs.Prelude.{◌≡◌, ◌↔◌, ◌⊎◌, ◌≤◌, List, ℕ, length, Ok, IsOk, OnErr, IfOk};
 ghost use Rattle.scp_parser.specs.Command.{CommandLine, Keeps};
 ghost use Rattle.scp_parser.specs.Faults.{Faults, placed};
 ghost use Rattle.scp_parser.specs.Grammar.{Parses};
-ghost use Rattle.scp_parser.specs.Reading.{operands, examine, deposit, show, asks_nothing, named, verb_of, with_line, reading};
+ghost use Rattle.scp_parser.specs.Reading.{operands, examine, deposit, show, asks_nothing, named, verb_of};
+ghost use Rattle.scp_parser.specs.Reading.{with_line, reading};
 ghost use Rattle.scp_parser.specs.Views.{run, go, step, exit};
 ghost use Rattle.scp_parser.specs.declared.fault.ParseFault.{ParseFault};
 
@@ -41,7 +42,6 @@ fn read_into(line: &[u8], into: &mut Command) -> Result<(), ParseFault>
     into.length = line.len();
     into.line[..line.len()].copy_from_slice(line);
     into.verb = verb;
-    Ok(())
 }
 
 // What a line asks for.
@@ -183,8 +183,10 @@ pub fn no_line_is_two_commands()
 
 /// The law that each line has a command or a fault, and not both, and one of them alone.
 pub fn each_line_has_a_command_or_a_fault()
-    ensures either { (line : List ℕ) → ((c : CommandLine) × Parses line c) ⊎ ((fault : ParseFault) × Faults line fault) }
-    ensures never_both { (line : List ℕ) (c : CommandLine) (fault : ParseFault) → Parses line c → Faults line fault → ⊥ }
+    ensures either { (line : List ℕ)
+        → ((c : CommandLine) × Parses line c) ⊎ ((fault : ParseFault) × Faults line fault) }
+    ensures never_both { (line : List ℕ) (c : CommandLine) (fault : ParseFault)
+        → Parses line c → Faults line fault → ⊥ }
     ensures one_fault { (line : List ℕ) (one other : ParseFault) → Faults line one → Faults line other → one ≡ other }
 {}
 

@@ -1,5 +1,4 @@
-ghost use Rattle.std.specs.Prelude.{◌≡◌, ◌∷◌, [], option_map};
-ghost use Rattle.scp_parser.specs.Names.{device_kinds, unit_kinds};
+ghost use Rattle.std.specs.Prelude.{◌≡◌, ◌∷◌, []};
 ghost use Rattle.scp_parser.specs.Operands.{device_of, kind_named, drive_at, drive_of, unit_of, subject_of};
 
 use crate::command::Shown;
