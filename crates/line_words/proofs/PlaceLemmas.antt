@@ -11,5 +11,5 @@ some_or_end a n h = grind (arith, nat_tests)
 pub place_or_length : (p : ℕ → Bool) (text : List ℕ) → unwrap_or (position p text) (length text) ≡ position_or_len p text
 place_or_length p text = some_or_end (position_or_len p text) (length text) (prefix_len-le-length _ text)
 
-pub place-le-length : (p : ℕ → Bool) (text : List ℕ) → position_or_len p text ≤ length text
-place-le-length p text = prefix_len-le-length _ text
+pub place_le_length : (p : ℕ → Bool) (text : List ℕ) → position_or_len p text ≤ length text
+place_le_length p text = prefix_len-le-length _ text

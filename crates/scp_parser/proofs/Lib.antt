@@ -3,7 +3,6 @@ pub mod ItemsLemmas
 pub mod KeepsLemmas
 pub mod MarkLemmas
 pub mod ReaderNumberLemmas
-pub mod PlaceLemmas
 pub mod RegisterLemmas
 mod ChoiceLemmas
 mod SpellingLemmas
@@ -25,6 +24,6 @@ mod ListingLemmas
 mod InsideLemmas
 mod ValueLemmas
 mod OperatesLemmas
-mod LineLemmas
+pub mod LineLemmas
 mod Decided
 mod LawLemmas

@@ -42,6 +42,7 @@ fn read_into(line: &[u8], into: &mut Command) -> Result<(), ParseFault>
     into.length = line.len();
     into.line[..line.len()].copy_from_slice(line);
     into.verb = verb;
+    Ok(())
 }
 
 // What a line asks for.
