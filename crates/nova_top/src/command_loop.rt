@@ -24,8 +24,11 @@ pub fn next_line<C: Source, S: Sink>(
     output: &mut S,
 ) -> Progress
     requires { lines.old.budget ≤ 2 ^ 32 }
-    ensures told { IsTrue C.tells → IsTrue S.tells → Progresses (session_of session.old lines.old (C.left input.old)) result (session_of session.new lines.new (C.left input.new)) (S.written output.old) (S.written output.new) }
-    ensures cause { ProgressCause result (S.fault_count output.old) (S.fault_count output.new) (C.fault_count input.old) (C.fault_count input.new) }
+    ensures told { IsTrue C.tells → IsTrue S.tells
+        → Progresses (session_of session.old lines.old (C.left input.old)) result
+        (session_of session.new lines.new (C.left input.new)) (S.written output.old) (S.written output.new) }
+    ensures cause { ProgressCause result (S.fault_count output.old) (S.fault_count output.new) (C.fault_count input.old)
+        (C.fault_count input.new) }
     ensures pays { PaysFor lines.old.budget result lines.new.budget }
     ensures limit { session.new.limit ≡ session.old.limit }
 {
@@ -45,7 +48,8 @@ pub fn next_line<C: Source, S: Sink>(
 /// Prints the prompt, where it is on.
 fn ask<S: Sink>(prompt: bool, output: &mut S) -> Result<(), Failed>
     ensures printed { IsTrue S.tells → OnOk result (S.written output.new ≡ S.written output.old ++ prompt_text prompt) }
-    ensures part { IsTrue S.tells → OnErr result (AddsPart (S.written output.old) (prompt_text prompt) (S.written output.new)) }
+    ensures part { IsTrue S.tells
+        → OnErr result (AddsPart (S.written output.old) (prompt_text prompt) (S.written output.new)) }
     ensures cause { HasCause (S.fault_count output.old) (S.fault_count output.new) result }
 {
     if prompt {
@@ -60,7 +64,9 @@ fn ask<S: Sink>(prompt: bool, output: &mut S) -> Result<(), Failed>
 fn answer<S: Sink>(session: &mut Session, line: &[u8], output: &mut S) -> Progress
     ensures core { session_core session.new ≡ (does (session_core session.old) (reading line.now)).core }
     ensures limit { session.new.limit ≡ session.old.limit }
-    ensures told { IsTrue S.tells → IsAnswer (does (session_core session.old) (reading line.now)).text (exit_of (reading line.now)) result (S.written output.old) (S.written output.new) }
+    ensures told { IsTrue S.tells
+        → IsAnswer (does (session_core session.old) (reading line.now)).text (exit_of (reading line.now)) result
+        (S.written output.old) (S.written output.new) }
     ensures cause { AnswerCause result (S.fault_count output.old) (S.fault_count output.new) }
     ensures exit { HasExitStatus result }
 {
@@ -75,7 +81,9 @@ fn answer<S: Sink>(session: &mut Session, line: &[u8], output: &mut S) -> Progre
 fn obey<S: Sink>(session: &mut Session, command: &Command, output: &mut S) -> Progress
     ensures core { session_core session.new ≡ (effect (session_core session.old) command.now.verb).core }
     ensures limit { session.new.limit ≡ session.old.limit }
-    ensures told { IsTrue S.tells → IsAnswer (effect (session_core session.old) command.now.verb).text (exit_of_verb command.now.verb) result (S.written output.old) (S.written output.new) }
+    ensures told { IsTrue S.tells
+        → IsAnswer (effect (session_core session.old) command.now.verb).text (exit_of_verb command.now.verb) result
+        (S.written output.old) (S.written output.new) }
     ensures cause { AnswerCause result (S.fault_count output.old) (S.fault_count output.new) }
     ensures exit { HasExitStatus result }
 {
@@ -88,7 +96,8 @@ fn obey<S: Sink>(session: &mut Session, command: &Command, output: &mut S) -> Pr
 
 /// Answers the fault of a line that is no command.
 fn deny<S: Sink>(fault: ParseFault, output: &mut S) -> Progress
-    ensures told { IsTrue S.tells → IsAnswer (fault_text (line_fault fault)) None result (S.written output.old) (S.written output.new) }
+    ensures told { IsTrue S.tells
+        → IsAnswer (fault_text (line_fault fault)) None result (S.written output.old) (S.written output.new) }
     ensures cause { AnswerCause result (S.fault_count output.old) (S.fault_count output.new) }
     ensures exit { HasExitStatus result }
 {

@@ -1,10 +1,14 @@
 // What each command does: it changes the machine, and then prints.
-ghost use Rattle.std.specs.Prelude.{◌≡◌, ◌≤◌, ◌<◌, ◌^◌, ◌++◌, length, unwrap_or, nat_le, min, IsTrue, OnOk, OnErr, IfOk, Ok};
+ghost use Rattle.std.specs.Prelude.{◌≡◌, ◌≤◌, ◌<◌, ◌^◌, ◌++◌, length, unwrap_or, nat_le, min, IsTrue, OnOk, OnErr};
+ghost use Rattle.std.specs.Prelude.{IfOk, Ok};
 ghost use Rattle.fault_counts.specs.Faults.{HasCause};
 ghost use Rattle.host_files.specs.Streams.{AddsPart};
 ghost use Rattle.nova_top.specs.FaultText.{fault_text};
 ghost use Rattle.nova_top.specs.Loop.{session_core};
-ghost use Rattle.nova_top.specs.CommandEffect.{stop_name, stop_text, running, run_from, address_fits, starting_at, reset_where, stepped, step_of, time_text, list_reply, handed, fill_reply, is_device, exit_status, exit_of_verb, exit_text, show_text, said, effect};
+ghost use Rattle.nova_top.specs.CommandEffect.{stop_name, stop_text, running, run_from, address_fits, starting_at};
+ghost use Rattle.nova_top.specs.CommandEffect.{reset_where, stepped, step_of, time_text, list_reply, handed};
+ghost use Rattle.nova_top.specs.CommandEffect.{fill_reply, is_device, exit_status, exit_of_verb, exit_text, show_text};
+ghost use Rattle.nova_top.specs.CommandEffect.{said, effect};
 
 use crate::counts::is_count;
 use crate::fault::CommandFault;
@@ -30,8 +34,12 @@ pub fn execute<S: Sink>(
     ensures core { session_core session.new ≡ (effect (session_core session.old) command.now.verb).core }
     ensures limit { session.new.limit ≡ session.old.limit }
     ensures exits { IfOk result (λ exits. exits ≡ exit_of_verb command.now.verb) }
-    ensures printed { IsTrue S.tells → OnOk result (S.written output.new ≡ S.written output.old ++ (effect (session_core session.old) command.now.verb).text) }
-    ensures part { IsTrue S.tells → OnErr result (AddsPart (S.written output.old) (effect (session_core session.old) command.now.verb).text (S.written output.new)) }
+    ensures printed { IsTrue S.tells
+        → OnOk result (S.written output.new ≡ S.written output.old ++
+        (effect (session_core session.old) command.now.verb).text) }
+    ensures part { IsTrue S.tells
+        → OnErr result (AddsPart (S.written output.old) (effect (session_core session.old) command.now.verb).text
+        (S.written output.new)) }
     ensures cause { HasCause (S.fault_count output.old) (S.fault_count output.new) result }
 {
     match &command.verb {
@@ -51,8 +59,12 @@ pub fn execute<S: Sink>(
 #[tactic(auto, unfolding(crate::specs::CommandEffect::examine_reply))]
 fn list<S: Sink>(session: &Session, listing: &Listing, output: &mut S) -> Result<(), Failed>
     ensures core { (list_reply (session_core session.now) listing.now).core ≡ session_core session.now }
-    ensures printed { IsTrue S.tells → OnOk result (S.written output.new ≡ S.written output.old ++ (list_reply (session_core session.now) listing.now).text) }
-    ensures part { IsTrue S.tells → OnErr result (AddsPart (S.written output.old) (list_reply (session_core session.now) listing.now).text (S.written output.new)) }
+    ensures printed { IsTrue S.tells
+        → OnOk result (S.written output.new ≡ S.written output.old ++
+        (list_reply (session_core session.now) listing.now).text) }
+    ensures part { IsTrue S.tells
+        → OnErr result (AddsPart (S.written output.old) (list_reply (session_core session.now) listing.now).text
+        (S.written output.new)) }
     ensures cause { HasCause (S.fault_count output.old) (S.fault_count output.new) result }
 {
     if is_device(listing.device) {
@@ -68,7 +80,8 @@ fn list<S: Sink>(session: &Session, listing: &Listing, output: &mut S) -> Result
 /// Prints a fault.
 pub fn refuse<S: Sink>(fault: CommandFault, output: &mut S) -> Result<(), Failed>
     ensures printed { IsTrue S.tells → OnOk result (S.written output.new ≡ S.written output.old ++ fault_text fault) }
-    ensures part { IsTrue S.tells → OnErr result (AddsPart (S.written output.old) (fault_text fault) (S.written output.new)) }
+    ensures part { IsTrue S.tells
+        → OnErr result (AddsPart (S.written output.old) (fault_text fault) (S.written output.new)) }
     ensures cause { HasCause (S.fault_count output.old) (S.fault_count output.new) result }
 {
     put_all(output, fault.text().as_slice())

@@ -59,7 +59,8 @@ impl LineReader {
     /// 1536 and so on come in.
     pub fn read_line<C: Source>(&mut self, input: &mut C, budget: &mut u64) -> Reading
         requires { budget.old ≤ 2 ^ 32 }
-        ensures reads { IsTrue C.tells → IsReading budget.old self.old.open_ (C.left input.old) result budget.new self.new (C.left input.new) }
+        ensures reads { IsTrue C.tells
+            → IsReading budget.old self.old.open_ (C.left input.old) result budget.new self.new (C.left input.new) }
         ensures pays { Pays budget.old result budget.new }
         ensures later { C.fault_count input.old ≤ C.fault_count input.new }
         ensures cause { result ≡ Reading.Failed → Rose (C.fault_count input.old) (C.fault_count input.new) }
@@ -76,7 +77,8 @@ impl LineReader {
     fn read_open_line<C: Source>(&mut self, input: &mut C, budget: &mut u64) -> Reading
         requires budget { budget.old ≤ 2 ^ 32 }
         requires open_ { self.old.open_ ≡ true }
-        ensures reads { IsTrue C.tells → IsReading budget.old true (C.left input.old) result budget.new self.new (C.left input.new) }
+        ensures reads { IsTrue C.tells
+            → IsReading budget.old true (C.left input.old) result budget.new self.new (C.left input.new) }
         ensures pays { Pays budget.old result budget.new }
         ensures later { C.fault_count input.old ≤ C.fault_count input.new }
         ensures cause { result ≡ Reading.Failed → Rose (C.fault_count input.old) (C.fault_count input.new) }

@@ -19,8 +19,11 @@ pub fn perform<C: Source, S: Sink>(
     input: &mut C,
     output: &mut S,
 ) -> Finish
-    ensures told { IsTrue C.tells → IsTrue S.tells → IsSession (beginning (session_core session.old) prompt (C.left input.old)) result (session_core session.new) (C.left input.new) (S.written output.old) (S.written output.new) }
-    ensures cause { FinishCause result (S.fault_count output.old) (S.fault_count output.new) (C.fault_count input.old) (C.fault_count input.new) }
+    ensures told { IsTrue C.tells → IsTrue S.tells
+        → IsSession (beginning (session_core session.old) prompt (C.left input.old)) result (session_core session.new)
+        (C.left input.new) (S.written output.old) (S.written output.new) }
+    ensures cause { FinishCause result (S.fault_count output.old) (S.fault_count output.new) (C.fault_count input.old)
+        (C.fault_count input.new) }
     ensures limit { session.new.limit ≡ session.old.limit }
 {
     let mut lines = CommandLoop {

@@ -3,7 +3,8 @@ ghost use Rattle.fault_counts.specs.Faults.{Rose};
 ghost use Rattle.nova_top.specs.Core.{core_of};
 ghost use Rattle.nova_top.specs.Perform.{beginning};
 ghost use Rattle.nova_top.specs.Outside.{options_of, texts_of};
-ghost use Rattle.nova_top.specs.Ends.{IsOutcome, IsCutShort, StatusCause, MachineThere, IsComplete, IsSession, FinishCause};
+ghost use Rattle.nova_top.specs.Ends.{IsOutcome, IsCutShort, StatusCause, MachineThere, IsComplete, IsSession};
+ghost use Rattle.nova_top.specs.Ends.{FinishCause};
 ghost use Rattle.nova_top.specs.Program.{IsUsage, UsageCause, SessionEnds};
 
 use crate::options::Options;
@@ -35,10 +36,19 @@ pub fn simulate<C: Source, S: Sink>(
     input: &mut C,
     output: &mut S,
 ) -> Ending
-    ensures outcome { IsTrue C.tells → IsTrue S.tells → result.status ≢ 103 → IsOutcome (texts_of words.now) (C.left input.old) (C.left input.new) (S.written output.old) (S.written output.new) result.status result.machine }
-    ensures memory { IsTrue C.tells → IsTrue S.tells → result.status ≡ 103 → IsCutShort (texts_of words.now) (C.left input.old) (C.left input.new) (S.written output.old) (S.written output.new) result.machine }
-    ensures complete { IsTrue C.tells → IsTrue S.tells → result.status ≢ 103 → (Rose (S.fault_count output.old) (S.fault_count output.new) → ⊥) → (Rose (C.fault_count input.old) (C.fault_count input.new) → ⊥) → IsComplete (texts_of words.now) (C.left input.old) (C.left input.new) (S.written output.old) (S.written output.new) result.status result.machine }
-    ensures cause { StatusCause (texts_of words.now) result.status (S.fault_count output.old) (S.fault_count output.new) (C.fault_count input.old) (C.fault_count input.new) }
+    ensures outcome { IsTrue C.tells → IsTrue S.tells → result.status ≢ 103
+        → IsOutcome (texts_of words.now) (C.left input.old) (C.left input.new) (S.written output.old)
+        (S.written output.new) result.status result.machine }
+    ensures memory { IsTrue C.tells → IsTrue S.tells → result.status ≡ 103
+        → IsCutShort (texts_of words.now) (C.left input.old) (C.left input.new) (S.written output.old)
+        (S.written output.new) result.machine }
+    ensures complete { IsTrue C.tells → IsTrue S.tells → result.status ≢ 103
+        → (Rose (S.fault_count output.old) (S.fault_count output.new) → ⊥)
+        → (Rose (C.fault_count input.old) (C.fault_count input.new) → ⊥)
+        → IsComplete (texts_of words.now) (C.left input.old) (C.left input.new) (S.written output.old)
+        (S.written output.new) result.status result.machine }
+    ensures cause { StatusCause (texts_of words.now) result.status (S.fault_count output.old) (S.fault_count output.new)
+        (C.fault_count input.old) (C.fault_count input.new) }
     ensures machine { MachineThere (texts_of words.now) result.status result.machine }
     ensures unread { options_of (texts_of words.now) ≡ None → input.new ≡ input.old }
 {
@@ -77,7 +87,12 @@ fn session<C: Source, S: Sink>(
     input: &mut C,
     output: &mut S,
 ) -> Ending
-    ensures ended { SessionEnds result.status result.machine (λ finish now. IsTrue C.tells → IsTrue S.tells → IsSession (beginning (core_of machine options.limit) options.prompt (C.left input.old)) finish (core_of now options.limit) (C.left input.new) (S.written output.old) (S.written output.new)) (λ finish. FinishCause finish (S.fault_count output.old) (S.fault_count output.new) (C.fault_count input.old) (C.fault_count input.new)) }
+    ensures ended { SessionEnds result.status result.machine
+        (λ finish now. IsTrue C.tells → IsTrue S.tells → IsSession
+        (beginning (core_of machine options.limit) options.prompt (C.left input.old)) finish (core_of now options.limit)
+        (C.left input.new) (S.written output.old) (S.written output.new))
+        (λ finish. FinishCause finish (S.fault_count output.old) (S.fault_count output.new) (C.fault_count input.old)
+        (C.fault_count input.new)) }
 {
     let mut session = Session {
         machine,

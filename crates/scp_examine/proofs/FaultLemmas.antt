@@ -1,10 +1,10 @@
 -- The first fault of a list, as a loop over it finds it.
-use Rattle.std.proofs.Common.{◌≡◌, ℕ, ◌+◌, ◌-◌, ◌^◌, ◌<◌, ◌≤◌, zero, suc, List, [], ◌∷◌, length, get_or, drop, Option, Some, None, ap, sym, ◌∙◌, refl, add-one, arith, Bool, true, false, nat_le}
+use Rattle.std.proofs.Common.{◌≡◌, ℕ, ◌+◌, ◌<◌, zero, suc, List, length, get_or, drop, Option, Some, None, ap, sym, ◌∙◌, refl, add-one, arith, Bool, true, false, nat_le}
 use Rattle.std.proofs.Math.Seq.{drop-cons, drop-length}
 use Rattle.nova_machine.specs.declared.registers.CpuReg.{CpuReg}
 use Rattle.scp_parser.specs.declared.listing.Item.{Item}
 use Rattle.scp_examine.specs.declared.fault.ExamineFault.{ExamineFault}
-use Rattle.scp_examine.specs.Places.{Place, Cell, Register, cells, registers_of, all_registers}
+use Rattle.scp_examine.specs.Places.{Register, cells, registers_of}
 use Rattle.scp_examine.specs.Checks.{or_fault, items_fault, value_fault, values_fault, out_of_range_unless, largest_word}
 
 -- from the item at a place on

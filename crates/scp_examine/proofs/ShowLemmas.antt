@@ -1,6 +1,6 @@
 -- What is printed of places one behind another.
-use Rattle.std.proofs.Common.{◌≡◌, ℕ, ◌+◌, ◌-◌, ◌<◌, ◌≤◌, zero, suc, Bool, List, [], ◌∷◌, ◌++◌, length, get_or, take, drop, Option, Some, None, ap, sym, ◌∙◌, refl, subst, add-one, append_assoc, length-append, arith}
-use Rattle.std.proofs.Math.Seq.{drop-cons, take-suc, take-append-add, take-append-le, take-length}
+use Rattle.std.proofs.Common.{◌≡◌, ℕ, ◌+◌, ◌<◌, ◌≤◌, zero, suc, Bool, List, [], ◌∷◌, ◌++◌, length, get_or, take, drop, Option, Some, None, ap, sym, ◌∙◌, refl, subst, add-one, append_assoc, length-append, arith}
+use Rattle.std.proofs.Math.Seq.{take-suc, take-append-add, take-append-le}
 use Rattle.std.proofs.lemmas.List.{take-append-drop, append-nil}
 use Rattle.host_files.specs.Streams.{AddsPart}
 use Rattle.nova_machine.specs.Machine.{MachineState}
@@ -9,7 +9,7 @@ use Rattle.scp_parser.specs.declared.listing.Name.{Name}
 use Rattle.scp_parser.specs.declared.listing.Condition.{Condition}
 use Rattle.scp_parser.specs.declared.listing.Item.{Item}
 use Rattle.scp_examine.specs.declared.fault.ExamineFault.{ExamineFault}
-use Rattle.scp_examine.specs.Places.{Place, Cell, Register, cells, registers_of, places_of, place_text, is_chosen}
+use Rattle.scp_examine.specs.Places.{Place, Cell, Register, cells, registers_of, places_of}
 use Rattle.scp_examine.specs.Checks.{items_fault, or_fault}
 use Rattle.scp_examine.specs.Effect.{all_places, listed}
 
@@ -56,10 +56,11 @@ registers-more xs i d h = rw (add-one, take-suc xs i d) (registers_of-append (ta
 
 pub registers_rest : (xs : List CpuReg) (i : ℕ) (d : CpuReg) → i < length xs
     → (rest : List Place) × (registers_of xs ≡ (registers_of (take i xs) ++ Register (get_or xs i d) ∷ []) ++ rest)
-registers_rest xs i d h =
-    (registers_of (drop (i + 1) xs),
-     ap registers_of (sym (take-append-drop (i + 1) xs)) ∙ registers_of-append (take (i + 1) xs) (drop (i + 1) xs)
-     ∙ ap (λ ps. ps ++ registers_of (drop (i + 1) xs)) (registers-more xs i d h))
+registers_rest xs i d h = (
+  registers_of (drop (i + 1) xs),
+  ap registers_of (sym (take-append-drop (i + 1) xs)) ∙ registers_of-append (take (i + 1) xs) (drop (i + 1) xs)
+      ∙ ap (λ ps. ps ++ registers_of (drop (i + 1) xs)) (registers-more xs i d h),
+)
 
 pub all_places-more : (size : ℕ) (device : Name) (xs : List Item) (i : ℕ) (d : Item) → i < length xs
     → all_places size device (take (i + 1) xs) ≡ all_places size device (take i xs) ++ places_of size device (get_or xs i d)
@@ -69,10 +70,11 @@ all_places-more size device xs i d h =
 
 pub all_places_rest : (size : ℕ) (device : Name) (xs : List Item) (i : ℕ) (d : Item) → i < length xs
     → (rest : List Place) × (all_places size device xs ≡ (all_places size device (take i xs) ++ places_of size device (get_or xs i d)) ++ rest)
-all_places_rest size device xs i d h =
-    (all_places size device (drop (i + 1) xs),
-     ap (λ ys. all_places size device ys) (sym (take-append-drop (i + 1) xs)) ∙ all_places-append size device (take (i + 1) xs) (drop (i + 1) xs)
-     ∙ ap (λ ps. ps ++ all_places size device (drop (i + 1) xs)) (all_places-more size device xs i d h))
+all_places_rest size device xs i d h = (
+  all_places size device (drop (i + 1) xs),
+  ap (λ ys. all_places size device ys) (sym (take-append-drop (i + 1) xs)) ∙ all_places-append size device (take (i + 1) xs) (drop (i + 1) xs)
+      ∙ ap (λ ps. ps ++ all_places size device (drop (i + 1) xs)) (all_places-more size device xs i d h),
+)
 
 pub first_none : (a b : Option ExamineFault) → or_fault a b ≡ None → a ≡ None
 first_none None b e = refl
@@ -120,10 +122,11 @@ part_behind before done piece rest at after e part =
     let l1 : length ((done ++ piece) ++ rest) ≡ length done + length piece + length rest = simp length-append in
     let within : length done + n ≤ length (done ++ piece) = omega (arith, length-append done piece) in
     let taken : take (length done + n) ((done ++ piece) ++ rest) ≡ done ++ take n piece =
-        take-append-le (length done + n) (done ++ piece) rest within ∙ take-append-add done piece n in
-    (length done + n,
-     omega (arith, l1, lt),
-     part.2 ∙ ap (λ t. t ++ take n piece) e ∙ append_assoc before done (take n piece) ∙ ap (λ t. before ++ t) (sym taken))
+    take-append-le (length done + n) (done ++ piece) rest within ∙ take-append-add done piece n in (
+      length done + n,
+      omega (arith, l1, lt),
+      part.2 ∙ ap (λ t. t ++ take n piece) e ∙ append_assoc before done (take n piece) ∙ ap (λ t. before ++ t) (sym taken),
+    )
 
 -- the same of the text of places
 pub listed_part : (m : MachineState) (s : Bool) (c : Option Condition) (before at after : List ℕ) (xs ys whole : List Place)
@@ -132,5 +135,5 @@ pub listed_part : (m : MachineState) (s : Bool) (c : Option Condition) (before a
 listed_part m s c before at after xs ys whole rest e part =
     let P : List ℕ → Type 0 = λ t. AddsPart before t after in
     let eq : (listed m s c xs ++ listed m s c ys) ++ listed m s c rest.0 ≡ listed m s c whole =
-        ap (λ t. t ++ listed m s c rest.0) (sym (listed-append m s c xs ys)) ∙ sym (listed-append m s c (xs ++ ys) rest.0) ∙ ap (λ ps. listed m s c ps) (sym rest.1) in
+    ap (λ t. t ++ listed m s c rest.0) (sym (listed-append m s c xs ys)) ∙ sym (listed-append m s c (xs ++ ys) rest.0) ∙ ap (λ ps. listed m s c ps) (sym rest.1) in
     subst P eq (part_behind before (listed m s c xs) (listed m s c ys) (listed m s c rest.0) at after e part)

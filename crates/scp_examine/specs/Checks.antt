@@ -1,5 +1,5 @@
 -- The faults of lists, values and conditions. Items are checked from the left before anything is printed or changed.
-use Rattle.std.specs.Prelude.{ℕ, ◌+◌, ◌^◌, ◌-◌, Bool, true, false, ◌&&◌, nat_le, nat_lt, List, [], ◌∷◌, Option, Some, None, if◌then◌else◌}
+use Rattle.std.specs.Prelude.{ℕ, ◌+◌, ◌^◌, ◌-◌, Bool, true, ◌&&◌, nat_le, nat_lt, List, [], ◌∷◌, Option, Some, None, if◌then◌else◌}
 use Rattle.nova_machine.specs.declared.registers.CpuReg.{CpuReg}
 use Rattle.nova_machine.specs.declared.registers.CpuReg.TheVariants.{Size}
 use Rattle.nova_machine.specs.Registers.{largest_of}
@@ -10,7 +10,7 @@ use Rattle.scp_parser.specs.declared.listing.Item.{Item}
 use Rattle.scp_parser.specs.declared.listing.Item.TheVariants.{At, Range, Count, All, Reg, State, Unknown}
 use Rattle.scp_examine.specs.declared.fault.ExamineFault.{ExamineFault}
 use Rattle.scp_examine.specs.declared.fault.ExamineFault.TheVariants.{NoSuchName, OutOfRange, ReadOnlyName}
-use Rattle.scp_examine.specs.Places.{Place, Cell, Register, register_at, places_of, largest_at}
+use Rattle.scp_examine.specs.Places.{Place, Cell, Register, register_at, places_of}
 
 -- the first of two faults
 abbrev pub or_fault : Option ExamineFault → Option ExamineFault → Option ExamineFault

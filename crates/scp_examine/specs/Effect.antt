@@ -1,5 +1,5 @@
 -- What EXAMINE, DEPOSIT and ASSERT do (SIMH Users' Guide, "Examining and Changing State").
-use Rattle.std.specs.Prelude.{◌≡◌, ℕ, ◌≤◌, Bool, List, [], ◌∷◌, ◌++◌, length, Option, Some, None, Result, Ok, Err, OnOk, OnErr, MatchResult, if◌then◌else◌}
+use Rattle.std.specs.Prelude.{◌≡◌, ℕ, ◌≤◌, Bool, List, [], ◌∷◌, ◌++◌, Option, Some, None, Result, Ok, Err, MatchResult, if◌then◌else◌}
 use Rattle.nova_memory.specs.Memory.{put}
 use Rattle.fault_counts.specs.Faults.{Rose}
 use Rattle.host_files.specs.Streams.{AddsPart}

@@ -2,3 +2,4 @@ pub mod Places
 pub mod Checks
 pub mod Named
 pub mod Effect
+pub mod Laws

@@ -1,5 +1,5 @@
 -- The places that an item of a list names: words of memory, and registers.
-use Rattle.std.specs.Prelude.{ℕ, ◌+◌, ◌-◌, ◌^◌, zero, suc, Bool, true, false, ◌==◌, not, nat_eq, nat_lt, nat_le, bit_and, List, [], ◌∷◌, ◌++◌, length, codes, slice_get, Option, Some, None}
+use Rattle.std.specs.Prelude.{ℕ, ◌+◌, ◌-◌, ◌^◌, zero, suc, Bool, true, false, not, nat_eq, nat_lt, nat_le, bit_and, List, [], ◌∷◌, ◌++◌, codes, slice_get, Option, Some, None}
 use Rattle.nova_word.specs.Numbers.{octal_digits}
 use Rattle.nova_memory.specs.Memory.{get}
 use Rattle.nova_symbols.specs.Canon.{canon}

@@ -1,6 +1,6 @@
-ghost use Rattle.std.specs.Prelude.{◌≡◌, ◌<◌, ◌≤◌, ◌^◌, ◌∷◌, [], None};
+ghost use Rattle.std.specs.Prelude.{◌≡◌, ◌<◌, ◌≤◌, ◌^◌, None};
 ghost use Rattle.scp_parser.specs.Command.{IsTested};
-ghost use Rattle.scp_examine.specs.Places.{Cell, Register, one_register, places_of, register_at};
+ghost use Rattle.scp_examine.specs.Places.{cells, one_register, places_of};
 ghost use Rattle.scp_examine.specs.Checks.{item_fault};
 ghost use Rattle.scp_examine.specs.Effect.{test_of, tested};
 
@@ -13,8 +13,8 @@ use scp_parser::{Condition, Item, Name, Test};
 /// Whether what ASSERT names meets its condition (SIMH Users' Guide, "Executing Command Files").
 ///
 /// A fault of the item is answered first: `NoSuchName`, or `OutOfRange` for an address that is not below the size. Then
-/// `OutOfRange` means that the mask or the value of the condition is above the largest value of the item. The machine is
-/// only read.
+/// `OutOfRange` means that the mask or the value of the condition is above the largest value of the item. The machine
+/// is only read.
 #[tactic(auto, unfolding(crate::specs::Effect::tested))]
 pub fn holds(machine: &Machine, what: &Test) -> Result<bool, ExamineFault>
     requires { IsTested what.now.item }
@@ -27,14 +27,7 @@ pub fn holds(machine: &Machine, what: &Test) -> Result<bool, ExamineFault>
     }
 }
 
-#[tactic(
-    auto,
-    unfolding(
-        crate::specs::Places::places_of,
-        crate::specs::Places::cells,
-        crate::specs::Checks::item_fault,
-    )
-)]
+#[tactic(auto, unfolding(crate::specs::Places::places_of, crate::specs::Checks::item_fault))]
 fn test_item(
     machine: &Machine,
     device: Name,
@@ -53,9 +46,10 @@ fn test_item(
     }
 }
 
+#[tactic(auto, unfolding(crate::specs::Places::cells))]
 fn test_cell(machine: &Machine, at: u16, condition: Condition) -> Result<bool, ExamineFault>
     requires { at < 2 ^ 15 }
-    ensures { result ≡ test_of machine.now condition (Cell at ∷ []) }
+    ensures { result ≡ test_of machine.now condition (cells at 1) }
 {
     if condition_fits(LARGEST_WORD, condition) {
         Ok(meets(condition, u64::from(word_at(machine, at).0)))
@@ -82,3 +76,6 @@ fn test_register(
         }
     }
 }
+
+#[cfg(test)]
+mod tests;

@@ -2,7 +2,9 @@
 ghost use Rattle.std.specs.Prelude.{◌≡◌, ℕ, ◌+◌, ◌≤◌, ◌^◌, ◌&&◌, nat_le, nat_lt};
 ghost use Rattle.nova_machine.specs.Registers.{largest_of};
 ghost use Rattle.scp_examine.specs.Places.{Register, all_registers, cells, places_of, register_at, registers_of};
-ghost use Rattle.scp_examine.specs.Checks.{condition_fault, condition_fits, deposit_fault, item_fault, items_fault, mask_fits, memory_fault, out_of_range_unless, register_fault, state_fault, value_fault, values_fault};
+ghost use Rattle.scp_examine.specs.Checks.{condition_fault, condition_fits, deposit_fault, item_fault, items_fault};
+ghost use Rattle.scp_examine.specs.Checks.{mask_fits, memory_fault, out_of_range_unless, register_fault, state_fault};
+ghost use Rattle.scp_examine.specs.Checks.{value_fault, values_fault};
 ghost use Rattle.scp_examine.specs.Named.{places_in, IsWithin};
 
 use crate::fault::ExamineFault;
@@ -17,7 +19,11 @@ pub const LARGEST_WORD: u32 = 0o177777;
 fn out_of_range_unless(fits: bool) -> Option<ExamineFault>
     ensures { result ≡ out_of_range_unless fits }
 {
-    if fits { None } else { Some(ExamineFault::OutOfRange) }
+    if fits {
+        None
+    } else {
+        Some(ExamineFault::OutOfRange)
+    }
 }
 
 // The fault of words of memory, which belong to no device.

@@ -15,8 +15,10 @@ use scp_parser::Listing;
 /// condition.
 #[tactic(auto, unfolding(crate::specs::Effect::fault_of_deposit, crate::specs::Effect::deposited))]
 pub fn deposit(machine: &mut Machine, what: &Listing, value: u32) -> Result<(), ExamineFault>
-    ensures done { OnOk result ((fault_of_deposit machine.old what.now value ≡ None) × (machine.new ≡ deposited machine.old what.now value)) }
-    ensures refused { IfErr result (λ fault. (fault_of_deposit machine.old what.now value ≡ Some fault) × (machine.new ≡ machine.old)) }
+    ensures done { OnOk result
+        ((fault_of_deposit machine.old what.now value ≡ None) × (machine.new ≡ deposited machine.old what.now value)) }
+    ensures refused { IfErr result
+        (λ fault. (fault_of_deposit machine.old what.now value ≡ Some fault) × (machine.new ≡ machine.old)) }
 {
     let size = machine.memory().size();
     let items = what.items.as_slice();
@@ -28,3 +30,6 @@ pub fn deposit(machine: &mut Machine, what: &Listing, value: u32) -> Result<(), 
         }
     }
 }
+
+#[cfg(test)]
+mod tests;

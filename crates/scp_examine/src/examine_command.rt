@@ -11,18 +11,14 @@ use scp_parser::Listing;
 
 /// EXAMINE: prints a line for each place of a list, in order (SIMH Users' Guide, "Examining and Changing State").
 ///
-/// The line of a word of memory is its address in five octal digits, a colon, a tab, and the word in six octal digits or
-/// as symbolic text; that of a register is its name, a colon, a tab, and its value with as many octal digits as its
+/// The line of a word of memory is its address in five octal digits, a colon, a tab, and the word in six octal digits
+/// or as symbolic text; that of a register is its name, a colon, a tab, and its value with as many octal digits as its
 /// largest value has. A condition leaves out the words of memory that do not meet it, and no register.
 ///
 /// A list with a fault prints nothing: the first one is answered, that of the condition first and then those of the
 /// items from the left. `Console` means that the console refused a byte: what comes before it was printed, and nothing
 /// else. The machine is only read, and no memory is taken.
-pub fn examine<S: Sink>(
-    machine: &Machine,
-    what: &Listing,
-    out: &mut S,
-) -> Result<(), ExamineFault>
+pub fn examine<S: Sink>(machine: &Machine, what: &Listing, out: &mut S) -> Result<(), ExamineFault>
     ensures told { IsTrue S.tells → Examines machine.now what.now result (S.written out.old) (S.written out.new) }
     ensures faults { FaultIs (examine_fault machine.now what.now) result }
     ensures cause { ConsoleCause (S.fault_count out.old) (S.fault_count out.new) result }
@@ -46,19 +42,29 @@ fn first_fault(machine: &Machine, what: &Listing) -> Option<ExamineFault>
 
 // Prints the lines of a list that has no fault.
 #[tactic(auto, unfolding(crate::specs::Effect::examined, crate::specs::Effect::examine_fault))]
-fn show_listing<S: Sink>(
-    machine: &Machine,
-    what: &Listing,
-    out: &mut S,
-) -> Result<(), ExamineFault>
+fn show_listing<S: Sink>(machine: &Machine, what: &Listing, out: &mut S) -> Result<(), ExamineFault>
     requires { examine_fault machine.now what.now ≡ None }
-    ensures told { IsTrue S.tells → Prints (S.written out.old) (examined machine.now what.now) result (S.written out.new) }
+    ensures told { IsTrue S.tells → Prints
+        (S.written out.old)
+        (examined machine.now what.now)
+        result
+        (S.written out.new) }
     ensures fault { OnErr result (result ≡ Err ExamineFault.Console) }
     ensures cause { HasCause (S.fault_count out.old) (S.fault_count out.new) result }
 {
     let items = what.items.as_slice();
-    match show_items(machine, what.symbolic, what.condition, what.device, items, out) {
+    match show_items(
+        machine,
+        what.symbolic,
+        what.condition,
+        what.device,
+        items,
+        out,
+    ) {
         Ok(()) => Ok(()),
         Err(Failed) => Err(ExamineFault::Console),
     }
 }
+
+#[cfg(test)]
+mod tests;

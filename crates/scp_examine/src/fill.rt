@@ -16,7 +16,9 @@ fn fill_cell(machine: &mut Machine, at: u16, value: u16)
     requires { at < 2 ^ 15 }
     ensures { machine.new ≡ record machine.old { memory = put machine.old.memory at value } }
 {
-    machine.memory_mut().write(Addr::of_word(Word(at)), Word(value));
+    machine
+        .memory_mut()
+        .write(Addr::of_word(Word(at)), Word(value));
 }
 
 fn fill_cells(machine: &mut Machine, from: u16, count: u16, value: u16)

@@ -8,10 +8,14 @@ pub mod examine_command;
 pub mod fault;
 mod fill;
 mod item;
+pub mod laws;
 mod place;
 mod show;
+#[cfg(test)]
+mod test_lists;
 
 pub use assert_command::holds;
 pub use deposit_command::deposit;
 pub use examine_command::examine;
 pub use fault::ExamineFault;
+pub use laws::{deposits_read_back, registers_are_printed_by_their_names};

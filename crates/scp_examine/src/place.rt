@@ -3,7 +3,8 @@ ghost use Rattle.std.specs.Prelude.{◌≡◌, ◌+◌, ◌≤◌, ◌<◌, ◌^
 ghost use Rattle.nova_memory.specs.Memory.{get};
 ghost use Rattle.nova_machine.specs.Registers.{largest_of};
 ghost use Rattle.nova_symbols.specs.Canon.{canon};
-ghost use Rattle.scp_examine.specs.Places.{Cell, Register, all_registers, chosen_word, compares, digits_of, masked, meets, name_of, place_text, register_at, word_text};
+ghost use Rattle.scp_examine.specs.Places.{Cell, Register, all_registers, chosen_word, compares, digits_of, masked};
+ghost use Rattle.scp_examine.specs.Places.{meets, name_of, place_text, register_at, word_text};
 
 use line_text::Text;
 use nova_machine::{CpuReg, Machine};
@@ -153,7 +154,11 @@ fn masked(mask: Option<u64>, value: u64) -> u64
 pub fn meets(condition: Condition, value: u64) -> bool
     ensures { result ≡ meets condition value }
 {
-    compares(condition.rel, masked(condition.mask, value), condition.value)
+    compares(
+        condition.rel,
+        masked(condition.mask, value),
+        condition.value,
+    )
 }
 
 /// Whether a condition, where there is one, chooses a word.

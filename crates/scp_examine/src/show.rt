@@ -22,7 +22,11 @@ fn show_cell<S: Sink>(
     out: &mut S,
 ) -> Result<(), Failed>
     requires { at < 2 ^ 15 }
-    ensures told { IsTrue S.tells → Prints (S.written out.old) (listed machine.now symbolic condition (Cell at ∷ [])) result (S.written out.new) }
+    ensures told { IsTrue S.tells → Prints
+        (S.written out.old)
+        (listed machine.now symbolic condition (Cell at ∷ []))
+        result
+        (S.written out.new) }
     ensures cause { HasCause (S.fault_count out.old) (S.fault_count out.new) result }
 {
     let word = word_at(machine, at);
@@ -43,7 +47,11 @@ fn show_register<S: Sink>(
     register: CpuReg,
     out: &mut S,
 ) -> Result<(), Failed>
-    ensures told { IsTrue S.tells → Prints (S.written out.old) (listed machine.now symbolic condition (Register register ∷ [])) result (S.written out.new) }
+    ensures told { IsTrue S.tells → Prints
+        (S.written out.old)
+        (listed machine.now symbolic condition (Register register ∷ []))
+        result
+        (S.written out.new) }
     ensures cause { HasCause (S.fault_count out.old) (S.fault_count out.new) result }
 {
     let line = register_line(machine, symbolic, register);
@@ -59,7 +67,11 @@ fn show_cells<S: Sink>(
     out: &mut S,
 ) -> Result<(), Failed>
     requires { from + count ≤ 2 ^ 15 }
-    ensures told { IsTrue S.tells → Prints (S.written out.old) (listed machine.now symbolic condition (cells from count)) result (S.written out.new) }
+    ensures told { IsTrue S.tells → Prints
+        (S.written out.old)
+        (listed machine.now symbolic condition (cells from count))
+        result
+        (S.written out.new) }
     ensures cause { HasCause (S.fault_count out.old) (S.fault_count out.new) result }
 {
     for i in 0..count {
@@ -75,7 +87,11 @@ fn show_registers<S: Sink>(
     registers: &[CpuReg],
     out: &mut S,
 ) -> Result<(), Failed>
-    ensures told { IsTrue S.tells → Prints (S.written out.old) (listed machine.now symbolic condition (registers_of registers.now)) result (S.written out.new) }
+    ensures told { IsTrue S.tells → Prints
+        (S.written out.old)
+        (listed machine.now symbolic condition (registers_of registers.now))
+        result
+        (S.written out.new) }
     ensures cause { HasCause (S.fault_count out.old) (S.fault_count out.new) result }
 {
     for register in registers {
@@ -92,7 +108,11 @@ fn show_named<S: Sink>(
     out: &mut S,
 ) -> Result<(), Failed>
     requires { IsWithin (2 ^ 15) named }
-    ensures told { IsTrue S.tells → Prints (S.written out.old) (listed machine.now symbolic condition (places_in named)) result (S.written out.new) }
+    ensures told { IsTrue S.tells → Prints
+        (S.written out.old)
+        (listed machine.now symbolic condition (places_in named))
+        result
+        (S.written out.new) }
     ensures cause { HasCause (S.fault_count out.old) (S.fault_count out.new) result }
 {
     match named {
@@ -111,11 +131,16 @@ fn show_item<S: Sink>(
     out: &mut S,
 ) -> Result<(), Failed>
     requires { item_fault machine.now.memory.size device item ≡ None }
-    ensures told { IsTrue S.tells → Prints (S.written out.old) (listed machine.now symbolic condition (places_of machine.now.memory.size device item)) result (S.written out.new) }
+    ensures told { IsTrue S.tells → Prints
+        (S.written out.old)
+        (listed machine.now symbolic condition (places_of machine.now.memory.size device item))
+        result
+        (S.written out.new) }
     ensures cause { HasCause (S.fault_count out.old) (S.fault_count out.new) result }
 {
     let size = machine.memory().size();
-    show_named(machine, symbolic, condition, named_by(size, device, item), out)
+    let named = named_by(size, device, item);
+    show_named(machine, symbolic, condition, named, out)
 }
 
 /// Prints the lines of items that have no fault. Where the console refuses a byte, what comes before it was printed.
@@ -128,7 +153,11 @@ pub fn show_items<S: Sink>(
     out: &mut S,
 ) -> Result<(), Failed>
     requires { items_fault (item_fault machine.now.memory.size device) items.now ≡ None }
-    ensures told { IsTrue S.tells → Prints (S.written out.old) (listed machine.now symbolic condition (all_places machine.now.memory.size device items.now)) result (S.written out.new) }
+    ensures told { IsTrue S.tells → Prints
+        (S.written out.old)
+        (listed machine.now symbolic condition (all_places machine.now.memory.size device items.now))
+        result
+        (S.written out.new) }
     ensures cause { HasCause (S.fault_count out.old) (S.fault_count out.new) result }
 {
     for item in items {

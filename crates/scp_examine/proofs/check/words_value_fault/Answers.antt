@@ -1,4 +1,4 @@
-use Rattle.std.proofs.Common.{◌≡◌, ◌<◌, sym, ap, ◌∙◌, arith}
+use Rattle.std.proofs.Common.{◌<◌, sym, ap, ◌∙◌, arith}
 use Rattle.scp_examine.specs.Places.{cells}
 use Rattle.scp_examine.specs.Checks.{values_fault}
 use Rattle.scp_examine.proofs.FaultLemmas.{words_fault-none, words_fault-code}

@@ -1,4 +1,3 @@
-use Rattle.std.proofs.Common.{◌≡◌, Some}
 use Rattle.scp_examine.proofs.KindLemmas.{fault-kind, refused_told, refused_faults, refused_cause}
 use Rattle.scp_examine.proofs.examine_command.examine.Goals as goal
 

@@ -1,5 +1,4 @@
-use Rattle.std.proofs.Common.{◌≡◌, ◌+◌, sym, ap, ◌∙◌, refl}
-use Rattle.scp_examine.specs.Places.{cells}
+use Rattle.std.proofs.Common.{sym, ap, ◌∙◌}
 use Rattle.scp_examine.specs.Effect.{filled}
 use Rattle.scp_examine.proofs.ShowLemmas.{cells-none}
 use Rattle.scp_examine.proofs.FillLemmas.{filled-none, filled_cells-more}

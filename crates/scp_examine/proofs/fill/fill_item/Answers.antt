@@ -1,4 +1,4 @@
-use Rattle.std.proofs.Common.{◌≡◌, ap, ◌∙◌}
+use Rattle.std.proofs.Common.{ap, ◌∙◌}
 use Rattle.scp_examine.specs.Checks.{values_fault}
 use Rattle.scp_examine.proofs.FillLemmas.{named_fits, value_fits}
 use Rattle.scp_examine.proofs.fill.fill_item.Goals as goal

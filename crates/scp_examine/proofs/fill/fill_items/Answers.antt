@@ -1,7 +1,7 @@
-use Rattle.std.proofs.Common.{◌≡◌, ◌+◌, sym, ap, ◌∙◌, refl, get_or}
+use Rattle.std.proofs.Common.{sym, ap, ◌∙◌}
 use Rattle.scp_parser.specs.declared.listing.Item.TheVariants.{At}
 use Rattle.scp_examine.specs.Checks.{deposit_fault}
-use Rattle.scp_examine.specs.Effect.{all_places, filled}
+use Rattle.scp_examine.specs.Effect.{filled}
 use Rattle.scp_examine.proofs.ShowLemmas.{all_places-none, items_fault-none}
 use Rattle.scp_examine.proofs.FillLemmas.{filled-none, filled_items-more}
 use Rattle.scp_examine.proofs.fill.fill_items.Goals as goal

@@ -1,4 +1,4 @@
-use Rattle.std.proofs.Common.{rules, arith, ℕ, ◌≡◌, ◌<◌, ◌^◌, ◌∷◌, [], sym, ◌∙◌}
+use Rattle.std.proofs.Common.{rules, arith, ◌<◌, ◌^◌, sym, ◌∙◌}
 use Rattle.scp_examine.specs.Places.{Register}
 use Rattle.scp_examine.proofs.FillLemmas.{word_fits, filled_no_cells, filled-one, register_fits, state_refuses}
 use Rattle.scp_examine.proofs.fill.fill_named.Goals as goal

@@ -1,10 +1,9 @@
-use Rattle.std.proofs.Common.{◌≡◌, ◌+◌, ◌<◌, ◌++◌, ◌∷◌, [], take, get_or, length, refl, ap, ◌∙◌, arith}
+use Rattle.std.proofs.Common.{◌+◌, ◌∷◌, [], refl, ap, ◌∙◌, arith}
 use Rattle.std.proofs.lemmas.Result.{err_from_is_err_and}
 use Rattle.scp_examine.specs.Places.{Cell, cells}
 use Rattle.scp_examine.specs.Effect.{listed}
 use Rattle.scp_examine.proofs.ShowLemmas.{nothing_yet, listed-none, cells-none, cells-more, cells_rest, listed_more, listed_part}
 use Rattle.scp_examine.proofs.show.show_cells.Goals as goal
-
 
 pub loop-i-init : goal.loop-i-init
 loop-i-init g c = record {
@@ -25,7 +24,7 @@ pub returns-in_err-show_cell-clause-told : goal.returns-in_err-show_cell-clause-
 returns-in_err-show_cell-clause-told g c = λ told.
     let p = err_from_is_err_and c.from_residual.result c.from_residual.ensures.1 in
     rw p.1 (
-      listed_part c.args.machine.now c.args.symbolic c.args.condition (g.S.Sink.written c.args.out.now) (g.S.Sink.written c.loop-i.out) (g.S.Sink.written c.show_cell.new.out)
-      (cells c.args.from c.loop-i.i) (Cell (c.args.from + c.loop-i.i) ∷ []) (cells c.args.from c.args.count)
-      (cells_rest c.args.from c.args.count c.loop-i.i c.loop-i-test.true) (c.loop-i.invariant.written told) (c.in_err-show_cell.ensures.told told)
+    listed_part c.args.machine.now c.args.symbolic c.args.condition (g.S.Sink.written c.args.out.now) (g.S.Sink.written c.loop-i.out) (g.S.Sink.written c.show_cell.new.out)
+    (cells c.args.from c.loop-i.i) (Cell (c.args.from + c.loop-i.i) ∷ []) (cells c.args.from c.args.count)
+    (cells_rest c.args.from c.args.count c.loop-i.i c.loop-i-test.true) (c.loop-i.invariant.written told) (c.in_err-show_cell.ensures.told told)
     )

@@ -1,5 +1,5 @@
 -- What was printed so far.
-use Rattle.std.proofs.Common.{◌≡◌, ◌++◌, IsTrue, take}
+use Rattle.std.proofs.Common.{◌≡◌, ◌++◌, IsTrue}
 use Rattle.scp_examine.specs.Places.{cells}
 use Rattle.scp_examine.specs.Effect.{listed}
 use Rattle.scp_examine.proofs.show.show_cells.Given as goal

@@ -1,0 +1,39 @@
+-- What was put into a place is what it holds.
+use Rattle.std.proofs.Common.{◌≡◌, ℕ, ◌==◌, ◌<◌, ◌≤◌, zero, suc, length, None, refl, arith, nat_le, if◌then◌else◌}
+use Rattle.std.proofs.lemmas.List.{get_or-set_same}
+use Rattle.std.proofs.lemmas.Bool.{lt-ltb, leb-true}
+use Rattle.nova_memory.specs.Memory.{MemoryState, IsMemory, get, put}
+use Rattle.nova_machine.specs.declared.registers.CpuReg.TheVariants.{Ac0, Ac1, Ac2, Ac3, C, Pc, Ion, Hold, Mask, Sr, StopDev, Size}
+use Rattle.scp_examine.specs.Places.{Cell, Register}
+use Rattle.scp_examine.specs.Checks.{out_of_range_unless}
+use Rattle.scp_examine.specs.Laws.{DepositReadsBack}
+use Rattle.scp_examine.proofs.FillLemmas.{fits_from_none}
+
+pub get_put : (mem : MemoryState) (a v : ℕ) → IsMemory mem → a < mem.size → get (put mem a v) a ≡ v
+get_put mem a v is h =
+    let e = lt-ltb a mem.size h in
+    let within : a < length mem.words = omega (arith, is.whole, is.size) in
+    rw (e, e) (get_or-set_same mem.words a v 0 within)
+
+pub flag : (v : ℕ) → v ≤ 1 → (if v == 1 then 1 else 0) ≡ v
+flag zero h = refl
+flag (suc zero) h = refl
+flag (suc (suc n)) h = absurd (omega arith)
+
+pub flag_fits : (v : ℕ) → out_of_range_unless (nat_le v 1) ≡ None → (if v == 1 then 1 else 0) ≡ v
+flag_fits v none = flag v (leb-true v 1 (fits_from_none (nat_le v 1) none))
+
+pub reads_back : DepositReadsBack
+reads_back m (Cell a) v is h none = get_put m.memory a v is.memory h
+reads_back m (Register Ac0) v is h none = let n : 0 < length m.cpu.accumulators = omega (arith, is.accumulators) in get_or-set_same m.cpu.accumulators 0 v 0 n
+reads_back m (Register Ac1) v is h none = let n : 1 < length m.cpu.accumulators = omega (arith, is.accumulators) in get_or-set_same m.cpu.accumulators 1 v 0 n
+reads_back m (Register Ac2) v is h none = let n : 2 < length m.cpu.accumulators = omega (arith, is.accumulators) in get_or-set_same m.cpu.accumulators 2 v 0 n
+reads_back m (Register Ac3) v is h none = let n : 3 < length m.cpu.accumulators = omega (arith, is.accumulators) in get_or-set_same m.cpu.accumulators 3 v 0 n
+reads_back m (Register C) v is h none = flag_fits v none
+reads_back m (Register Pc) v is h none = refl
+reads_back m (Register Ion) v is h none = flag_fits v none
+reads_back m (Register Hold) v is h none = flag_fits v none
+reads_back m (Register Mask) v is h none = refl
+reads_back m (Register Sr) v is h none = refl
+reads_back m (Register StopDev) v is h none = flag_fits v none
+reads_back m (Register Size) v is h none = cc
