@@ -1,6 +1,7 @@
 ghost use Rattle.std.specs.Prelude.{◌≡◌, ◌≢◌, ℕ, ◌%◌, ◌^◌, ◌<◌, All, slice_index, slice_set};
 ghost use Rattle.nova_word.specs.Bits.{bits};
-ghost use Rattle.nova_alu.specs.Arithmetic.{function_number, loaded_accumulators, loaded_carry, shifted_number, skips_next};
+ghost use Rattle.nova_alu.specs.Arithmetic.{function_number, loaded_accumulators, loaded_carry, shifted_number};
+ghost use Rattle.nova_alu.specs.Arithmetic.{skips_next};
 
 use crate::carries::CarryBase;
 use crate::functions::Function;

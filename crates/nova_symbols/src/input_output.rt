@@ -4,7 +4,8 @@ ghost use Rattle.std.specs.Prelude.{◌≡◌, ◌+◌, ◌<◌, ◌≤◌, ◌+
 ghost use Rattle.nova_symbols.specs.Names.{device_codes, lone_words, processor_words};
 ghost use Rattle.nova_symbols.specs.Naming.{special_named, transfer_named, device_named};
 ghost use Rattle.nova_symbols.specs.Operands.{Gives, device_at};
-ghost use Rattle.nova_symbols.specs.Canon.{device_text, accumulator_device_text, device_alone_text, transfer_text, input_output_text};
+ghost use Rattle.nova_symbols.specs.Canon.{device_text, accumulator_device_text, device_alone_text, transfer_text};
+ghost use Rattle.nova_symbols.specs.Canon.{input_output_text};
 
 use crate::fault::SymbolFault;
 use crate::names::{

@@ -2,7 +2,8 @@
 
 ghost use Rattle.std.specs.Prelude.{◌≡◌, ◌+◌, ◌<◌, ◌≤◌, ◌++◌, ◌^◌, length, IfSome};
 ghost use Rattle.nova_symbols.specs.Naming.{memory_named};
-ghost use Rattle.nova_symbols.specs.Canon.{short_octal, signed_octal, address_text, target_text, memory_text, load_text};
+ghost use Rattle.nova_symbols.specs.Canon.{short_octal, signed_octal, address_text, target_text, memory_text};
+ghost use Rattle.nova_symbols.specs.Canon.{load_text};
 
 use crate::names::{Naming, Shape, place_of_name, push_all, push_entry, push_octal};
 use crate::text::Text;

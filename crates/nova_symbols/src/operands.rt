@@ -3,7 +3,9 @@
 ghost use Rattle.std.specs.Prelude.{◌≡◌, ◌+◌, ◌<◌, ◌≤◌, ◌^◌, length, IfOk, IfSome, not, option_map, take, drop};
 ghost use Rattle.std.specs.List.{position_or_len, position};
 ghost use Rattle.line_words.specs.Words.{is_blank, word_at, past_blanks};
-ghost use Rattle.nova_symbols.specs.Operands.{Gives, is_separator, operand_at, after_comma, comma_at, number, accumulator_at, index_at, device_number_at, negative, relative, signed, indexed, not_indexed, absolute, address, indirect, target_at, ended};
+ghost use Rattle.nova_symbols.specs.Operands.{Gives, is_separator, operand_at, after_comma, comma_at, number};
+ghost use Rattle.nova_symbols.specs.Operands.{accumulator_at, index_at, device_number_at, negative, relative, signed};
+ghost use Rattle.nova_symbols.specs.Operands.{indexed, not_indexed, absolute, address, indirect, target_at, ended};
 
 use crate::fault::SymbolFault;
 use line_words::{is_blank, past_blanks};

@@ -4,7 +4,9 @@ ghost use Rattle.nova_symbols.specs.Faults.{Faults};
 ghost use Rattle.nova_symbols.specs.Forms.{Reads};
 ghost use Rattle.nova_symbols.specs.declared.fault.SymbolFault.{SymbolFault};
 ghost use Rattle.nova_symbols.specs.Naming.{named};
-ghost use Rattle.nova_symbols.specs.Reading.{memory_operands, load_operands, skip_operand, arithmetic_operands, device_operand, transfer_operands, device_operands, processor_operand, operands, read_from_end, placed, reading};
+ghost use Rattle.nova_symbols.specs.Reading.{memory_operands, load_operands, skip_operand, arithmetic_operands};
+ghost use Rattle.nova_symbols.specs.Reading.{device_operand, transfer_operands, device_operands, processor_operand};
+ghost use Rattle.nova_symbols.specs.Reading.{operands, read_from_end, placed, reading};
 ghost use Rattle.nova_symbols.specs.Operands.{after_comma};
 
 use crate::arithmetic::{arithmetic_named, skip_at};

@@ -1,5 +1,6 @@
 ghost use Rattle.std.specs.Prelude.{◌≡◌, ℕ, ◌+◌, ◌^◌, ◌<◌, ◌≤◌, ◌++◌, ◌-◌, drop, All, MatchOption};
-ghost use Rattle.nova_word.specs.Numbers.{octal_digits, value_of, IsDigit, IsFirstBad, ReadsNumber, DigitsReadBack, HasOneAnswer};
+ghost use Rattle.nova_word.specs.Numbers.{octal_digits, value_of, IsDigit, IsFirstBad, ReadsNumber, DigitsReadBack};
+ghost use Rattle.nova_word.specs.Numbers.{HasOneAnswer};
 
 /// Why a text is no number.
 #[derive(Clone, Copy, Debug, PartialEq, Eq)]

@@ -98,7 +98,8 @@ fn put_number(n: u8, at: usize, out: &mut [u8; 8]) -> usize
     requires number { n < 100 }
     requires room { at ≤ 6 }
     ensures count { result ≡ at + length (decimal_below_100 n) }
-    ensures text { out.new ≡ take at out.old ++ (decimal_below_100 n ++ drop (at + length (decimal_below_100 n)) out.old) }
+    ensures text { out.new ≡ take at out.old ++
+        (decimal_below_100 n ++ drop (at + length (decimal_below_100 n)) out.old) }
 {
     if n < 10 {
         out[at] = b'0' + n;

@@ -1,5 +1,6 @@
 ghost use Rattle.std.specs.Prelude.{◌≡◌, option_map, slice_get, IfSome};
-ghost use Rattle.unit_trait.specs.Registers.{upto, disk_registers, tape_registers, byte_registers, clock_registers, terminal_registers};
+ghost use Rattle.unit_trait.specs.Registers.{upto, disk_registers, tape_registers, byte_registers, clock_registers};
+ghost use Rattle.unit_trait.specs.Registers.{terminal_registers};
 ghost use Rattle.unit_trait.specs.Seen.{seen, HasShortName};
 
 /// A register: its name, and its least and largest value.
