@@ -1,7 +1,7 @@
 -- The early ends of a session: the console refuses a byte, or a read of the input fails. One definition says where each
 -- trace is cut, so that no command's definition speaks of either.
-use Rattle.std.specs.Prelude.{ℕ, ◌+◌, ◌-◌, List, [], ◌∷◌, ◌++◌, length, take, nat_le, if◌then◌else◌}
-use Rattle.event_trace.specs.Events.{Event, Prints, Reads, Ended, Trace}
+use Rattle.std.specs.Prelude.{◌≡◌, ℕ, ◌+◌, ◌-◌, List, [], ◌∷◌, ◌++◌, length, take, nat_le, if◌then◌else◌}
+use Rattle.observations.specs.Observations.{Observation, Prints, Reads, Ended, Trace}
 
 -- the status, what the console has, how many reads were made, and the state that is left
 pub record Outcome (S : Type 0) : Type 0 where
@@ -24,7 +24,7 @@ behind text reads o = ends o.status (text ++ o.console) (reads + o.reads) o.stat
 -- The outcome where the console takes `takes` bytes and no more, and `gives` reads are let through before one fails:
 -- status 102 at the first byte that is refused, and 106 at the first read that fails, each in the state in which it
 -- comes.
-abbrev pub cut : {S : Type 0} → ℕ → ℕ → List (Event S) → Ended S → Outcome S
+abbrev pub cut : {S : Type 0} → ℕ → ℕ → List (Observation S) → Ended S → Outcome S
 cut takes gives [] ended = ends ended.status [] 0 ended.state
 cut takes gives (Prints text at ∷ more) ended =
     if nat_le (length text) takes then behind text 0 (cut (takes - length text) gives more ended)
@@ -34,4 +34,10 @@ cut takes gives (Reads count at ∷ more) ended =
     else ends 106 [] gives at
 
 abbrev pub cut_trace : {S : Type 0} → ℕ → ℕ → Trace S → Outcome S
-cut_trace takes gives t = cut takes gives t.events t.ended
+cut_trace takes gives t = cut takes gives t.made t.ended
+
+-- A console that took those bytes and no more broke the observations off in that state, behind that many reads: it
+-- refused a byte of a text there.
+pub record BreaksOff {S : Type 0} (made : List (Observation S)) (taken : List ℕ) (at : S) : Type 0 where
+  pub reads : ℕ
+  pub cut_at : (gives : ℕ) (ended : Ended S) → cut (length taken) (reads + gives) made ended ≡ ends 102 taken reads at
