@@ -1,6 +1,6 @@
 ghost use Rattle.std.specs.Prelude.{◌≡◌, ℕ, ◌≤◌, List, ◌++◌, length, Bool, IsTrue, IfOk, OnOk, OnErr};
 ghost use Rattle.fault_counts.specs.Faults.{HasCause, CountsFault};
-ghost use Rattle.host_files.specs.Streams.{ReadTakes, NextByte, WriteTakes, WriteAdds, AddsPart};
+ghost use Rattle.host_files.specs.Streams.{ReadTakes, NextByte, WriteTakes, WriteAdds, AddsPart, Puts, joined};
 
 /// The answer of a call that a stream could not carry out. The stream's count of faults has risen.
 #[derive(Clone, Copy, Debug, PartialEq, Eq)]
@@ -64,6 +64,17 @@ pub fn put_all<S: Sink>(sink: &mut S, bytes: &[u8]) -> Result<(), Failed>
     while done < bytes.len() {
         let count = sink.write(&bytes[done..])?;
         done += count;
+    }
+    Ok(())
+}
+
+/// Writes pieces of a text, one behind another. Where a write fails, a first part of them all was written, and not all.
+pub fn put_pieces<S: Sink>(sink: &mut S, pieces: &[&[u8]]) -> Result<(), Failed>
+    ensures told { IsTrue S.tells → Puts (S.written sink.old) (joined pieces.now) result (S.written sink.new) }
+    ensures counts { CountsFault (S.fault_count sink.old) (S.fault_count sink.new) result }
+{
+    for piece in pieces {
+        put_all(sink, piece)?;
     }
     Ok(())
 }

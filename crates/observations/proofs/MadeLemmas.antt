@@ -1,6 +1,6 @@
 -- Lists of observations, one behind another.
-use Rattle.std.proofs.Common.{◌≡◌, ◌+◌, List, [], ◌∷◌, ◌++◌, refl, ap, sym, ◌∙◌, append_assoc, add_assoc, zero-add}
-use Rattle.observations.specs.Observations.{Observation, Prints, Reads, Trace, after_made, text_of, reads_of, map_made}
+use Rattle.std.proofs.Common.{◌≡◌, inl, inr, ◌+◌, List, [], ◌∷◌, ◌++◌, refl, ap, sym, ◌∙◌, append_assoc, add_assoc, zero-add}
+use Rattle.observations.specs.Observations.{Observation, Prints, Reads, Trace, after_made, text_of, reads_of, map_made, StandsAt}
 
 pub text_of-append : {S : Type 0} (first second : List (Observation S)) → text_of (first ++ second) ≡ text_of first ++ text_of second
 text_of-append [] second = refl
@@ -25,3 +25,16 @@ pub reads_of-map : {S T : Type 0} (f : S → T) (made : List (Observation S)) �
 reads_of-map f [] = refl
 reads_of-map f (Prints text at ∷ more) = reads_of-map f more
 reads_of-map f (Reads count at ∷ more) = ap (λ n. count + n) (reads_of-map f more)
+
+-- what is made in front or behind leaves a state among those in which observations come
+pub stands-before : {S : Type 0} (state : S) (first second : List (Observation S)) → StandsAt state first → StandsAt state (first ++ second)
+stands-before state [] second h = absurd h
+stands-before state (Prints text at ∷ more) second (inl h) = inl h
+stands-before state (Prints text at ∷ more) second (inr h) = inr (stands-before state more second h)
+stands-before state (Reads count at ∷ more) second (inl h) = inl h
+stands-before state (Reads count at ∷ more) second (inr h) = inr (stands-before state more second h)
+
+pub stands-behind : {S : Type 0} (state : S) (first second : List (Observation S)) → StandsAt state second → StandsAt state (first ++ second)
+stands-behind state [] second h = h
+stands-behind state (Prints text at ∷ more) second h = inr (stands-behind state more second h)
+stands-behind state (Reads count at ∷ more) second h = inr (stands-behind state more second h)

@@ -1,6 +1,6 @@
 -- What a session does across its edge, in order. Each observation carries the state in which it comes, so that an early end
 -- can be read off the list. `S` is the type of that state.
-use Rattle.std.specs.Prelude.{ℕ, ◌+◌, List, [], ◌∷◌, ◌++◌}
+use Rattle.std.specs.Prelude.{◌≡◌, ◌⊎◌, ℕ, ◌+◌, List, [], ◌∷◌, ◌++◌}
 
 -- A text that is printed, or reads of that many bytes, where to find the end of the input counts as one.
 pub data Observation (S : Type 0) : Type 0 where
@@ -44,3 +44,9 @@ map_ended f ended = record { status = ended.status; state = f ended.state }
 
 abbrev pub map_trace : {S T : Type 0} → (S → T) → Trace S → Trace T
 map_trace f t = record { made = map_made f t.made; ended = map_ended f t.ended }
+
+-- the state in which one of the observations comes
+abbrev pub StandsAt : {S : Type 0} → S → List (Observation S) → Type 0
+StandsAt state [] = ⊥
+StandsAt state (Prints text at ∷ more) = (state ≡ at) ⊎ StandsAt state more
+StandsAt state (Reads count at ∷ more) = (state ≡ at) ⊎ StandsAt state more
