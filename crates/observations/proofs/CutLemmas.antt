@@ -282,3 +282,11 @@ breaks-map {S} {T} f made taken at b = record {
       ∙ cut-more (map_made f made) [] other ended (length taken) (b.reads + gives) (λ e. absurd (omega (arith, e))) (ap (λ o. o.status) mapped)
       ∙ mapped;
 }
+
+-- the reads before a refused byte are among those that are made
+pub breaks-reads : {S : Type 0} (made : List (Observation S)) (taken : List ℕ) (at : S) (b : BreaksOff made taken at) → b.reads ≤ reads_of made
+breaks-reads {S} made taken at b =
+    let whole : Ended S = record { status = 0; state = at } in
+    let e = ap (λ o. o.reads) (b.cut_at 0 whole) in
+    let few = cut-reads made whole (length taken) (b.reads + 0) in
+    omega (arith, e, few)

@@ -4,15 +4,15 @@ use Rattle.std.proofs.lemmas.Bool.{ne_eqb, eq-eqb, eqb-true, lt-ltb, le-leb, lt-
 use Rattle.std.proofs.lemmas.Bool.Decides.{nat_tests}
 use Rattle.std.proofs.lemmas.List.{drop_at, drop_all, length_push, length-take-le}
 use Rattle.std.proofs.lemmas.List.Sums.{take_while-cons}
-use Rattle.nova_top.specs.declared.line_reader.Reading.{Reading}
-use Rattle.nova_top.specs.declared.line_reader.Reading.TheVariants.{Line, TooLong, End, Unpaid, Failed}
-use Rattle.nova_top.specs.Lines.{longest_line, Due, InputEnds, Comes, due, reads_due, reads_left, unpaid_reads, units, first_line, has_lf, line_of, without_cr}
-use Rattle.nova_top.specs.Lines as lines
-use Rattle.nova_top.specs.Reading.{ReaderState, AreRead, IsReading, Finishes, Pays, is_due, units_for, ended_line}
+use Rattle.scp_script.specs.declared.line_reader.Reading.{Reading}
+use Rattle.scp_script.specs.declared.line_reader.Reading.TheVariants.{Line, TooLong, End, Unpaid, Failed}
+use Rattle.scp_script.specs.Lines.{longest_line, Arrival, InputEnds, LineComes, arrival, line_reads, reads_left, unpaid_reads, line_cost, first_line, has_lf, command_line, without_cr}
+use Rattle.scp_script.specs.Lines as lines
+use Rattle.scp_script.specs.Reading.{ReaderState, AreRead, IsReading, LineEnds, Pays, is_charged, byte_cost, ended_line}
 
 -- the units that are paid behind so many bytes of a line
 abbrev pub spent : ℕ → ℕ
-spent count = if count == 0 then 0 else units count
+spent count = if count == 0 then 0 else line_cost count
 
 -- the line so far, of an input of which the rest is left
 pub record SoFar (input left line : List ℕ) (count : ℕ) : Type 0 where
@@ -46,10 +46,10 @@ so-far-more input rest line line_now b count s other keeps = record {
   size = omega (arith, length_push s.seen b, s.size);
 }
 
-pub spent-lf : (count : ℕ) → spent count + units_for count 10 ≡ units count
+pub spent-lf : (count : ℕ) → spent count + byte_cost count 10 ≡ line_cost count
 spent-lf count = grind (arith, nat_tests)
 
-pub spent-more : (count b : ℕ) → (b ≡ 10 → ⊥) → spent (count + 1) ≡ spent count + units_for count b
+pub spent-more : (count b : ℕ) → (b ≡ 10 → ⊥) → spent (count + 1) ≡ spent count + byte_cost count b
 spent-more count b other = grind (arith, nat_tests)
 
 -- what is left, where so many bytes were read and the end was not
@@ -102,16 +102,16 @@ lf-not-there input line count s =
     rw same refl
 
 -- the line that comes, where its units were paid
-due-line : (budget : ℕ) (input : List ℕ) → nat_eq (length input) 0 ≡ false → units (length (first_line input)) ≤ budget → due budget true input ≡ Comes (line_of input)
-due-line budget input some paid = let test = le-leb (units (length (first_line input))) budget paid in rw (some, test) refl
+arrival-line : (budget : ℕ) (input : List ℕ) → nat_eq (length input) 0 ≡ false → line_cost (length (first_line input)) ≤ budget → arrival budget true input ≡ LineComes (command_line input)
+arrival-line budget input some paid = let test = le-leb (line_cost (length (first_line input))) budget paid in rw (some, test) refl
 
-reads_due-line : (budget : ℕ) (input : List ℕ) → units (length (first_line input)) ≤ budget → reads_due budget true input ≡ length (first_line input) + 1
-reads_due-line budget input paid = let test = le-leb (units (length (first_line input))) budget paid in rw test refl
+line_reads-line : (budget : ℕ) (input : List ℕ) → line_cost (length (first_line input)) ≤ budget → line_reads budget true input ≡ length (first_line input) + 1
+line_reads-line budget input paid = let test = le-leb (line_cost (length (first_line input))) budget paid in rw test refl
 
-line-lf : (input : List ℕ) → has_lf input ≡ true → line_of input ≡ without_cr (first_line input)
+line-lf : (input : List ℕ) → has_lf input ≡ true → command_line input ≡ without_cr (first_line input)
 line-lf input lf = rw lf refl
 
-line-end : (input : List ℕ) → has_lf input ≡ false → line_of input ≡ first_line input
+line-end : (input : List ℕ) → has_lf input ≡ false → command_line input ≡ first_line input
 line-end input lf = rw lf refl
 
 -- a CR is one byte at most
@@ -127,33 +127,33 @@ ended-lf line = refl
 
 -- a line with an LF was read
 pub reading-lf : (input rest kept : List ℕ) (count budget budget_now : ℕ) (result : Reading) (reader : ReaderState) → SoFar input (10 ∷ rest) kept count
-    → budget_now + units count ≡ budget → Finishes count true kept result reader.line → reader.open_ ≡ true → IsReading budget true input result budget_now reader rest
+    → budget_now + line_cost count ≡ budget → LineEnds count true kept result reader.line → reader.open_ ≡ true → IsReading budget true input result budget_now reader rest
 reading-lf input rest kept count budget budget_now Line reader s paid f on =
     let size = front-size input (10 ∷ rest) kept count s refl in
-    let fits : units (length (first_line input)) ≤ budget = omega (arith, paid, ap units size) in
+    let fits : line_cost (length (first_line input)) ≤ budget = omega (arith, paid, ap line_cost size) in
     let lf = lf-there input rest kept count s in
     let keeps : kept ≡ s.seen = s.kept (omega (arith, f.0, s.size)) in
-    let line : line_of input ≡ reader.line = line-lf input lf ∙ ap without_cr (front-is input (10 ∷ rest) kept count s refl) ∙ ap without_cr (sym keeps) ∙ sym f.2 in
-    let reads : reads_due budget true input ≡ count + 1 = reads_due-line budget input fits ∙ ap (λ n. n + 1) size in (
-      due-line budget input (some-input 10 input rest kept count s) fits ∙ ap Comes line,
-      omega (arith, paid, ap units size),
+    let line : command_line input ≡ reader.line = line-lf input lf ∙ ap without_cr (front-is input (10 ∷ rest) kept count s refl) ∙ ap without_cr (sym keeps) ∙ sym f.2 in
+    let reads : line_reads budget true input ≡ count + 1 = line_reads-line budget input fits ∙ ap (λ n. n + 1) size in (
+      arrival-line budget input (some-input 10 input rest kept count s) fits ∙ ap LineComes line,
+      omega (arith, paid, ap line_cost size),
       on ∙ sym lf,
       subst (λ n. AreRead n true input reader.open_ rest) (sym reads) (subst (λ o. AreRead (count + 1) true input o rest) (sym on) (byte-read input rest kept 10 count s)),
     )
 reading-lf input rest kept count budget budget_now TooLong reader s paid f on =
     let size = front-size input (10 ∷ rest) kept count s refl in
-    let fits : units (length (first_line input)) ≤ budget = omega (arith, paid, ap units size) in
+    let fits : line_cost (length (first_line input)) ≤ budget = omega (arith, paid, ap line_cost size) in
     let lf = lf-there input rest kept count s in
-    let line : line_of input ≡ without_cr s.seen = line-lf input lf ∙ ap without_cr (front-is input (10 ∷ rest) kept count s refl) in
-    let reads : reads_due budget true input ≡ count + 1 = reads_due-line budget input fits ∙ ap (λ n. n + 1) size in
+    let line : command_line input ≡ without_cr s.seen = line-lf input lf ∙ ap without_cr (front-is input (10 ∷ rest) kept count s refl) in
+    let reads : line_reads budget true input ≡ count + 1 = line_reads-line budget input fits ∙ ap (λ n. n + 1) size in
     let long : longest_line < length (without_cr s.seen) = ⊎_elim
     (λ (many : 513 < count). omega (arith, many, without_cr-length s.seen, s.size))
     (λ (few : (count ≤ 513) × (longest_line < length (without_cr kept))). omega (arith, few.1, ap (λ l. length (without_cr l)) (s.kept (omega (arith, few.0, s.size)))))
     f in (
-      line_of input,
-      due-line budget input (some-input 10 input rest kept count s) fits,
+      command_line input,
+      arrival-line budget input (some-input 10 input rest kept count s) fits,
       omega (arith, long, ap length line),
-      omega (arith, paid, ap units size),
+      omega (arith, paid, ap line_cost size),
       on ∙ sym lf,
       subst (λ n. AreRead n true input reader.open_ rest) (sym reads) (subst (λ o. AreRead (count + 1) true input o rest) (sym on) (byte-read input rest kept 10 count s)),
     )
@@ -162,14 +162,14 @@ reading-lf input rest kept count budget budget_now Unpaid reader s paid f on = a
 reading-lf input rest kept count budget budget_now Failed reader s paid f on = absurd f
 
 -- no byte more of a line was there
-end-of-input : (budget : ℕ) (input : List ℕ) → input ≡ [] → (due budget true input ≡ InputEnds) × AreRead (reads_due budget true input) true input false []
-end-of-input budget input none = rw none (refl, subst (λ n. AreRead n true [] false []) (sym (or_reads (nat_le (units 0) budget))) (record { rest = refl; count = omega arith }))
+end-of-input : (budget : ℕ) (input : List ℕ) → input ≡ [] → (arrival budget true input ≡ InputEnds) × AreRead (line_reads budget true input) true input false []
+end-of-input budget input none = rw none (refl, subst (λ n. AreRead n true [] false []) (sym (or_reads (nat_le (line_cost 0) budget))) (record { rest = refl; count = omega arith }))
   where
     or_reads : (b : Bool) → (if b || nat_eq 0 0 then 1 else unpaid_reads budget) ≡ 1
     or_reads true = refl
     or_reads false = refl
 
-spent-some : (count : ℕ) → 0 < count → spent count ≡ units count
+spent-some : (count : ℕ) → 0 < count → spent count ≡ line_cost count
 spent-some count some = let test = ne_eqb count 0 (λ e. omega (arith, e, some)) in rw test refl
 
 nothing-seen : (seen : List ℕ) → length seen ≡ 0 → seen ≡ []
@@ -178,18 +178,18 @@ nothing-seen (b ∷ seen) h = absurd (omega (arith, h))
 
 -- the end of the input was found
 pub reading-end : (input kept : List ℕ) (count budget budget_now : ℕ) (result : Reading) (reader : ReaderState) → SoFar input [] kept count
-    → budget_now + spent count ≡ budget → Finishes count false kept result reader.line → reader.open_ ≡ false → IsReading budget true input result budget_now reader []
+    → budget_now + spent count ≡ budget → LineEnds count false kept result reader.line → reader.open_ ≡ false → IsReading budget true input result budget_now reader []
 reading-end input kept count budget budget_now Line reader s paid f closed =
     let size = front-size input [] kept count s refl in
     let costs = spent-some count (f.1 refl) in
-    let fits : units (length (first_line input)) ≤ budget = omega (arith, paid, costs, ap units size) in
+    let fits : line_cost (length (first_line input)) ≤ budget = omega (arith, paid, costs, ap line_cost size) in
     let lf = lf-not-there input kept count s in
     let keeps : kept ≡ s.seen = s.kept (omega (arith, f.0, s.size)) in
-    let line : line_of input ≡ reader.line = line-end input lf ∙ front-is input [] kept count s refl ∙ sym keeps ∙ sym f.2 in
+    let line : command_line input ≡ reader.line = line-end input lf ∙ front-is input [] kept count s refl ∙ sym keeps ∙ sym f.2 in
     let some = ne_eqb (length input) 0 (λ e. omega (arith, e, f.1 refl, ap length s.whole, length-append s.seen [], s.size)) in
-    let reads : reads_due budget true input ≡ count + 1 = reads_due-line budget input fits ∙ ap (λ n. n + 1) size in (
-      due-line budget input some fits ∙ ap Comes line,
-      omega (arith, paid, costs, ap units size),
+    let reads : line_reads budget true input ≡ count + 1 = line_reads-line budget input fits ∙ ap (λ n. n + 1) size in (
+      arrival-line budget input some fits ∙ ap LineComes line,
+      omega (arith, paid, costs, ap line_cost size),
       closed ∙ sym lf,
       subst (λ n. AreRead n true input reader.open_ []) (sym reads) (subst (λ o. AreRead (count + 1) true input o []) (sym closed) (end-read input kept count s)),
     )
@@ -200,31 +200,31 @@ reading-end input kept count budget budget_now TooLong reader s paid f closed =
     (λ (few : (count ≤ 513) × (longest_line < length kept)). omega (arith, few.1, ap length (s.kept (omega (arith, few.0, s.size))), s.size))
     f in
     let costs = spent-some count some_count in
-    let fits : units (length (first_line input)) ≤ budget = omega (arith, paid, costs, ap units size) in
+    let fits : line_cost (length (first_line input)) ≤ budget = omega (arith, paid, costs, ap line_cost size) in
     let lf = lf-not-there input kept count s in
-    let line : line_of input ≡ s.seen = line-end input lf ∙ front-is input [] kept count s refl in
+    let line : command_line input ≡ s.seen = line-end input lf ∙ front-is input [] kept count s refl in
     let some = ne_eqb (length input) 0 (λ e. omega (arith, e, some_count, ap length s.whole, length-append s.seen [], s.size)) in
     let long : longest_line < length s.seen = ⊎_elim
     (λ (many : 513 < count). omega (arith, many, s.size))
     (λ (few : (count ≤ 513) × (longest_line < length kept)). omega (arith, few.1, ap length (s.kept (omega (arith, few.0, s.size)))))
     f in
-    let reads : reads_due budget true input ≡ count + 1 = reads_due-line budget input fits ∙ ap (λ n. n + 1) size in (
-      line_of input,
-      due-line budget input some fits,
+    let reads : line_reads budget true input ≡ count + 1 = line_reads-line budget input fits ∙ ap (λ n. n + 1) size in (
+      command_line input,
+      arrival-line budget input some fits,
       omega (arith, long, ap length line),
-      omega (arith, paid, costs, ap units size),
+      omega (arith, paid, costs, ap line_cost size),
       closed ∙ sym lf,
       subst (λ n. AreRead n true input reader.open_ []) (sym reads) (subst (λ o. AreRead (count + 1) true input o []) (sym closed) (end-read input kept count s)),
     )
 reading-end input kept count budget budget_now End reader s paid f closed =
     let none : input ≡ [] = s.whole ∙ append-nil s.seen ∙ nothing-seen s.seen (omega (arith, s.size, f.0)) in
-    subst (λ o. (due budget true input ≡ InputEnds) × AreRead (reads_due budget true input) true input o []) (sym closed) (end-of-input budget input none)
+    subst (λ o. (arrival budget true input ≡ InputEnds) × AreRead (line_reads budget true input) true input o []) (sym closed) (end-of-input budget input none)
 reading-end input kept count budget budget_now Unpaid reader s paid f closed = absurd f
 reading-end input kept count budget budget_now Failed reader s paid f closed = absurd f
 
 -- what makes a unit due
-due-cases : (count b : ℕ) → is_due count b ≡ true → (count ≡ 0) ⊎ ((b ≡ 10 → ⊥) × (1024 ≤ count + 1) × ((count + 1) % 512 ≡ 0))
-due-cases count b h =
+arrival-cases : (count b : ℕ) → is_charged count b ≡ true → (count ≡ 0) ⊎ ((b ≡ 10 → ⊥) × (1024 ≤ count + 1) × ((count + 1) % 512 ≡ 0))
+arrival-cases count b h =
     ⊎_elim
     (λ (first : (count == 0) ≡ true). inl (eqb-true count 0 first))
     (λ (later : (not (b == 10) && nat_le 1024 (count + 1) && ((count + 1) % 512 == 0)) ≡ true).
@@ -237,9 +237,9 @@ due-cases count b h =
 front-longer : (input left kept : List ℕ) (count : ℕ) → SoFar input left kept count → count + length (first_line left) ≡ length (first_line input)
 front-longer input left kept count s = omega (arith, ap length s.front, length-append s.seen (first_line left), s.size)
 
-unpaid-is : (budget : ℕ) (input : List ℕ) → nat_eq (length input) 0 ≡ false → budget < units (length (first_line input))
-    → (due budget true input ≡ lines.Unpaid) × (reads_due budget true input ≡ unpaid_reads budget)
-unpaid-is budget input some more = let test = lt-leb (units (length (first_line input))) budget more in (rw (some, test) refl, rw (test, some) refl)
+unpaid-is : (budget : ℕ) (input : List ℕ) → nat_eq (length input) 0 ≡ false → budget < line_cost (length (first_line input))
+    → (arrival budget true input ≡ lines.Unpaid) × (line_reads budget true input ≡ unpaid_reads budget)
+unpaid-is budget input some more = let test = lt-leb (line_cost (length (first_line input))) budget more in (rw (some, test) refl, rw (test, some) refl)
 
 unpaid-first : (budget : ℕ) → budget ≡ 0 → unpaid_reads budget ≡ 1
 unpaid-first budget none = rw none refl
@@ -248,8 +248,8 @@ unpaid-later : (budget : ℕ) → 0 < budget → unpaid_reads budget ≡ 512 * (
 unpaid-later budget some = let test = ne_eqb budget 0 (λ e. omega (arith, e, some)) in rw test refl
 
 -- a unit is due that is not there
-pub reading-unpaid : (input rest kept : List ℕ) (b count budget : ℕ) → SoFar input (b ∷ rest) kept count → spent count ≡ budget → is_due count b ≡ true
-    → (due budget true input ≡ lines.Unpaid) × AreRead (reads_due budget true input) true input true rest
+pub reading-unpaid : (input rest kept : List ℕ) (b count budget : ℕ) → SoFar input (b ∷ rest) kept count → spent count ≡ budget → is_charged count b ≡ true
+    → (arrival budget true input ≡ lines.Unpaid) × AreRead (line_reads budget true input) true input true rest
 reading-unpaid input rest kept b count budget s paid h =
     let some = some-input b input rest kept count s in
     let longer = front-longer input (b ∷ rest) kept count s in
@@ -262,17 +262,17 @@ reading-unpaid input rest kept b count budget s paid h =
     let costs : budget ≡ max 1 (count / 512) = sym paid ∙ spent-some count (omega (arith, later.1)) in
     let front = ap length (first_line-more b rest later.0) in
     let is = unpaid-is budget input some (omega (arith, costs, later.1, later.2, longer, front)) in
-    let reads : count + 1 ≡ reads_due budget true input = omega (arith, costs, later.1, later.2) ∙ sym (is.1 ∙ unpaid-later budget (omega (arith, costs))) in
+    let reads : count + 1 ≡ line_reads budget true input = omega (arith, costs, later.1, later.2) ∙ sym (is.1 ∙ unpaid-later budget (omega (arith, costs))) in
     (is.0, subst (λ n. AreRead n true input true rest) reads (byte-read input rest kept b count s)))
-    (due-cases count b h)
+    (arrival-cases count b h)
 
 -- a read failed before the line was whole
 pub reading-failed : (input left kept : List ℕ) (count budget budget_now : ℕ) → SoFar input left kept count → budget_now + spent count ≡ budget
-    → (made : ℕ) × (made < reads_due budget true input) × AreRead made true input true left
+    → (made : ℕ) × (made < line_reads budget true input) × AreRead made true input true left
 reading-failed input left kept count budget budget_now s paid =
     let longer = front-longer input left kept count s in (
       count,
-      cond_both (nat_le (units (length (first_line input))) budget || nat_eq (length input) 0) (length (first_line input) + 1) (unpaid_reads budget) (λ n. count < n)
+      cond_both (nat_le (line_cost (length (first_line input))) budget || nat_eq (length input) 0) (length (first_line input) + 1) (unpaid_reads budget) (λ n. count < n)
           (λ _. omega (arith, longer))
           (λ _. cond_both (budget == 0) 1 (512 * (budget + 1)) (λ n. count < n)
           (λ none. unspent count (omega (arith, paid, eqb-true budget 0 none)))
@@ -289,7 +289,7 @@ reading-failed input left kept count budget budget_now s paid =
     cheap (suc count) budget h = omega (arith, spent-some (suc count) (omega arith), h)
 
 -- a line costs a unit at least
-pub pays-lf : (count budget budget_now : ℕ) (kept line : List ℕ) (result : Reading) → budget_now + units count ≡ budget → Finishes count true kept result line → Pays budget result budget_now
+pub pays-lf : (count budget budget_now : ℕ) (kept line : List ℕ) (result : Reading) → budget_now + line_cost count ≡ budget → LineEnds count true kept result line → Pays budget result budget_now
 pays-lf count budget budget_now kept line Line paid f = omega (arith, paid)
 pays-lf count budget budget_now kept line TooLong paid f = omega (arith, paid)
 pays-lf count budget budget_now kept line End paid f = omega (arith, paid)
@@ -300,7 +300,7 @@ some-kept : (count : ℕ) (kept : List ℕ) → length kept ≤ count → (513 <
 some-kept count kept size (inl many) = omega (arith, many)
 some-kept count kept size (inr few) = omega (arith, few.1, size)
 
-pub pays-end : (count budget budget_now : ℕ) (kept line : List ℕ) (result : Reading) → length kept ≤ count → budget_now + spent count ≡ budget → Finishes count false kept result line
+pub pays-end : (count budget budget_now : ℕ) (kept line : List ℕ) (result : Reading) → length kept ≤ count → budget_now + spent count ≡ budget → LineEnds count false kept result line
     → Pays budget result budget_now
 pays-end count budget budget_now kept line Line size paid f = omega (arith, paid, spent-some count (f.1 refl))
 pays-end count budget budget_now kept line TooLong size paid f = omega (arith, paid, spent-some count (some-kept count kept size f))
@@ -310,22 +310,22 @@ pays-end count budget budget_now kept line Failed size paid f = absurd f
 
 -- the same at the names that the code gives what is left and what was kept
 pub read-end : (input left left_now kept kept_now : List ℕ) (count budget budget_now : ℕ) (result : Reading) (reader : ReaderState) → SoFar input left kept count
-    → (left ≡ []) × (left_now ≡ []) → kept_now ≡ kept → budget_now + spent count ≡ budget → Finishes count false kept_now result reader.line → reader.open_ ≡ false
+    → (left ≡ []) × (left_now ≡ []) → kept_now ≡ kept → budget_now + spent count ≡ budget → LineEnds count false kept_now result reader.line → reader.open_ ≡ false
     → IsReading budget true input result budget_now reader left_now
 read-end input left left_now kept kept_now count budget budget_now result reader s ends same paid f closed =
     subst (λ l. IsReading budget true input result budget_now reader l) (sym ends.1)
-    (reading-end input kept count budget budget_now result reader (subst (λ l. SoFar input l kept count) ends.0 s) paid (subst (λ k. Finishes count false k result reader.line) same f) closed)
+    (reading-end input kept count budget budget_now result reader (subst (λ l. SoFar input l kept count) ends.0 s) paid (subst (λ k. LineEnds count false k result reader.line) same f) closed)
 
 pub read-lf : (input left left_now kept : List ℕ) (b count budget budget_then budget_now : ℕ) (result : Reading) (reader : ReaderState) → SoFar input left kept count
-    → left ≡ b ∷ left_now → b ≡ 10 → budget_now + units_for count b ≡ budget_then → budget_then + spent count ≡ budget → Finishes count true kept result reader.line → reader.open_ ≡ true
+    → left ≡ b ∷ left_now → b ≡ 10 → budget_now + byte_cost count b ≡ budget_then → budget_then + spent count ≡ budget → LineEnds count true kept result reader.line → reader.open_ ≡ true
     → IsReading budget true input result budget_now reader left_now
 read-lf input left left_now kept b count budget budget_then budget_now result reader s is lf costs paid f on =
-    let costs10 : budget_now + units_for count 10 ≡ budget_then = subst (λ b. budget_now + units_for count b ≡ budget_then) lf costs in
+    let costs10 : budget_now + byte_cost count 10 ≡ budget_then = subst (λ b. budget_now + byte_cost count b ≡ budget_then) lf costs in
     reading-lf input left_now kept count budget budget_now result reader (subst (λ l. SoFar input l kept count) (is ∙ ap (λ b. b ∷ left_now) lf) s)
     (omega (arith, spent-lf count, costs10, paid)) f on
 
 pub read-unpaid : (input left left_now kept : List ℕ) (b count budget budget_now : ℕ) → SoFar input left kept count → left ≡ b ∷ left_now → budget_now + spent count ≡ budget
-    → budget_now ≡ 0 → is_due count b ≡ true → (due budget true input ≡ lines.Unpaid) × AreRead (reads_due budget true input) true input true left_now
+    → budget_now ≡ 0 → is_charged count b ≡ true → (arrival budget true input ≡ lines.Unpaid) × AreRead (line_reads budget true input) true input true left_now
 read-unpaid input left left_now kept b count budget budget_now s is paid none h =
     reading-unpaid input left_now kept b count budget (subst (λ l. SoFar input l kept count) is s) (omega (arith, paid, none)) h
 

@@ -1,23 +1,25 @@
 -- All lines of a session, one behind another.
 use Rattle.std.proofs.Common.{◌≡◌, ℕ, ◌+◌, Bool, List, [], ◌++◌, length, drop, refl, ap, sym, ◌∙◌, subst, arith, append_assoc, append-nil, zero-add, length-append}
 use Rattle.std.proofs.lemmas.List.{drop-drop}
-use Rattle.event_trace.specs.Events.{Event, after_events, text_of, reads_of}
-use Rattle.event_trace.specs.Cut.{behind, cut, cut_trace}
-use Rattle.event_trace.proofs.CutLemmas.{cut-after}
-use Rattle.event_trace.proofs.EventLemmas.{text_of-append, reads_of-append, after_events-append}
-use Rattle.nova_top.specs.declared.progress.Finish.{Finish}
-use Rattle.nova_top.specs.declared.progress.Finish.TheVariants.{Exit, EndOfInput, Commands, Console, Input}
-use Rattle.nova_top.specs.Core.{Core}
-use Rattle.nova_top.specs.Lines.{reads_left}
-use Rattle.nova_top.specs.Reading.{AreRead}
-use Rattle.nova_top.specs.Session.{Session, step, trace}
-use Rattle.nova_top.specs.Ends.{Finishes, FinishCause, GoesPast, IsSession, LetsThrough}
-use Rattle.nova_top.proofs.SessionLemmas.{trace-going}
+use Rattle.fault_counts.specs.Faults.{raised}
+use Rattle.observations.specs.Observations.{Observation, after_made, text_of, reads_of}
+use Rattle.observations.specs.Cut.{behind, cut, cut_trace}
+use Rattle.observations.proofs.CutLemmas.{cut-after}
+use Rattle.observations.proofs.MadeLemmas.{text_of-append, reads_of-append, after_made-append}
+use Rattle.scp_script.specs.declared.progress.Finish.{Finish}
+use Rattle.scp_script.specs.declared.progress.Finish.TheVariants.{Exit, EndOfInput, Commands, Console, Input}
+use Rattle.scp_commands.specs.Live.{Live}
+use Rattle.scp_script.specs.Lines.{reads_left}
+use Rattle.scp_script.specs.Reading.{AreRead}
+use Rattle.scp_script.specs.Session.{Session, step, trace}
+use Rattle.scp_script.specs.Loop.{Finishes, FinishCause, GoesPast, LetsThrough}
+use Rattle.scp_script.specs.Perform.{IsSession}
+use Rattle.scp_script.proofs.SessionLemmas.{trace-going}
 
--- the session came from its start to here, with these events
+-- the session came from its start to here, with these observations
 pub record Reached (start now : Session) (before after : List ℕ) : Type 0 where
-  pub done : List (Event Core)
-  pub so_far : trace start ≡ after_events done (trace now)
+  pub done : List (Observation Live)
+  pub so_far : trace start ≡ after_made done (trace now)
   pub written : after ≡ before ++ text_of done
   pub reads : AreRead (reads_of done) start.open_ start.input now.open_ now.input
 
@@ -37,12 +39,12 @@ reads-behind m n o1 o2 o3 i1 i2 i3 a b = record {
 
 pub reached-more : (start now next : Session) (before mid after : List ℕ) → Reached start now before mid → GoesPast now next mid after → Reached start next before after
 reached-more start now next before mid after r g = record {
-  done = r.done ++ (step now).events;
-  so_far = r.so_far ∙ ap (after_events r.done) (trace-going now next g.next) ∙ sym (after_events-append r.done (step now).events (trace next));
-  written = g.written ∙ ap (λ t. t ++ text_of (step now).events) r.written ∙ append_assoc before (text_of r.done) (text_of (step now).events)
-      ∙ ap (λ t. before ++ t) (sym (text_of-append r.done (step now).events));
-  reads = subst (λ n. AreRead n start.open_ start.input next.open_ next.input) (sym (reads_of-append r.done (step now).events))
-      (reads-behind (reads_of r.done) (reads_of (step now).events) start.open_ now.open_ next.open_ start.input now.input next.input r.reads g.reads);
+  done = r.done ++ (step now).made;
+  so_far = r.so_far ∙ ap (after_made r.done) (trace-going now next g.next) ∙ sym (after_made-append r.done (step now).made (trace next));
+  written = g.written ∙ ap (λ t. t ++ text_of (step now).made) r.written ∙ append_assoc before (text_of r.done) (text_of (step now).made)
+      ∙ ap (λ t. before ++ t) (sym (text_of-append r.done (step now).made));
+  reads = subst (λ n. AreRead n start.open_ start.input next.open_ next.input) (sym (reads_of-append r.done (step now).made))
+      (reads-behind (reads_of r.done) (reads_of (step now).made) start.open_ now.open_ next.open_ start.input now.input next.input r.reads g.reads);
 }
 
 -- what the input lets through from its start
@@ -53,7 +55,7 @@ all-let Commands gives made all done whole h e = omega (arith, h, e)
 all-let Console gives made all done whole h e = omega (arith, h, e)
 all-let Input gives made all done whole h e = omega (arith, h)
 
-pub session-over : (start now new : Session) (finish : Finish) (before mid after : List ℕ) → Reached start now before mid → Finishes now finish new mid after → IsSession start finish new.core new.input before after
+pub session-over : (start now new : Session) (finish : Finish) (before mid after : List ℕ) → Reached start now before mid → Finishes now finish new mid after → IsSession start finish new.live new.input before after
 session-over start now new finish before mid after r f =
     let taken = text_of r.done ++ f.end.taken in
     let size : length taken ≡ length (text_of r.done) + length f.end.taken = length-append (text_of r.done) f.end.taken in
@@ -66,8 +68,8 @@ session-over start now new finish before mid after r f =
         taken = taken;
         written = f.end.written ∙ ap (λ t. t ++ f.end.taken) r.written ∙ append_assoc before (text_of r.done) f.end.taken;
         outcome = ap (cut_trace (length taken) (reads_of r.done + f.gives)) r.so_far
-            ∙ ap (λ n. cut n (reads_of r.done + f.gives) (r.done ++ (trace now).events) (trace now).ended) size
-            ∙ cut-after r.done (trace now).events (trace now).ended (length f.end.taken) f.gives
+            ∙ ap (λ n. cut n (reads_of r.done + f.gives) (r.done ++ (trace now).made) (trace now).ended) size
+            ∙ cut-after r.done (trace now).made (trace now).ended (length f.end.taken) f.gives
             ∙ ap (behind (text_of r.done) (reads_of r.done)) f.end.outcome;
       };
     }
@@ -75,10 +77,8 @@ session-over start now new finish before mid after r f =
 pub causes-behind : (finish : Finish) (sink sink_mid sink_now source source_mid source_now : ℕ) → sink_mid ≡ sink → source_mid ≡ source → FinishCause finish sink_mid sink_now source_mid source_now
     → FinishCause finish sink sink_now source source_now
 causes-behind finish sink sink_mid sink_now source source_mid source_now a b c = record {
-  sink_later = omega (arith, a, c.sink_later);
-  source_later = omega (arith, b, c.source_later);
-  console = λ e. omega (arith, a, c.console e);
-  input = λ e. omega (arith, b, c.input e);
+  console = λ e. c.console e ∙ ap raised a;
+  input = λ e. c.input e ∙ ap raised b;
   console_only = λ n. c.console_only n ∙ a;
   input_only = λ n. c.input_only n ∙ b;
   exit = c.exit;

@@ -1,6 +1,6 @@
 ghost use Rattle.std.specs.Prelude.{◌≡◌, ◌≢◌, ◌+◌, ◌≤◌, ◌<◌, ◌^◌, [], true, false, IsTrue};
 ghost use Rattle.fault_counts.specs.Faults.{Rose};
-ghost use Rattle.nova_top.specs.Reading.{is_due, units_for};
+ghost use Rattle.scp_script.specs.Reading.{is_charged, byte_cost};
 
 use crate::line_buffer::{KEPT, LineBuffer};
 use host_files::{Source, next_byte};
@@ -29,7 +29,7 @@ pub struct LineReader {
 }
 
 impl Model for LineReader {
-    ghost use Rattle.nova_top.specs.Reading.{ReaderState};
+    ghost use Rattle.scp_script.specs.Reading.{ReaderState};
 
     ghost Value = { ReaderState };
 
@@ -37,7 +37,7 @@ impl Model for LineReader {
 }
 
 impl LineReader {
-    ghost use Rattle.nova_top.specs.Reading.{IsReading, Pays, Finishes};
+    ghost use Rattle.scp_script.specs.Reading.{IsReading, Pays, LineEnds};
 
     pub fn new() -> LineReader
         ensures { result ≡ record { line = []; open_ = true } }
@@ -107,7 +107,7 @@ impl LineReader {
 
     /// Ends a line of that many bytes, or the input where it has none and no LF was read.
     fn finish(&mut self, count: u64, lf: bool) -> Reading
-        ensures line { Finishes count lf self.old.line result self.new.line }
+        ensures line { LineEnds count lf self.old.line result self.new.line }
         ensures open_ { self.new.open_ ≡ self.old.open_ }
     {
         if count == 0 && !lf {
@@ -130,10 +130,10 @@ impl LineReader {
 /// Pays for the next byte of a line, where it makes a unit due. Answers whether it is paid.
 fn pay(budget: &mut u64, count: u64, b: u8) -> bool
     requires { count < 2 ^ 50 }
-    ensures paid { result ≡ true → budget.new + units_for count b ≡ budget.old }
-    ensures unpaid { result ≡ false → (budget.old ≡ 0) × (is_due count b ≡ true) × (budget.new ≡ budget.old) }
+    ensures paid { result ≡ true → budget.new + byte_cost count b ≡ budget.old }
+    ensures unpaid { result ≡ false → (budget.old ≡ 0) × (is_charged count b ≡ true) × (budget.new ≡ budget.old) }
 {
-    if !is_due(count, b) {
+    if !is_charged(count, b) {
         return true;
     }
     if *budget == 0 {
@@ -144,9 +144,9 @@ fn pay(budget: &mut u64, count: u64, b: u8) -> bool
 }
 
 /// Whether the next byte of a line makes a unit due, where that many bytes stand before it.
-fn is_due(count: u64, b: u8) -> bool
+fn is_charged(count: u64, b: u8) -> bool
     requires { count < 2 ^ 50 }
-    ensures { result ≡ is_due count b }
+    ensures { result ≡ is_charged count b }
 {
     count == 0 || b != b'\n' && count + 1 >= 1024 && (count + 1) % 512 == 0
 }

@@ -3,11 +3,11 @@ use crate::line_reader::LineReader;
 /// How a session ended.
 #[derive(Clone, Copy, Debug, PartialEq, Eq)]
 pub enum Finish {
-    /// EXIT, with its status.
+    /// EXIT, with its status, from 0 to 99.
     Exit(u8),
     /// The input ended.
     EndOfInput,
-    /// A unit of the budget was due, and none was left.
+    /// A line was to be paid for, and the budget was spent.
     Commands,
     /// The console failed.
     Console,
@@ -17,7 +17,7 @@ pub enum Finish {
 
 impl Finish {
     ghost use Rattle.std.specs.Prelude.{◌≡◌};
-    ghost use Rattle.nova_top.specs.Ends.{status_of};
+    ghost use Rattle.scp_script.specs.Loop.{status_of};
 
     /// The exit status of the process.
     pub fn status(self) -> u8
@@ -40,7 +40,7 @@ pub enum Progress {
     IsOver(Finish),
 }
 
-/// The lines of a session: their reader, the units left to pay for them, and whether a prompt asks for each.
+/// The texts of a session: the reader of its lines, the units left to pay for them, and whether a prompt asks for each.
 #[derive(Drop)]
 pub struct CommandLoop {
     pub reader: LineReader,

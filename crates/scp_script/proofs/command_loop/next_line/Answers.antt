@@ -1,9 +1,9 @@
 use Rattle.std.proofs.Common.{Err, refl, ap, sym}
 use Rattle.scp_parser.specs.declared.fault.ParseFault.TheVariants.{TooLong}
 use Rattle.scp_parser.specs.Reading.{reading}
-use Rattle.nova_top.specs.Loop.{session_core, session_of}
-use Rattle.nova_top.proofs.LineLemmas.{prompt-refused, input-ended, unit-missing, input-failed, answered, answer-causes, long-line, long-core, long-answer}
-use Rattle.nova_top.proofs.command_loop.next_line.Goals as goal
+use Rattle.scp_script.specs.Loop.{session_core, session_of}
+use Rattle.scp_script.proofs.LineLemmas.{prompt-refused, input-ended, unit-missing, input-failed, answered, answer-causes, long-line, long-core, long-answer}
+use Rattle.scp_script.proofs.command_loop.next_line.Goals as goal
 
 pub returns-in-Err-clause-told : goal.returns-in-Err-clause-told
 returns-in-Err-clause-told g c = λ source sink.

@@ -1,8 +1,8 @@
 use Rattle.std.proofs.Common.{refl, ◌∙◌, arith}
-use Rattle.nova_top.specs.Perform.{beginning}
-use Rattle.nova_top.specs.Loop.{session_core, session_of}
-use Rattle.nova_top.proofs.WholeLemmas.{reached-none, reached-more, session-over, causes-behind}
-use Rattle.nova_top.proofs.perform.perform.Goals as goal
+use Rattle.scp_script.specs.Perform.{beginning}
+use Rattle.scp_script.specs.Loop.{session_core, session_of}
+use Rattle.scp_script.proofs.WholeLemmas.{reached-none, reached-more, session-over, causes-behind}
+use Rattle.scp_script.proofs.perform.perform.Goals as goal
 
 pub lines-init : goal.lines-init
 unfolding beginning

@@ -1,8 +1,8 @@
 use Rattle.std.proofs.Common.{◌≡◌, ◌≤◌, IsTrue}
-use Rattle.nova_top.specs.Perform.{beginning}
-use Rattle.nova_top.specs.Loop.{session_core, session_of}
-use Rattle.nova_top.proofs.WholeLemmas.{Reached}
-use Rattle.nova_top.proofs.perform.perform.Given as goal
+use Rattle.scp_script.specs.Perform.{beginning}
+use Rattle.scp_script.specs.Loop.{session_core, session_of}
+use Rattle.scp_script.proofs.WholeLemmas.{Reached}
+use Rattle.scp_script.proofs.perform.perform.Given as goal
 
 abbrev pub invariant-lines : goal.invariant-lines
 invariant-lines g l = record {

@@ -1,6 +1,6 @@
 use Rattle.std.proofs.Common.{length, ap, sym, ◌∙◌, subst, arith}
-use Rattle.nova_top.proofs.ReadingLemmas.{SoFar, spent-more, read-end, read-lf, read-unpaid, read-more, kept-more}
-use Rattle.nova_top.proofs.line_reader.LineReader.read_open_line.Goals as goal
+use Rattle.scp_script.proofs.ReadingLemmas.{SoFar, spent-more, read-end, read-lf, read-unpaid, read-more, kept-more}
+use Rattle.scp_script.proofs.line_reader.LineReader.read_open_line.Goals as goal
 
 pub returns-in_default-next-clause-reads : goal.returns-in_default-next-clause-reads
 returns-in_default-next-clause-reads g c = λ told.

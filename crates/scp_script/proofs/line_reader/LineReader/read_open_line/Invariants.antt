@@ -1,6 +1,6 @@
 use Rattle.std.proofs.Common.{◌≡◌, ◌+◌, ◌-◌, ◌*◌, ◌≤◌, length, true, IsTrue}
-use Rattle.nova_top.proofs.ReadingLemmas.{SoFar, spent}
-use Rattle.nova_top.proofs.line_reader.LineReader.read_open_line.Given as goal
+use Rattle.scp_script.proofs.ReadingLemmas.{SoFar, spent}
+use Rattle.scp_script.proofs.line_reader.LineReader.read_open_line.Given as goal
 
 abbrev pub invariant-loop-next : goal.invariant-loop-next
 invariant-loop-next g l = record {
