@@ -1,6 +1,7 @@
 -- The words of a text, with spaces and tabs between them.
 use Rattle.std.specs.Prelude.{◌≡◌, ◌⊎◌, ℕ, ◌-◌, ◌==◌, ◌<◌, Bool, ◌||◌, All, List, [], ◌∷◌, ◌++◌, length, take, drop, not}
 use Rattle.std.specs.List.{position_or_len, suffix_len}
+use Rattle.std.specs.Str.{bytes_eq, str_to_ascii_uppercase}
 
 -- spaces and tabs
 abbrev pub IsBlank : ℕ → Type 0
@@ -27,7 +28,14 @@ pub record Begins (text word rest : List ℕ) : Type 0 where
   pub is : IsWord word
   pub ends : StartsIn IsBlank rest
 
+-- a word is that name, in either case: names stand in capitals
+abbrev pub IsSpelled : List ℕ → List ℕ → Type 0
+IsSpelled word name = str_to_ascii_uppercase word ≡ name
+
 -- The same as functions.
+
+abbrev pub is_spelled : List ℕ → List ℕ → Bool
+is_spelled word name = bytes_eq name (str_to_ascii_uppercase word)
 
 abbrev pub is_blank : ℕ → Bool
 is_blank b = b == 32 || b == 9

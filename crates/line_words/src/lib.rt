@@ -3,4 +3,4 @@
 
 pub mod words;
 
-pub use words::{is_blank, past_blanks, trimmed, word_at};
+pub use words::{is_blank, is_spelled, past_blanks, trimmed, word_at};

@@ -1,6 +1,6 @@
 ghost use Rattle.std.specs.Prelude.{◌≡◌, ◌≤◌, not, length, take, drop};
 ghost use Rattle.std.specs.List.{position, position_or_len};
-ghost use Rattle.line_words.specs.Words.{is_blank, past_blanks, word_at, trimmed};
+ghost use Rattle.line_words.specs.Words.{is_blank, past_blanks, word_at, trimmed, is_spelled};
 
 /// Whether a byte is a space or a tab.
 pub fn is_blank(b: u8) -> bool
@@ -36,6 +36,21 @@ pub fn trimmed(text: &[u8]) -> &[u8]
         end -= 1;
     }
     &text[..end]
+}
+
+/// Whether a word is that name, in either case. The name stands in capitals.
+pub fn is_spelled(word: &[u8], name: &[u8]) -> bool
+    ensures { result ≡ is_spelled word.now name.now }
+{
+    if name.len() != word.len() {
+        return false;
+    }
+    for (i, letter) in name.iter().enumerate() {
+        if *letter != word[i].to_ascii_uppercase() {
+            return false;
+        }
+    }
+    true
 }
 
 // The place of the first blank.

@@ -59,7 +59,7 @@ first_bad-not_before base text p q at_p at_q before =
     let within : p < length (take q text) = omega (arith, length-take-le q text (omega arith)) in
     at_p.bad (subst (IsDigit base) (get_or-take q text p 0 before) (at_q.digits p 0 within))
 
-number-has_no_bad : (base : ℕ) (text : List ℕ) (n p : ℕ) → IsNumber base text n → IsFirstBad base text p → ⊥
+pub number-has_no_bad : (base : ℕ) (text : List ℕ) (n p : ℕ) → IsNumber base text n → IsFirstBad base text p → ⊥
 number-has_no_bad base text n p number first = first.bad (number.digits p 0 first.within)
 
 -- a text has one answer

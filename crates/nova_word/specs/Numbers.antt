@@ -1,5 +1,6 @@
 -- Numbers as texts of digits, in octal and decimal.
-use Rattle.std.specs.Prelude.{◌≡◌, ℕ, ◌+◌, ◌-◌, ◌*◌, ◌/◌, ◌%◌, ◌^◌, ◌<◌, ◌≤◌, zero, suc, List, [], ◌∷◌, ◌++◌, length, All, take, slice_index, Result, Ok, Err}
+use Rattle.std.specs.Prelude.{◌≡◌, ℕ, ◌+◌, ◌-◌, ◌*◌, ◌/◌, ◌%◌, ◌^◌, ◌<◌, ◌≤◌, zero, suc, Bool, ◌&&◌, not, nat_le, nat_lt, if◌then◌else◌, List, [], ◌∷◌, ◌++◌, length, All, take, slice_index, Option, Some, None, Result, Ok, Err}
+use Rattle.std.specs.List.{position}
 use Rattle.nova_word.specs.declared.numbers.NumberFault.{NumberFault}
 use Rattle.nova_word.specs.declared.numbers.NumberFault.TheVariants.{Empty, BadDigit, TooLarge}
 
@@ -7,6 +8,15 @@ use Rattle.nova_word.specs.declared.numbers.NumberFault.TheVariants.{Empty, BadD
 abbrev pub octal_digits : ℕ → ℕ → List ℕ
 octal_digits zero n = []
 octal_digits (suc count) n = octal_digits count (n / 8) ++ (48 + n % 8) ∷ []
+
+-- how many octal digits a number has, if not more than so many and one
+abbrev pub octal_width_up_to : ℕ → ℕ → ℕ
+octal_width_up_to zero n = 1
+octal_width_up_to (suc more) n = if nat_lt n 8 then 1 else suc (octal_width_up_to more (n / 8))
+
+-- how many octal digits a number has: 0 has one
+abbrev pub octal_width : ℕ → ℕ
+octal_width n = octal_width_up_to n n
 
 -- a byte is a digit of the base, which is at most ten
 abbrev pub IsDigit : ℕ → ℕ → Type 0
@@ -40,6 +50,25 @@ ReadsNumber base largest text (Err Empty) = text ≡ []
 ReadsNumber base largest text (Err (BadDigit place)) = IsFirstBad base text place
 ReadsNumber base largest text (Err TooLarge) = (n : ℕ) × IsNumber base text n × (largest < n)
 
+-- The same as a function, by the first byte that is no digit.
+
+abbrev pub is_digit : ℕ → ℕ → Bool
+is_digit base b = nat_le 48 b && nat_lt b (48 + base)
+
+-- a number, where it is not above the largest
+abbrev pub number_up_to : ℕ → ℕ → Result ℕ NumberFault
+number_up_to largest n = if nat_le n largest then Ok n else Err TooLarge
+
+-- what is answered of some digits and other bytes, by the place of the first that is no digit
+abbrev pub number_unless : ℕ → ℕ → List ℕ → Option ℕ → Result ℕ NumberFault
+number_unless base largest text (Some place) = Err (BadDigit place)
+number_unless base largest text None = number_up_to largest (value_of base text)
+
+-- what a reader of numbers of that base, up to that largest one, answers of a text
+unfoldable pub number_read : ℕ → ℕ → List ℕ → Result ℕ NumberFault
+number_read base largest [] = Err Empty
+number_read base largest (b ∷ more) = number_unless base largest (b ∷ more) (position (λ c. not (is_digit base c)) (b ∷ more))
+
 -- the digits of a number are as many as were asked for, and where they are enough they stand for it
 pub record DigitsReadBack : Type 0 where
   pub as_many : (count n : ℕ) → length (octal_digits count n) ≡ count
@@ -48,3 +77,7 @@ pub record DigitsReadBack : Type 0 where
 -- no text has two answers
 abbrev pub HasOneAnswer : ℕ → ℕ → Type 0
 HasOneAnswer base largest = (text : List ℕ) (a b : Result ℕ NumberFault) → ReadsNumber base largest text a → ReadsNumber base largest text b → a ≡ b
+
+-- what a reader answers of a text is an answer of it
+abbrev pub AnswerIsComputed : ℕ → ℕ → Type 0
+AnswerIsComputed base largest = (text : List ℕ) → ReadsNumber base largest text (number_read base largest text)

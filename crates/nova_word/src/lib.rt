@@ -5,6 +5,7 @@ pub mod numbers;
 pub mod words;
 
 pub use numbers::{
-    NumberFault, digits_read_back, read_decimal, read_octal, texts_have_one_answer, write_octal,
+    NumberFault, digits_read_back, octal_width, read_decimal, read_octal, texts_have_one_answer,
+    write_octal,
 };
 pub use words::{Addr, Word};

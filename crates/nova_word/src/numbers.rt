@@ -1,6 +1,6 @@
 ghost use Rattle.std.specs.Prelude.{◌≡◌, ℕ, ◌+◌, ◌^◌, ◌<◌, ◌≤◌, ◌++◌, ◌-◌, drop, All, MatchOption};
-ghost use Rattle.nova_word.specs.Numbers.{octal_digits, value_of, IsDigit, IsFirstBad, ReadsNumber, DigitsReadBack};
-ghost use Rattle.nova_word.specs.Numbers.{HasOneAnswer};
+ghost use Rattle.nova_word.specs.Numbers.{octal_digits, octal_width, value_of, IsDigit, IsFirstBad, ReadsNumber};
+ghost use Rattle.nova_word.specs.Numbers.{is_digit, number_read, DigitsReadBack, HasOneAnswer, AnswerIsComputed};
 
 /// Why a text is no number.
 #[derive(Clone, Copy, Debug, PartialEq, Eq)]
@@ -28,12 +28,22 @@ pub fn write_octal(n: u32, digits: usize, out: &mut [u8; 12]) -> usize
     digits
 }
 
+/// How many octal digits a number has: 0 has one.
+pub fn octal_width(n: u32) -> usize
+    ensures exact { result ≡ octal_width n }
+    ensures fits { n < 8 ^ result }
+    ensures range { (0 < result) × (result ≤ 11) }
+{
+    if n < 8 { 1 } else { 1 + octal_width(n / 8) }
+}
+
 /// The number of a text of octal digits, up to 2^32 - 1.
 ///
 /// Leading zeros are taken. The leftmost fault is answered; a number that is too long for any type is
 /// `TooLarge`.
 pub fn read_octal(text: &[u8]) -> Result<u32, NumberFault>
-    ensures { ReadsNumber 8 (2 ^ 32 - 1) text.now result }
+    ensures number { ReadsNumber 8 (2 ^ 32 - 1) text.now result }
+    ensures exact { result ≡ number_read 8 (2 ^ 32 - 1) text.now }
 {
     let n = read_number(8, u64::from(u32::MAX), text)?;
     Ok(n as u32)
@@ -44,7 +54,8 @@ pub fn read_octal(text: &[u8]) -> Result<u32, NumberFault>
 /// Leading zeros are taken. The leftmost fault is answered; a number that is too long for any type is
 /// `TooLarge`.
 pub fn read_decimal(text: &[u8]) -> Result<u64, NumberFault>
-    ensures { ReadsNumber 10 (2 ^ 63) text.now result }
+    ensures number { ReadsNumber 10 (2 ^ 63) text.now result }
+    ensures exact { result ≡ number_read 10 (2 ^ 63) text.now }
 {
     read_number(10, 1 << 63, text)
 }
@@ -64,17 +75,19 @@ fn read_number(base: u64, largest: u64, text: &[u8]) -> Result<u64, NumberFault>
     value_up_to(base, largest, text).ok_or(NumberFault::TooLarge)
 }
 
+fn is_digit(base: u64, b: u8) -> bool
+    requires { base ≤ 10 }
+    ensures { result ≡ is_digit base b }
+{
+    b >= b'0' && u64::from(b) < 48 + base
+}
+
 // The place of the first byte that is no digit of the base.
 fn first_bad_digit(base: u64, text: &[u8]) -> Option<usize>
     requires { base ≤ 10 }
     ensures { MatchOption result (All (IsDigit base) text.now) (IsFirstBad base text.now) }
 {
-    for (place, b) in text.iter().enumerate() {
-        if *b < b'0' || u64::from(*b - b'0') >= base {
-            return Some(place);
-        }
-    }
-    None
+    text.iter().position(|b| !is_digit(base, *b))
 }
 
 // The number of a text of digits, where it is not above the largest.
@@ -104,9 +117,10 @@ pub fn digits_read_back()
     ensures { DigitsReadBack }
 {}
 
-/// The law that a text has one answer: what a reader answers leaves no other answer.
+/// The law that a text has one answer, and that it is the one that is computed.
 pub fn texts_have_one_answer()
-    ensures { (base largest : ℕ) → HasOneAnswer base largest }
+    ensures one { (base largest : ℕ) → HasOneAnswer base largest }
+    ensures computed { (base largest : ℕ) → AnswerIsComputed base largest }
 {}
 
 #[cfg(test)]

@@ -1,28 +1,51 @@
--- The kinds of units, how many units each has, and how they are named.
-use Rattle.std.specs.Prelude.{ℕ, ◌+◌, ◌/◌, ◌%◌, List, [], ◌∷◌, ◌++◌, codes, nat_lt, if◌then◌else◌}
+-- The kinds of units, each with the table of its device, and how units are named.
+use Rattle.std.specs.Prelude.{ℕ, ◌+◌, ◌/◌, ◌%◌, Bool, IsTrue, List, [], ◌∷◌, ◌++◌, codes, nat_lt, if◌then◌else◌}
 use Rattle.unit_trait.specs.declared.kind.Kind.{Kind}
 use Rattle.unit_trait.specs.declared.kind.Kind.TheVariants.{Dsk, Mta, Lpt, Ptr, Ptp, Clk, Tti, Tto, Tti1, Tto1, Qty}
 use Rattle.unit_trait.specs.declared.kind.UnitName.{UnitName}
+use Rattle.unit_trait.specs.Device.{Device}
+use Rattle.unit_trait.specs.Disk.{disk}
+use Rattle.unit_trait.specs.Tape.{tape}
+use Rattle.unit_trait.specs.Printer.{printer}
+use Rattle.unit_trait.specs.Reader.{reader}
+use Rattle.unit_trait.specs.Punch.{punch}
+use Rattle.unit_trait.specs.Clock.{clock}
+use Rattle.unit_trait.specs.Keyboard.{keyboard}
+use Rattle.unit_trait.specs.Teleprinter.{teleprinter}
+use Rattle.unit_trait.specs.Multiplexer.{multiplexer}
+
+-- the device of a kind
+abbrev pub device_of : Kind → Device
+device_of Dsk = disk
+device_of Mta = tape
+device_of Lpt = printer
+device_of Ptr = reader
+device_of Ptp = punch
+device_of Clk = clock
+device_of Tti = keyboard (codes "TTI")
+device_of Tto = teleprinter (codes "TTO")
+device_of Tti1 = keyboard (codes "TTI1")
+device_of Tto1 = teleprinter (codes "TTO1")
+device_of Qty = multiplexer
+
+-- the kinds, in bus order
+abbrev pub all_kinds : List Kind
+all_kinds = Dsk ∷ Mta ∷ Lpt ∷ Ptr ∷ Ptp ∷ Clk ∷ Tti ∷ Tto ∷ Tti1 ∷ Tto1 ∷ Qty ∷ []
 
 -- the name of a kind
 abbrev pub kind_name : Kind → List ℕ
-kind_name Dsk = codes "DSK"
-kind_name Mta = codes "MTA"
-kind_name Lpt = codes "LPT"
-kind_name Ptr = codes "PTR"
-kind_name Ptp = codes "PTP"
-kind_name Clk = codes "CLK"
-kind_name Tti = codes "TTI"
-kind_name Tto = codes "TTO"
-kind_name Tti1 = codes "TTI1"
-kind_name Tto1 = codes "TTO1"
-kind_name Qty = codes "QTY"
+kind_name kind = (device_of kind).name
 
 -- how many units a kind has
 abbrev pub units_of : Kind → ℕ
-units_of Mta = 8
-units_of Qty = 64
-units_of kind = 1
+units_of kind = (device_of kind).units
+
+-- whether a file is attached to the units of a kind
+abbrev pub takes_file : Kind → Bool
+takes_file kind = (device_of kind).takes_file
+
+abbrev pub TakesFile : Kind → Type 0
+TakesFile kind = IsTrue (takes_file kind)
 
 -- a number below 100 in decimal, without a leading zero
 abbrev pub decimal_below_100 : ℕ → List ℕ

@@ -1,3 +1,14 @@
+pub mod Device
+pub mod Disk
+pub mod Tape
+pub mod Printer
+pub mod Reader
+pub mod Punch
+pub mod Clock
+pub mod Keyboard
+pub mod Teleprinter
+pub mod Multiplexer
 pub mod Kinds
 pub mod Registers
 pub mod Seen
+pub mod Processor

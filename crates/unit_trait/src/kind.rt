@@ -1,5 +1,16 @@
-ghost use Rattle.std.specs.Prelude.{◌≡◌, ◌+◌, ◌<◌, ◌≤◌, ◌++◌, length, take, drop};
-ghost use Rattle.unit_trait.specs.Kinds.{kind_name, units_of, unit_name, decimal_below_100};
+ghost use Rattle.std.specs.Prelude.{◌≡◌, ◌+◌, ◌<◌, ◌≤◌, ◌++◌, ◌↔◌, IsTrue, length, take, drop};
+ghost use Rattle.unit_trait.specs.Kinds.{kind_name, units_of, takes_file, TakesFile, unit_name, decimal_below_100};
+
+use crate::clock::CLOCK;
+use crate::device::Device;
+use crate::disk::DISK;
+use crate::keyboard::{TTI, TTI1};
+use crate::multiplexer::MULTIPLEXER;
+use crate::printer::PRINTER;
+use crate::punch::PUNCH;
+use crate::reader::READER;
+use crate::tape::TAPE;
+use crate::teleprinter::{TTO, TTO1};
 
 /// The kinds of units, in bus order.
 #[derive(Clone, Copy, Debug, PartialEq, Eq)]
@@ -41,31 +52,46 @@ impl Kind {
         ensures name { result.now ≡ kind_name self }
         ensures short { length result.now ≤ 4 }
     {
-        match self {
-            Kind::Dsk => "DSK",
-            Kind::Mta => "MTA",
-            Kind::Lpt => "LPT",
-            Kind::Ptr => "PTR",
-            Kind::Ptp => "PTP",
-            Kind::Clk => "CLK",
-            Kind::Tti => "TTI",
-            Kind::Tto => "TTO",
-            Kind::Tti1 => "TTI1",
-            Kind::Tto1 => "TTO1",
-            Kind::Qty => "QTY",
-        }
+        device(self).name
+    }
+}
+
+// What stands of a kind in the table of its device.
+fn device(kind: Kind) -> Device
+    ensures name { result.name.now ≡ kind_name kind }
+    ensures short { length result.name.now ≤ 4 }
+    ensures units { result.units ≡ units_of kind }
+    ensures few { result.units ≤ 64 }
+    ensures file { result.takes_file ≡ takes_file kind }
+{
+    match kind {
+        Kind::Dsk => DISK,
+        Kind::Mta => TAPE,
+        Kind::Lpt => PRINTER,
+        Kind::Ptr => READER,
+        Kind::Ptp => PUNCH,
+        Kind::Clk => CLOCK,
+        Kind::Tti => TTI,
+        Kind::Tto => TTO,
+        Kind::Tti1 => TTI1,
+        Kind::Tto1 => TTO1,
+        Kind::Qty => MULTIPLEXER,
     }
 }
 
 /// How many units a kind has: 8 drives, 64 lines, and else one.
 pub fn units_of(kind: Kind) -> u8
-    ensures { result ≡ units_of kind }
+    ensures units { result ≡ units_of kind }
+    ensures few { result ≤ 64 }
 {
-    match kind {
-        Kind::Mta => 8,
-        Kind::Qty => 64,
-        _ => 1,
-    }
+    device(kind).units
+}
+
+/// Whether a file is attached to the units of a kind.
+pub fn takes_file(kind: Kind) -> bool
+    ensures { IsTrue result ↔ TakesFile kind }
+{
+    device(kind).takes_file
 }
 
 /// Writes the name of a unit first into `out`, and answers its length: the name of its kind, and the unit's number in

@@ -2,10 +2,9 @@ ghost use Rattle.std.specs.Prelude.{◌≡◌, ◌++◌, Some, option_map, Match
 ghost use Rattle.unit_trait.specs.Registers.{register_at, name_at};
 ghost use Rattle.unit_trait.specs.Seen.{seen, HasShortName};
 
+use crate::device::Register;
 use crate::kind::{Kind, put_first};
-use crate::tables::{
-    Register, byte_register, clock_register, disk_register, tape_register, terminal_register,
-};
+use crate::{clock, disk, keyboard, printer, punch, reader, tape, teleprinter};
 
 // A register of a kind, by its number from 0.
 fn register_at(kind: Kind, i: u8) -> Option<Register>
@@ -13,12 +12,14 @@ fn register_at(kind: Kind, i: u8) -> Option<Register>
     ensures short { IfSome result HasShortName }
 {
     match kind {
-        Kind::Dsk => disk_register(i),
-        Kind::Mta => tape_register(i),
-        Kind::Lpt => byte_register(0o177, i),
-        Kind::Ptr | Kind::Ptp => byte_register(0o377, i),
-        Kind::Clk => clock_register(i),
-        Kind::Tti | Kind::Tto | Kind::Tti1 | Kind::Tto1 => terminal_register(i),
+        Kind::Dsk => disk::register(i),
+        Kind::Mta => tape::register(i),
+        Kind::Lpt => printer::register(i),
+        Kind::Ptr => reader::register(i),
+        Kind::Ptp => punch::register(i),
+        Kind::Clk => clock::register(i),
+        Kind::Tti | Kind::Tti1 => keyboard::register(i),
+        Kind::Tto | Kind::Tto1 => teleprinter::register(i),
         Kind::Qty => None,
     }
 }
@@ -29,6 +30,26 @@ pub fn reg_limit(kind: Kind, i: u8) -> Option<(u32, u32)>
 {
     match register_at(kind, i) {
         Some(register) => Some((register.least, register.largest)),
+        None => None,
+    }
+}
+
+/// What a register holds at first, by its number from 0; none past the last one.
+pub fn reg_initial(kind: Kind, i: u8) -> Option<u32>
+    ensures { result ≡ option_map (λ r. r.initial) (register_at kind i) }
+{
+    match register_at(kind, i) {
+        Some(register) => Some(register.initial),
+        None => None,
+    }
+}
+
+/// Whether a reset sets a register to 0, by its number from 0; none past the last one.
+pub fn is_cleared(kind: Kind, i: u8) -> Option<bool>
+    ensures { result ≡ option_map (λ r. r.cleared) (register_at kind i) }
+{
+    match register_at(kind, i) {
+        Some(register) => Some(register.cleared),
         None => None,
     }
 }

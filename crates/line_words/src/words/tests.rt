@@ -33,3 +33,19 @@ fn blanks_at_the_end_are_cut_off(rt: HostRuntime) -> Result<(), Fail> {
     }
     Ok(())
 }
+
+#[test]
+fn names_are_spelled_in_either_case(rt: HostRuntime) {
+    let cases: [(&[u8], &[u8], bool); 7] = [
+        (b"stop_dev", b"STOP_DEV", true),
+        (b"Mta0", b"MTA0", true),
+        (b"LDA", b"LDA", true),
+        (b"LD", b"LDA", false),
+        (b"LDAS", b"LDA", false),
+        (b"AC0", b"AC1", false),
+        (b"", b"", true),
+    ];
+    for (word, name, wanted) in cases {
+        assert!(rt; is_spelled(word, name) == wanted);
+    }
+}

@@ -74,3 +74,17 @@ fn writes_octal_digits(rt: HostRuntime) {
         b"37777777777-".as_slice()
     );
 }
+
+#[test]
+fn numbers_have_their_octal_width(rt: HostRuntime) {
+    for (n, wanted) in [
+        (0, 1),
+        (7, 1),
+        (8, 2),
+        (0o77777, 5),
+        (0o100000, 6),
+        (4294967295, 11),
+    ] {
+        assert_eq!(rt; octal_width(n), wanted, "at {n}");
+    }
+}

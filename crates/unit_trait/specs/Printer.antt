@@ -1,0 +1,11 @@
+-- The line printer.
+use Rattle.std.specs.Prelude.{true, [], ◌∷◌, codes}
+use Rattle.unit_trait.specs.Device.{Device, kept_register, time_register, busy, done, stop_ioe, position}
+
+abbrev pub printer : Device
+printer = record {
+  name = codes "LPT";
+  units = 1;
+  takes_file = true;
+  registers = busy ∷ done ∷ stop_ioe ∷ time_register 500 ∷ kept_register (codes "BUF") 0o177 ∷ position ∷ [];
+}

@@ -1,0 +1,34 @@
+ghost use Rattle.std.specs.Prelude.{◌≡◌, option_map, slice_get, IfSome};
+ghost use Rattle.unit_trait.specs.Keyboard.{keyboard_registers};
+ghost use Rattle.unit_trait.specs.Seen.{seen, HasShortName};
+
+use crate::device::{Device, Register, cleared_register, kept_register, time_register};
+
+/// The console's keyboard.
+pub const TTI: Device = Device {
+    name: "TTI",
+    units: 1,
+    takes_file: false,
+};
+
+/// The second terminal's keyboard.
+pub const TTI1: Device = Device {
+    name: "TTI1",
+    units: 1,
+    takes_file: false,
+};
+
+/// A register of the keyboard, of either terminal, by its number from 0.
+pub fn register(i: u8) -> Option<Register>
+    ensures register { option_map seen result ≡ slice_get keyboard_registers i }
+    ensures short { IfSome result HasShortName }
+{
+    let register = match i {
+        0 => cleared_register("BUSY", 1),
+        1 => cleared_register("DONE", 1),
+        2 => time_register(100),
+        3 => kept_register("BUF", 0o377),
+        _ => return None,
+    };
+    Some(register)
+}
