@@ -32,7 +32,7 @@ pub fn execute<S: Sink>(
     match &command.verb {
         Verb::Nothing => Ok(Next::Go),
         Verb::Examine(listing) => examine_list(session, listing, out),
-        Verb::Deposit(listing, value) => deposit_list(session, listing, *value, out),
+        Verb::Deposit(listing, value) => deposit_list(session, listing, *value),
         Verb::Run(address) => run_from(session, true, *address, out),
         Verb::Go(address) => run_from(session, false, *address, out),
         Verb::Cont => run(session, out),

@@ -1,5 +1,5 @@
 // EXAMINE and DEPOSIT.
-ghost use Rattle.std.specs.Prelude.{◌≡◌};
+ghost use Rattle.std.specs.Prelude.{◌≡◌, []};
 ghost use Rattle.scp_commands.specs.ListEffects.{names_device, examine_reply, handed, deposit_reply};
 ghost use Rattle.scp_commands.specs.Doing.{Does, ConsoleCounts};
 
@@ -30,18 +30,17 @@ pub fn examine_list<S: Sink>(
     }
 }
 
-/// DEPOSIT puts its value into its list.
+/// DEPOSIT puts its value into its list. It prints nothing.
 #[tactic(auto, unfolding(crate::specs::ListEffects::deposit_reply))]
-pub fn deposit_list<S: Sink>(
+pub fn deposit_list(
     session: &mut Session,
     listing: &Listing,
     value: u64,
-    out: &mut S,
 ) -> Result<Next, CommandFault>
-    ensures told { Does (deposit_reply session.old.live listing.now value) result session.new.live S.tells
-        (S.written out.old) (S.written out.new) }
+    ensures answer { result ≡ (deposit_reply session.old.live listing.now value).answer }
+    ensures live { session.new.live ≡ (deposit_reply session.old.live listing.now value).after }
+    ensures silent { (deposit_reply session.old.live listing.now value).made ≡ [] }
     ensures limit { session.new.limit ≡ session.old.limit }
-    ensures counts { ConsoleCounts result (S.fault_count out.old) (S.fault_count out.new) }
 {
     if names_device(listing.device) {
         return Err(CommandFault::NotBuilt);

@@ -45,3 +45,6 @@ pub fn perform<C: Source, S: Sink>(
         }
     }
 }
+
+#[cfg(test)]
+mod tests;
