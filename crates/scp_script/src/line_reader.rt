@@ -1,10 +1,14 @@
 ghost use Rattle.std.specs.Prelude.{◌≡◌, ◌≢◌, ◌+◌, ◌≤◌, ◌<◌, ◌^◌, [], true, false, IsTrue};
-ghost use Rattle.fault_counts.specs.Faults.{Rose};
+ghost use Rattle.fault_counts.specs.Faults.{raised};
+ghost use Rattle.scp_script.specs.Lines.{without_cr};
 ghost use Rattle.scp_script.specs.Reading.{is_charged, byte_cost};
 
-use crate::line_buffer::{KEPT, LineBuffer};
 use host_files::{Source, next_byte};
+use line_text::Text;
 use std::marker::Model;
+
+/// How many bytes of a line are kept: one more than the longest line that is read, for a CR behind it.
+const KEPT: usize = 513;
 
 /// What a reading of a line came to.
 #[derive(Clone, Copy, Debug, PartialEq, Eq)]
@@ -15,7 +19,7 @@ pub enum Reading {
     TooLong,
     /// The input has ended.
     End,
-    /// A unit of the budget was due, and none was left.
+    /// A unit of the budget was wanted, and none was left.
     Unpaid,
     /// The input failed.
     Failed,
@@ -24,7 +28,7 @@ pub enum Reading {
 /// Reads lines byte by byte, so that nothing behind the line that is being done has been read.
 #[derive(Drop)]
 pub struct LineReader {
-    line: LineBuffer,
+    line: Text<KEPT>,
     open_: bool,
 }
 
@@ -43,7 +47,7 @@ impl LineReader {
         ensures { result ≡ record { line = []; open_ = true } }
     {
         LineReader {
-            line: LineBuffer::new(),
+            line: Text::new(),
             open_: true,
         }
     }
@@ -62,8 +66,7 @@ impl LineReader {
         ensures reads { IsTrue C.tells
             → IsReading budget.old self.old.open_ (C.left input.old) result budget.new self.new (C.left input.new) }
         ensures pays { Pays budget.old result budget.new }
-        ensures later { C.fault_count input.old ≤ C.fault_count input.new }
-        ensures cause { result ≡ Reading.Failed → Rose (C.fault_count input.old) (C.fault_count input.new) }
+        ensures cause { result ≡ Reading.Failed → C.fault_count input.new ≡ raised (C.fault_count input.old) }
         ensures quiet { result ≢ Reading.Failed → C.fault_count input.new ≡ C.fault_count input.old }
     {
         if self.open_ {
@@ -80,8 +83,7 @@ impl LineReader {
         ensures reads { IsTrue C.tells
             → IsReading budget.old true (C.left input.old) result budget.new self.new (C.left input.new) }
         ensures pays { Pays budget.old result budget.new }
-        ensures later { C.fault_count input.old ≤ C.fault_count input.new }
-        ensures cause { result ≡ Reading.Failed → Rose (C.fault_count input.old) (C.fault_count input.new) }
+        ensures cause { result ≡ Reading.Failed → C.fault_count input.new ≡ raised (C.fault_count input.old) }
         ensures quiet { result ≢ Reading.Failed → C.fault_count input.new ≡ C.fault_count input.old }
     {
         self.line.clear();
@@ -117,7 +119,7 @@ impl LineReader {
             return Reading::TooLong;
         }
         if lf {
-            self.line.drop_cr();
+            drop_cr(&mut self.line);
         }
         if self.line.len() == KEPT {
             Reading::TooLong
@@ -127,7 +129,17 @@ impl LineReader {
     }
 }
 
-/// Pays for the next byte of a line, where it makes a unit due. Answers whether it is paid.
+/// Drops a CR at the end of a line.
+fn drop_cr(line: &mut Text<KEPT>)
+    ensures { line.new ≡ without_cr line.old }
+{
+    let count = line.len();
+    if count > 0 && line.as_slice()[count - 1] == b'\r' {
+        line.truncate(count - 1);
+    }
+}
+
+/// Pays for the next byte of a line, where it costs a unit. Answers whether it is paid.
 fn pay(budget: &mut u64, count: u64, b: u8) -> bool
     requires { count < 2 ^ 50 }
     ensures paid { result ≡ true → budget.new + byte_cost count b ≡ budget.old }
@@ -143,7 +155,7 @@ fn pay(budget: &mut u64, count: u64, b: u8) -> bool
     true
 }
 
-/// Whether the next byte of a line makes a unit due, where that many bytes stand before it.
+/// Whether the next byte of a line costs a unit, where that many bytes stand before it.
 fn is_charged(count: u64, b: u8) -> bool
     requires { count < 2 ^ 50 }
     ensures { result ≡ is_charged count b }

@@ -32,5 +32,5 @@ loop-next-preserved g c =
       kept = kept-more c.self-in-loop-next.inside.line c.keep.new.self c.in-Some.b c.loop-next.count (omega (arith, c.loop-next.invariant.kept, ap length line)) c.keep.ensures;
       told = λ told. read-more (g.C.Source.left c.args.input.now) (g.C.Source.left c.loop-next.input) (g.C.Source.left c.next_byte.new.input) c.self-in-loop-next.inside.line c.keep.new.self
           c.in-Some.b c.loop-next.count (subst (λ l. SoFar (g.C.Source.left c.args.input.now) (g.C.Source.left c.loop-next.input) l c.loop-next.count) (sym line) (c.loop-next.invariant.told told)) (rw c.in-Some.is at (c.in-Ok.ensures.takes told)) c.if-b-eq10.false c.keep.ensures;
-      quiet = c.in-Ok.ensures.cause.quiet ∙ c.loop-next.invariant.quiet;
+      quiet = c.in-Ok.ensures.counts ∙ c.loop-next.invariant.quiet;
     }
