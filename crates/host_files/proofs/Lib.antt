@@ -1,1 +1,2 @@
 mod ReadLemmas
+pub mod PutLemmas

@@ -1,4 +1,5 @@
 -- What the calls on a stream of bytes do: how many bytes they take, and what that leaves.
+use Rattle.std.specs.Borrow.{Bor}
 use Rattle.std.specs.Prelude.{◌≡◌, ℕ, ◌<◌, ◌≤◌, List, [], ◌∷◌, ◌++◌, length, take, Option, Some, None, Result, Ok, Err, IfOk, MatchResult}
 
 -- A read puts the first of the bytes that were left into the front of the buffer. It gives none only where none was left
@@ -23,3 +24,12 @@ WriteAdds old result piece new = MatchResult result (λ n. new ≡ old ++ take n
 -- first bytes of the piece were added, and not all
 abbrev pub AddsPart : List ℕ → List ℕ → List ℕ → Type 0
 AddsPart old piece new = (n : ℕ) × (n < length piece) × (new ≡ old ++ take n piece)
+
+-- what came of printing a text: all of it was added, or first bytes of it and not all, where the call failed
+abbrev pub Puts : {T E : Type 0} → List ℕ → List ℕ → Result T E → List ℕ → Type 0
+Puts old text result new = MatchResult result (λ _. new ≡ old ++ text) (λ _. AddsPart old text new)
+
+-- pieces of a text, one behind another
+abbrev pub joined : List (Bor (List ℕ)) → List ℕ
+joined [] = []
+joined (piece ∷ more) = piece.now ++ joined more

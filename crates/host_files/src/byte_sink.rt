@@ -1,5 +1,5 @@
 ghost use Rattle.std.specs.Prelude.{◌≡◌, [], IfOk, OnOk, OnErr};
-ghost use Rattle.fault_counts.specs.Faults.{HasCause};
+ghost use Rattle.fault_counts.specs.Faults.{HasCause, CountsFault};
 ghost use Rattle.host_files.specs.Streams.{WriteTakes, WriteAdds};
 ghost use Rattle.host_files.specs.Calls.{no_calls, with_named};
 ghost use Rattle.host_files.specs.ByteSink.{SinkWrites};
@@ -73,6 +73,7 @@ impl Sink for ByteSink {
         ensures takes { WriteTakes result bytes.now }
         ensures adds { WriteAdds self.old.written result bytes.now self.new.written }
         ensures cause { HasCause self.old.calls.faults self.new.calls.faults result }
+        ensures counts { CountsFault self.old.calls.faults self.new.calls.faults result }
     {
         self.calls.begin()?;
         let count = bytes.len().min(self.room_left);

@@ -1,5 +1,5 @@
 ghost use Rattle.std.specs.Prelude.{◌≡◌, ◌≤◌, length, IsTrue, IfOk, OnOk, OnErr};
-ghost use Rattle.fault_counts.specs.Faults.{HasCause};
+ghost use Rattle.fault_counts.specs.Faults.{HasCause, CountsFault};
 ghost use Rattle.host_files.specs.Streams.{ReadTakes};
 ghost use Rattle.host_files.specs.Calls.{no_calls, with_named};
 ghost use Rattle.host_files.specs.ByteSource.{SourceReads};
@@ -65,6 +65,7 @@ impl Source for ByteSource {
         ensures bound { IfOk result (λ n. n ≤ length buf.new) }
         ensures bytes { ReadTakes self.old.left result buf.new self.new.left }
         ensures cause { HasCause self.old.calls.faults self.new.calls.faults result }
+        ensures counts { CountsFault self.old.calls.faults self.new.calls.faults result }
     {
         self.calls.begin()?;
         let count = buf.len().min(self.bytes.len() - self.place);

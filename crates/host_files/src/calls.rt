@@ -1,6 +1,6 @@
 ghost use Rattle.std.specs.Prelude.{◌≡◌, ◌≤◌, true, false, MatchResult, OnOk, OnErr};
 ghost use Rattle.host_files.specs.Calls.{no_calls, next_fails, with_named, after_success, after_fault};
-ghost use Rattle.fault_counts.specs.Faults.{raised, HasCause};
+ghost use Rattle.fault_counts.specs.Faults.{raised, HasCause, CountsFault};
 
 use crate::streams::Failed;
 use fault_counts::raised_count;
@@ -52,6 +52,7 @@ impl Calls {
             (λ _. (next_fails self.old ≡ false) × (self.new ≡ after_success self.old))
             (λ _. (next_fails self.old ≡ true) × (self.new ≡ after_fault self.old)) }
         ensures cause { HasCause self.old.faults self.new.faults result }
+        ensures counts { CountsFault self.old.faults self.new.faults result }
     {
         let named = self.failing.contains(&self.made);
         self.made = raised_count(self.made);

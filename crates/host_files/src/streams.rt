@@ -1,6 +1,6 @@
 ghost use Rattle.std.specs.Prelude.{◌≡◌, ℕ, ◌≤◌, List, ◌++◌, length, Bool, IsTrue, IfOk, OnOk, OnErr};
-ghost use Rattle.fault_counts.specs.Faults.{HasCause};
-ghost use Rattle.host_files.specs.Streams.{ReadTakes, NextByte, WriteTakes, WriteAdds, AddsPart};
+ghost use Rattle.fault_counts.specs.Faults.{HasCause, CountsFault};
+ghost use Rattle.host_files.specs.Streams.{ReadTakes, NextByte, WriteTakes, WriteAdds, AddsPart, Puts, joined};
 
 /// The answer of a call that a stream could not carry out. The stream's count of faults has risen.
 #[derive(Clone, Copy, Debug, PartialEq, Eq)]
@@ -22,7 +22,8 @@ pub trait Source {
     fn read(&mut self, buf: &mut [u8]) -> Result<usize, Failed>
         ensures bound { IfOk result (λ n. n ≤ length buf.new) }
         ensures bytes { IsTrue tells → ReadTakes (left self.old) result buf.new (left self.new) }
-        ensures cause { HasCause (fault_count self.old) (fault_count self.new) result };
+        ensures cause { HasCause (fault_count self.old) (fault_count self.new) result }
+        ensures counts { CountsFault (fault_count self.old) (fault_count self.new) result };
 
     /// How often a call has failed. The count stands still at its type's end.
     fn faults(&self) -> u64
@@ -45,7 +46,8 @@ pub trait Sink {
     fn write(&mut self, bytes: &[u8]) -> Result<usize, Failed>
         ensures takes { WriteTakes result bytes.now }
         ensures adds { IsTrue tells → WriteAdds (written self.old) result bytes.now (written self.new) }
-        ensures cause { HasCause (fault_count self.old) (fault_count self.new) result };
+        ensures cause { HasCause (fault_count self.old) (fault_count self.new) result }
+        ensures counts { CountsFault (fault_count self.old) (fault_count self.new) result };
 
     /// How often a call has failed. The count stands still at its type's end.
     fn faults(&self) -> u64
@@ -56,7 +58,7 @@ pub trait Sink {
 pub fn put_all<S: Sink>(sink: &mut S, bytes: &[u8]) -> Result<(), Failed>
     ensures all { IsTrue S.tells → OnOk result (S.written sink.new ≡ S.written sink.old ++ bytes.now) }
     ensures part { IsTrue S.tells → OnErr result (AddsPart (S.written sink.old) bytes.now (S.written sink.new)) }
-    ensures cause { HasCause (S.fault_count sink.old) (S.fault_count sink.new) result }
+    ensures counts { CountsFault (S.fault_count sink.old) (S.fault_count sink.new) result }
 {
     let mut done = 0;
     while done < bytes.len() {
@@ -66,10 +68,21 @@ pub fn put_all<S: Sink>(sink: &mut S, bytes: &[u8]) -> Result<(), Failed>
     Ok(())
 }
 
+/// Writes pieces of a text, one behind another. Where a write fails, a first part of them all was written, and not all.
+pub fn put_pieces<S: Sink>(sink: &mut S, pieces: &[&[u8]]) -> Result<(), Failed>
+    ensures told { IsTrue S.tells → Puts (S.written sink.old) (joined pieces.now) result (S.written sink.new) }
+    ensures counts { CountsFault (S.fault_count sink.old) (S.fault_count sink.new) result }
+{
+    for piece in pieces {
+        put_all(sink, piece)?;
+    }
+    Ok(())
+}
+
 /// Reads one byte. `None` means the end. A read that fails takes nothing.
 pub fn next_byte<C: Source>(input: &mut C) -> Result<Option<u8>, Failed>
     ensures takes { IsTrue C.tells → NextByte (C.left input.old) result (C.left input.new) }
-    ensures cause { HasCause (C.fault_count input.old) (C.fault_count input.new) result }
+    ensures counts { CountsFault (C.fault_count input.old) (C.fault_count input.new) result }
 {
     let mut buf = [0];
     let count = input.read(&mut buf)?;

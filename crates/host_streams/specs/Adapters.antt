@@ -1,7 +1,6 @@
 -- What contracts see of an adapter: the bytes of the stream beneath it, where that stream names them, and the count of
 -- its own faults.
-use Rattle.std.specs.Prelude.{◌≡◌, ℕ, List, Option, Result, MatchResult}
-use Rattle.fault_counts.specs.Faults.{raised}
+use Rattle.std.specs.Prelude.{ℕ, List, Option}
 
 -- a source over a reader: `left` is what was read ahead and then what the reader has
 pub record InputState : Type 0 where
@@ -12,7 +11,3 @@ pub record InputState : Type 0 where
 pub record OutputState : Type 0 where
   pub written : Option (List ℕ)
   pub faults : ℕ
-
--- a call that fails counts one fault, and a call that does not fail counts none
-abbrev pub CountsFault : {T E : Type 0} → ℕ → Result T E → ℕ → Type 0
-CountsFault before result now = MatchResult result (λ _. now ≡ before) (λ _. now ≡ raised before)

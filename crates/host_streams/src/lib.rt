@@ -3,10 +3,8 @@
 #![tactic(auto)]
 
 pub mod reader_source;
+mod retries;
 pub mod writer_sink;
 
 pub use reader_source::{READ_AHEAD, ReaderSource};
 pub use writer_sink::WriterSink;
-
-/// How often in a row a call that a signal cut short is made again.
-const RETRIES: u32 = 64;

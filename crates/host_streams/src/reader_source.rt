@@ -1,14 +1,13 @@
 ghost use Rattle.std.specs.Prelude.{◌≡◌, ◌≤◌, length, IfOk};
 ghost use Rattle.std.specs.Io.KnownBytes.{ReadConsumes};
-ghost use Rattle.fault_counts.specs.Faults.{HasCause};
-ghost use Rattle.host_streams.specs.Adapters.{CountsFault};
+ghost use Rattle.fault_counts.specs.Faults.{HasCause, CountsFault};
 
-use crate::RETRIES;
+use crate::retries::{RETRIES, is_tried_again};
 use fault_counts::raised_count;
 use host_files::{Failed, OutOfMemory, Source};
 use std::alloc::Global;
 use std::io;
-use std::io::{BufReader, ErrorKind, Read};
+use std::io::{BufReader, Read};
 use std::marker::Model;
 
 /// How many bytes a source reads ahead at most.
@@ -64,7 +63,7 @@ impl<R: Read> Source for ReaderSource<R> {
         ensures bound { IfOk result (λ n. n ≤ length buf.new) }
         ensures bytes { ReadConsumes self.old.left self.new.left result buf.new }
         ensures cause { HasCause self.old.faults self.new.faults result }
-        ensures counts { CountsFault self.old.faults result self.new.faults }
+        ensures counts { CountsFault self.old.faults self.new.faults result }
     {
         if buf.is_empty() {
             return Ok(0);
@@ -94,7 +93,7 @@ fn read_retrying<R: Read>(reader: &mut R, buf: &mut [u8]) -> io::Result<usize>
         match reader.read(buf) {
             Ok(count) => return Ok(count),
             Err(error) => {
-                if error.kind() != ErrorKind::Interrupted {
+                if !is_tried_again(error.kind()) {
                     return Err(error);
                 }
             }

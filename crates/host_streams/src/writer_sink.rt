@@ -1,14 +1,13 @@
 ghost use Rattle.std.specs.Prelude.{◌≡◌, ◌≤◌, length, IfOk};
 ghost use Rattle.std.specs.Io.KnownBytes.{WriteAppends};
-ghost use Rattle.fault_counts.specs.Faults.{HasCause};
+ghost use Rattle.fault_counts.specs.Faults.{HasCause, CountsFault};
 ghost use Rattle.host_files.specs.Streams.{WriteTakes};
-ghost use Rattle.host_streams.specs.Adapters.{CountsFault};
 
-use crate::RETRIES;
+use crate::retries::{RETRIES, is_tried_again};
 use fault_counts::raised_count;
 use host_files::{Failed, Sink};
 use std::io;
-use std::io::{ErrorKind, Write};
+use std::io::Write;
 use std::marker::Model;
 
 /// A sink over a writer, such as standard output. Each piece goes to the writer at once, so an error is the answer of
@@ -52,7 +51,7 @@ impl<W: Write> Sink for WriterSink<W> {
         ensures takes { WriteTakes result bytes.now }
         ensures adds { WriteAppends self.old.written self.new.written result bytes.now }
         ensures cause { HasCause self.old.faults self.new.faults result }
-        ensures counts { CountsFault self.old.faults result self.new.faults }
+        ensures counts { CountsFault self.old.faults self.new.faults result }
     {
         if bytes.is_empty() {
             return Ok(0);
@@ -82,7 +81,7 @@ fn write_retrying<W: Write>(writer: &mut W, bytes: &[u8]) -> io::Result<usize>
         match writer.write(bytes) {
             Ok(count) => return Ok(count),
             Err(error) => {
-                if error.kind() != ErrorKind::Interrupted {
+                if !is_tried_again(error.kind()) {
                     return Err(error);
                 }
             }

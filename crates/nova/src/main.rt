@@ -4,12 +4,14 @@
 #![tactic(auto)]
 
 ghost use Rattle.std.specs.Prelude.{◌≡◌, ◌⊎◌, None, IfOk};
+ghost use Rattle.std.specs.Process.{exit_status};
 ghost use Rattle.nova_top.specs.Outside.{options_of, texts_of};
 
+mod session;
 mod words;
 
 use host_streams::{ReaderSource, WriterSink};
-use nova_top::simulate;
+use session::session;
 use std::alloc::AllocError as OutOfMemory;
 use std::env::Env;
 use std::io;
@@ -19,25 +21,30 @@ use std::process::ExitCode;
 const NO_MEMORY: u8 = 103;
 
 fn main(rt: HostRuntime) -> ExitCode {
-    match session_status(&rt) {
-        Ok(status) => ExitCode::from(status),
+    match command_line_session(&rt) {
+        Ok(code) => code,
         Err(OutOfMemory) => ExitCode::from(NO_MEMORY),
     }
 }
 
-/// Runs a session over the runtime's words and standard streams, and answers its status.
-fn session_status<R: Env + Input + Print + AllocGlobal>(rt: &R) -> Result<u8, OutOfMemory> {
+/// Runs a session over the runtime's words and standard streams.
+fn command_line_session<R: Env + Input + Print + AllocGlobal>(
+    rt: &R,
+) -> Result<ExitCode, OutOfMemory> {
     let words = words::command_line(rt)?;
-    session(rt, words.as_slice())
+    standard_session(rt, words.as_slice())
 }
 
-/// Runs a session over these words and the runtime's standard streams, and answers its status.
-fn session<R: Input + Print + AllocGlobal>(rt: &R, words: &[String]) -> Result<u8, OutOfMemory>
-    ensures usage { IfOk result (λ status. status ≡ 100 → options_of (texts_of words.now) ≡ None) }
-    ensures bad_words { options_of (texts_of words.now) ≡ None → IfOk result (λ status. (status ≡ 100) ⊎ (status ≡ 102)) }
+/// Runs a session over these words and the runtime's standard streams.
+fn standard_session<R: Input + Print + AllocGlobal>(
+    rt: &R,
+    words: &[String],
+) -> Result<ExitCode, OutOfMemory>
+    ensures usage { IfOk result (λ code. exit_status code ≡ 100 → options_of (texts_of words.now) ≡ None) }
+    ensures bad_words { options_of (texts_of words.now) ≡ None
+        → IfOk result (λ code. (exit_status code ≡ 100) ⊎ (exit_status code ≡ 102)) }
 {
     let mut input = ReaderSource::new(rt.alloc(), rt.reader())?;
     let mut output = WriterSink::new(io::writer(rt));
-    let ending = simulate(rt.alloc(), words, &mut input, &mut output);
-    Ok(ending.status)
+    Ok(session(rt.alloc(), words, &mut input, &mut output))
 }

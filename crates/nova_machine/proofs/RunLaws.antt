@@ -1,196 +1,264 @@
 -- Runs of n + k, and the time that a run takes.
-use Rattle.std.proofs.Common.{◌≡◌, ℕ, zero, suc, ◌+◌, ◌<◌, ◌≤◌, ◌==◌, ◌⊎◌, inl, inr, Bool, true, false, Option, Some, None, refl, ap, sym, subst, ◌∙◌, arith, if◌then◌else◌}
+use Rattle.std.proofs.Common.{◌≡◌, ℕ, zero, suc, ◌+◌, ◌<◌, ◌≤◌, ◌==◌, ◌⊎◌, inl, inr, Bool, true, false, List, [], ◌++◌, Option, Some, None, refl, ap, sym, subst, ◌∙◌, arith, append_assoc, append-nil, if◌then◌else◌}
 use Rattle.std.proofs.lemmas.Bool.Decides.{nat_tests}
+use Rattle.observations.specs.Observations.{Observation}
 use Rattle.nova_machine.specs.declared.machine.Stop.{Stop}
 use Rattle.nova_machine.specs.declared.machine.Stop.TheVariants.{Stepped, Limit}
 use Rattle.nova_machine.specs.Machine.{MachineState}
-use Rattle.nova_machine.specs.Turn.{Turned, turn}
-use Rattle.nova_machine.specs.Run.{Ran, run, next_turn, expired, last_time}
-use Rattle.nova_machine.specs.Laws.{IsLimit, Unchanged, RunSplits, RunTakesTime}
-use Rattle.nova_machine.proofs.Runs.{run-none, run-stops, run-goes}
-use Rattle.nova_machine.proofs.Turns.{Turns, turns-turn, unchanged-same, unchanged-then}
+use Rattle.nova_machine.specs.Seen.{Seen, seen}
+use Rattle.nova_machine.specs.Parts.{Part, silent, behind_made}
+use Rattle.nova_machine.specs.Turn.{turn, still, fetch}
+use Rattle.nova_machine.specs.Run.{turns, run, next_turn, expired, last_time}
+use Rattle.nova_machine.specs.Laws.{IsLimit, PassesNoBreak, Unchanged, RunSplits, RunTakesTime}
+use Rattle.nova_machine.specs.LawsWithoutUnits.{SameInterrupts}
+use Rattle.nova_machine.proofs.Runs.{turns-none, turns-stop, turns-go}
+use Rattle.nova_machine.proofs.Turns.{Turns, turns-fetch, unchanged-same, unchanged-then, interrupts-same, interrupts-then}
 
--- a turn where time may have ended: it stops for a limit exactly there, and then the machine is as it was
-pub record NextTurn (before : MachineState) (t : Turned) : Type 0 where
-  pub goes : t.stop ≡ None → t.machine.time ≡ before.time + 1
-  pub least : before.time ≤ t.machine.time
-  pub most : t.machine.time ≤ before.time + 1
-  pub ended : (s : Stop) → t.stop ≡ Some s → IsLimit s → (before.time ≡ last_time) × (s ≡ Limit) × (t.machine ≡ before)
-  pub released : before.time < t.machine.time → t.machine.ints.hold ≡ false
-  pub held : t.machine.time ≡ before.time → t.machine.ints.hold ≡ before.ints.hold
-  pub unchanged : Unchanged before t.machine
+-- a turn where time may have ended: it stops for a limit exactly there, and then all is as it was
+pub record NextTurn (before : Seen) (p : Part) : Type 0 where
+  pub goes : p.stop ≡ None → p.after.machine.time ≡ before.machine.time + 1
+  pub least : before.machine.time ≤ p.after.machine.time
+  pub most : p.after.machine.time ≤ before.machine.time + 1
+  pub ended : IsLimit p.stop → (before.machine.time ≡ last_time) × (p ≡ silent (Some Limit) before)
+  pub unchanged : Unchanged before.machine p.after.machine
+  pub interrupts : SameInterrupts before.machine p.after.machine
+  pub released : before.machine.time < p.after.machine.time → p.after.machine.ints.hold ≡ false
+  pub held : p.after.machine.time ≡ before.machine.time → p.after.machine.ints.hold ≡ before.machine.ints.hold
 
-next-if : (b : Bool) (m : MachineState) (x y : Turned) → (b ≡ true → NextTurn m x) → NextTurn m y → NextTurn m (if b then x else y)
-next-if true m x y first second = first refl
-next-if false m x y first second = second
+next-if : (b : Bool) (s : Seen) (x y : Part) → (b ≡ true → NextTurn s x) → NextTurn s y → NextTurn s (if b then x else y)
+next-if true s x y first second = first refl
+next-if false s x y first second = second
 
-next-ended : (m : MachineState) → m.time ≡ last_time → NextTurn m (record { machine = m; stop = Some Limit })
-next-ended m end = record {
+next-ended : (s : Seen) → s.machine.time ≡ last_time → NextTurn s (silent (Some Limit) s)
+next-ended s end = record {
   goes = λ h. absurd (cc);
   least = omega arith;
   most = omega arith;
-  ended = λ s h limit. (end, (cc), refl);
+  ended = λ limit. (end, refl);
+  unchanged = unchanged-same s.machine;
+  interrupts = interrupts-same s.machine;
   released = λ h. absurd (omega arith);
   held = λ _. refl;
-  unchanged = unchanged-same m;
 }
 
-next-made : (m : MachineState) (t : Turned) → Turns m t → NextTurn m t
-next-made m t turns = record {
-  goes = turns.goes;
-  least = turns.least;
-  most = turns.most;
-  ended = λ s h limit. absurd (turns.other s h limit);
-  released = turns.released;
-  held = turns.held;
-  unchanged = turns.unchanged;
-}
+next-made : (first : Bool) (s : Seen) → NextTurn s (turn first s)
+unfolding turn
+next-made first s =
+    let t = turns-fetch s.machine in
+    record {
+      goes = t.goes;
+      least = t.least;
+      most = t.most;
+      ended = λ limit. absurd (t.other limit);
+      unchanged = t.unchanged;
+      interrupts = t.interrupts;
+      released = t.released;
+      held = t.held;
+    }
 
-pub next-next_turn : (m : MachineState) → NextTurn m (next_turn m)
+pub next-next_turn : (first : Bool) (s : Seen) → NextTurn s (next_turn first s)
 unfolding next_turn
-next-next_turn m =
-    next-if (m.time == last_time) m _ (turn m) (λ e. next-ended m (grind (arith, nat_tests))) (next-made m (turn m) (turns-turn m))
+next-next_turn first s =
+    next-if (s.machine.time == last_time) s _ (turn first s) (λ e. next-ended s (grind (arith, nat_tests))) (next-made first s)
 
-limit-expired : (step : Bool) → IsLimit (expired step)
+limit-expired : (step : Bool) → IsLimit (Some (expired step))
 limit-expired true = tt
 limit-expired false = tt
 
--- where the next turn stops for a limit, so does every run that is not empty
-run-ended : (step : Bool) (n : ℕ) (m : MachineState) (s : Stop) → 0 < n → (next_turn m).stop ≡ Some s → IsLimit s
-    → run step n m ≡ record { machine = m; stop = Limit }
-run-ended step zero m s some stops limit = absurd (omega arith)
-run-ended step (suc n) m s some stops limit =
-    let e = (next-next_turn m).ended s stops limit in
-    run-stops step n m s stops ∙ (let at : (next_turn m).machine ≡ m = e.2 in let so : s ≡ Limit = e.1 in cc)
+-- at the end of time every run that is not empty stops for the limit
+at-end : (first : Bool) (s : Seen) → s.machine.time ≡ last_time → next_turn first s ≡ silent (Some Limit) s
+unfolding next_turn
+at-end first s end = end-if (s.machine.time == last_time) (silent (Some Limit) s) (turn first s) (grind (arith, nat_tests))
+  where
+    end-if : (b : Bool) (x y : Part) → b ≡ true → (if b then x else y) ≡ x
+    end-if true x y is = refl
+    end-if false x y is = absurd (cc)
+
+turns-ended : (step first : Bool) (n : ℕ) (s : Seen) → 0 < n → s.machine.time ≡ last_time → turns step first n s ≡ silent (Some Limit) s
+turns-ended step first zero s some end = absurd (omega arith)
+turns-ended step first (suc n) s some end =
+    let is = at-end first s end in
+    turns-stop step first n s Limit (ap (λ (p : Part). p.stop) is) ∙ is
 
 stop-cases : (o : Option Stop) → (o ≡ None) ⊎ ((s : Stop) × (o ≡ Some s))
 stop-cases None = inl refl
 stop-cases (Some s) = inr (s, refl)
 
-pub run-limited : (first step : Bool) (n k : ℕ) (m : MachineState) → IsLimit (run first n m).stop → 0 < k
-    → run step (n + k) m ≡ run step k (run first n m).machine
-run-limited first step zero k m limit some =
-    let none : zero + k ≡ k = omega arith in
-    ap (λ c. run step c m) none ∙ sym (ap (λ (r : Ran). run step k r.machine) (run-none first m))
-run-limited first step (suc n) k m limit some =
-    let next = next_turn m in
-    let one : suc n + k ≡ suc (n + k) = omega arith in
-    let P : Stop → Type 0 = λ s. IsLimit s in
-    elim (stop-cases next.stop) [
+behind-behind : (first second : List (Observation Seen)) (p : Part) → behind_made first (behind_made second p) ≡ behind_made (first ++ second) p
+behind-behind first second p = ap (λ l. record { made = l; after = p.after; stop = p.stop }) (sym (append_assoc first second p.made))
+
+-- a first turn is like every other where it tests no break
+turns-first : (step : Bool) (k : ℕ) (s : Seen) → PassesNoBreak s → turns step true k s ≡ turns step false k s
+turns-first step zero s same = turns-none step true s ∙ sym (turns-none step false s)
+turns-first step (suc k) s same =
+    elim (stop-cases (next_turn false s).stop) [
       | inl goes ↦
-          let from = run-goes first n m goes in
-          ap (λ c. run step c m) one ∙ run-goes step (n + k) m goes
-          ∙ run-limited first step n k next.machine (subst P (ap (λ (r : Ran). r.stop) from) limit) some
-          ∙ sym (ap (λ (r : Ran). run step k r.machine) from)
-      | inr w ↦
-          let over = run-stops first n m w.0 w.1 in
-          let at_limit : IsLimit w.0 = subst P (ap (λ (r : Ran). r.stop) over) limit in
-          let e = (next-next_turn m).ended w.0 w.1 at_limit in
-          run-ended step (suc n + k) m w.0 (omega arith) w.1 at_limit
-          ∙ sym (run-ended step k m w.0 some w.1 at_limit)
-          ∙ sym (ap (λ (r : Ran). run step k r.machine) over ∙ ap (λ (x : MachineState). run step k x) e.2)
+          turns-go step true k s (ap (λ (p : Part). p.stop) same ∙ goes)
+          ∙ ap (λ (p : Part). behind_made p.made (turns step false k p.after)) same
+          ∙ sym (turns-go step false k s goes)
+      | inr w ↦ turns-stop step true k s w.0 (ap (λ (p : Part). p.stop) same ∙ w.1) ∙ same ∙ sym (turns-stop step false k s w.0 w.1)
     ]
 
-pub run-counted : (step : Bool) (n k : ℕ) (m : MachineState) → (run step n m).stop ≡ expired step
-    → run step (n + k) m ≡ run step k (run step n m).machine
-run-counted step n zero m all =
-    let none : n + zero ≡ n = omega arith in
-    ap (λ c. run step c m) none ∙ ap (λ s. record { machine = (run step n m).machine; stop = s }) all ∙ sym (run-none step (run step n m).machine)
-run-counted step n (suc k) m all =
-    let P : Stop → Type 0 = λ s. IsLimit s in
-    run-limited step step n (suc k) m (subst P (sym all) (limit-expired step)) (omega arith)
+any-first : (step first : Bool) (k : ℕ) (s : Seen) → PassesNoBreak s → turns step first k s ≡ turns step true k s
+any-first step true k s same = refl
+any-first step false k s same = sym (turns-first step k s same)
 
-pub run-stopped : (first step : Bool) (n k : ℕ) (m : MachineState) → ¬ IsLimit (run first n m).stop
-    → run step (n + k) m ≡ run first n m
-run-stopped first step zero k m other =
-    let P : Stop → Type 0 = λ s. IsLimit s in
-    absurd (other (subst P (sym (ap (λ (r : Ran). r.stop) (run-none first m))) (limit-expired first)))
-run-stopped first step (suc n) k m other =
-    let next = next_turn m in
-    let one : suc n + k ≡ suc (n + k) = omega arith in
-    let P : Stop → Type 0 = λ s. ¬ IsLimit s in
+-- turns that only the count or the end of time has ended, and k more
+turns-limited : (one step first : Bool) (n k : ℕ) (s : Seen) → IsLimit (turns one first n s).stop → 0 < k → PassesNoBreak (turns one first n s).after
+    → turns step first (n + k) s ≡ behind_made (turns one first n s).made (turns step true k (turns one first n s).after)
+turns-limited one step first zero k s limit some passes =
+    let none : zero + k ≡ k = omega arith in
+    let is = turns-none one first s in
+    let P : Seen → Type 0 = λ x. PassesNoBreak x in
+    ap (λ c. turns step first c s) none ∙ any-first step first k s (subst P (ap (λ (p : Part). p.after) is) passes)
+    ∙ sym (ap (λ (p : Part). behind_made p.made (turns step true k p.after)) is)
+turns-limited one step first (suc n) k s limit some passes =
+    let next = next_turn first s in
+    let both : suc n + k ≡ suc (n + k) = omega arith in
+    let P : Option Stop → Type 0 = λ o. IsLimit o in
+    let Q : Seen → Type 0 = λ x. PassesNoBreak x in
     elim (stop-cases next.stop) [
       | inl goes ↦
-          let from = run-goes first n m goes in
-          ap (λ c. run step c m) one ∙ run-goes step (n + k) m goes
-          ∙ run-stopped first step n k next.machine (subst P (ap (λ (r : Ran). r.stop) from) other) ∙ sym from
-      | inr w ↦ ap (λ c. run step c m) one ∙ run-stops step (n + k) m w.0 w.1 ∙ sym (run-stops first n m w.0 w.1)
+          let from = turns-go one first n s goes in
+          let rest = turns one false n next.after in
+          let inner = turns-limited one step false n k next.after (subst P (ap (λ (p : Part). p.stop) from) limit) some
+              (subst Q (ap (λ (p : Part). p.after) from) passes) in
+          ap (λ c. turns step first c s) both ∙ turns-go step first (n + k) s goes
+          ∙ ap (behind_made next.made) inner
+          ∙ behind-behind next.made rest.made (turns step true k rest.after)
+          ∙ sym (ap (λ (p : Part). behind_made p.made (turns step true k p.after)) from)
+      | inr w ↦
+          let over = turns-stop one first n s w.0 w.1 in
+          let e = (next-next_turn first s).ended (subst P (ap (λ (p : Part). p.stop) over) limit) in
+          let here = over ∙ e.1 in
+          turns-ended step first (suc n + k) s (omega arith) e.0
+          ∙ sym (turns-ended step true k s some e.0)
+          ∙ sym (ap (λ (p : Part). behind_made p.made (turns step true k p.after)) here)
+    ]
+
+pub run-limited : (one step : Bool) (n k : ℕ) (s : Seen) → IsLimit (run one n s).stop → 0 < k → PassesNoBreak (run one n s).after
+    → run step (n + k) s ≡ behind_made (run one n s).made (run step k (run one n s).after)
+run-limited one step n k s limit some passes = turns-limited one step true n k s limit some passes
+
+pub run-counted : (step : Bool) (n k : ℕ) (s : Seen) → (run step n s).stop ≡ Some (expired step) → PassesNoBreak (run step n s).after
+    → run step (n + k) s ≡ behind_made (run step n s).made (run step k (run step n s).after)
+run-counted step n zero s all passes =
+    let none : n + zero ≡ n = omega arith in
+    let p = run step n s in
+    ap (λ c. run step c s) none
+    ∙ ap (λ o. record { made = p.made; after = p.after; stop = o }) all
+    ∙ ap (λ l. record { made = l; after = p.after; stop = Some (expired step) }) (sym (nothing-behind p.made))
+    ∙ sym (ap (behind_made p.made) (turns-none step true p.after))
+  where
+    nothing-behind : (l : List (Observation Seen)) → l ++ [] ≡ l
+    nothing-behind l = append-nil l
+run-counted step n (suc k) s all passes =
+    let P : Option Stop → Type 0 = λ o. IsLimit o in
+    run-limited step step n (suc k) s (subst P (sym all) (limit-expired step)) (omega arith) passes
+
+turns-stopped : (one step first : Bool) (n k : ℕ) (s : Seen) → ¬ IsLimit (turns one first n s).stop → turns step first (n + k) s ≡ turns one first n s
+turns-stopped one step first zero k s other =
+    let P : Option Stop → Type 0 = λ o. IsLimit o in
+    absurd (other (subst P (sym (ap (λ (p : Part). p.stop) (turns-none one first s))) (limit-expired one)))
+turns-stopped one step first (suc n) k s other =
+    let next = next_turn first s in
+    let both : suc n + k ≡ suc (n + k) = omega arith in
+    let P : Option Stop → Type 0 = λ o. ¬ IsLimit o in
+    elim (stop-cases next.stop) [
+      | inl goes ↦
+          let from = turns-go one first n s goes in
+          ap (λ c. turns step first c s) both ∙ turns-go step first (n + k) s goes
+          ∙ ap (behind_made next.made) (turns-stopped one step false n k next.after (subst P (ap (λ (p : Part). p.stop) from) other)) ∙ sym from
+      | inr w ↦ ap (λ c. turns step first c s) both ∙ turns-stop step first (n + k) s w.0 w.1 ∙ sym (turns-stop one first n s w.0 w.1)
     ]
 
 pub runs-split : RunSplits
-runs-split = record { counted = run-counted; limited = run-limited; stopped = run-stopped }
+runs-split = record { counted = run-counted; limited = run-limited; stopped = λ one step n k s other. turns-stopped one step true n k s other }
 
--- the time that a run of that many instructions has taken, what it has done to the wait of interrupts, and what it has
--- left as it was
-pub record Takes (n : ℕ) (m : MachineState) (r : Ran) : Type 0 where
-  pub least : m.time ≤ r.machine.time
-  pub most : r.machine.time ≤ m.time + n
-  pub stepped : r.stop ≡ Stepped → r.machine.time ≡ m.time + n
-  pub limited : IsLimit r.stop → (r.machine.time ≡ m.time + n) ⊎ (r.machine.time ≡ last_time)
-  pub released : m.time < r.machine.time → r.machine.ints.hold ≡ false
-  pub held : r.machine.time ≡ m.time → r.machine.ints.hold ≡ m.ints.hold
-  pub unchanged : Unchanged m r.machine
+-- the time that so many turns have taken, what they have done to the wait of interrupts, and what they have left
+pub record Takes (n : ℕ) (s : Seen) (p : Part) : Type 0 where
+  pub least : s.machine.time ≤ p.after.machine.time
+  pub most : p.after.machine.time ≤ s.machine.time + n
+  pub stepped : p.stop ≡ Some Stepped → p.after.machine.time ≡ s.machine.time + n
+  pub limited : IsLimit p.stop → (p.after.machine.time ≡ s.machine.time + n) ⊎ (p.after.machine.time ≡ last_time)
+  pub unchanged : Unchanged s.machine p.after.machine
+  pub interrupts : SameInterrupts s.machine p.after.machine
+  pub released : s.machine.time < p.after.machine.time → p.after.machine.ints.hold ≡ false
+  pub held : p.after.machine.time ≡ s.machine.time → p.after.machine.ints.hold ≡ s.machine.ints.hold
 
 same-or-more : (a b : ℕ) → a ≤ b → (b ≡ a) ⊎ (a < b)
 same-or-more a b least = grind arith
 
--- a run that goes on from the machine of the next turn
-takes-more : (n : ℕ) (m : MachineState) (r : Ran) → (next_turn m).stop ≡ None → Takes n (next_turn m).machine r → Takes (suc n) m r
-takes-more n m r goes t =
-    let next = next-next_turn m in
-    let one : (next_turn m).machine.time ≡ m.time + 1 = next.goes goes in
+-- turns that go on from the state of the next one
+takes-more : (first : Bool) (n : ℕ) (s : Seen) (p : Part) → (next_turn first s).stop ≡ None → Takes n (next_turn first s).after p → Takes (suc n) s (behind_made (next_turn first s).made p)
+takes-more first n s p goes t =
+    let next = next-next_turn first s in
+    let now = (next_turn first s).after.machine in
+    let one : now.time ≡ s.machine.time + 1 = next.goes goes in
     record {
-      least = omega (arith, t.least);
-      most = omega (arith, t.most);
-      stepped = λ h. let e = t.stepped h in omega (arith, e);
-      limited = λ h. elim (t.limited h) [ inl e ↦ inl (omega (arith, e)) | inr e ↦ inr e ];
-      released = λ _. elim (same-or-more (next_turn m).machine.time r.machine.time t.least) [
+      least = omega (arith, one, t.least);
+      most = omega (arith, one, t.most);
+      stepped = λ h. let e = t.stepped h in omega (arith, one, e);
+      limited = λ h. elim (t.limited h) [ inl e ↦ inl (omega (arith, one, e)) | inr e ↦ inr e ];
+      unchanged = unchanged-then s.machine now p.after.machine next.unchanged t.unchanged;
+      interrupts = interrupts-then s.machine now p.after.machine next.interrupts t.interrupts;
+      released = λ _. elim (same-or-more now.time p.after.machine.time t.least) [
         | inl same ↦ t.held same ∙ next.released (omega (arith, one))
         | inr more ↦ t.released more
       ];
       held = λ h. absurd (omega (arith, one, t.least, h));
-      unchanged = unchanged-then m (next_turn m).machine r.machine next.unchanged t.unchanged;
     }
 
-takes-stop : (n : ℕ) (m : MachineState) (s : Stop) → (next_turn m).stop ≡ Some s → Takes (suc n) m (record { machine = (next_turn m).machine; stop = s })
-takes-stop n m s stops =
-    let next = next-next_turn m in
-    record {
-      least = next.least;
-      most = omega (arith, next.most);
-      stepped = λ h. let P : Stop → Type 0 = λ x. IsLimit x in let e = next.ended s stops (subst P (sym h) tt) in absurd (cc);
-      limited = λ h. let e = next.ended s stops h in inr (ap (λ (x : MachineState). x.time) e.2 ∙ e.0);
-      released = next.released;
-      held = next.held;
-      unchanged = next.unchanged;
-    }
+takes-stop : (first : Bool) (n : ℕ) (s : Seen) → Takes (suc n) s (next_turn first s) ⊎ ((next_turn first s).stop ≡ None)
+takes-stop first n s =
+    let next = next-next_turn first s in
+    let p = next_turn first s in
+    let P : Option Stop → Type 0 = λ o. IsLimit o in
+    elim (stop-cases p.stop) [
+      | inl goes ↦ inr goes
+      | inr w ↦ inl (record {
+          least = next.least;
+          most = omega (arith, next.most);
+          stepped = λ h. let e = next.ended (subst P (sym h) tt) in let limit = ap (λ (x : Part). x.stop) e.1 in absurd (cc);
+          limited = λ h. let e = next.ended h in inr (ap (λ (x : Part). x.after.machine.time) e.1 ∙ e.0);
+          unchanged = next.unchanged;
+          interrupts = next.interrupts;
+          released = next.released;
+          held = next.held;
+        })
+    ]
 
-takes-run : (step : Bool) (n : ℕ) (m : MachineState) → Takes n m (run step n m)
-takes-run step zero m =
-    let P : Ran → Type 0 = λ r. Takes zero m r in
-    subst P (sym (run-none step m)) (record {
-      least = omega arith;
-      most = omega arith;
-      stepped = λ h. omega arith;
-      limited = λ h. inl (omega arith);
-      released = λ h. absurd (omega arith);
-      held = λ _. refl;
-      unchanged = unchanged-same m;
-    })
-takes-run step (suc n) m =
-    let P : Ran → Type 0 = λ r. Takes (suc n) m r in
-    elim (stop-cases (next_turn m).stop) [
-      | inl goes ↦ subst P (sym (run-goes step n m goes)) (takes-more n m _ goes (takes-run step n (next_turn m).machine))
-      | inr w ↦ subst P (sym (run-stops step n m w.0 w.1)) (takes-stop n m w.0 w.1)
+takes-none : (step first : Bool) (s : Seen) → Takes 0 s (silent (Some (expired step)) s)
+takes-none step first s = record {
+  least = omega arith;
+  most = omega arith;
+  stepped = λ h. omega arith;
+  limited = λ h. inl (omega arith);
+  unchanged = unchanged-same s.machine;
+  interrupts = interrupts-same s.machine;
+  released = λ h. absurd (omega arith);
+  held = λ _. refl;
+}
+
+pub takes-turns : (step first : Bool) (n : ℕ) (s : Seen) → Takes n s (turns step first n s)
+takes-turns step first zero s =
+    let P : Part → Type 0 = λ p. Takes zero s p in
+    subst P (sym (turns-none step first s)) (takes-none step first s)
+takes-turns step first (suc n) s =
+    let P : Part → Type 0 = λ p. Takes (suc n) s p in
+    elim (stop-cases (next_turn first s).stop) [
+      | inl goes ↦ subst P (sym (turns-go step first n s goes)) (takes-more first n s _ goes (takes-turns step false n (next_turn first s).after))
+      | inr w ↦ elim (takes-stop first n s) [
+          | inl takes ↦ subst P (sym (turns-stop step first n s w.0 w.1)) takes
+          | inr goes ↦ let wrong = w.1 in absurd (cc)
+        ]
     ]
 
 pub runs-take-time : RunTakesTime
 runs-take-time = record {
-  least = λ step n m. (takes-run step n m).least;
-  most = λ step n m. (takes-run step n m).most;
-  stepped = λ step n m. (takes-run step n m).stepped;
-  limited = λ step n m. (takes-run step n m).limited;
-  released = λ step n m. (takes-run step n m).released;
-  held = λ step n m. (takes-run step n m).held;
-  unchanged = λ step n m. (takes-run step n m).unchanged;
+  least = λ step n s. (takes-turns step true n s).least;
+  most = λ step n s. (takes-turns step true n s).most;
+  stepped = λ step n s. (takes-turns step true n s).stepped;
+  limited = λ step n s. (takes-turns step true n s).limited;
+  unchanged = λ step n s. (takes-turns step true n s).unchanged;
 }

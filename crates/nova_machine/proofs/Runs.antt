@@ -1,52 +1,61 @@
--- A run, one turn further.
-use Rattle.std.proofs.Common.{◌≡◌, ℕ, suc, ◌+◌, ◌-◌, ◌<◌, ◌≤◌, Bool, refl, ap, ◌∙◌, arith, Option, Some, None}
+-- Turns, one further.
+use Rattle.std.proofs.Common.{◌≡◌, ℕ, suc, ◌+◌, ◌-◌, ◌<◌, ◌≤◌, ◌==◌, Bool, true, false, refl, ap, sym, ◌∙◌, arith, Option, Some, None, List, [], ◌++◌}
+use Rattle.std.proofs.lemmas.Bool.{ne_eqb}
+use Rattle.observations.specs.Observations.{Observation}
 use Rattle.nova_machine.specs.declared.machine.Stop.{Stop}
+use Rattle.nova_machine.specs.declared.machine.Turn.{Turn}
 use Rattle.nova_machine.specs.declared.machine.Turn.TheVariants.{Executed, Stopped}
-use Rattle.nova_machine.specs.Machine.{MachineState}
-use Rattle.nova_machine.specs.Turn.{answer_of}
-use Rattle.nova_machine.specs.Run.{run, next_turn, expired}
+use Rattle.nova_machine.specs.Seen.{Seen}
+use Rattle.nova_machine.specs.Parts.{Part, silent, behind_made, followed, then_part, stop_of}
+use Rattle.nova_machine.specs.Run.{next_turn, turns, run, expired}
+use Rattle.nova_machine.proofs.Silent.{next-silent}
 
 -- no instruction is left
-pub run-none : (step : Bool) (m : MachineState) → run step 0 m ≡ record { machine = m; stop = expired step }
-unfolding run
-run-none step m = refl
+pub turns-none : (step first : Bool) (s : Seen) → turns step first 0 s ≡ silent (Some (expired step)) s
+unfolding turns
+turns-none step first s = refl
 
 -- the next turn stops
-pub run-stops : (step : Bool) (left : ℕ) (m : MachineState) (stop : Stop) → (next_turn m).stop ≡ Some stop
-    → run step (suc left) m ≡ record { machine = (next_turn m).machine; stop = stop }
-unfolding run
-run-stops step left m stop stops = rw stops refl
+pub turns-stop : (step first : Bool) (left : ℕ) (s : Seen) (stop : Stop) → (next_turn first s).stop ≡ Some stop → turns step first (suc left) s ≡ next_turn first s
+unfolding turns
+turns-stop step first left s stop stops =
+    let next = next_turn first s in
+    ap (λ o. followed next.made o next.after (λ t. turns step false left t)) stops ∙ ap (λ o. record { made = next.made; after = next.after; stop = o }) (sym stops)
 
--- the next turn is executed, and the run goes on
-pub run-goes : (step : Bool) (left : ℕ) (m : MachineState) → (next_turn m).stop ≡ None → run step (suc left) m ≡ run step left (next_turn m).machine
-unfolding run
-run-goes step left m goes = rw goes refl
+-- the next turn is executed, and the turns go on
+pub turns-go : (step first : Bool) (left : ℕ) (s : Seen) → (next_turn first s).stop ≡ None
+    → turns step first (suc left) s ≡ behind_made (next_turn first s).made (turns step false left (next_turn first s).after)
+unfolding turns
+turns-go step first left s goes =
+    let next = next_turn first s in ap (λ o. followed next.made o next.after (λ t. turns step false left t)) goes
+
+-- the same where nothing was made
+pub turns-go-silent : (step first : Bool) (left : ℕ) (s : Seen) → (next_turn first s).stop ≡ None → turns step first (suc left) s ≡ turns step false left (next_turn first s).after
+turns-go-silent step first left s goes =
+    turns-go step first left s goes ∙ ap (λ l. behind_made l (turns step false left (next_turn first s).after)) (next-silent first s)
 
 -- the same for a run that has come from its start to here by so many turns
-pub run-stops-behind : (step : Bool) (count done : ℕ) (start now : MachineState) (stop : Stop) → done < count
-    → run step count start ≡ run step (count - done) now → (next_turn now).stop ≡ Some stop
-    → run step count start ≡ record { machine = (next_turn now).machine; stop = stop }
-run-stops-behind step count done start now stop before so_far stops =
-    let left : count - done ≡ suc (count - (done + 1)) = omega arith in
-    so_far ∙ ap (λ n. run step n now) left ∙ run-stops step (count - (done + 1)) now stop stops
 
-pub run-goes-behind : (step : Bool) (count done : ℕ) (start now : MachineState) → done < count
-    → run step count start ≡ run step (count - done) now → (next_turn now).stop ≡ None
-    → run step count start ≡ run step (count - (done + 1)) (next_turn now).machine
-run-goes-behind step count done start now before so_far goes =
-    let left : count - done ≡ suc (count - (done + 1)) = omega arith in
-    so_far ∙ ap (λ n. run step n now) left ∙ run-goes step (count - (done + 1)) now goes
+later : (done : ℕ) → (done + 1 == 0) ≡ false
+later done = ne_eqb (done + 1) 0 (λ e. omega (arith, e))
 
-pub run-none-behind : (step : Bool) (count done : ℕ) (start now : MachineState) → count ≤ done
-    → run step count start ≡ run step (count - done) now → run step count start ≡ record { machine = now; stop = expired step }
-run-none-behind step count done start now all so_far =
+pub stops-behind : (step : Bool) (count done : ℕ) (start now : Seen) (stop : Stop) → done < count
+    → run step count start ≡ turns step (done == 0) (count - done) now → (next_turn (done == 0) now).stop ≡ Some stop
+    → run step count start ≡ next_turn (done == 0) now
+stops-behind step count done start now stop before so_far stops =
+    let left : count - done ≡ suc (count - (done + 1)) = omega arith in
+    so_far ∙ ap (λ n. turns step (done == 0) n now) left ∙ turns-stop step (done == 0) (count - (done + 1)) now stop stops
+
+pub goes-behind : (step : Bool) (count done : ℕ) (start now : Seen) → done < count
+    → run step count start ≡ turns step (done == 0) (count - done) now → (next_turn (done == 0) now).stop ≡ None
+    → run step count start ≡ turns step (done + 1 == 0) (count - (done + 1)) (next_turn (done == 0) now).after
+goes-behind step count done start now before so_far goes =
+    let left : count - done ≡ suc (count - (done + 1)) = omega arith in
+    so_far ∙ ap (λ n. turns step (done == 0) n now) left ∙ turns-go-silent step (done == 0) (count - (done + 1)) now goes
+    ∙ ap (λ b. turns step b (count - (done + 1)) (next_turn (done == 0) now).after) (sym (later done))
+
+pub none-behind : (step : Bool) (count done : ℕ) (start now : Seen) → count ≤ done
+    → run step count start ≡ turns step (done == 0) (count - done) now → run step count start ≡ silent (Some (expired step)) now
+none-behind step count done start now all so_far =
     let left : count - done ≡ 0 = omega arith in
-    so_far ∙ ap (λ n. run step n now) left ∙ run-none step now
-
-pub answer_of-stopped : (stop : Option Stop) (why : Stop) → Stopped why ≡ answer_of stop → stop ≡ Some why
-answer_of-stopped None why h = absurd (cc)
-answer_of-stopped (Some stop) why h = cc
-
-pub answer_of-executed : (stop : Option Stop) → Executed ≡ answer_of stop → stop ≡ None
-answer_of-executed None h = refl
-answer_of-executed (Some stop) h = absurd (cc)
+    so_far ∙ ap (λ n. turns step (done == 0) n now) left ∙ turns-none step (done == 0) now

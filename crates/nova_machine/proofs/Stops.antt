@@ -6,17 +6,19 @@ use Rattle.nova_memory.specs.Memory.{get}
 use Rattle.nova_memory.specs.Address.{Reference, address}
 use Rattle.nova_machine.specs.declared.machine.Stop.TheVariants.{Halt, ChainLimit, NotBuilt}
 use Rattle.nova_machine.specs.Machine.{MachineState}
+use Rattle.nova_machine.specs.Seen.{seen}
 use Rattle.nova_machine.specs.Instruction.{following, advanced}
-use Rattle.nova_machine.specs.Turn.{Turned, ticked, goes_on, stops, refer_to, refer, halt, transfer, execute, turn}
-use Rattle.nova_machine.specs.Laws.{fetched, IsNotBuilt, IsEndless, TurnStops}
+use Rattle.nova_machine.specs.Turn.{Turned, begun, ticked, executed, goes_on, stops, refer_to, refer, halted, halt, transfer, execute, fetch, turn}
+use Rattle.nova_machine.specs.Laws.{fetched, IsEndless, behind_halt, behind_chain, TurnStops}
+use Rattle.nova_machine.specs.LawsWithoutUnits.{IsNotBuilt}
 
--- the law, at a word and what its turn comes to
+-- the laws, at a word and what its turn comes to
 pub record StopsAt (w : ℕ) (m : MachineState) (t : Turned) : Type 0 where
   pub halt : (t.stop ≡ Some Halt) ↔ (w ≡ 0o63077)
   pub chain_limit : (t.stop ≡ Some ChainLimit) ↔ IsEndless w m
   pub not_built : (t.stop ≡ Some NotBuilt) ↔ IsNotBuilt w
-  pub halted : t.stop ≡ Some Halt → t.machine ≡ record m { cpu = record m.cpu { pc = following m.cpu.pc }; ints = record m.ints { hold = false }; time = m.time + 1 }
-  pub unended : t.stop ≡ Some ChainLimit → t.machine ≡ record m { memory = (address m.memory w m.cpu.pc m.cpu.accumulators).memory }
+  pub halted_is : t.stop ≡ Some Halt → t.machine ≡ behind_halt m
+  pub unended : t.stop ≡ Some ChainLimit → t.machine ≡ record m { processor = record m.processor { memory = (address m.processor.memory w m.processor.cpu.pc m.processor.cpu.accumulators).memory } }
   pub unbuilt : t.stop ≡ Some NotBuilt → t.machine ≡ m
 
 -- a word that is executed
@@ -25,19 +27,19 @@ stops-none w m after no_halt ends built = record {
   halt = ((λ h. absurd (cc)), (λ e. absurd (no_halt e)));
   chain_limit = ((λ h. absurd (cc)), (λ e. absurd (ends e)));
   not_built = ((λ h. absurd (cc)), (λ e. absurd (built e)));
-  halted = λ h. absurd (cc);
+  halted_is = λ h. absurd (cc);
   unended = λ h. absurd (cc);
   unbuilt = λ h. absurd (cc);
 }
 
-stops-refer_to : (w : ℕ) (m : MachineState) (r : Reference) (a : Option ℕ) → w < 0o60000 → r ≡ address m.memory w m.cpu.pc m.cpu.accumulators → r.address ≡ a
-    → StopsAt w m (refer_to w a (record m { memory = r.memory }))
+stops-refer_to : (w : ℕ) (m : MachineState) (r : Reference) (a : Option ℕ) → w < 0o60000 → r ≡ address m.processor.memory w m.processor.cpu.pc m.processor.cpu.accumulators → r.address ≡ a
+    → StopsAt w m (refer_to w a (record m { processor = record m.processor { memory = r.memory } }))
 stops-refer_to w m r None low formed endless = record {
   halt = ((λ h. absurd (cc)), (λ e. absurd (omega arith)));
   chain_limit = ((λ h. record { memory_reference = low; chain = sym (ap (λ (x : Reference). x.address) formed) ∙ endless }), (λ e. refl));
   not_built = ((λ h. absurd (cc)), (λ e. let high = e.input_output.0 in absurd (omega arith)));
-  halted = λ h. absurd (cc);
-  unended = λ h. ap (λ (x : Reference). record m { memory = x.memory }) formed;
+  halted_is = λ h. absurd (cc);
+  unended = λ h. ap (λ (x : Reference). record m { processor = record m.processor { memory = x.memory } }) formed;
   unbuilt = λ h. absurd (cc);
 }
 stops-refer_to w m r (Some a) low formed ends =
@@ -48,16 +50,16 @@ stops-refer_to w m r (Some a) low formed ends =
 stops-refer : (w : ℕ) (m : MachineState) → w < 0o60000 → StopsAt w m (refer w m)
 unfolding refer
 stops-refer w m low =
-    let r = address m.memory w m.cpu.pc m.cpu.accumulators in
+    let r = address m.processor.memory w m.processor.cpu.pc m.processor.cpu.accumulators in
     stops-refer_to w m r r.address low refl refl
 
 stops-halt : (w : ℕ) (m : MachineState) → w ≡ 0o63077 → StopsAt w m (halt m)
-unfolding halt ticked advanced
+unfolding halt begun ticked advanced
 stops-halt w m is = record {
   halt = ((λ h. is), (λ e. refl));
   chain_limit = ((λ h. absurd (cc)), (λ e. let low = e.memory_reference in absurd (omega arith)));
   not_built = ((λ h. absurd (cc)), (λ e. absurd (e.other is)));
-  halted = λ h. refl;
+  halted_is = λ h. refl;
   unended = λ h. absurd (cc);
   unbuilt = λ h. absurd (cc);
 }
@@ -67,7 +69,7 @@ stops-not_built w m is = record {
   halt = ((λ h. absurd (cc)), (λ e. absurd (is.other e)));
   chain_limit = ((λ h. absurd (cc)), (λ e. let low = e.memory_reference in let high = is.input_output.0 in absurd (omega arith)));
   not_built = ((λ h. is), (λ e. refl));
-  halted = λ h. absurd (cc);
+  halted_is = λ h. absurd (cc);
   unended = λ h. absurd (cc);
   unbuilt = λ h. refl;
 }
@@ -103,16 +105,15 @@ stops-execute w m =
     (λ e. let below = e.memory_reference in omega arith)
     (λ e. let below = e.input_output.1 in omega arith)))
 
-stops-turn : (m : MachineState) → StopsAt (fetched m) m (turn m)
-unfolding turn
-stops-turn m = stops-execute (get m.memory m.cpu.pc) m
+pub stops-fetch : (m : MachineState) → StopsAt (fetched m) m (fetch m)
+unfolding fetch
+stops-fetch m = stops-execute (get m.processor.memory m.processor.cpu.pc) m
 
 pub turn-stops : TurnStops
+unfolding turn
 turn-stops = record {
-  halt = λ m. (stops-turn m).halt;
-  chain_limit = λ m. (stops-turn m).chain_limit;
-  not_built = λ m. (stops-turn m).not_built;
-  halted = λ m. (stops-turn m).halted;
-  unended = λ m. (stops-turn m).unended;
-  unbuilt = λ m. (stops-turn m).unbuilt;
+  halt = λ first s. (stops-fetch s.machine).halt;
+  chain_limit = λ first s. (stops-fetch s.machine).chain_limit;
+  halted = λ first s h. ap seen ((stops-fetch s.machine).halted_is h);
+  unended = λ first s h. ap seen ((stops-fetch s.machine).unended h);
 }

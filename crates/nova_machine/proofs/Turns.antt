@@ -8,201 +8,188 @@ use Rattle.nova_memory.proofs.Chains.{chain-size}
 use Rattle.nova_machine.specs.declared.machine.Stop.{Stop}
 use Rattle.nova_machine.specs.declared.machine.Stop.TheVariants.{Halt, ChainLimit, NotBuilt}
 use Rattle.nova_machine.specs.declared.interrupts.Ints.{Ints}
-use Rattle.nova_machine.specs.Machine.{MachineState}
+use Rattle.nova_machine.specs.Processor.{ProcessorState}
+use Rattle.nova_machine.specs.Machine.{MachineState, on_processor}
 use Rattle.nova_machine.specs.Instruction.{advanced, jump, jump_to_subroutine, store_and_skip, load, store, without_accumulator, memory_reference, arithmetic}
 use Rattle.nova_machine.specs.InputOutput.{skips_at_zero, multiply, divide, input_zero, unanswered, multiply_divide}
-use Rattle.nova_machine.specs.Turn.{Turned, ticked, goes_on, stops, refer_to, refer, halt, transfer, execute, turn}
+use Rattle.nova_machine.specs.Turn.{Turned, begun, ticked, executed, goes_on, stops, refer_to, refer, halted, halt, transfer, execute, fetch}
 use Rattle.nova_machine.specs.Laws.{IsLimit, Unchanged}
+use Rattle.nova_machine.specs.LawsWithoutUnits.{SameInterrupts}
 
--- an instruction has changed only the processor's registers that instructions change and words of memory
-pub record Keeps (before after : MachineState) : Type 0 where
-  pub time : after.time ≡ before.time
+-- an instruction leaves the size of memory
+pub record SameSize (before after : ProcessorState) : Type 0 where
   pub size : after.memory.size ≡ before.memory.size
-  pub ints : after.ints ≡ before.ints
-  pub sr : after.sr ≡ before.sr
-  pub stop_dev : after.stop_dev ≡ before.stop_dev
 
-keeps-if : (b : Bool) (m x y : MachineState) → Keeps m x → Keeps m y → Keeps m (if b then x else y)
-keeps-if true m x y first second = first
-keeps-if false m x y first second = second
+size-if : (b : Bool) (p x y : ProcessorState) → SameSize p x → SameSize p y → SameSize p (if b then x else y)
+size-if true p x y first second = first
+size-if false p x y first second = second
 
 put-size : (m : MemoryState) (a v : ℕ) → (put m a v).size ≡ m.size
 put-size m a v = grind (arith, nat_tests)
 
-keeps-jump : (a : ℕ) (m : MachineState) → Keeps m (jump a m)
-unfolding jump
-keeps-jump a m = record { time = refl; size = refl; ints = refl; sr = refl; stop_dev = refl }
-
-keeps-jump_to_subroutine : (a : ℕ) (m : MachineState) → Keeps m (jump_to_subroutine a m)
-unfolding jump_to_subroutine
-keeps-jump_to_subroutine a m = record { time = refl; size = refl; ints = refl; sr = refl; stop_dev = refl }
-
-keeps-store_and_skip : (a v : ℕ) (m : MachineState) → Keeps m (store_and_skip a v m)
+size-store_and_skip : (a v : ℕ) (p : ProcessorState) → SameSize p (store_and_skip a v p)
 unfolding store_and_skip
-keeps-store_and_skip a v m = record { time = refl; size = put-size m.memory a v; ints = refl; sr = refl; stop_dev = refl }
+size-store_and_skip a v p = record { size = put-size p.memory a v }
 
-keeps-load : (k a : ℕ) (m : MachineState) → Keeps m (load k a m)
+size-jump : (a : ℕ) (p : ProcessorState) → SameSize p (jump a p)
+unfolding jump
+size-jump a p = record { size = refl }
+
+size-jump_to_subroutine : (a : ℕ) (p : ProcessorState) → SameSize p (jump_to_subroutine a p)
+unfolding jump_to_subroutine
+size-jump_to_subroutine a p = record { size = refl }
+
+size-load : (k a : ℕ) (p : ProcessorState) → SameSize p (load k a p)
 unfolding load
-keeps-load k a m = record { time = refl; size = refl; ints = refl; sr = refl; stop_dev = refl }
+size-load k a p = record { size = refl }
 
-keeps-store : (k a : ℕ) (m : MachineState) → Keeps m (store k a m)
+size-store : (k a : ℕ) (p : ProcessorState) → SameSize p (store k a p)
 unfolding store
-keeps-store k a m = record { time = refl; size = put-size m.memory a _; ints = refl; sr = refl; stop_dev = refl }
+size-store k a p = record { size = put-size p.memory a _ }
 
-keeps-without_accumulator : (f a : ℕ) (m : MachineState) → Keeps m (without_accumulator f a m)
+size-without_accumulator : (f a : ℕ) (p : ProcessorState) → SameSize p (without_accumulator f a p)
 unfolding without_accumulator
-keeps-without_accumulator f a m =
-    keeps-if _ m _ _ (keeps-jump a m) (keeps-if _ m _ _ (keeps-jump_to_subroutine a m) (keeps-if _ m _ _ (keeps-store_and_skip a _ m) (keeps-store_and_skip a _ m)))
+size-without_accumulator f a p =
+    size-if _ p _ _ (size-jump a p) (size-if _ p _ _ (size-jump_to_subroutine a p) (size-if _ p _ _ (size-store_and_skip a _ p) (size-store_and_skip a _ p)))
 
-keeps-memory_reference : (w a : ℕ) (m : MachineState) → Keeps m (memory_reference w a m)
+size-memory_reference : (w a : ℕ) (p : ProcessorState) → SameSize p (memory_reference w a p)
 unfolding memory_reference
-keeps-memory_reference w a m =
-    keeps-if _ m _ _ (keeps-without_accumulator (bits 3 4 w) a m) (keeps-if _ m _ _ (keeps-load (bits 3 4 w) a m) (keeps-store (bits 3 4 w) a m))
+size-memory_reference w a p = size-if _ p _ _ (size-without_accumulator (bits 3 4 w) a p) (size-if _ p _ _ (size-load (bits 3 4 w) a p) (size-store (bits 3 4 w) a p))
 
-keeps-arithmetic : (w : ℕ) (m : MachineState) → Keeps m (arithmetic w m)
+size-arithmetic : (w : ℕ) (p : ProcessorState) → SameSize p (arithmetic w p)
 unfolding arithmetic
-keeps-arithmetic w m = record { time = refl; size = refl; ints = refl; sr = refl; stop_dev = refl }
+size-arithmetic w p = record { size = refl }
 
-keeps-multiply : (m : MachineState) → Keeps m (multiply m)
-unfolding multiply
-keeps-multiply m = record { time = refl; size = refl; ints = refl; sr = refl; stop_dev = refl }
-
-keeps-divide : (m : MachineState) → Keeps m (divide m)
-unfolding divide
-keeps-divide m = record { time = refl; size = refl; ints = refl; sr = refl; stop_dev = refl }
-
-keeps-unanswered : (f t k : ℕ) (m : MachineState) → Keeps m (unanswered f t k m)
+size-unanswered : (f t k : ℕ) (p : ProcessorState) → SameSize p (unanswered f t k p)
 unfolding unanswered input_zero
-keeps-unanswered f t k m =
-    let reads = (f == 1) || (f == 3) || (f == 5) in
-    let passed = record m { cpu = advanced ((f == 7) && skips_at_zero t) m.cpu } in
-    keeps-if reads m (input_zero k m) passed (record { time = refl; size = refl; ints = refl; sr = refl; stop_dev = refl }) (record { time = refl; size = refl; ints = refl; sr = refl; stop_dev = refl })
+size-unanswered f t k p =
+    let passed = record p { cpu = advanced ((f == 7) && skips_at_zero t) p.cpu } in
+    size-if ((f == 1) || (f == 3) || (f == 5)) p (input_zero k p) passed (record { size = refl }) (record { size = refl })
 
-keeps-multiply_divide : (w : ℕ) (m : MachineState) → Keeps m (multiply_divide w m)
+size-multiply : (p : ProcessorState) → SameSize p (multiply p)
+unfolding multiply
+size-multiply p = record { size = refl }
+
+size-divide : (p : ProcessorState) → SameSize p (divide p)
+unfolding divide
+size-divide p = record { size = refl }
+
+size-multiply_divide : (w : ℕ) (p : ProcessorState) → SameSize p (multiply_divide w p)
 unfolding multiply_divide
-keeps-multiply_divide w m =
-    keeps-if _ m _ _ (keeps-multiply m) (keeps-if _ m _ _ (keeps-divide m) (keeps-unanswered (bits 5 7 w) (bits 8 9 w) (bits 3 4 w) m))
+size-multiply_divide w p = size-if _ p _ _ (size-multiply p) (size-if _ p _ _ (size-divide p) (size-unanswered (bits 5 7 w) (bits 8 9 w) (bits 3 4 w) p))
 
 pub unchanged-same : (m : MachineState) → Unchanged m m
-unchanged-same m = record { size = refl; sr = refl; stop_dev = refl; mask = refl; on = refl }
+unchanged-same m = record { size = refl; sr = refl; stop_dev = refl }
 
 pub unchanged-then : (first second third : MachineState) → Unchanged first second → Unchanged second third → Unchanged first third
-unchanged-then first second third a b = record {
-  size = b.size ∙ a.size;
-  sr = b.sr ∙ a.sr;
-  stop_dev = b.stop_dev ∙ a.stop_dev;
-  mask = b.mask ∙ a.mask;
-  on = b.on ∙ a.on;
-}
+unchanged-then first second third a b = record { size = b.size ∙ a.size; sr = b.sr ∙ a.sr; stop_dev = b.stop_dev ∙ a.stop_dev }
+
+pub interrupts-same : (m : MachineState) → SameInterrupts m m
+interrupts-same m = record { mask = refl; on = refl }
+
+pub interrupts-then : (first second third : MachineState) → SameInterrupts first second → SameInterrupts second third → SameInterrupts first third
+interrupts-then first second third a b = record { mask = b.mask ∙ a.mask; on = b.on ∙ a.on }
 
 -- How time grows over a turn: by one where it goes on, and by one at the most where it stops, and then not for a limit.
--- Where it has grown interrupts wait no longer.
 pub record Turns (before : MachineState) (t : Turned) : Type 0 where
   pub goes : t.stop ≡ None → t.machine.time ≡ before.time + 1
   pub least : before.time ≤ t.machine.time
   pub most : t.machine.time ≤ before.time + 1
-  pub other : (s : Stop) → t.stop ≡ Some s → ¬ IsLimit s
+  pub other : ¬ IsLimit t.stop
+  pub unchanged : Unchanged before t.machine
+  pub interrupts : SameInterrupts before t.machine
   pub released : before.time < t.machine.time → t.machine.ints.hold ≡ false
   pub held : t.machine.time ≡ before.time → t.machine.ints.hold ≡ before.ints.hold
-  pub unchanged : Unchanged before t.machine
 
 turns-if : (b : Bool) (m : MachineState) (x y : Turned) → Turns m x → Turns m y → Turns m (if b then x else y)
 turns-if true m x y first second = first
 turns-if false m x y first second = second
 
 -- an instruction that goes on
-turns-on : (m after : MachineState) → Keeps (ticked m) after → Turns m (goes_on after)
-unfolding ticked
-turns-on m after k = record {
-  goes = λ _. k.time;
-  least = omega (arith, k.time);
-  most = omega (arith, k.time);
-  other = λ s h. absurd (cc);
-  released = λ _. ap (λ (x : Ints). x.hold) k.ints;
-  held = λ h. absurd (omega (arith, k.time, h));
-  unchanged = record {
-    size = k.size;
-    sr = k.sr;
-    stop_dev = k.stop_dev;
-    mask = ap (λ (x : Ints). x.mask) k.ints;
-    on = ap (λ (x : Ints). x.on) k.ints;
-  };
-}
-
-turns-refer_to : (w : ℕ) (a : Option ℕ) (m : MachineState) → Turns m (refer_to w a m)
-turns-refer_to w None m = record {
-  goes = λ h. absurd (cc);
+turns-on : (m : MachineState) (f : ProcessorState → ProcessorState) → SameSize m.processor (f m.processor) → Turns m (goes_on (executed f m))
+unfolding begun ticked
+turns-on m f size = record {
+  goes = λ _. refl;
   least = omega arith;
   most = omega arith;
-  other = λ s h limit. let e : ChainLimit ≡ s = cc in rw (← e) at limit;
-  released = λ h. absurd (omega arith);
-  held = λ _. refl;
-  unchanged = unchanged-same m;
+  other = λ limit. limit;
+  unchanged = record { size = size.size; sr = refl; stop_dev = refl };
+  interrupts = record { mask = refl; on = refl };
+  released = λ _. refl;
+  held = λ h. absurd (omega arith);
 }
-turns-refer_to w (Some a) m = turns-on m _ (keeps-memory_reference w a (ticked m))
 
-size-if : (b : Bool) (m : MemoryState) (x y : Reference) → x.memory.size ≡ m.size → y.memory.size ≡ m.size → (if b then x else y).memory.size ≡ m.size
-size-if true m x y first second = first
-size-if false m x y first second = second
+-- a stop that leaves all but memory, whose size it leaves too
+turns-stopped : (m after : MachineState) (stop : Stop) → ¬ IsLimit (Some stop) → after.time ≡ m.time → Unchanged m after → after.ints ≡ m.ints → Turns m (stops stop after)
+turns-stopped m after stop other time unchanged ints = record {
+  goes = λ h. absurd (cc);
+  least = omega (arith, time);
+  most = omega (arith, time);
+  other = other;
+  unchanged = unchanged;
+  interrupts = record { mask = ap (λ (i : Ints). i.mask) ints; on = ap (λ (i : Ints). i.on) ints };
+  released = λ h. absurd (omega (arith, time, h));
+  held = λ _. ap (λ (i : Ints). i.hold) ints;
+}
+
+reference-if : (b : Bool) (m : MemoryState) (x y : Reference) → x.memory.size ≡ m.size → y.memory.size ≡ m.size → (if b then x else y).memory.size ≡ m.size
+reference-if true m x y first second = first
+reference-if false m x y first second = second
 
 address-size : (m : MemoryState) (w pc : ℕ) (acs : List ℕ) → (address m w pc acs).memory.size ≡ m.size
 unfolding address
-address-size m w pc acs = size-if (bits 5 5 w == 1) m _ _ (chain-size 16 m (indexed w pc acs)) refl
+address-size m w pc acs = reference-if (bits 5 5 w == 1) m _ _ (chain-size 16 m (indexed w pc acs)) refl
+
+-- a memory reference from a machine whose chain has changed memory
+turns-refer_to : (w : ℕ) (a : Option ℕ) (m : MachineState) (memory : MemoryState) → memory.size ≡ m.processor.memory.size
+    → Turns m (refer_to w a (record m { processor = record m.processor { memory = memory } }))
+turns-refer_to w None m memory size =
+    turns-stopped m (record m { processor = record m.processor { memory = memory } }) ChainLimit (λ limit. limit) refl
+    (record { size = size; sr = refl; stop_dev = refl }) refl
+turns-refer_to w (Some a) m memory size =
+    let changed = record m { processor = record m.processor { memory = memory } } in
+    let t = turns-on changed (memory_reference w a) (size-memory_reference w a changed.processor) in
+    record {
+      goes = t.goes;
+      least = t.least;
+      most = t.most;
+      other = t.other;
+      unchanged = record { size = t.unchanged.size ∙ size; sr = t.unchanged.sr; stop_dev = t.unchanged.stop_dev };
+      interrupts = record { mask = t.interrupts.mask; on = t.interrupts.on };
+      released = t.released;
+      held = t.held;
+    }
 
 turns-refer : (w : ℕ) (m : MachineState) → Turns m (refer w m)
 unfolding refer
 turns-refer w m =
-    let reference = address m.memory w m.cpu.pc m.cpu.accumulators in
-    let after = turns-refer_to w reference.address (record m { memory = reference.memory }) in
-    record {
-      goes = after.goes;
-      least = after.least;
-      most = after.most;
-      other = after.other;
-      released = after.released;
-      held = after.held;
-      unchanged = record {
-        size = after.unchanged.size ∙ address-size m.memory w m.cpu.pc m.cpu.accumulators;
-        sr = after.unchanged.sr;
-        stop_dev = after.unchanged.stop_dev;
-        mask = after.unchanged.mask;
-        on = after.unchanged.on;
-      };
-    }
+    let reference = address m.processor.memory w m.processor.cpu.pc m.processor.cpu.accumulators in
+    turns-refer_to w reference.address m reference.memory (address-size m.processor.memory w m.processor.cpu.pc m.processor.cpu.accumulators)
 
 turns-halt : (m : MachineState) → Turns m (halt m)
-unfolding halt ticked
+unfolding halt begun ticked
 turns-halt m = record {
   goes = λ h. absurd (cc);
   least = omega arith;
   most = omega arith;
-  other = λ s h limit. let e : Halt ≡ s = cc in rw (← e) at limit;
+  other = λ limit. limit;
+  unchanged = record { size = refl; sr = refl; stop_dev = refl };
+  interrupts = record { mask = refl; on = refl };
   released = λ _. refl;
   held = λ h. absurd (omega arith);
-  unchanged = record { size = refl; sr = refl; stop_dev = refl; mask = refl; on = refl };
-}
-
-turns-not_built : (m : MachineState) → Turns m (stops NotBuilt m)
-turns-not_built m = record {
-  goes = λ h. absurd (cc);
-  least = omega arith;
-  most = omega arith;
-  other = λ s h limit. let e : NotBuilt ≡ s = cc in rw (← e) at limit;
-  released = λ h. absurd (omega arith);
-  held = λ _. refl;
-  unchanged = unchanged-same m;
 }
 
 turns-transfer : (w : ℕ) (m : MachineState) → Turns m (transfer w m)
 unfolding transfer
 turns-transfer w m =
-    turns-if _ m _ _ (turns-on m _ (keeps-multiply_divide w (ticked m))) (turns-if _ m _ _ (turns-halt m) (turns-not_built m))
+    turns-if _ m _ _ (turns-on m (multiply_divide w) (size-multiply_divide w m.processor))
+    (turns-if _ m _ _ (turns-halt m) (turns-stopped m m NotBuilt (λ limit. limit) refl (unchanged-same m) refl))
 
 turns-execute : (w : ℕ) (m : MachineState) → Turns m (execute w m)
 unfolding execute
 turns-execute w m =
-    turns-if _ m _ _ (turns-refer w m) (turns-if _ m _ _ (turns-transfer w m) (turns-on m _ (keeps-arithmetic w (ticked m))))
+    turns-if _ m _ _ (turns-refer w m) (turns-if _ m _ _ (turns-transfer w m) (turns-on m (arithmetic w) (size-arithmetic w m.processor)))
 
-pub turns-turn : (m : MachineState) → Turns m (turn m)
-unfolding turn
-turns-turn m = turns-execute (get m.memory m.cpu.pc) m
+pub turns-fetch : (m : MachineState) → Turns m (fetch m)
+unfolding fetch
+turns-fetch m = turns-execute (get m.processor.memory m.processor.cpu.pc) m

@@ -1,82 +1,80 @@
 -- What holds of every run, in a reader's words. A law is proved where a public function's contract is that law.
-use Rattle.std.specs.Prelude.{◌≡◌, ◌≢◌, ◌↔◌, ℕ, ◌+◌, ◌<◌, ◌≤◌, ◌⊎◌, Bool, false, Some, None}
-use Rattle.nova_word.specs.Bits.{bits}
+use Rattle.std.specs.Prelude.{◌≡◌, ◌≢◌, ◌↔◌, ℕ, ◌+◌, ◌<◌, ◌≤◌, ◌⊎◌, Bool, true, false, Option, Some, None}
 use Rattle.nova_memory.specs.Memory.{get}
 use Rattle.nova_memory.specs.Address.{address}
 use Rattle.nova_machine.specs.declared.machine.Stop.{Stop}
-use Rattle.nova_machine.specs.declared.machine.Stop.TheVariants.{Halt, ChainLimit, Stepped, Limit, NotBuilt}
+use Rattle.nova_machine.specs.declared.machine.Stop.TheVariants.{Halt, ChainLimit, Stepped, Limit}
 use Rattle.nova_machine.specs.Machine.{MachineState}
+use Rattle.nova_machine.specs.Seen.{Seen}
+use Rattle.nova_machine.specs.Parts.{behind_made}
 use Rattle.nova_machine.specs.Instruction.{following}
 use Rattle.nova_machine.specs.Turn.{turn}
-use Rattle.nova_machine.specs.Run.{run, expired, last_time}
+use Rattle.nova_machine.specs.Run.{run, next_turn, expired, last_time}
 
 -- the stops of a run that only its count or the end of time has ended
-abbrev pub IsLimit : Stop → Type 0
-IsLimit Stepped = Unit {0}
-IsLimit Limit = Unit {0}
+abbrev pub IsLimit : Option Stop → Type 0
+IsLimit (Some Stepped) = Unit {0}
+IsLimit (Some Limit) = Unit {0}
 IsLimit _ = ⊥
 
--- a run of n + k is a run of n and then a run of k
+-- the next turn is the same, whether it is a run's first or not: no break stands where it tests
+abbrev pub PassesNoBreak : Seen → Type 0
+PassesNoBreak s = next_turn true s ≡ next_turn false s
+
+-- a run of n + k is a run of n and then a run of k, with what the first made in front
 pub record RunSplits : Type 0 where
   -- where the run of n has reached its count
-  pub counted : (step : Bool) (n k : ℕ) (m : MachineState) → (run step n m).stop ≡ expired step
-      → run step (n + k) m ≡ run step k (run step n m).machine
+  pub counted : (step : Bool) (n k : ℕ) (s : Seen) → (run step n s).stop ≡ Some (expired step) → PassesNoBreak (run step n s).after
+      → run step (n + k) s ≡ behind_made (run step n s).made (run step k (run step n s).after)
   -- where the two may be named apart, as a STEP and then a GO, and time may have ended within the first
-  pub limited : (first step : Bool) (n k : ℕ) (m : MachineState) → IsLimit (run first n m).stop → 0 < k
-      → run step (n + k) m ≡ run step k (run first n m).machine
+  pub limited : (one step : Bool) (n k : ℕ) (s : Seen) → IsLimit (run one n s).stop → 0 < k → PassesNoBreak (run one n s).after
+      → run step (n + k) s ≡ behind_made (run one n s).made (run step k (run one n s).after)
   -- another stop within the first n ends the whole run
-  pub stopped : (first step : Bool) (n k : ℕ) (m : MachineState) → ¬ IsLimit (run first n m).stop
-      → run step (n + k) m ≡ run first n m
+  pub stopped : (one step : Bool) (n k : ℕ) (s : Seen) → ¬ IsLimit (run one n s).stop → run step (n + k) s ≡ run one n s
 
--- What no run changes: how many words the memory has, the switch register, STOP_DEV, the interrupt mask, and whether
--- interrupts are on.
+-- what no run changes: how many words the memory has, the switch register, and STOP_DEV
 pub record Unchanged (before after : MachineState) : Type 0 where
-  pub size : after.memory.size ≡ before.memory.size
+  pub size : after.processor.memory.size ≡ before.processor.memory.size
   pub sr : after.sr ≡ before.sr
   pub stop_dev : after.stop_dev ≡ before.stop_dev
-  pub mask : after.ints.mask ≡ before.ints.mask
-  pub on : after.ints.on ≡ before.ints.on
 
 -- how time grows over a run, and what no run changes
 pub record RunTakesTime : Type 0 where
-  pub least : (step : Bool) (n : ℕ) (m : MachineState) → m.time ≤ (run step n m).machine.time
-  pub most : (step : Bool) (n : ℕ) (m : MachineState) → (run step n m).machine.time ≤ m.time + n
+  pub least : (step : Bool) (n : ℕ) (s : Seen) → s.machine.time ≤ (run step n s).after.machine.time
+  pub most : (step : Bool) (n : ℕ) (s : Seen) → (run step n s).after.machine.time ≤ s.machine.time + n
   -- a run that is over by its count has executed that many instructions, and no fewer but at the end of time
-  pub stepped : (step : Bool) (n : ℕ) (m : MachineState) → (run step n m).stop ≡ Stepped → (run step n m).machine.time ≡ m.time + n
-  pub limited : (step : Bool) (n : ℕ) (m : MachineState) → IsLimit (run step n m).stop
-      → ((run step n m).machine.time ≡ m.time + n) ⊎ ((run step n m).machine.time ≡ last_time)
-  -- interrupts wait no longer where an instruction was executed, and as before where none was
-  pub released : (step : Bool) (n : ℕ) (m : MachineState) → m.time < (run step n m).machine.time → (run step n m).machine.ints.hold ≡ false
-  pub held : (step : Bool) (n : ℕ) (m : MachineState) → (run step n m).machine.time ≡ m.time → (run step n m).machine.ints.hold ≡ m.ints.hold
-  pub unchanged : (step : Bool) (n : ℕ) (m : MachineState) → Unchanged m (run step n m).machine
+  pub stepped : (step : Bool) (n : ℕ) (s : Seen) → (run step n s).stop ≡ Some Stepped → (run step n s).after.machine.time ≡ s.machine.time + n
+  pub limited : (step : Bool) (n : ℕ) (s : Seen) → IsLimit (run step n s).stop
+      → ((run step n s).after.machine.time ≡ s.machine.time + n) ⊎ ((run step n s).after.machine.time ≡ last_time)
+  pub unchanged : (step : Bool) (n : ℕ) (s : Seen) → Unchanged s.machine (run step n s).after.machine
 
 -- the word that the next turn fetches
 abbrev pub fetched : MachineState → ℕ
-fetched m = get m.memory m.cpu.pc
-
--- the words that no turn executes: those of input and output, but for HALT and those to device 1
-pub record IsNotBuilt (word : ℕ) : Type 0 where
-  pub input_output : (0o60000 ≤ word) × (word < 0o100000)
-  pub device : bits 10 15 word ≢ 1
-  pub other : word ≢ 0o63077
+fetched m = get m.processor.memory m.processor.cpu.pc
 
 -- a memory reference whose indirect chain does not end
 pub record IsEndless (word : ℕ) (m : MachineState) : Type 0 where
   pub memory_reference : word < 0o60000
-  pub chain : (address m.memory word m.cpu.pc m.cpu.accumulators).address ≡ None
+  pub chain : (address m.processor.memory word m.processor.cpu.pc m.processor.cpu.accumulators).address ≡ None
 
--- Each stop of a turn has its cause, and comes wherever that is given. What stands after it: HALT has taken its time, as
--- every instruction does, and the others have changed no register and taken no time.
+-- the machine behind a HALT, which has taken its time and cleared HOLD as every instruction does
+abbrev pub behind_halt : MachineState → MachineState
+behind_halt m = record m {
+  processor = record m.processor { cpu = record m.processor.cpu { pc = following m.processor.cpu.pc } };
+  ints = record m.ints { hold = false };
+  time = m.time + 1;
+}
+
+-- the machine at a chain without an end, which has changed words of memory and nothing else
+abbrev pub behind_chain : MachineState → MachineState
+behind_chain m = record m {
+  processor = record m.processor { memory = (address m.processor.memory (fetched m) m.processor.cpu.pc m.processor.cpu.accumulators).memory };
+}
+
+-- Stops of a turn have their causes, and come wherever these are given. What stands after them: HALT has taken its time,
+-- and a chain without an end has changed no register and taken no time.
 pub record TurnStops : Type 0 where
-  pub halt : (m : MachineState) → ((turn m).stop ≡ Some Halt) ↔ (fetched m ≡ 0o63077)
-  pub chain_limit : (m : MachineState) → ((turn m).stop ≡ Some ChainLimit) ↔ IsEndless (fetched m) m
-  pub not_built : (m : MachineState) → ((turn m).stop ≡ Some NotBuilt) ↔ IsNotBuilt (fetched m)
-  pub halted : (m : MachineState) → (turn m).stop ≡ Some Halt
-      → (turn m).machine ≡ record m {
-        cpu = record m.cpu { pc = following m.cpu.pc };
-        ints = record m.ints { hold = false };
-        time = m.time + 1;
-      }
-  pub unended : (m : MachineState) → (turn m).stop ≡ Some ChainLimit
-      → (turn m).machine ≡ record m { memory = (address m.memory (fetched m) m.cpu.pc m.cpu.accumulators).memory }
-  pub unbuilt : (m : MachineState) → (turn m).stop ≡ Some NotBuilt → (turn m).machine ≡ m
+  pub halt : (first : Bool) (s : Seen) → ((turn first s).stop ≡ Some Halt) ↔ (fetched s.machine ≡ 0o63077)
+  pub chain_limit : (first : Bool) (s : Seen) → ((turn first s).stop ≡ Some ChainLimit) ↔ IsEndless (fetched s.machine) s.machine
+  pub halted : (first : Bool) (s : Seen) → (turn first s).stop ≡ Some Halt → (turn first s).after ≡ record s { machine = behind_halt s.machine }
+  pub unended : (first : Bool) (s : Seen) → (turn first s).stop ≡ Some ChainLimit → (turn first s).after ≡ record s { machine = behind_chain s.machine }

@@ -7,7 +7,7 @@ use Rattle.nova_machine.specs.Machine.{MachineState}
 
 -- the machine with that memory
 abbrev pub with_memory : MachineState → MemoryState → MachineState
-with_memory m memory = record m { memory = memory }
+with_memory m memory = record m { processor = record m.processor { memory = memory } }
 
 -- the machine ends with the memory that is last behind the loan
 abbrev pub LendsMemory : MutBor MachineState → MutBor MemoryState → Fml

@@ -1,9 +1,13 @@
 pub mod Interrupts
+pub mod Processor
 pub mod Machine
 pub mod Registers
 pub mod Instruction
 pub mod InputOutput
+pub mod Seen
+pub mod Parts
 pub mod Turn
 pub mod Run
 pub mod Laws
+pub mod LawsWithoutUnits
 pub mod Lending

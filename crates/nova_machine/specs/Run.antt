@@ -1,14 +1,10 @@
 -- A run: turns up to a stop or a count.
-use Rattle.std.specs.Prelude.{ℕ, zero, suc, ◌^◌, ◌==◌, Bool, Option, Some, None, if◌then◌else◌}
+use Rattle.std.specs.Prelude.{ℕ, zero, suc, ◌^◌, ◌==◌, Bool, true, false, Some, if◌then◌else◌}
 use Rattle.nova_machine.specs.declared.machine.Stop.{Stop}
 use Rattle.nova_machine.specs.declared.machine.Stop.TheVariants.{Stepped, Limit}
-use Rattle.nova_machine.specs.Machine.{MachineState}
-use Rattle.nova_machine.specs.Turn.{Turned, turn}
-
--- how a run is over
-pub record Ran : Type 0 where
-  pub machine : MachineState
-  pub stop : Stop
+use Rattle.nova_machine.specs.Seen.{Seen}
+use Rattle.nova_machine.specs.Parts.{Part, silent, then_part}
+use Rattle.nova_machine.specs.Turn.{turn}
 
 -- the stop of a run whose count is reached
 abbrev pub expired : Bool → Stop
@@ -18,16 +14,15 @@ expired step = if step then Stepped else Limit
 abbrev pub last_time : ℕ
 last_time = 2 ^ 60
 
--- a turn that stopped ends the run, and another goes on
-abbrev pub after_turn : Option Stop → MachineState → (MachineState → Ran) → Ran
-after_turn (Some stop) m goes_on = record { machine = m; stop = stop }
-after_turn None m goes_on = goes_on m
-
 -- a turn, where time has not ended
-unfoldable pub next_turn : MachineState → Turned
-next_turn m = if m.time == last_time then record { machine = m; stop = Some Limit } else turn m
+unfoldable pub next_turn : Bool → Seen → Part
+next_turn first s = if s.machine.time == last_time then silent (Some Limit) s else turn first s
+
+-- so many turns at the most, of which the first may be a run's first
+unfoldable pub turns : Bool → Bool → ℕ → Seen → Part
+turns step first zero s = silent (Some (expired step)) s
+turns step first (suc count) s = then_part (next_turn first s) (λ next. turns step false count next)
 
 -- A run of that many instructions at the most: it makes turns until one stops, the count is reached, or time ends.
-unfoldable pub run : Bool → ℕ → MachineState → Ran
-run step zero m = record { machine = m; stop = expired step }
-run step (suc count) m = after_turn (next_turn m).stop (next_turn m).machine (λ next. run step count next)
+abbrev pub run : Bool → ℕ → Seen → Part
+run step count s = turns step true count s

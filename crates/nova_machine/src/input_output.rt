@@ -1,11 +1,11 @@
 // The words to device 1, the multiply and divide unit, one method for each definition of one.
 ghost use Rattle.std.specs.Prelude.{◌≡◌, ◌<◌};
 
-use crate::machine::Machine;
+use crate::processor::Processor;
 use nova_alu::{Divided, divide, multiply};
 use nova_word::Word;
 
-impl Machine {
+impl Processor {
     ghost use Rattle.nova_machine.specs.InputOutput.{multiply, divide, input_zero, unanswered, multiply_divide};
 
     #[tactic(auto, unfolding(crate::specs::InputOutput::multiply))]

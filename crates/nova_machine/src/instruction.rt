@@ -3,7 +3,7 @@ ghost use Rattle.std.specs.Prelude.{◌≡◌, ◌<◌, ◌%◌, ◌^◌};
 ghost use Rattle.nova_memory.specs.Memory.{get};
 
 use crate::cpu::Cpu;
-use crate::machine::Machine;
+use crate::processor::Processor;
 use nova_alu::arith_in_place;
 use nova_word::{Addr, Word};
 
@@ -40,7 +40,7 @@ impl Cpu {
     }
 }
 
-impl Machine {
+impl Processor {
     ghost use Rattle.nova_machine.specs.Instruction.{jump, jump_to_subroutine, store_and_skip, load, store};
     ghost use Rattle.nova_machine.specs.Instruction.{without_accumulator, memory_reference, arithmetic};
 

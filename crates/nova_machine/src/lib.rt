@@ -1,4 +1,4 @@
-//! The machine: its registers, memory and time, one turn, and a run of turns.
+//! The machine: its processor with the memory, its switches and time, one turn, and a run of turns.
 #![tactic(auto)]
 
 pub mod cpu;
@@ -7,12 +7,14 @@ mod instruction;
 pub mod interrupts;
 pub mod laws;
 pub mod machine;
-pub mod registers;
+pub mod processor;
+mod registers;
 mod run;
 mod turn;
 
 pub use cpu::Cpu;
 pub use interrupts::Ints;
 pub use machine::{Machine, RunLimit, Stop, Turn};
-pub use registers::{CpuReg, RegFault};
+pub use processor::Processor;
 pub use std::alloc::AllocError as OutOfMemory;
+pub use unit_trait::{CpuReg, RegFault};

@@ -1,9 +1,9 @@
 ghost use Rattle.std.specs.Prelude.{◌≡◌, ◌≤◌, ◌<◌, ◌^◌, ◌↔◌, IfOk, IsOk, OnOk, OnErr};
 ghost use Rattle.nova_machine.specs.Run.{last_time};
 
-use crate::cpu::Cpu;
 use crate::interrupts::Ints;
-use crate::registers::{CpuReg, RegFault};
+use crate::processor::Processor;
+use unit_trait::{CpuReg, RegFault};
 use nova_memory::Memory;
 use nova_word::{Addr, Word};
 use std::alloc::{AllocError, Global};
@@ -39,12 +39,11 @@ pub struct RunLimit {
     pub step: bool,
 }
 
-/// A Nova: its registers, its memory, and its time in instructions since the session began, at most 2^60.
+/// A Nova: its processor with the memory, its switches, and its time in instructions since the session began, at most 2^60.
 #[derive(Drop)]
 pub struct Machine {
-    pub(crate) cpu: Cpu,
+    pub(crate) processor: Processor,
     pub(crate) ints: Ints,
-    pub(crate) memory: Memory,
     /// The switch register.
     pub(crate) sr: Word,
     /// Whether a word to a device that is not there stops the machine.
@@ -60,9 +59,8 @@ impl Model for Machine {
     ghost Value = { MachineState };
 
     ghost view = { λ m. record {
-      cpu = m.cpu;
+      processor = m.processor;
       ints = m.ints;
-      memory = m.memory;
       sr = m.sr;
       stop_dev = m.stop_dev;
       time = m.time;
@@ -75,7 +73,8 @@ impl Machine {
     ghost use Rattle.nova_machine.specs.Machine.{new_machine, reset_machine};
     ghost use Rattle.std.specs.Borrow.{sem};
     ghost use Rattle.nova_machine.specs.Lending.{LendsMemory};
-    ghost use Rattle.nova_machine.specs.Registers.{register_of, with_register, largest_of, CanHold};
+    ghost use Rattle.unit_trait.specs.Processor.{largest_of, CanHold};
+    ghost use Rattle.nova_machine.specs.Registers.{register_of, with_register};
 
     /// A machine of 32768 words, at time 0. Memory is 0, and so is every register but `Size`.
     #[tactic(auto, unfolding(crate::specs::Machine::new_machine))]
@@ -83,13 +82,8 @@ impl Machine {
         ensures { IfOk result (λ m. m ≡ new_machine) }
     {
         Ok(Machine {
-            cpu: Cpu {
-                accumulators: [Word(0), Word(0), Word(0), Word(0)],
-                carry: false,
-                pc: Addr::of_word(Word(0)),
-            },
+            processor: Processor::new(alloc)?,
             ints: Ints::new(),
-            memory: Memory::new(alloc)?,
             sr: Word(0),
             stop_dev: false,
             time: 0,
@@ -105,24 +99,24 @@ impl Machine {
 
     /// The machine's memory.
     pub fn memory(&self) -> &Memory
-        ensures { result.now ≡ self.now.memory }
+        ensures { result.now ≡ self.now.processor.memory }
     {
-        &self.memory
+        &self.processor.memory
     }
 
     /// The machine's memory, to be changed as a person at the console or a loader does. It takes no time.
     pub fn memory_mut(&mut self) -> &mut Memory
         ensures* writes_back { sem 𝓛 (LendsMemory self.entry result) }
-        ensures value { result.now ≡ self.old.memory }
+        ensures value { result.now ≡ self.old.processor.memory }
     {
-        &mut self.memory
+        &mut self.processor.memory
     }
 
     /// The address of the next instruction.
     pub fn pc(&self) -> Addr
-        ensures { result ≡ self.now.cpu.pc }
+        ensures { result ≡ self.now.processor.cpu.pc }
     {
-        self.cpu.pc
+        self.processor.cpu.pc
     }
 
     /// The value of a register.

@@ -1,4 +1,4 @@
-ghost use Rattle.std.specs.Prelude.{◌≡◌, ◌<◌, ◌≤◌, ◌^◌};
+ghost use Rattle.std.specs.Prelude.{◌≡◌, ◌<◌, ◌≤◌, ◌^◌, []};
 ghost use Rattle.nova_machine.specs.Run.{last_time};
 
 use crate::machine::{Machine, Stop, Turn};
@@ -6,7 +6,9 @@ use nova_memory::ChainLimit;
 use nova_word::Word;
 
 impl Machine {
-    ghost use Rattle.nova_machine.specs.Turn.{answer_of, ticked, refer, halt, transfer, execute, turn};
+    ghost use Rattle.nova_machine.specs.Seen.{seen};
+    ghost use Rattle.nova_machine.specs.Parts.{stop_of};
+    ghost use Rattle.nova_machine.specs.Turn.{begun, ticked, refer, halt, transfer, execute, fetch, turn};
 
     /// Fetches the word at PC and executes it, which takes one instruction of time and clears `Hold`. After a stop as
     /// `ChainLimit` or `NotBuilt` the registers, `Hold` among them, and the time are as they were.
@@ -16,22 +18,42 @@ impl Machine {
     #[tactic(auto, unfolding(crate::specs::Turn::turn))]
     pub fn turn(&mut self, first: bool) -> Turn
         requires { self.old.time < last_time }
-        ensures machine { self.new ≡ (turn self.old).machine }
-        ensures answer { result ≡ answer_of (turn self.old).stop }
+        ensures after { seen self.new ≡ (turn first (seen self.old)).after }
+        ensures answer { stop_of result ≡ (turn first (seen self.old)).stop }
+        ensures silent { (turn first (seen self.old)).made ≡ [] }
     {
-        let word = self.memory.read(self.cpu.pc);
+        self.fetch()
+    }
+
+    #[inline]
+    #[tactic(auto, unfolding(crate::specs::Turn::fetch))]
+    fn fetch(&mut self) -> Turn
+        requires { self.old.time < last_time }
+        ensures machine { self.new ≡ (fetch self.old).machine }
+        ensures answer { stop_of result ≡ (fetch self.old).stop }
+    {
+        let word = self.processor.memory.read(self.processor.cpu.pc);
         self.execute(word)
     }
 
-    /// Does what comes with each instruction, before it does its own: time grows, and interrupts that waited for an
-    /// instruction wait no longer.
+    /// Notes that an instruction is executed, before it does its own work: interrupts that waited for one wait no
+    /// longer.
+    #[inline]
+    #[tactic(auto, unfolding(crate::specs::Turn::begun))]
+    fn begin(&mut self)
+        ensures machine { self.new ≡ begun self.old }
+        ensures time { self.new.time ≡ self.old.time }
+    {
+        self.ints.release();
+    }
+
+    /// Lets time pass, behind an instruction.
     #[inline]
     #[tactic(auto, unfolding(crate::specs::Turn::ticked))]
     fn tick(&mut self)
         requires { self.old.time < last_time }
         ensures { self.new ≡ ticked self.old }
     {
-        self.ints.release();
         self.time += 1;
     }
 
@@ -39,15 +61,16 @@ impl Machine {
     fn execute(&mut self, word: Word) -> Turn
         requires { self.old.time < last_time }
         ensures machine { self.new ≡ (execute word self.old).machine }
-        ensures answer { result ≡ answer_of (execute word self.old).stop }
+        ensures answer { stop_of result ≡ (execute word self.old).stop }
     {
         if word.0 < 0o60000 {
             self.refer(word)
         } else if word.0 < 0o100000 {
             self.transfer(word)
         } else {
+            self.begin();
+            self.processor.arithmetic(word);
             self.tick();
-            self.arithmetic(word);
             Turn::Executed
         }
     }
@@ -57,14 +80,19 @@ impl Machine {
     fn refer(&mut self, word: Word) -> Turn
         requires { self.old.time < last_time }
         ensures machine { self.new ≡ (refer word self.old).machine }
-        ensures answer { result ≡ answer_of (refer word self.old).stop }
+        ensures answer { stop_of result ≡ (refer word self.old).stop }
     {
-        let acs = self.cpu.accumulators;
-        match self.memory.address(word, self.cpu.pc, acs) {
+        let acs = self.processor.cpu.accumulators;
+        match self
+            .processor
+            .memory
+            .address(word, self.processor.cpu.pc, acs)
+        {
             Err(ChainLimit) => Turn::Stopped(Stop::ChainLimit),
             Ok(address) => {
+                self.begin();
+                self.processor.memory_reference(word.0, address);
                 self.tick();
-                self.memory_reference(word.0, address);
                 Turn::Executed
             }
         }
@@ -75,11 +103,12 @@ impl Machine {
     fn transfer(&mut self, word: Word) -> Turn
         requires { self.old.time < last_time }
         ensures machine { self.new ≡ (transfer word self.old).machine }
-        ensures answer { result ≡ answer_of (transfer word self.old).stop }
+        ensures answer { stop_of result ≡ (transfer word self.old).stop }
     {
         if word.0 % 64 == 1 {
+            self.begin();
+            self.processor.multiply_divide(word.0);
             self.tick();
-            self.multiply_divide(word.0);
             Turn::Executed
         } else if word.0 == 0o63077 {
             self.halt()
@@ -88,14 +117,15 @@ impl Machine {
         }
     }
 
-    #[tactic(auto, unfolding(crate::specs::Turn::halt, crate::specs::Turn::ticked))]
+    #[tactic(auto, unfolding(crate::specs::Turn::halt))]
     fn halt(&mut self) -> Turn
         requires { self.old.time < last_time }
         ensures machine { self.new ≡ (halt self.old).machine }
-        ensures answer { result ≡ answer_of (halt self.old).stop }
+        ensures answer { stop_of result ≡ (halt self.old).stop }
     {
+        self.begin();
+        self.processor.cpu.advance(false);
         self.tick();
-        self.cpu.advance(false);
         Turn::Stopped(Stop::Halt)
     }
 }

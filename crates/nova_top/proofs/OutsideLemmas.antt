@@ -1,22 +1,26 @@
 -- The whole program against its outcome.
 use Rattle.std.proofs.Common.{◌≡◌, ◌≢◌, inl, inr, ℕ, ◌+◌, ◌<◌, ◌≤◌, List, [], ◌++◌, length, take, drop, refl, ap, sym, ◌∙◌, subst, arith, append-nil, length-take-le, Option, Some, None}
-use Rattle.fault_counts.specs.Faults.{Rose}
-use Rattle.event_trace.specs.Events.{text_of}
-use Rattle.event_trace.specs.Cut.{ends, cut_trace, map_outcome}
-use Rattle.event_trace.proofs.CutLemmas.{cut-printed, cut-refused, cut-map, more-room, first-part, whole}
+use Rattle.fault_counts.specs.Faults.{raised, Rose}
+use Rattle.observations.specs.Observations.{text_of}
+use Rattle.observations.specs.Cut.{ends, cut_trace, map_outcome}
+use Rattle.observations.proofs.CutLemmas.{cut-printed, cut-refused, cut-map, more-room, first-part, whole}
 use Rattle.nova_machine.specs.Machine.{MachineState, new_machine}
-use Rattle.nova_top.specs.declared.progress.Finish.{Finish}
-use Rattle.nova_top.specs.declared.progress.Finish.TheVariants.{Exit, EndOfInput, Commands, Console, Input}
+use Rattle.scp_script.specs.declared.progress.Finish.{Finish}
+use Rattle.scp_script.specs.declared.progress.Finish.TheVariants.{Exit, EndOfInput, Commands, Console, Input}
 use Rattle.nova_top.specs.declared.options.Options.{Options}
-use Rattle.nova_top.specs.Core.{Core, core_of, new_core}
-use Rattle.nova_top.specs.Lines.{reads_left}
-use Rattle.nova_top.specs.Session.{trace}
-use Rattle.nova_top.specs.Outside.{Outside, usage, options_of, opening, trace_for, whole_trace, outcome}
-use Rattle.nova_top.specs.Perform.{beginning}
-use Rattle.nova_top.specs.Loop.{IsExitStatus}
-use Rattle.nova_top.specs.Ends.{LetsThrough, IsSession, IsOutcome, IsComplete, FinishCause, status_of, machine_in}
+use Rattle.scp_commands.specs.Live.{Live, live_of}
+use Rattle.scp_script.specs.Lines.{reads_left}
+use Rattle.scp_script.specs.Session.{trace}
+use Rattle.scp_script.specs.Loop.{IsExitStatus, LetsThrough, FinishCause, status_of}
+use Rattle.scp_script.specs.Perform.{beginning, IsSession}
+use Rattle.nova_top.specs.Outside.{Outside, usage, options_of, session_with, opening, trace_for, whole_trace, outcome}
+use Rattle.nova_top.specs.Ends.{IsOutcome, IsComplete, machine_in}
 use Rattle.nova_top.specs.Program.{IsUsage, UsageCause}
 use Rattle.nova_top.specs.Laws.{IsWholeOutcome}
+
+-- one more fault is a rise
+rose : (before now : ℕ) → now ≡ raised before → Rose before now
+rose before now is = omega (arith, is)
 
 -- the outcome by what the words say
 outcome-words : (words : List (List ℕ)) (input : List ℕ) (takes gives : ℕ) (options : Option Options) → options_of words ≡ options
@@ -66,12 +70,12 @@ usage-outcome words input before after status machine e none (inr h) =
           ∙ usage-refused input n (length input + 1) h.1.1 ∙ ap (λ s. ends s (take n usage) 0 None) (sym h.0);
     }
 
--- a session's cut with a core in each state
-session-cut : (options : Options) (input : List ℕ) (takes gives status made : ℕ) (taken : List ℕ) (core : Core) → cut_trace takes gives (trace (opening options input)) ≡ ends status taken made core
-    → cut_trace takes gives (trace_for (Some options) input) ≡ ends status taken made (Some core)
+-- a session's cut with a state in each place
+session-cut : (options : Options) (input : List ℕ) (takes gives status made : ℕ) (taken : List ℕ) (live : Live) → cut_trace takes gives (trace (opening options input)) ≡ ends status taken made live
+    → cut_trace takes gives (trace_for (Some options) input) ≡ ends status taken made (Some live)
 unfolding trace_for
-session-cut options input takes gives status made taken core e =
-    cut-map (λ core. Some core) (trace (opening options input)).events (trace (opening options input)).ended takes gives ∙ ap (map_outcome (λ core. Some core)) e
+session-cut options input takes gives status made taken live e =
+    cut-map (λ (x : Live). Some x) (trace (opening options input)).made (trace (opening options input)).ended takes gives ∙ ap (map_outcome (λ (x : Live). Some x)) e
 
 failed-lets : (finish : Finish) (gives made all : ℕ) → LetsThrough finish gives made all → IsExitStatus finish → status_of finish ≡ 106 → gives ≡ made
 failed-lets (Exit status) gives made all h small s = absurd (omega (arith, small, s))
@@ -88,15 +92,15 @@ other-lets Console gives made all h s = h
 other-lets Input gives made all h s = absurd (s refl)
 
 opening-input : (options : Options) (input : List ℕ) → (opening options input).input ≡ input
-unfolding beginning
+unfolding session_with beginning
 opening-input options input = refl
 
 opening-reads : (options : Options) (input : List ℕ) → reads_left (opening options input).open_ (opening options input).input ≡ length input + 1
-unfolding beginning
+unfolding session_with beginning
 opening-reads options input = refl
 
 pub session-outcome : (words : List (List ℕ)) (options : Options) (input left before after : List ℕ) (finish : Finish) (now : MachineState) → options_of words ≡ Some options → IsExitStatus finish
-    → IsSession (opening options input) finish (core_of now options.limit) left before after → IsOutcome words input left before after (status_of finish) (Some now)
+    → IsSession (opening options input) finish (live_of now) left before after → IsOutcome words input left before after (status_of finish) (Some now)
 session-outcome words options input left before after finish now e small s =
     record {
       taken = s.end.taken;
@@ -106,25 +110,25 @@ session-outcome words options input left before after finish now e small s =
       no_failed_read = λ other. other-lets finish s.gives s.made _ s.lets_through other ∙ opening-reads options input;
       written = s.end.written;
       rest = s.rest ∙ ap (drop s.made) (opening-input options input);
-      state = Some (core_of now options.limit);
+      state = Some (live_of now);
       machine_is = refl;
       is = outcome-words words input (length s.end.taken) s.gives (Some options) e
-          ∙ session-cut options input (length s.end.taken) s.gives (status_of finish) s.made s.end.taken (core_of now options.limit) s.end.outcome;
+          ∙ session-cut options input (length s.end.taken) s.gives (status_of finish) s.made s.end.taken (live_of now) s.end.outcome;
     }
 
 -- the laws, at the outcome
 pub more-room-outcome : (o : Outside) (more : ℕ) → o.takes ≤ more → (outcome o).status ≢ 102 → outcome (record o { takes = more }) ≡ outcome o
 unfolding outcome
-more-room-outcome o more h s = more-room (whole_trace o.words o.input).events (whole_trace o.words o.input).ended o.takes more o.gives h s
+more-room-outcome o more h s = more-room (whole_trace o.words o.input).made (whole_trace o.words o.input).ended o.takes more o.gives h s
 
-pub first-part-outcome : (o : Outside) → (rest : List ℕ) × (text_of (whole_trace o.words o.input).events ≡ (outcome o).console ++ rest)
+pub first-part-outcome : (o : Outside) → (rest : List ℕ) × (text_of (whole_trace o.words o.input).made ≡ (outcome o).console ++ rest)
 unfolding outcome
-first-part-outcome o = first-part (whole_trace o.words o.input).events (whole_trace o.words o.input).ended o.takes o.gives
+first-part-outcome o = first-part (whole_trace o.words o.input).made (whole_trace o.words o.input).ended o.takes o.gives
 
 pub whole-outcome : (o : Outside) → (outcome o).status ≢ 102 → (outcome o).status ≢ 106 → IsWholeOutcome o
 unfolding outcome
 whole-outcome o p r =
-    let w = whole (whole_trace o.words o.input).events (whole_trace o.words o.input).ended o.takes o.gives p r in
+    let w = whole (whole_trace o.words o.input).made (whole_trace o.words o.input).ended o.takes o.gives p r in
     record { status = w.status; console = w.console; reads = w.reads; state = w.state }
 
 -- without faults the program comes to the end of the whole trace
@@ -148,10 +152,9 @@ usage-answer words answer input before after status machine e none m u = usage-o
 
 pub session-answer : (words : List (List ℕ)) (answer : Option Options) (options : Options) (new : MachineState) (input left before after : List ℕ) (status : ℕ) (machine : Option MachineState) (finish : Finish) (now : MachineState)
     → answer ≡ options_of words → answer ≡ Some options → new ≡ new_machine → IsExitStatus finish → status ≡ status_of finish → machine ≡ Some now
-    → IsSession (beginning (core_of new options.limit) options.prompt input) finish (core_of now options.limit) left before after → IsOutcome words input left before after status machine
-unfolding new_core
+    → IsSession (session_with new options input) finish (live_of now) left before after → IsOutcome words input left before after status machine
 session-answer words answer options new input left before after status machine finish now e some is small s m session =
-    let begun = subst (λ n. IsSession (beginning (core_of n options.limit) options.prompt input) finish (core_of now options.limit) left before after) is session in
+    let begun = subst (λ n. IsSession (session_with n options input) finish (live_of now) left before after) is session in
     let outcome = session-outcome words options input left before after finish now (sym e ∙ some) small begun in
     subst (λ m. IsOutcome words input left before after status m) (sym m) (subst (λ n. IsOutcome words input left before after n (Some now)) (sym s) outcome)
 
@@ -161,9 +164,9 @@ pub finish-status : (finish : Finish) (sink sink_now source source_now : ℕ) �
 finish-status (Exit status) sink sink_now source source_now c a b = (λ s. omega (arith, c.exit, s), λ s. omega (arith, c.exit, s))
 finish-status EndOfInput sink sink_now source source_now c a b = (λ s. omega (arith, s), λ s. omega (arith, s))
 finish-status Commands sink sink_now source source_now c a b = (λ s. omega (arith, s), λ s. omega (arith, s))
-finish-status Console sink sink_now source source_now c a b = absurd (a (c.console refl))
-finish-status Input sink sink_now source source_now c a b = absurd (b (c.input refl))
+finish-status Console sink sink_now source source_now c a b = absurd (a (rose sink sink_now (c.console refl)))
+finish-status Input sink sink_now source source_now c a b = absurd (b (rose source source_now (c.input refl)))
 
 pub usage-status : (status sink sink_now : ℕ) → UsageCause status sink sink_now → (Rose sink sink_now → ⊥) → (status ≢ 102) × (status ≢ 106)
-usage-status status sink sink_now (later, inl h) a = (λ s. omega (arith, h.0, s), λ s. omega (arith, h.0, s))
-usage-status status sink sink_now (later, inr h) a = absurd (a h.1)
+usage-status status sink sink_now (inl h) a = (λ s. omega (arith, h.0, s), λ s. omega (arith, h.0, s))
+usage-status status sink sink_now (inr h) a = absurd (a (rose sink sink_now h.1))

@@ -1,20 +1,13 @@
 -- Counts of instructions as texts.
-use Rattle.std.specs.Prelude.{ℕ, ◌+◌, ◌≤◌, ◌^◌, Bool, ◌&&◌, nat_le, nat_lt, List, length, Option, Some, None, if◌then◌else◌}
-use Rattle.std.specs.List.{list_all}
-use Rattle.nova_word.specs.Numbers.{IsNumber, value_of}
+use Rattle.std.specs.Prelude.{ℕ, ◌^◌, ◌&&◌, nat_le, List, Option, Some, None, Result, Ok, Err, if◌then◌else◌}
+use Rattle.nova_word.specs.declared.numbers.NumberFault.{NumberFault}
+use Rattle.nova_word.specs.Numbers.{number_read}
 
--- the text of a count of instructions: decimal digits, from 1 to 2 ^ 48
-abbrev pub IsCount : List ℕ → ℕ → Type 0
-IsCount text count = IsNumber 10 text count × (1 ≤ count) × (count ≤ 2 ^ 48)
+-- a count of instructions is from 1 to 2 ^ 48
+abbrev pub count_in : Result ℕ NumberFault → Option ℕ
+count_in (Ok n) = if nat_le 1 n && nat_le n (2 ^ 48) then Some n else None
+count_in (Err fault) = None
 
--- the same as a function
-
-abbrev pub is_digit : ℕ → ℕ → Bool
-is_digit base b = nat_le 48 b && nat_lt b (48 + base)
-
-abbrev pub is_number : ℕ → List ℕ → Bool
-is_number base text = nat_lt 0 (length text) && list_all (is_digit base) text
-
-unfoldable pub count_of : List ℕ → Option ℕ
-count_of text =
-    if is_number 10 text && (nat_le 1 (value_of 10 text) && nat_le (value_of 10 text) (2 ^ 48)) then Some (value_of 10 text) else None
+-- the count of a text of decimal digits, if it is one
+abbrev pub count_of : List ℕ → Option ℕ
+count_of text = count_in (number_read 10 (2 ^ 63) text)

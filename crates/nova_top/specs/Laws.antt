@@ -1,7 +1,6 @@
 -- Laws above the definitions: what holds of every outcome, in a reader's words.
 use Rattle.std.specs.Prelude.{◌≡◌, ◌≢◌, ℕ, ◌≤◌, List, ◌++◌}
-use Rattle.event_trace.specs.Events.{text_of, reads_of}
-use Rattle.nova_top.specs.Session.{Session, step, after_step, trace}
+use Rattle.observations.specs.Observations.{text_of, reads_of}
 use Rattle.nova_top.specs.Outside.{Outside, whole_trace, outcome}
 
 -- a console that takes more comes to the same end, where none of its bytes was refused
@@ -10,19 +9,14 @@ MoreRoomSameEnd = (o : Outside) (more : ℕ) → o.takes ≤ more → (outcome o
 
 -- what the console took is a first part of what the program prints where nothing fails
 abbrev pub TakesFirstPart : Type 0
-TakesFirstPart = (o : Outside) → (rest : List ℕ) × (text_of (whole_trace o.words o.input).events ≡ (outcome o).console ++ rest)
+TakesFirstPart = (o : Outside) → (rest : List ℕ) × (text_of (whole_trace o.words o.input).made ≡ (outcome o).console ++ rest)
 
 -- where no byte was refused and no read failed, the outcome is that of the whole trace
 pub record IsWholeOutcome (o : Outside) : Type 0 where
   pub status : (outcome o).status ≡ (whole_trace o.words o.input).ended.status
-  pub console : (outcome o).console ≡ text_of (whole_trace o.words o.input).events
-  pub reads : (outcome o).reads ≡ reads_of (whole_trace o.words o.input).events
+  pub console : (outcome o).console ≡ text_of (whole_trace o.words o.input).made
+  pub reads : (outcome o).reads ≡ reads_of (whole_trace o.words o.input).made
   pub state : (outcome o).state ≡ (whole_trace o.words o.input).ended.state
 
 abbrev pub WholeWithoutFaults : Type 0
 WholeWithoutFaults = (o : Outside) → (outcome o).status ≢ 102 → (outcome o).status ≢ 106 → IsWholeOutcome o
-
--- a session does its next line, and then what the session behind that line does: the bound in the definition of a trace
--- is never what ends it
-abbrev pub LineByLine : Type 0
-LineByLine = (s : Session) → trace s ≡ after_step (step s).events (step s).next trace

@@ -1,13 +1,5 @@
 pub mod Counts
-pub mod FaultText
-pub mod Core
-pub mod CommandEffect
-pub mod Lines
-pub mod Reading
-pub mod Session
-pub mod Perform
 pub mod Outside
-pub mod Loop
 pub mod Ends
 pub mod Laws
 pub mod Program

@@ -2,14 +2,15 @@
 use Rattle.std.specs.Prelude.{ℕ, ◌^◌, ◌&&◌, true, false, not, nat_eq, is_none, unwrap_or, option_map, option_and_then, slice_index, List, [], ◌∷◌, ◌++◌, codes, Option, Some, None, bytes_eq, map, string_bytes, if◌then◌else◌}
 use Rattle.std.specs.declared.string.String.{String}
 use Rattle.std.specs.declared.alloc.Global.{Global}
-use Rattle.event_trace.specs.Events.{Prints, Trace, map_trace}
-use Rattle.event_trace.specs.Cut.{Outcome, cut_trace}
+use Rattle.observations.specs.Observations.{Prints, Trace, map_trace}
+use Rattle.observations.specs.Cut.{Outcome, cut_trace}
+use Rattle.nova_machine.specs.Machine.{MachineState, new_machine}
+use Rattle.scp_commands.specs.Live.{Live, CommandState, live_of}
+use Rattle.scp_script.specs.Session.{Session, trace}
+use Rattle.scp_script.specs.Perform.{beginning}
 use Rattle.nova_top.specs.declared.options.Options.{Options}
 use Rattle.nova_top.specs.declared.options.Choices.{Choices}
 use Rattle.nova_top.specs.Counts.{count_of}
-use Rattle.nova_top.specs.Core.{Core, new_core}
-use Rattle.nova_top.specs.Session.{Session, trace}
-use Rattle.nova_top.specs.Perform.{beginning}
 
 -- The words and the input; how many bytes the console takes; and how many reads the input lets through before one
 -- fails, where to find its end counts as one.
@@ -51,22 +52,34 @@ options_from c (word ∷ more) = option_and_then (λ c. options_from c more) (ne
 unfoldable pub options_of : List (List ℕ) → Option Options
 options_of words = options_from (record { quiet = false; limit = None; wants_limit = false }) words
 
+-- the budget of a session
+abbrev pub whole_budget : ℕ
+whole_budget = 2 ^ 32
+
+-- what commands stand in before a session's first line
+abbrev pub state_with : MachineState → ℕ → CommandState
+state_with m limit = record { live = live_of m; limit = limit }
+
+-- a session with that machine, before its first line
+unfoldable pub session_with : MachineState → Options → List ℕ → Session
+session_with m options input = beginning (state_with m options.limit) (record { prompt = options.prompt; budget = whole_budget }) input
+
 -- a new session
 abbrev pub opening : Options → List ℕ → Session
-opening options input = beginning (new_core options.limit) options.prompt input
+opening options input = session_with new_machine options input
 
--- Before there is a core the state is none. Words outside their grammar are answered by the usage text.
-unfoldable pub trace_for : Option Options → List ℕ → Trace (Option Core)
-trace_for None input = record { events = Prints usage None ∷ []; ended = record { status = 100; state = None } }
-trace_for (Some options) input = map_trace (λ core. Some core) (trace (opening options input))
+-- Before there is a session the state is none. Words outside their grammar are answered by the usage text.
+unfoldable pub trace_for : Option Options → List ℕ → Trace (Option Live)
+trace_for None input = record { made = Prints usage None ∷ []; ended = record { status = 100; state = None } }
+trace_for (Some options) input = map_trace (λ live. Some live) (trace (opening options input))
 
 -- all that the program does with those words and that input, where nothing fails
-unfoldable pub whole_trace : List (List ℕ) → List ℕ → Trace (Option Core)
+unfoldable pub whole_trace : List (List ℕ) → List ℕ → Trace (Option Live)
 whole_trace words input = trace_for (options_of words) input
 
--- what all that is handed in comes to: the status, what the console has, how many reads were made, and the core, if
--- there is one
-unfoldable pub outcome : Outside → Outcome (Option Core)
+-- what all that is handed in comes to: the status, what the console has, how many reads were made, and the state of the
+-- session, if there is one
+unfoldable pub outcome : Outside → Outcome (Option Live)
 outcome o = cut_trace o.takes o.gives (whole_trace o.words o.input)
 
 -- the bytes of the words

@@ -1,4 +1,4 @@
-ghost use Rattle.nova_top.specs.Laws.{MoreRoomSameEnd, TakesFirstPart, WholeWithoutFaults, LineByLine};
+ghost use Rattle.nova_top.specs.Laws.{MoreRoomSameEnd, TakesFirstPart, WholeWithoutFaults};
 
 /// The law that a console that takes more comes to the same end, where none of its bytes was refused.
 pub fn more_room_same_end()
@@ -13,9 +13,4 @@ pub fn console_takes_first_part()
 /// The law that without a failing call the outcome is that of the whole trace.
 pub fn whole_without_faults()
     ensures { WholeWithoutFaults }
-{}
-
-/// The law that a session goes line by line, to its own end and not to that of the bound in its definition.
-pub fn session_goes_line_by_line()
-    ensures { LineByLine }
 {}

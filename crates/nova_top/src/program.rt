@@ -1,20 +1,22 @@
 ghost use Rattle.std.specs.Prelude.{◌≡◌, ◌≢◌, None, IsTrue};
 ghost use Rattle.fault_counts.specs.Faults.{Rose};
-ghost use Rattle.nova_top.specs.Core.{core_of};
-ghost use Rattle.nova_top.specs.Perform.{beginning};
-ghost use Rattle.nova_top.specs.Outside.{options_of, texts_of};
-ghost use Rattle.nova_top.specs.Ends.{IsOutcome, IsCutShort, StatusCause, MachineThere, IsComplete, IsSession};
-ghost use Rattle.nova_top.specs.Ends.{FinishCause};
+ghost use Rattle.scp_commands.specs.Live.{live_of};
+ghost use Rattle.scp_script.specs.Loop.{FinishCause};
+ghost use Rattle.scp_script.specs.Perform.{IsSession};
+ghost use Rattle.nova_top.specs.Outside.{options_of, session_with, texts_of};
+ghost use Rattle.nova_top.specs.Ends.{IsOutcome, IsCutShort, StatusCause, MachineThere, IsComplete};
 ghost use Rattle.nova_top.specs.Program.{IsUsage, UsageCause, SessionEnds};
 
 use crate::options::Options;
-use crate::perform::perform;
-use crate::progress::Finish;
-use crate::session::Session;
 use crate::words::options_of;
 use host_files::{Sink, Source, put_all};
 use nova_machine::Machine;
+use scp_commands::Session;
+use scp_script::{Opening, perform};
 use std::alloc::Global;
+
+/// How many units a session has to pay for its lines.
+const WHOLE_BUDGET: u64 = 1 << 32;
 
 /// The line that answers words outside their grammar.
 const USAGE: &[u8] =
@@ -23,7 +25,7 @@ const USAGE: &[u8] =
 /// How the program ended.
 #[derive(Drop)]
 pub struct Ending {
-    /// The exit status of the process: 0, 100, 102, 103, 104 or 106.
+    /// The exit status of the process: 0 to 99, 100, 102, 103, 104 or 106.
     pub status: u8,
     /// The machine as it was left, where there was one.
     pub machine: Option<Machine>,
@@ -81,6 +83,7 @@ fn usage<S: Sink>(output: &mut S) -> Ending
 }
 
 /// A session with a new machine.
+#[tactic(auto, unfolding(crate::specs::Outside::session_with))]
 fn session<C: Source, S: Sink>(
     machine: Machine,
     options: Options,
@@ -89,7 +92,7 @@ fn session<C: Source, S: Sink>(
 ) -> Ending
     ensures ended { SessionEnds result.status result.machine
         (λ finish now. IsTrue C.tells → IsTrue S.tells → IsSession
-        (beginning (core_of machine options.limit) options.prompt (C.left input.old)) finish (core_of now options.limit)
+        (session_with machine options (C.left input.old)) finish (live_of now)
         (C.left input.new) (S.written output.old) (S.written output.new))
         (λ finish. FinishCause finish (S.fault_count output.old) (S.fault_count output.new) (C.fault_count input.old)
         (C.fault_count input.new)) }
@@ -98,7 +101,11 @@ fn session<C: Source, S: Sink>(
         machine,
         limit: options.limit,
     };
-    let finish = perform(&mut session, options.prompt, input, output);
+    let opening = Opening {
+        prompt: options.prompt,
+        budget: WHOLE_BUDGET,
+    };
+    let finish = perform(&mut session, &opening, input, output);
     let Session { machine, limit: _ } = session;
     Ending {
         status: finish.status(),

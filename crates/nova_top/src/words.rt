@@ -1,8 +1,9 @@
 ghost use Rattle.std.specs.Prelude.{◌≡◌, nat_eq, [], ◌∷◌, slice_index, codes, bytes_eq, string_bytes};
 ghost use Rattle.nova_top.specs.Outside.{limit_of, next_choice, all_chosen, options_of, texts_of};
 
-use crate::counts::{MOST_INSTRUCTIONS, read_count};
+use crate::counts::read_count;
 use crate::options::{Choices, Options};
+use scp_commands::MOST_INSTRUCTIONS;
 
 /// What the words choose, where they are in their grammar: `-q` and `-l instructions`, in any order, each at most once.
 #[tactic(auto, unfolding(crate::specs::Outside::options_of))]

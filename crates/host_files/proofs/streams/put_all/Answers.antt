@@ -14,5 +14,5 @@ loop-done-preserved g c = record {
         take-add c.loop-done.done c.in_ok-count.count c.args.bytes.now,
         take_rest c.args.bytes.now c.loop-done.done,
       );
-  quiet = omega (arith, c.loop-done.invariant.quiet, c.in_ok-count.ensures.cause.quiet);
+  quiet = omega (arith, c.loop-done.invariant.quiet, c.in_ok-count.ensures.counts);
 }

@@ -1,31 +1,38 @@
-use Rattle.std.proofs.Common.{◌≡◌, ◌+◌, ◌-◌, Some, None, ap, sym, ◌∙◌}
-use Rattle.nova_machine.proofs.Runs.{answer_of-stopped, answer_of-executed, run-stops-behind, run-goes-behind, run-none-behind}
-use Rattle.nova_machine.specs.Run.{run, next_turn}
+use Rattle.std.proofs.Common.{◌≡◌, ◌+◌, ◌-◌, ◌==◌, Some, None, refl, ap, sym, ◌∙◌}
+use Rattle.nova_machine.specs.Seen.{seen}
+use Rattle.nova_machine.specs.Parts.{Part, silent}
+use Rattle.nova_machine.specs.Run.{run, turns, next_turn, expired}
+use Rattle.nova_machine.proofs.Silent.{nothing-made}
+use Rattle.nova_machine.proofs.Runs.{stops-behind, goes-behind, none-behind}
 use Rattle.nova_machine.proofs.machine.Machine.run.Goals as goal
 
-stops : (c : goal.In-Stopped) → (next_turn c.loop-turn.self).stop ≡ Some c.in-Stopped.stop
-stops c = answer_of-stopped _ _ c.in-Stopped.ensures.answer
+-- the run is the turn that stopped
+stopped : (c : goal.In-Stopped) → run c.args.limit.step c.args.limit.count (seen c.args.self.now) ≡ next_turn (c.loop-turn.turn == 0) (seen c.loop-turn.self)
+stopped c = stops-behind c.args.limit.step c.args.limit.count c.loop-turn.turn (seen c.args.self.now) (seen c.loop-turn.self) c.in-Stopped.stop c.loop-turn-test.true c.loop-turn.invariant (sym c.in-Stopped.ensures.answer)
 
-pub returns-in-Stopped-clause-machine : goal.returns-in-Stopped-clause-machine
-returns-in-Stopped-clause-machine c =
-    c.in-Stopped.ensures.machine ∙ ap (λ r. r.machine) (sym (run-stops-behind c.args.limit.step c.args.limit.count c.loop-turn.turn c.args.self.now c.loop-turn.self c.in-Stopped.stop c.loop-turn-test.true c.loop-turn.invariant (stops c)))
+pub returns-in-Stopped-clause-after : goal.returns-in-Stopped-clause-after
+returns-in-Stopped-clause-after c = c.in-Stopped.ensures.after ∙ ap (λ (p : Part). p.after) (sym (stopped c))
 
 pub returns-in-Stopped-clause-stop : goal.returns-in-Stopped-clause-stop
-returns-in-Stopped-clause-stop c =
-    ap (λ r. r.stop) (sym (run-stops-behind c.args.limit.step c.args.limit.count c.loop-turn.turn c.args.self.now c.loop-turn.self c.in-Stopped.stop c.loop-turn-test.true c.loop-turn.invariant (stops c)))
+returns-in-Stopped-clause-stop c = c.in-Stopped.ensures.answer ∙ ap (λ (p : Part). p.stop) (sym (stopped c))
 
-goes : (c : goal.In-Executed) → (next_turn c.loop-turn.self).stop ≡ None
-goes c = answer_of-executed _ c.in-Executed.ensures.answer
+pub returns-in-Stopped-clause-silent : goal.returns-in-Stopped-clause-silent
+returns-in-Stopped-clause-silent c = nothing-made c.args.limit.step c.args.limit.count (seen c.args.self.now)
 
 pub loop-turn-preserved : goal.loop-turn-preserved
 loop-turn-preserved c =
-    run-goes-behind c.args.limit.step c.args.limit.count c.loop-turn.turn c.args.self.now c.loop-turn.self c.loop-turn-test.true c.loop-turn.invariant (goes c)
-    ∙ ap (λ m. run c.args.limit.step (c.args.limit.count - (c.loop-turn.turn + 1)) m) (sym c.in-Executed.ensures.machine)
+    goes-behind c.args.limit.step c.args.limit.count c.loop-turn.turn (seen c.args.self.now) (seen c.loop-turn.self) c.loop-turn-test.true c.loop-turn.invariant (sym c.in-Executed.ensures.answer)
+    ∙ ap (λ s. turns c.args.limit.step (c.loop-turn.turn + 1 == 0) (c.args.limit.count - (c.loop-turn.turn + 1)) s) (sym c.in-Executed.ensures.after)
 
-pub returns-clause-machine : goal.returns-clause-machine
-returns-clause-machine c =
-    ap (λ r. r.machine) (sym (run-none-behind c.args.limit.step c.args.limit.count c.loop-turn.turn c.args.self.now c.loop-turn.self c.loop-turn-test.false c.loop-turn.invariant))
+-- the run is over by its count
+over : (c : goal.After-expired) → run c.args.limit.step c.args.limit.count (seen c.args.self.now) ≡ silent (Some (expired c.args.limit.step)) (seen c.loop-turn.self)
+over c = none-behind c.args.limit.step c.args.limit.count c.loop-turn.turn (seen c.args.self.now) (seen c.loop-turn.self) c.loop-turn-test.false c.loop-turn.invariant
+
+pub returns-clause-after : goal.returns-clause-after
+returns-clause-after c = ap (λ (p : Part). p.after) (sym (over c))
 
 pub returns-clause-stop : goal.returns-clause-stop
-returns-clause-stop c =
-    c.expired.ensures ∙ ap (λ r. r.stop) (sym (run-none-behind c.args.limit.step c.args.limit.count c.loop-turn.turn c.args.self.now c.loop-turn.self c.loop-turn-test.false c.loop-turn.invariant))
+returns-clause-stop c = ap Some c.expired.ensures ∙ ap (λ (p : Part). p.stop) (sym (over c))
+
+pub returns-clause-silent : goal.returns-clause-silent
+returns-clause-silent c = nothing-made c.args.limit.step c.args.limit.count (seen c.args.self.now)

@@ -1,0 +1,41 @@
+ghost use Rattle.std.specs.Prelude.{◌≡◌, ◌≢◌, None, IsTrue};
+ghost use Rattle.std.specs.Process.{exit_status};
+ghost use Rattle.fault_counts.specs.Faults.{Rose};
+ghost use Rattle.nova_top.specs.Outside.{options_of, texts_of};
+ghost use Rattle.nova_top.specs.Ends.{IsOutcome, IsCutShort, StatusCause, IsComplete};
+ghost use Rattle.nova.specs.Machines.{OfSomeMachine};
+
+use host_files::{Sink, Source};
+use nova_top::simulate;
+use std::alloc::Global;
+use std::process::ExitCode;
+
+/// Runs a session over any input and output. The exit code is the status that `simulate` has answered, so it keeps all
+/// that `simulate` promises of its status, the input and the console.
+pub fn session<C: Source, S: Sink>(
+    alloc: Global,
+    words: &[String],
+    input: &mut C,
+    output: &mut S,
+) -> ExitCode
+    ensures outcome { IsTrue C.tells → IsTrue S.tells → exit_status result ≢ 103
+        → OfSomeMachine (λ machine. IsOutcome (texts_of words.now) (C.left input.old) (C.left input.new)
+        (S.written output.old) (S.written output.new) (exit_status result) machine) }
+    ensures memory { IsTrue C.tells → IsTrue S.tells → exit_status result ≡ 103
+        → OfSomeMachine (λ machine. IsCutShort (texts_of words.now) (C.left input.old) (C.left input.new)
+        (S.written output.old) (S.written output.new) machine) }
+    ensures complete { IsTrue C.tells → IsTrue S.tells → exit_status result ≢ 103
+        → (Rose (S.fault_count output.old) (S.fault_count output.new) → ⊥)
+        → (Rose (C.fault_count input.old) (C.fault_count input.new) → ⊥)
+        → OfSomeMachine (λ machine. IsComplete (texts_of words.now) (C.left input.old) (C.left input.new)
+        (S.written output.old) (S.written output.new) (exit_status result) machine) }
+    ensures cause { StatusCause (texts_of words.now) (exit_status result) (S.fault_count output.old)
+        (S.fault_count output.new) (C.fault_count input.old) (C.fault_count input.new) }
+    ensures unread { options_of (texts_of words.now) ≡ None → input.new ≡ input.old }
+{
+    let ending = simulate(alloc, words, input, output);
+    ExitCode::from(ending.status)
+}
+
+#[cfg(test)]
+mod tests;

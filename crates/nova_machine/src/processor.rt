@@ -1,0 +1,55 @@
+ghost use Rattle.std.specs.Prelude.{◌≡◌, IfOk};
+ghost use Rattle.nova_machine.specs.Processor.{new_processor};
+
+use crate::cpu::Cpu;
+use nova_memory::Memory;
+use nova_word::{Addr, Word};
+use std::alloc::{AllocError, Global};
+use std::marker::Model;
+
+/// The processor with its memory: all that instructions work on. It knows no time, no interrupt and no device.
+#[derive(Drop)]
+pub struct Processor {
+    pub(crate) cpu: Cpu,
+    pub(crate) memory: Memory,
+}
+
+impl Model for Processor {
+    ghost use Rattle.nova_machine.specs.Processor.{ProcessorState};
+
+    ghost Value = { ProcessorState };
+
+    ghost view = { λ p. record { cpu = p.cpu; memory = p.memory } };
+}
+
+impl Processor {
+    /// A processor with 32768 words of memory. All of it is 0.
+    pub fn new(alloc: Global) -> Result<Processor, AllocError>
+        ensures { IfOk result (λ p. p ≡ new_processor) }
+    {
+        Ok(Processor {
+            cpu: Cpu {
+                accumulators: [Word(0), Word(0), Word(0), Word(0)],
+                carry: false,
+                pc: Addr::of_word(Word(0)),
+            },
+            memory: Memory::new(alloc)?,
+        })
+    }
+
+    /// The registers.
+    #[inline]
+    pub fn cpu(&self) -> Cpu
+        ensures { result ≡ self.now.cpu }
+    {
+        self.cpu
+    }
+
+    /// The memory.
+    #[inline]
+    pub fn memory(&self) -> &Memory
+        ensures { result.now ≡ self.now.memory }
+    {
+        &self.memory
+    }
+}

@@ -1,5 +1,0 @@
-use Rattle.nova_top.proofs.SessionLemmas.{line-by-line}
-use Rattle.nova_top.proofs.laws.session_goes_line_by_line.Goals as goal
-
-pub returns : goal.returns
-returns c = line-by-line

@@ -1,0 +1,292 @@
+-- Where a trace is cut, behind observations that were let through.
+use Rattle.std.proofs.Common.{ℕ, ◌≡◌, ◌≢◌, ◌+◌, ◌-◌, ◌<◌, ◌≤◌, nat_le, false, true, List, [], ◌∷◌, ◌++◌, length, take, drop, refl, ap, sym, ◌∙◌, append_assoc, append-nil, add_assoc, zero-add, add-zero, arith, length-append, length-take-le, ⊎_elim}
+use Rattle.std.proofs.lemmas.Bool.{cases_lt}
+use Rattle.std.proofs.lemmas.List.{take-append-drop}
+use Rattle.observations.specs.Observations.{Observation, Prints, Reads, Ended, text_of, reads_of, map_made, map_ended}
+use Rattle.observations.specs.Cut.{Outcome, ends, behind, cut, map_outcome, BreaksOff}
+use Rattle.observations.specs.Laws.{IsWhole}
+
+yes-le : (m n : ℕ) → m ≤ n → nat_le m n ≡ true
+yes-le m n h = grind arith
+
+no-le : (m n : ℕ) → n < m → nat_le m n ≡ false
+no-le m n h = grind arith
+
+-- a text that is taken whole
+pub cut-printed : {S : Type 0} (text : List ℕ) (at : S) (more : List (Observation S)) (ended : Ended S) (takes gives : ℕ) → length text ≤ takes
+    → cut takes gives (Prints text at ∷ more) ended ≡ behind text 0 (cut (takes - length text) gives more ended)
+cut-printed text at more ended takes gives h = rw (yes-le (length text) takes h) refl
+
+-- a byte of a text is refused
+pub cut-refused : {S : Type 0} (text : List ℕ) (at : S) (more : List (Observation S)) (ended : Ended S) (takes gives : ℕ) → takes < length text
+    → cut takes gives (Prints text at ∷ more) ended ≡ ends 102 (take takes text) 0 at
+cut-refused text at more ended takes gives h = rw (no-le (length text) takes h) refl
+
+-- reads that are let through
+pub cut-read : {S : Type 0} (count : ℕ) (at : S) (more : List (Observation S)) (ended : Ended S) (takes gives : ℕ) → count ≤ gives
+    → cut takes gives (Reads count at ∷ more) ended ≡ behind [] count (cut takes (gives - count) more ended)
+cut-read count at more ended takes gives h = rw (yes-le count gives h) refl
+
+-- one of the reads fails
+pub cut-failed : {S : Type 0} (count : ℕ) (at : S) (more : List (Observation S)) (ended : Ended S) (takes gives : ℕ) → gives < count
+    → cut takes gives (Reads count at ∷ more) ended ≡ ends 106 [] gives at
+cut-failed count at more ended takes gives h = rw (no-le count gives h) refl
+
+pub more-room : {S : Type 0} (made : List (Observation S)) (ended : Ended S) (takes more gives : ℕ) → takes ≤ more
+    → (cut takes gives made ended).status ≢ 102 → cut more gives made ended ≡ cut takes gives made ended
+more-room [] ended takes more gives h s = refl
+more-room (Prints text at ∷ rest) ended takes more gives h s =
+    ⊎_elim
+    (λ (short : takes < length text). absurd (s (ap (λ o. o.status) (cut-refused text at rest ended takes gives short))))
+    (λ (fits : length text ≤ takes).
+    let now = cut-printed text at rest ended takes gives fits in
+    let later = cut-printed text at rest ended more gives (omega (arith, h, fits)) in
+    let s' = λ (e : (cut (takes - length text) gives rest ended).status ≡ 102). s (ap (λ o. o.status) now ∙ e) in
+    later ∙ ap (behind text 0) (more-room rest ended (takes - length text) (more - length text) gives (omega (arith, h)) s') ∙ sym now)
+    (cases_lt takes (length text))
+more-room (Reads count at ∷ rest) ended takes more gives h s =
+    ⊎_elim
+    (λ (short : gives < count). cut-failed count at rest ended more gives short ∙ sym (cut-failed count at rest ended takes gives short))
+    (λ (fits : count ≤ gives).
+    let now = cut-read count at rest ended takes gives fits in
+    let later = cut-read count at rest ended more gives fits in
+    let s' = λ (e : (cut takes (gives - count) rest ended).status ≡ 102). s (ap (λ o. o.status) now ∙ e) in
+    later ∙ ap (behind [] count) (more-room rest ended takes more (gives - count) h s') ∙ sym now)
+    (cases_lt gives count)
+
+pub first-part : {S : Type 0} (made : List (Observation S)) (ended : Ended S) (takes gives : ℕ) → (rest : List ℕ) × (text_of made ≡ (cut takes gives made ended).console ++ rest)
+first-part [] ended takes gives = ([], refl)
+first-part (Prints text at ∷ more) ended takes gives =
+    ⊎_elim
+    (λ (short : takes < length text). (
+      drop takes text ++ text_of more,
+      ap (λ t. t ++ text_of more) (sym (take-append-drop takes text)) ∙ append_assoc (take takes text) (drop takes text) (text_of more)
+          ∙ ap (λ o. o.console ++ (drop takes text ++ text_of more)) (sym (cut-refused text at more ended takes gives short)),
+    ))
+    (λ (fits : length text ≤ takes).
+    let part = first-part more ended (takes - length text) gives in (
+      part.0,
+      ap (λ t. text ++ t) part.1 ∙ sym (append_assoc text (cut (takes - length text) gives more ended).console part.0)
+          ∙ ap (λ o. o.console ++ part.0) (sym (cut-printed text at more ended takes gives fits)),
+    ))
+    (cases_lt takes (length text))
+first-part (Reads count at ∷ more) ended takes gives =
+    ⊎_elim
+    (λ (short : gives < count). (text_of more, ap (λ o. o.console ++ text_of more) (sym (cut-failed count at more ended takes gives short))))
+    (λ (fits : count ≤ gives).
+    let part = first-part more ended takes (gives - count) in
+    (part.0, part.1 ∙ ap (λ o. o.console ++ part.0) (sym (cut-read count at more ended takes gives fits))))
+    (cases_lt gives count)
+
+pub no-faults : {S : Type 0} (made : List (Observation S)) (ended : Ended S) (takes gives : ℕ)
+    → (cut takes gives made ended).status ≢ 102 → (cut takes gives made ended).status ≢ 106
+    → cut takes gives made ended ≡ ends ended.status (text_of made) (reads_of made) ended.state
+no-faults [] ended takes gives p r = refl
+no-faults (Prints text at ∷ more) ended takes gives p r =
+    ⊎_elim
+    (λ (short : takes < length text). absurd (p (ap (λ o. o.status) (cut-refused text at more ended takes gives short))))
+    (λ (fits : length text ≤ takes).
+    let now = cut-printed text at more ended takes gives fits in
+    let inner = no-faults more ended (takes - length text) gives (λ e. p (ap (λ o. o.status) now ∙ e)) (λ e. r (ap (λ o. o.status) now ∙ e)) in
+    now ∙ ap (behind text 0) inner ∙ ap (λ n. ends ended.status (text ++ text_of more) n ended.state) (zero-add (reads_of more)))
+    (cases_lt takes (length text))
+no-faults (Reads count at ∷ more) ended takes gives p r =
+    ⊎_elim
+    (λ (short : gives < count). absurd (r (ap (λ o. o.status) (cut-failed count at more ended takes gives short))))
+    (λ (fits : count ≤ gives).
+    let now = cut-read count at more ended takes gives fits in
+    let inner = no-faults more ended takes (gives - count) (λ e. p (ap (λ o. o.status) now ∙ e)) (λ e. r (ap (λ o. o.status) now ∙ e)) in
+    now ∙ ap (behind [] count) inner)
+    (cases_lt gives count)
+
+pub whole : {S : Type 0} (made : List (Observation S)) (ended : Ended S) (takes gives : ℕ)
+    → (cut takes gives made ended).status ≢ 102 → (cut takes gives made ended).status ≢ 106 → IsWhole made ended takes gives
+whole made ended takes gives p r =
+    let all = no-faults made ended takes gives p r in
+    record { status = ap (λ o. o.status) all; console = ap (λ o. o.console) all; reads = ap (λ o. o.reads) all; state = ap (λ o. o.state) all }
+
+-- the outcomes of two parts, one behind the other, are one
+behind-behind : {S : Type 0} (first second : List ℕ) (m n : ℕ) (o : Outcome S) → behind first m (behind second n o) ≡ behind (first ++ second) (m + n) o
+behind-behind first second m n o =
+    ap (λ t. ends o.status t (m + (n + o.reads)) o.state) (sym (append_assoc first second o.console))
+    ∙ ap (λ k. ends o.status ((first ++ second) ++ o.console) k o.state) (sym (add_assoc m n o.reads))
+
+-- a cut behind observations that were let through
+pub cut-after : {S : Type 0} (done more : List (Observation S)) (ended : Ended S) (takes gives : ℕ)
+    → cut (length (text_of done) + takes) (reads_of done + gives) (done ++ more) ended ≡ behind (text_of done) (reads_of done) (cut takes gives more ended)
+cut-after [] more ended takes gives =
+    ap (λ n. cut n (0 + gives) more ended) (zero-add takes) ∙ ap (λ n. cut takes n more ended) (zero-add gives)
+    ∙ ap (λ n. ends (cut takes gives more ended).status (cut takes gives more ended).console n (cut takes gives more ended).state) (sym (zero-add (cut takes gives more ended).reads))
+cut-after (Prints text at ∷ done) more ended takes gives =
+    let size = length-append text (text_of done) in
+    let fits : length text ≤ length (text ++ text_of done) + takes = omega (arith, size) in
+    let rest : length (text ++ text_of done) + takes - length text ≡ length (text_of done) + takes = omega (arith, size) in
+    cut-printed text at (done ++ more) ended (length (text ++ text_of done) + takes) (reads_of done + gives) fits
+    ∙ ap (λ n. behind text 0 (cut n (reads_of done + gives) (done ++ more) ended)) rest
+    ∙ ap (behind text 0) (cut-after done more ended takes gives)
+    ∙ behind-behind text (text_of done) 0 (reads_of done) (cut takes gives more ended)
+    ∙ ap (λ n. behind (text ++ text_of done) n (cut takes gives more ended)) (zero-add (reads_of done))
+cut-after (Reads count at ∷ done) more ended takes gives =
+    let fits : count ≤ count + reads_of done + gives = omega arith in
+    let rest : count + reads_of done + gives - count ≡ reads_of done + gives = omega arith in
+    cut-read count at (done ++ more) ended (length (text_of done) + takes) (count + reads_of done + gives) fits
+    ∙ ap (λ n. behind [] count (cut (length (text_of done) + takes) n (done ++ more) ended)) rest
+    ∙ ap (behind [] count) (cut-after done more ended takes gives)
+    ∙ behind-behind [] (text_of done) count (reads_of done) (cut takes gives more ended)
+
+-- a byte of a text is refused, behind observations that were let through
+pub cut-refused-after : {S : Type 0} (done : List (Observation S)) (text : List ℕ) (at : S) (more : List (Observation S)) (ended : Ended S) (n gives : ℕ) → n < length text
+    → cut (length (text_of done ++ take n text)) (reads_of done + gives) (done ++ Prints text at ∷ more) ended ≡ ends 102 (text_of done ++ take n text) (reads_of done) at
+cut-refused-after done text at more ended n gives h =
+    let size : length (text_of done ++ take n text) ≡ length (text_of done) + n = length-append (text_of done) (take n text) ∙ ap (λ m. length (text_of done) + m) (length-take-le n text (omega (arith, h))) in
+    ap (λ m. cut m (reads_of done + gives) (done ++ Prints text at ∷ more) ended) size
+    ∙ cut-after done (Prints text at ∷ more) ended n gives
+    ∙ ap (behind (text_of done) (reads_of done)) (cut-refused text at more ended n gives h)
+    ∙ ap (λ r. ends 102 (text_of done ++ take n text) r at) (add-zero (reads_of done))
+
+-- a read fails, behind observations that were let through
+pub cut-failed-after : {S : Type 0} (done : List (Observation S)) (count : ℕ) (at : S) (more : List (Observation S)) (ended : Ended S) (n : ℕ) → n < count
+    → cut (length (text_of done)) (reads_of done + n) (done ++ Reads count at ∷ more) ended ≡ ends 106 (text_of done) (reads_of done + n) at
+cut-failed-after done count at more ended n h =
+    ap (λ m. cut m (reads_of done + n) (done ++ Reads count at ∷ more) ended) (sym (add-zero (length (text_of done))))
+    ∙ cut-after done (Reads count at ∷ more) ended 0 n
+    ∙ ap (behind (text_of done) (reads_of done)) (cut-failed count at more ended 0 n h)
+    ∙ ap (λ t. ends 106 t (reads_of done + n) at) (append-nil (text_of done))
+
+-- all observations were let through
+pub cut-whole : {S : Type 0} (done : List (Observation S)) (ended : Ended S) (gives : ℕ)
+    → cut (length (text_of done)) (reads_of done + gives) done ended ≡ ends ended.status (text_of done) (reads_of done) ended.state
+cut-whole done ended gives =
+    ap (λ m. cut m (reads_of done + gives) done ended) (sym (add-zero (length (text_of done))))
+    ∙ ap (λ made. cut (length (text_of done) + 0) (reads_of done + gives) made ended) (sym (append-nil done))
+    ∙ cut-after done [] ended 0 gives
+    ∙ ap (λ t. ends ended.status t (reads_of done + 0) ended.state) (append-nil (text_of done))
+    ∙ ap (λ r. ends ended.status (text_of done) r ended.state) (add-zero (reads_of done))
+
+-- a cut speaks of no state but hands one on
+pub cut-map : {S T : Type 0} (f : S → T) (made : List (Observation S)) (ended : Ended S) (takes gives : ℕ)
+    → cut takes gives (map_made f made) (map_ended f ended) ≡ map_outcome f (cut takes gives made ended)
+cut-map f [] ended takes gives = refl
+cut-map f (Prints text at ∷ more) ended takes gives =
+    ⊎_elim
+    (λ (short : takes < length text).
+    cut-refused text (f at) (map_made f more) (map_ended f ended) takes gives short ∙ ap (map_outcome f) (sym (cut-refused text at more ended takes gives short)))
+    (λ (fits : length text ≤ takes).
+    cut-printed text (f at) (map_made f more) (map_ended f ended) takes gives fits
+    ∙ ap (behind text 0) (cut-map f more ended (takes - length text) gives)
+    ∙ ap (map_outcome f) (sym (cut-printed text at more ended takes gives fits)))
+    (cases_lt takes (length text))
+cut-map f (Reads count at ∷ more) ended takes gives =
+    ⊎_elim
+    (λ (short : gives < count).
+    cut-failed count (f at) (map_made f more) (map_ended f ended) takes gives short ∙ ap (map_outcome f) (sym (cut-failed count at more ended takes gives short)))
+    (λ (fits : count ≤ gives).
+    cut-read count (f at) (map_made f more) (map_ended f ended) takes gives fits
+    ∙ ap (behind [] count) (cut-map f more ended takes (gives - count))
+    ∙ ap (map_outcome f) (sym (cut-read count at more ended takes gives fits)))
+    (cases_lt gives count)
+
+-- where a byte was refused, nothing behind it counts
+cut-more : {S : Type 0} (made more : List (Observation S)) (ended other : Ended S) (takes gives : ℕ) → ended.status ≢ 102
+    → (cut takes gives made ended).status ≡ 102 → cut takes gives (made ++ more) other ≡ cut takes gives made ended
+cut-more [] more ended other takes gives fine refused = absurd (fine refused)
+cut-more (Prints text at ∷ rest) more ended other takes gives fine refused =
+    ⊎_elim
+    (λ (short : takes < length text). cut-refused text at (rest ++ more) other takes gives short ∙ sym (cut-refused text at rest ended takes gives short))
+    (λ (fits : length text ≤ takes).
+    let now = cut-printed text at rest ended takes gives fits in
+    cut-printed text at (rest ++ more) other takes gives fits
+    ∙ ap (behind text 0) (cut-more rest more ended other (takes - length text) gives fine (sym (ap (λ o. o.status) now) ∙ refused))
+    ∙ sym now)
+    (cases_lt takes (length text))
+cut-more (Reads count at ∷ rest) more ended other takes gives fine refused =
+    ⊎_elim
+    (λ (short : gives < count). cut-failed count at (rest ++ more) other takes gives short ∙ sym (cut-failed count at rest ended takes gives short))
+    (λ (fits : count ≤ gives).
+    let now = cut-read count at rest ended takes gives fits in
+    cut-read count at (rest ++ more) other takes gives fits
+    ∙ ap (behind [] count) (cut-more rest more ended other takes (gives - count) fine (sym (ap (λ o. o.status) now) ∙ refused))
+    ∙ sym now)
+    (cases_lt gives count)
+
+-- a refused byte in an earlier part
+pub breaks-before : {S : Type 0} (made more : List (Observation S)) (taken : List ℕ) (at : S) → BreaksOff made taken at → BreaksOff (made ++ more) taken at
+breaks-before {S} made more taken at b = record {
+  reads = b.reads;
+  cut_at = λ gives ended.
+      let whole : Ended S = record { status = 0; state = at } in
+      let broken = b.cut_at gives whole in
+      cut-more made more whole ended (length taken) (b.reads + gives) (λ e. absurd (omega (arith, e))) (ap (λ o. o.status) broken) ∙ broken;
+}
+
+-- a refused byte in a later part
+pub breaks-behind : {S : Type 0} (done made : List (Observation S)) (taken : List ℕ) (at : S) → BreaksOff made taken at → BreaksOff (done ++ made) (text_of done ++ taken) at
+breaks-behind done made taken at b = record {
+  reads = reads_of done + b.reads;
+  cut_at = λ gives ended.
+      ap (λ n. cut n (reads_of done + b.reads + gives) (done ++ made) ended) (length-append (text_of done) taken)
+      ∙ ap (λ n. cut (length (text_of done) + length taken) n (done ++ made) ended) (add_assoc (reads_of done) b.reads gives)
+      ∙ cut-after done made ended (length taken) (b.reads + gives)
+      ∙ ap (behind (text_of done) (reads_of done)) (b.cut_at gives ended);
+}
+
+-- a refused byte of the first text
+pub breaks-here : {S : Type 0} (text : List ℕ) (at : S) (more : List (Observation S)) (n : ℕ) → n < length text → BreaksOff (Prints text at ∷ more) (take n text) at
+breaks-here text at more n short = record {
+  reads = 0;
+  cut_at = λ gives ended.
+      ap (λ k. cut k (0 + gives) (Prints text at ∷ more) ended) (length-take-le n text (omega (arith, short)))
+      ∙ cut-refused text at more ended n (0 + gives) short;
+}
+
+-- how many reads stand before the refused byte
+pub before-reads : {S : Type 0} (made more : List (Observation S)) (taken : List ℕ) (at : S) (b : BreaksOff made taken at) → (breaks-before made more taken at b).reads ≡ b.reads
+unfolding breaks-before
+before-reads made more taken at b = refl
+
+pub behind-reads : {S : Type 0} (done made : List (Observation S)) (taken : List ℕ) (at : S) (b : BreaksOff made taken at)
+    → (breaks-behind done made taken at b).reads ≡ reads_of done + b.reads
+unfolding breaks-behind
+behind-reads done made taken at b = refl
+
+-- no cut makes more reads than there are
+pub cut-reads : {S : Type 0} (made : List (Observation S)) (ended : Ended S) (takes gives : ℕ) → (cut takes gives made ended).reads ≤ reads_of made
+cut-reads [] ended takes gives = omega arith
+cut-reads (Prints text at ∷ more) ended takes gives =
+    ⊎_elim
+    (λ (short : takes < length text). let e = ap (λ o. o.reads) (cut-refused text at more ended takes gives short) in omega (arith, e))
+    (λ (fits : length text ≤ takes).
+    let e = ap (λ o. o.reads) (cut-printed text at more ended takes gives fits) in
+    let inner = cut-reads more ended (takes - length text) gives in
+    omega (arith, e, inner))
+    (cases_lt takes (length text))
+cut-reads (Reads count at ∷ more) ended takes gives =
+    ⊎_elim
+    (λ (short : gives < count). let e = ap (λ o. o.reads) (cut-failed count at more ended takes gives short) in omega (arith, e, short))
+    (λ (fits : count ≤ gives).
+    let e = ap (λ o. o.reads) (cut-read count at more ended takes gives fits) in
+    let inner = cut-reads more ended takes (gives - count) in
+    omega (arith, e, inner))
+    (cases_lt gives count)
+
+-- a refused byte, with another state in each place. The way back needs each state to have one at least.
+pub breaks-map : {S T : Type 0} (f : S → T) (made : List (Observation S)) (taken : List ℕ) (at : S) → BreaksOff made taken at → BreaksOff (map_made f made) taken (f at)
+breaks-map {S} {T} f made taken at b = record {
+  reads = b.reads;
+  cut_at = λ gives ended.
+      let whole : Ended S = record { status = 0; state = at } in
+      let other : Ended T = record { status = 0; state = f at } in
+      let broken = b.cut_at gives whole in
+      let mapped = cut-map f made whole (length taken) (b.reads + gives) ∙ ap (map_outcome f) broken in
+      ap (λ l. cut (length taken) (b.reads + gives) l ended) (sym (append-nil (map_made f made)))
+      ∙ cut-more (map_made f made) [] other ended (length taken) (b.reads + gives) (λ e. absurd (omega (arith, e))) (ap (λ o. o.status) mapped)
+      ∙ mapped;
+}
+
+-- the reads before a refused byte are among those that are made
+pub breaks-reads : {S : Type 0} (made : List (Observation S)) (taken : List ℕ) (at : S) (b : BreaksOff made taken at) → b.reads ≤ reads_of made
+breaks-reads {S} made taken at b =
+    let whole : Ended S = record { status = 0; state = at } in
+    let e = ap (λ o. o.reads) (b.cut_at 0 whole) in
+    let few = cut-reads made whole (length taken) (b.reads + 0) in
+    omega (arith, e, few)

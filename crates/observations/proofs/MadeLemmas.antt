@@ -1,0 +1,40 @@
+-- Lists of observations, one behind another.
+use Rattle.std.proofs.Common.{◌≡◌, inl, inr, ◌+◌, List, [], ◌∷◌, ◌++◌, refl, ap, sym, ◌∙◌, append_assoc, add_assoc, zero-add}
+use Rattle.observations.specs.Observations.{Observation, Prints, Reads, Trace, after_made, text_of, reads_of, map_made, StandsAt}
+
+pub text_of-append : {S : Type 0} (first second : List (Observation S)) → text_of (first ++ second) ≡ text_of first ++ text_of second
+text_of-append [] second = refl
+text_of-append (Prints text at ∷ more) second = ap (λ t. text ++ t) (text_of-append more second) ∙ sym (append_assoc text (text_of more) (text_of second))
+text_of-append (Reads count at ∷ more) second = text_of-append more second
+
+pub reads_of-append : {S : Type 0} (first second : List (Observation S)) → reads_of (first ++ second) ≡ reads_of first + reads_of second
+reads_of-append [] second = sym (zero-add (reads_of second))
+reads_of-append (Prints text at ∷ more) second = reads_of-append more second
+reads_of-append (Reads count at ∷ more) second = ap (λ n. count + n) (reads_of-append more second) ∙ sym (add_assoc count (reads_of more) (reads_of second))
+
+pub after_made-append : {S : Type 0} (first second : List (Observation S)) (t : Trace S) → after_made (first ++ second) t ≡ after_made first (after_made second t)
+after_made-append first second t = ap (λ made. record { made = made; ended = t.ended }) (append_assoc first second t.made)
+
+-- another state in each place changes no text and no read
+pub text_of-map : {S T : Type 0} (f : S → T) (made : List (Observation S)) → text_of (map_made f made) ≡ text_of made
+text_of-map f [] = refl
+text_of-map f (Prints text at ∷ more) = ap (λ t. text ++ t) (text_of-map f more)
+text_of-map f (Reads count at ∷ more) = text_of-map f more
+
+pub reads_of-map : {S T : Type 0} (f : S → T) (made : List (Observation S)) → reads_of (map_made f made) ≡ reads_of made
+reads_of-map f [] = refl
+reads_of-map f (Prints text at ∷ more) = reads_of-map f more
+reads_of-map f (Reads count at ∷ more) = ap (λ n. count + n) (reads_of-map f more)
+
+-- what is made in front or behind leaves a state among those in which observations come
+pub stands-before : {S : Type 0} (state : S) (first second : List (Observation S)) → StandsAt state first → StandsAt state (first ++ second)
+stands-before state [] second h = absurd h
+stands-before state (Prints text at ∷ more) second (inl h) = inl h
+stands-before state (Prints text at ∷ more) second (inr h) = inr (stands-before state more second h)
+stands-before state (Reads count at ∷ more) second (inl h) = inl h
+stands-before state (Reads count at ∷ more) second (inr h) = inr (stands-before state more second h)
+
+pub stands-behind : {S : Type 0} (state : S) (first second : List (Observation S)) → StandsAt state second → StandsAt state (first ++ second)
+stands-behind state [] second h = h
+stands-behind state (Prints text at ∷ more) second h = inr (stands-behind state more second h)
+stands-behind state (Reads count at ∷ more) second h = inr (stands-behind state more second h)

@@ -1,0 +1,116 @@
+-- What holds of every command: it reads nothing, and one that is refused has changed nothing.
+use Rattle.std.proofs.Common.{◌≡◌, ℕ, ◌+◌, Bool, true, false, cond, List, [], ◌∷◌, ◌++◌, refl, ap, sym, ◌∙◌, Option, Some, None, Result, Ok, Err, if◌then◌else◌, nat_le, ◌&&◌, ◌^◌, min, unwrap_or}
+use Rattle.observations.specs.Observations.{Observation, Prints, reads_of, map_made}
+use Rattle.nova_machine.specs.Seen.{seen}
+use Rattle.nova_machine.specs.Parts.{Part}
+use Rattle.nova_machine.specs.Run.{run}
+use Rattle.nova_machine.specs.declared.machine.Stop.{Stop}
+use Rattle.scp_parser.specs.declared.fault.ParseFault.{ParseFault}
+use Rattle.scp_parser.specs.declared.command.Shown.{Shown}
+use Rattle.scp_parser.specs.declared.command.Shown.TheVariants as shown
+use Rattle.scp_parser.specs.declared.listing.Listing.{Listing}
+use Rattle.scp_parser.specs.Command.{Request}
+use Rattle.scp_parser.specs.Command as request
+use Rattle.scp_examine.specs.declared.fault.ExamineFault.{ExamineFault}
+use Rattle.scp_examine.specs.Effect.{examine_fault, fault_of_deposit}
+use Rattle.scp_commands.specs.declared.fault.CommandFault.{CommandFault}
+use Rattle.scp_commands.specs.Live.{Live, with_seen}
+use Rattle.scp_commands.specs.Reply.{Reply, goes, says, refused}
+use Rattle.scp_commands.specs.RunEffects.{stop_line, run_answer, ran, running, address_fits, started, run_from, stepped, step_of}
+use Rattle.scp_commands.specs.ListEffects.{names_device, examine_after, examine_reply, handed, deposit_after, deposit_reply}
+use Rattle.scp_commands.specs.ShowEffects.{show_reply}
+use Rattle.scp_commands.specs.ExitEffects.{exit_reply}
+use Rattle.scp_commands.specs.Effect.{effect, Asked, does}
+use Rattle.scp_commands.specs.Laws.{LeavesTraces, IsUntouched, RefusalsChangeNothing}
+use Rattle.scp_commands.proofs.ReplyLemmas.{ran-silent}
+use Rattle.nova_machine.proofs.Silent.{nothing-made}
+
+-- what holds of a reply to a command that was given in that state
+pub record Fair (live : Live) (reply : Reply) : Type 0 where
+  pub reads : reads_of reply.made ≡ 0
+  pub refused : (fault : CommandFault) → reply.answer ≡ Err fault → IsUntouched live reply
+
+fair-if : (b : Bool) (live : Live) (x y : Reply) → Fair live x → Fair live y → Fair live (if b then x else y)
+fair-if true live x y first second = first
+fair-if false live x y first second = second
+
+fair-goes : (before live : Live) → Fair before (goes live)
+fair-goes before live = record { reads = refl; refused = λ fault h. absurd (cc) }
+
+fair-says : (text : List ℕ) (before live : Live) → Fair before (says text live)
+fair-says text before live = record { reads = refl; refused = λ fault h. absurd (cc) }
+
+fair-refused : (fault : CommandFault) (live : Live) → Fair live (refused fault live)
+fair-refused fault live = record { reads = refl; refused = λ other h. record { state = refl; text = refl } }
+
+run_answer-ok : (stop : Option Stop) (fault : CommandFault) → run_answer stop ≡ Err fault → ⊥
+run_answer-ok (Some stop) fault h = absurd (cc)
+run_answer-ok None fault h = absurd (cc)
+
+fair-ran : (step : Bool) (count : ℕ) (before live : Live) → Fair before (ran live (run step count (seen live.machine)))
+unfolding ran
+fair-ran step count before live =
+    let p = run step count (seen live.machine) in
+    record {
+      reads = ap (λ l. reads_of l) (ran-silent live p (nothing-made step count (seen live.machine)));
+      refused = λ fault h. absurd (run_answer-ok p.stop fault h);
+    }
+
+fair-run_from : (limit : ℕ) (resets : Bool) (address : Option ℕ) (live : Live) → Fair live (run_from limit resets address live)
+unfolding run_from
+fair-run_from limit resets address live =
+    fair-if (address_fits address) live _ _ (fair-ran false limit live (started resets address live)) (fair-refused _ live)
+
+fair-step_of : (limit count : ℕ) (live : Live) → Fair live (step_of limit count live)
+unfolding step_of stepped
+fair-step_of limit count live =
+    fair-if (nat_le 1 count && nat_le count (2 ^ 48)) live _ _ (fair-ran (nat_le count limit) (min count limit) live live) (fair-refused _ live)
+
+fair-examine_after : (fault : Option ExamineFault) (live : Live) (l : Listing) → Fair live (examine_after fault live l)
+fair-examine_after (Some fault) live l = fair-refused _ live
+fair-examine_after None live l = fair-says _ live live
+
+fair-examine : (live : Live) (l : Listing) → Fair live (examine_reply live l)
+unfolding examine_reply
+fair-examine live l = fair-if (names_device l.device) live _ _ (fair-refused _ live) (fair-examine_after (examine_fault live.machine l) live l)
+
+fair-deposit_after : (fault : Option ExamineFault) (live : Live) (l : Listing) (value : ℕ) → Fair live (deposit_after fault live l value)
+fair-deposit_after (Some fault) live l value = fair-refused _ live
+fair-deposit_after None live l value = fair-goes live _
+
+fair-deposit : (live : Live) (l : Listing) (value : ℕ) → Fair live (deposit_reply live l value)
+unfolding deposit_reply
+fair-deposit live l value =
+    fair-if (names_device l.device) live _ _ (fair-refused _ live) (fair-deposit_after (fault_of_deposit live.machine l (handed value)) live l (handed value))
+
+fair-show : (live : Live) (subject : Shown) → Fair live (show_reply live subject)
+unfolding show_reply
+fair-show live shown.Time = fair-says _ live live
+fair-show live subject = fair-refused _ live
+
+fair-exit : (live : Live) (status : Option ℕ) → Fair live (exit_reply live status)
+unfolding exit_reply
+fair-exit live status =
+    fair-if (nat_le (unwrap_or status 0) 99) live _ _ (record { reads = refl; refused = λ fault h. absurd (cc) }) (fair-refused _ live)
+
+pub fair-effect : (limit : ℕ) (live : Live) (r : Request) → Fair live (effect limit live r)
+unfolding effect
+fair-effect limit live request.Nothing = fair-goes live live
+fair-effect limit live (request.Examine l) = fair-examine live l
+fair-effect limit live (request.Deposit l value) = fair-deposit live l value
+fair-effect limit live (request.Run address) = fair-run_from limit true address live
+fair-effect limit live (request.Go address) = fair-run_from limit false address live
+fair-effect limit live request.Cont = fair-ran false limit live live
+fair-effect limit live (request.Step count) = fair-step_of limit (unwrap_or count 1) live
+fair-effect limit live (request.Show subject) = fair-show live subject
+fair-effect limit live (request.Exit status) = fair-exit live status
+fair-effect limit live r = fair-refused _ live
+
+-- a command reads nothing
+pub does-reads : (limit : ℕ) (live : Live) (asked : Asked) → reads_of (does limit live asked).made ≡ 0
+unfolding does
+does-reads limit live (Ok r) = (fair-effect limit live r).reads
+does-reads limit live (Err fault) = refl
+
+pub refusals-change-nothing : RefusalsChangeNothing
+refusals-change-nothing limit live r fault h none = (fair-effect limit live r).refused fault h

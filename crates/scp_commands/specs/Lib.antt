@@ -1,0 +1,10 @@
+pub mod Live
+pub mod Reply
+pub mod FaultText
+pub mod RunEffects
+pub mod ListEffects
+pub mod ShowEffects
+pub mod ExitEffects
+pub mod Effect
+pub mod Doing
+pub mod Laws

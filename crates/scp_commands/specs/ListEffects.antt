@@ -1,0 +1,38 @@
+-- EXAMINE and DEPOSIT (SIMH Users' Guide, "Examining and Changing State").
+use Rattle.std.specs.Prelude.{ℕ, ◌^◌, ◌-◌, min, Bool, true, false, Option, Some, None, if◌then◌else◌}
+use Rattle.scp_parser.specs.declared.listing.Name.{Name}
+use Rattle.scp_parser.specs.declared.listing.Name.TheVariants as whose
+use Rattle.scp_parser.specs.declared.listing.Listing.{Listing}
+use Rattle.scp_examine.specs.declared.fault.ExamineFault.{ExamineFault}
+use Rattle.scp_examine.specs.Effect.{examine_fault, examined, fault_of_deposit, deposited}
+use Rattle.scp_commands.specs.declared.fault.CommandFault.TheVariants.{NotBuilt}
+use Rattle.scp_commands.specs.Live.{Live}
+use Rattle.scp_commands.specs.Reply.{Reply, goes, says, refused}
+use Rattle.scp_commands.specs.FaultText.{list_fault}
+
+-- the registers of devices are not built
+abbrev pub names_device : Name → Bool
+names_device whose.Cpu = false
+names_device (whose.Device kind) = true
+
+abbrev pub examine_after : Option ExamineFault → Live → Listing → Reply
+examine_after (Some fault) live l = refused (list_fault fault) live
+examine_after None live l = says (examined live.machine l) live
+
+-- EXAMINE prints its list
+unfoldable pub examine_reply : Live → Listing → Reply
+examine_reply live l =
+    if names_device l.device then refused NotBuilt live else examine_after (examine_fault live.machine l) live l
+
+-- a value that is too large for its reader is handed on as the largest of 32 bits
+abbrev pub handed : ℕ → ℕ
+handed value = min value (2 ^ 32 - 1)
+
+abbrev pub deposit_after : Option ExamineFault → Live → Listing → ℕ → Reply
+deposit_after (Some fault) live l value = refused (list_fault fault) live
+deposit_after None live l value = goes (record live { machine = deposited live.machine l value })
+
+-- DEPOSIT puts its value into its list
+unfoldable pub deposit_reply : Live → Listing → ℕ → Reply
+deposit_reply live l value =
+    if names_device l.device then refused NotBuilt live else deposit_after (fault_of_deposit live.machine l (handed value)) live l (handed value)

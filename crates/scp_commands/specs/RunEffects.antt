@@ -1,0 +1,82 @@
+-- RUN, GO, CONT and STEP (SIMH Users' Guide, "Running A Simulated Program"), and what a stop prints.
+use Rattle.std.specs.Prelude.{ℕ, ◌^◌, ◌-◌, min, nat_le, ◌&&◌, List, [], ◌∷◌, ◌++◌, codes, Bool, true, false, Option, Some, None, Ok, if◌then◌else◌}
+use Rattle.observations.specs.Observations.{Prints, map_made}
+use Rattle.nova_word.specs.Numbers.{octal_digits}
+use Rattle.nova_memory.specs.Memory.{get}
+use Rattle.unit_trait.specs.declared.processor.CpuReg.TheVariants.{Pc}
+use Rattle.nova_machine.specs.declared.machine.Stop.{Stop}
+use Rattle.nova_machine.specs.declared.machine.Stop.TheVariants.{Halt, ChainLimit, Stepped, Limit, NotBuilt}
+use Rattle.nova_machine.specs.Machine.{MachineState, reset_machine}
+use Rattle.nova_machine.specs.Registers.{with_register}
+use Rattle.nova_machine.specs.Seen.{seen}
+use Rattle.nova_machine.specs.Parts.{Part}
+use Rattle.nova_machine.specs.Run.{run}
+use Rattle.scp_commands.specs.declared.next.Next.TheVariants.{Go, Ran}
+use Rattle.scp_commands.specs.declared.fault.CommandFault.TheVariants.{OutOfRange}
+use Rattle.scp_commands.specs.Live.{Live, with_seen}
+use Rattle.scp_commands.specs.Reply.{Answer, Reply, refused}
+
+-- the name of a stop
+abbrev pub stop_name : Stop → List ℕ
+stop_name Halt = codes "HALT instruction"
+stop_name ChainLimit = codes "Indirect chain limit"
+stop_name Stepped = codes "Step expired"
+stop_name Limit = codes "Instruction limit"
+stop_name NotBuilt = codes "Not built"
+
+-- what a stop prints: a newline, its name, PC, the word there, and a newline
+unfoldable pub stop_text : Stop → MachineState → List ℕ
+stop_text stop m =
+    10 ∷ [] ++ stop_name stop ++ codes ", PC: " ++ octal_digits 5 m.processor.cpu.pc ++ codes " (" ++ octal_digits 6 (get m.processor.memory m.processor.cpu.pc)
+    ++ codes ")" ++ 10 ∷ []
+
+abbrev pub stop_line : Option Stop → MachineState → List ℕ
+stop_line (Some stop) m = stop_text stop m
+stop_line None m = []
+
+abbrev pub run_answer : Option Stop → Answer
+run_answer (Some stop) = Ok (Ran stop)
+run_answer None = Ok Go
+
+-- a run prints what was made in it, and then its stop
+unfoldable pub ran : Live → Part → Reply
+ran live p = record {
+  made = map_made (with_seen live) p.made ++ Prints (stop_line p.stop p.after.machine) (with_seen live p.after) ∷ [];
+  answer = run_answer p.stop;
+  after = with_seen live p.after;
+}
+
+-- a run from PC, up to the limit of the session
+abbrev pub running : ℕ → Live → Reply
+running limit live = ran live (run false limit (seen live.machine))
+
+-- the largest address
+abbrev pub last_address : ℕ
+last_address = 2 ^ 15 - 1
+
+abbrev pub address_fits : Option ℕ → Bool
+address_fits None = true
+address_fits (Some address) = nat_le address last_address
+
+-- the machine with another PC, where one is given
+abbrev pub starting_at : Option ℕ → MachineState → MachineState
+starting_at None m = m
+starting_at (Some address) m = with_register m Pc address
+
+abbrev pub reset_where : Bool → MachineState → MachineState
+reset_where resets m = if resets then reset_machine m else m
+
+abbrev pub started : Bool → Option ℕ → Live → Live
+started resets address live = record live { machine = starting_at address (reset_where resets live.machine) }
+
+-- a run from an address, or from PC where none is given; RUN resets the machine first
+unfoldable pub run_from : ℕ → Bool → Option ℕ → Live → Reply
+run_from limit resets address live = if address_fits address then running limit (started resets address live) else refused OutOfRange live
+
+-- STEP runs that many instructions, or as many as the limit of the session allows, and then stops as a limit does
+unfoldable pub stepped : ℕ → ℕ → Live → Reply
+stepped limit count live = ran live (run (nat_le count limit) (min count limit) (seen live.machine))
+
+-- a STEP is one of 1 to 2 ^ 48 instructions
+unfoldable pub step_of : ℕ → ℕ → Live → Reply
+step_of limit count live = if nat_le 1 count && nat_le count (2 ^ 48) then stepped limit count live else refused OutOfRange live

@@ -1,0 +1,20 @@
+//! What each command does to a session: its effect, its answer, and the text of its fault.
+#![tactic(auto)]
+
+pub mod counts;
+mod execute_command;
+mod exit_command;
+pub mod fault;
+pub mod laws;
+mod list_commands;
+pub mod next;
+mod run_commands;
+pub mod session;
+mod show_command;
+
+pub use counts::{MOST_INSTRUCTIONS, is_count};
+pub use execute_command::execute;
+pub use fault::CommandFault;
+pub use laws::refusals_change_nothing;
+pub use next::Next;
+pub use session::Session;

@@ -1,0 +1,18 @@
+use nova_machine::Machine;
+use std::marker::Model;
+
+/// What commands work on.
+#[derive(Drop)]
+pub struct Session {
+    pub machine: Machine,
+    /// How many instructions a run may execute, from 1 to 2^48.
+    pub limit: u64,
+}
+
+impl Model for Session {
+    ghost use Rattle.scp_commands.specs.Live.{CommandState, live_of};
+
+    ghost Value = { CommandState };
+
+    ghost view = { λ s. record { live = live_of s.machine; limit = s.limit } };
+}

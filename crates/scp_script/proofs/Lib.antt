@@ -1,0 +1,6 @@
+pub mod TextLemmas
+pub mod ReadingLemmas
+pub mod SessionLemmas
+pub mod LineLemmas
+pub mod WholeLemmas
+pub mod LawLemmas

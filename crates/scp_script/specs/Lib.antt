@@ -1,0 +1,6 @@
+pub mod Lines
+pub mod Reading
+pub mod Session
+pub mod Loop
+pub mod Perform
+pub mod Laws

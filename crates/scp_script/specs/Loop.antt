@@ -1,0 +1,121 @@
+-- What the calls of the loop over texts come to, for a console that had and has these bytes and an input that let so many
+-- reads through.
+use Rattle.std.specs.Prelude.{◌≡◌, ◌≢◌, ℕ, ◌<◌, ◌≤◌, Bool, IsTrue, List, ◌++◌, length, Option, Some, None, Ok}
+use Rattle.fault_counts.specs.Faults.{raised}
+use Rattle.host_files.specs.Streams.{AddsPart}
+use Rattle.observations.specs.Observations.{Trace, text_of, reads_of}
+use Rattle.observations.specs.Cut.{ends, cut_trace}
+use Rattle.scp_commands.specs.declared.next.Next.TheVariants.{Exit as ExitNext}
+use Rattle.scp_commands.specs.Live.{Live, CommandState}
+use Rattle.scp_commands.specs.Reply.{Answer, Reply}
+use Rattle.scp_commands.specs.Doing.{IsSaid, IsBrokenOff}
+use Rattle.scp_script.specs.declared.progress.CommandLoop.{CommandLoop}
+use Rattle.scp_script.specs.declared.progress.Finish.{Finish}
+use Rattle.scp_script.specs.declared.progress.Finish.TheVariants.{Exit, EndOfInput, Commands, Console, Input}
+use Rattle.scp_script.specs.declared.progress.Progress.{Progress}
+use Rattle.scp_script.specs.declared.progress.Progress.TheVariants.{GoesOn, IsOver}
+use Rattle.scp_script.specs.Lines.{reads_left}
+use Rattle.scp_script.specs.Reading.{AreRead}
+use Rattle.scp_script.specs.Session.{Session, Going, step, trace}
+
+-- the session that the loop stands in
+abbrev pub session_of : CommandState → CommandLoop → List ℕ → Session
+session_of state l input = record {
+  live = state.live;
+  limit = state.limit;
+  budget = l.budget;
+  prompt = l.prompt;
+  input = input;
+  open_ = l.reader.open_;
+}
+
+-- the status with which an answer ends the session, if it does
+abbrev pub exit_of : Answer → Option ℕ
+exit_of (Ok (ExitNext status)) = Some status
+exit_of answer = None
+
+-- what a text comes to on the console: it was done and what it prints was printed, or a byte of that was refused
+abbrev pub IsAnswer : Reply → Progress → Live → Bool → List ℕ → List ℕ → Type 0
+IsAnswer reply GoesOn live tells before after = (exit_of reply.answer ≡ None) × IsSaid reply live tells before after
+IsAnswer reply (IsOver (Exit status)) live tells before after = (exit_of reply.answer ≡ Some status) × IsSaid reply live tells before after
+IsAnswer reply (IsOver Console) live tells before after = IsBrokenOff reply live tells before after
+IsAnswer reply (IsOver EndOfInput) live tells before after = ⊥
+IsAnswer reply (IsOver Commands) live tells before after = ⊥
+IsAnswer reply (IsOver Input) live tells before after = ⊥
+
+-- the text of a fault was printed, or a byte of it was refused
+abbrev pub Complains : Bool → List ℕ → List ℕ → Progress → List ℕ → Type 0
+Complains tells before text GoesOn after = IsTrue tells → after ≡ before ++ text
+Complains tells before text (IsOver Console) after = IsTrue tells → AddsPart before text after
+Complains tells before text (IsOver finish) after = ⊥
+
+-- a text's only fault is the console's
+abbrev pub AnswerCounts : Progress → ℕ → ℕ → Type 0
+AnswerCounts (IsOver Console) sink sink_now = sink_now ≡ raised sink
+AnswerCounts (IsOver Input) sink sink_now = ⊥
+AnswerCounts (IsOver finish) sink sink_now = sink_now ≡ sink
+AnswerCounts GoesOn sink sink_now = sink_now ≡ sink
+
+-- the status of EXIT is 0 to 99
+abbrev pub IsExitStatus : Finish → Type 0
+IsExitStatus (Exit status) = status ≤ 99
+IsExitStatus finish = Unit {0}
+
+abbrev pub HasExitStatus : Progress → Type 0
+HasExitStatus (IsOver finish) = IsExitStatus finish
+HasExitStatus GoesOn = Unit {0}
+
+-- the status of a finish
+abbrev pub status_of : Finish → ℕ
+status_of (Exit status) = status
+status_of EndOfInput = 0
+status_of Commands = 104
+status_of Console = 102
+status_of Input = 106
+
+-- the input let through the reads that were made, where it failed, and else all that there can be
+abbrev pub LetsThrough : Finish → ℕ → ℕ → ℕ → Type 0
+LetsThrough Input gives made all = gives ≡ made
+LetsThrough finish gives made all = gives ≡ all
+
+-- The trace comes to that end on the console, which had and has these bytes.
+pub record EndsAs (t : Trace Live) (status gives made : ℕ) (before after : List ℕ) (live : Live) : Type 0 where
+  pub taken : List ℕ
+  pub written : after ≡ before ++ taken
+  pub outcome : cut_trace (length taken) gives t ≡ ends status taken made live
+
+-- the session is over
+pub record Finishes (old : Session) (finish : Finish) (new : Session) (before after : List ℕ) : Type 0 where
+  pub gives : ℕ
+  pub made : ℕ
+  pub lets_through : LetsThrough finish gives made (reads_left old.open_ old.input)
+  pub reads : AreRead made old.open_ old.input new.open_ new.input
+  pub end : EndsAs (trace old) (status_of finish) gives made before after new.live
+
+-- the session goes on behind its next text, all of whose observations were made
+pub record GoesPast (old new : Session) (before after : List ℕ) : Type 0 where
+  pub next : (step old).next ≡ Going new
+  pub written : after ≡ before ++ text_of (step old).made
+  pub reads : AreRead (reads_of (step old).made) old.open_ old.input new.open_ new.input
+
+abbrev pub Progresses : Session → Progress → Session → List ℕ → List ℕ → Type 0
+Progresses old GoesOn new before after = GoesPast old new before after
+Progresses old (IsOver finish) new before after = Finishes old finish new before after
+
+-- Each finish has its cause: the console's count rose by one where it failed, and stood still else, and so did the
+-- input's.
+pub record FinishCause (finish : Finish) (sink sink_now source source_now : ℕ) : Type 0 where
+  pub console : finish ≡ Console → sink_now ≡ raised sink
+  pub input : finish ≡ Input → source_now ≡ raised source
+  pub console_only : finish ≢ Console → sink_now ≡ sink
+  pub input_only : finish ≢ Input → source_now ≡ source
+  pub exit : IsExitStatus finish
+
+abbrev pub ProgressCause : Progress → ℕ → ℕ → ℕ → ℕ → Type 0
+ProgressCause GoesOn sink sink_now source source_now = (sink_now ≡ sink) × (source_now ≡ source)
+ProgressCause (IsOver finish) sink sink_now source source_now = FinishCause finish sink sink_now source source_now
+
+-- a text after which the session goes on costs a unit, told or not
+abbrev pub PaysFor : ℕ → Progress → ℕ → Type 0
+PaysFor budget GoesOn now = now < budget
+PaysFor budget (IsOver finish) now = now ≤ budget

@@ -1,0 +1,108 @@
+-- A session: one text after another, to EXIT, the end of the input, or the end of the budget.
+use Rattle.std.specs.Prelude.{◌≡◌, ℕ, zero, suc, ◌+◌, ◌-◌, Bool, List, [], ◌∷◌, ◌++◌, length, drop, codes, Ok, Err, if◌then◌else◌}
+use Rattle.observations.specs.Observations.{Observation, Prints, Reads, Trace, after_made}
+use Rattle.scp_parser.specs.Reading.{reading}
+use Rattle.scp_commands.specs.declared.next.Next.TheVariants.{Go, Ran, Exit}
+use Rattle.scp_commands.specs.Live.{Live}
+use Rattle.scp_commands.specs.Reply.{Answer, Reply}
+use Rattle.scp_commands.specs.FaultText.{fault_text}
+use Rattle.scp_commands.specs.Effect.{Asked, does}
+use Rattle.scp_script.specs.Lines.{Arrival, InputEnds, Unpaid, LineComes, first_line, line_cost, has_lf, arrival, line_reads}
+
+-- What the future of a session depends on: what commands work on, how many instructions a run may execute, the units of
+-- budget left, whether the prompt is printed, the rest of the input, and whether its end is still to be read.
+pub record Session : Type 0 where
+  pub live : Live
+  pub limit : ℕ
+  pub budget : ℕ
+  pub prompt : Bool
+  pub input : List ℕ
+  pub open_ : Bool
+
+abbrev pub prompt_text : Bool → List ℕ
+prompt_text on = if on then codes "sim> " else []
+
+-- what is made before the next text is there: the prompt, where it is on, and the reads of a line
+unfoldable pub asking : Session → List (Observation Live)
+asking s = Prints (prompt_text s.prompt) s.live ∷ Reads (line_reads s.budget s.open_ s.input) s.live ∷ []
+
+-- the session behind its next line, which was read and paid
+unfoldable pub behind_line : Session → Session
+behind_line s = record s {
+  budget = s.budget - line_cost (length (first_line s.input));
+  input = drop (length (first_line s.input) + 1) s.input;
+  open_ = has_lf s.input;
+}
+
+-- what comes next in a session: its end with that status, or a text and the session behind it
+pub data Upcoming : Type 0 where
+  Ends : ℕ → Upcoming
+  Comes : List ℕ → Session → Upcoming
+
+abbrev pub upcoming_of : Session → Arrival → Upcoming
+upcoming_of s InputEnds = Ends 0
+upcoming_of s Unpaid = Ends 104
+upcoming_of s (LineComes line) = Comes line (behind_line s)
+
+unfoldable pub upcoming : Session → Upcoming
+upcoming s = upcoming_of s (arrival s.budget s.open_ s.input)
+
+-- the text of a fault is printed behind what its command has made
+abbrev pub complaint : Answer → Live → List (Observation Live)
+complaint (Ok next) live = []
+complaint (Err fault) live = Prints (fault_text fault) live ∷ []
+
+abbrev pub with_complaint : Reply → Reply
+with_complaint reply = record reply { made = reply.made ++ complaint reply.answer reply.after }
+
+-- what a text does
+unfoldable pub text_reply : ℕ → Live → Asked → Reply
+text_reply limit live asked = with_complaint (does limit live asked)
+
+-- what comes behind a text: the session goes on, or is over with that status and state
+pub data Following : Type 0 where
+  Going : Session → Following
+  Over : ℕ → Live → Following
+
+abbrev pub following : Answer → Session → Following
+following (Ok (Exit status)) s = Over status s.live
+following (Ok Go) s = Going s
+following (Ok (Ran stop)) s = Going s
+following (Err fault) s = Going s
+
+-- what one text of a session comes to
+pub record Step : Type 0 where
+  pub made : List (Observation Live)
+  pub next : Following
+
+-- a text is done in the session behind it
+unfoldable pub text_step : List (Observation Live) → Session → Asked → Step
+text_step asked_first behind asked = let reply = text_reply behind.limit behind.live asked in record {
+  made = asked_first ++ reply.made;
+  next = following reply.answer (record behind { live = reply.after });
+}
+
+abbrev pub step_upcoming : Session → Upcoming → Step
+step_upcoming s (Ends status) = record { made = asking s; next = Over status s.live }
+step_upcoming s (Comes text behind) = text_step (asking s) behind (reading text)
+
+unfoldable pub step : Session → Step
+step s = step_upcoming s (upcoming s)
+
+abbrev pub after_step : List (Observation Live) → Following → (Session → Trace Live) → Trace Live
+after_step made (Going s) goes_on = after_made made (goes_on s)
+after_step made (Over status live) goes_on = record { made = made; ended = record { status = status; state = live } }
+
+-- so many texts at the most
+unfoldable pub texts : ℕ → Session → Trace Live
+texts zero s = record { made = []; ended = record { status = 104; state = s.live } }
+texts (suc count) s = after_step (step s).made (step s).next (λ t. texts count t)
+
+-- all that a session does: each text after which it goes on has cost a unit of the budget
+unfoldable pub trace : Session → Trace Live
+trace s = texts (suc s.budget) s
+
+-- the session s comes to t by that many texts, with these observations
+abbrev pub ComesTo : ℕ → Session → List (Observation Live) → Session → Type 0
+ComesTo zero s made t = (made ≡ []) × (s ≡ t)
+ComesTo (suc count) s made t = (mid : Session) × (more : List (Observation Live)) × ((step s).next ≡ Going mid) × (made ≡ (step s).made ++ more) × ComesTo count mid more t

@@ -1,0 +1,49 @@
+use crate::line_reader::LineReader;
+
+/// How a session ended.
+#[derive(Clone, Copy, Debug, PartialEq, Eq)]
+pub enum Finish {
+    /// EXIT, with its status, from 0 to 99.
+    Exit(u8),
+    /// The input ended.
+    EndOfInput,
+    /// A line was to be paid for, and the budget was spent.
+    Commands,
+    /// The console failed.
+    Console,
+    /// The input failed.
+    Input,
+}
+
+impl Finish {
+    ghost use Rattle.std.specs.Prelude.{◌≡◌};
+    ghost use Rattle.scp_script.specs.Loop.{status_of};
+
+    /// The exit status of the process.
+    pub fn status(self) -> u8
+        ensures { result ≡ status_of self }
+    {
+        match self {
+            Finish::Exit(status) => status,
+            Finish::EndOfInput => 0,
+            Finish::Commands => 104,
+            Finish::Console => 102,
+            Finish::Input => 106,
+        }
+    }
+}
+
+/// Whether a session goes on behind a text.
+#[derive(Clone, Copy, Debug, PartialEq, Eq)]
+pub enum Progress {
+    GoesOn,
+    IsOver(Finish),
+}
+
+/// The texts of a session: the reader of its lines, the units left to pay for them, and whether a prompt asks for each.
+#[derive(Drop)]
+pub struct CommandLoop {
+    pub reader: LineReader,
+    pub budget: u64,
+    pub prompt: bool,
+}
