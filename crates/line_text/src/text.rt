@@ -1,4 +1,4 @@
-ghost use Rattle.std.specs.Prelude.{◌≡◌, ◌+◌, ◌≤◌, ◌<◌, ◌^◌, ◌++◌, ◌∷◌, ◌↔◌, [], IsTrue, length, take, nat_lt, if◌then◌else◌};
+ghost use Rattle.std.specs.Prelude.{◌≡◌, ◌+◌, ◌≤◌, ◌<◌, ◌^◌, ◌++◌, ◌∷◌, ◌↔◌, [], IsTrue, length, take, drop, nat_lt, if◌then◌else◌};
 ghost use Rattle.nova_word.specs.Numbers.{octal_digits};
 
 use nova_word::write_octal;
@@ -59,6 +59,15 @@ impl<const N: usize> Text<N> {
         ensures { result.now ≡ self.now }
     {
         &self.bytes[..self.length]
+    }
+
+    /// Writes the text first into `out`, and answers how many bytes it has.
+    pub fn copy_to(&self, out: &mut [u8; N]) -> usize
+        ensures count { result ≡ length self.now }
+        ensures text { out.new ≡ self.now ++ drop (length self.now) out.old }
+    {
+        out[..self.length].copy_from_slice(self.as_slice());
+        self.length
     }
 
     /// Adds a byte.

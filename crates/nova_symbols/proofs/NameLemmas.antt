@@ -5,9 +5,9 @@ use Rattle.std.specs.Char.{to_ascii_uppercase}
 use Rattle.std.specs.List.{position}
 use Rattle.std.specs.Str.{bytes_eq, str_to_ascii_uppercase}
 use Rattle.std.proofs.lemmas.Bool.{eqb-true, and_parts}
-use Rattle.std.proofs.lemmas.Bool.Decides.{nat_tests}
 use Rattle.std.proofs.lemmas.List.{take-map, drop-map, map-append}
 use Rattle.line_words.specs.Words.{is_blank}
+use Rattle.line_words.proofs.SpellingLemmas.{capitals_twice}
 use Rattle.nova_symbols.specs.declared.names.Shape.{Shape}
 use Rattle.nova_symbols.specs.declared.names.Shape.TheVariants.{Alone, Processor, Memory, Load, Arithmetic, Transfer, Device}
 use Rattle.nova_symbols.specs.declared.names.Naming.{Naming}
@@ -18,14 +18,6 @@ use Rattle.nova_symbols.proofs.CanonLemmas.{every, every_at}
 use Rattle.nova_symbols.proofs.SplitLemmas.{free, spelled_word}
 
 -- a word names what its capitals name
-
-upper_twice : (b : ℕ) → to_ascii_uppercase (to_ascii_uppercase b) ≡ to_ascii_uppercase b
-upper_twice b = grind (arith, nat_tests)
-
-capitals_twice : (text : List ℕ) → str_to_ascii_uppercase (str_to_ascii_uppercase text) ≡ str_to_ascii_uppercase text
-capitals_twice [] = refl
-capitals_twice (b ∷ more) =
-    ap (λ (c : ℕ). c ∷ str_to_ascii_uppercase (str_to_ascii_uppercase more)) (upper_twice b) ∙ ap (λ (t : List ℕ). to_ascii_uppercase b ∷ t) (capitals_twice more)
 
 place_capitals : (table : List (List ℕ)) (text : List ℕ) → name_place table (str_to_ascii_uppercase text) ≡ name_place table text
 place_capitals table text = ap (λ (t : List ℕ). position (λ name. bytes_eq name t) table) (capitals_twice text)

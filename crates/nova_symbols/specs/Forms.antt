@@ -1,16 +1,11 @@
 -- The texts of each word, form by form: a name with its letters, and operands behind blanks, with a comma
 -- between two operands. This says nothing of how a text is read or printed.
 use Rattle.std.specs.Prelude.{◌≡◌, ℕ, ◌+◌, ◌-◌, ◌*◌, ◌%◌, ◌<◌, ◌≤◌, ◌⊎◌, List, [], ◌∷◌, ◌++◌, length, slice_index}
-use Rattle.std.specs.Str.{str_to_ascii_uppercase}
-use Rattle.line_words.specs.Words.{IsBlanks}
+use Rattle.line_words.specs.Words.{IsBlanks, IsSpelled}
 use Rattle.nova_word.specs.Numbers.{IsNumber}
 use Rattle.nova_symbols.specs.declared.names.Shape.{Shape}
 use Rattle.nova_symbols.specs.declared.names.Shape.TheVariants.{Alone, Processor, Memory, Load, Arithmetic, Transfer, Device}
 use Rattle.nova_symbols.specs.Names.{entry, memory_names, load_names, arithmetic_names, carry_letters, shift_letters, no_load_marks, skip_names, transfer_names, pulse_letters, test_names, device_names, device_codes, lone_words, lone_names, processor_words, processor_names}
-
--- a text is this one in either case of its letters
-abbrev pub IsSpelled : List ℕ → List ℕ → Type 0
-IsSpelled text capitals = str_to_ascii_uppercase text ≡ capitals
 
 -- a text is the name at that place of a table
 pub record IsEntry (table : List (List ℕ)) (text : List ℕ) (k : ℕ) : Type 0 where

@@ -1,6 +1,6 @@
 -- What the first word of a text names: how operands follow it, and the word without them.
 use Rattle.std.specs.Prelude.{ℕ, ◌+◌, ◌*◌, ◌==◌, Option, Some, None, List, [], ◌∷◌, length, take, drop, slice_index, position, if◌then◌else◌}
-use Rattle.std.specs.Str.{bytes_eq, str_to_ascii_uppercase}
+use Rattle.line_words.specs.Words.{is_spelled}
 use Rattle.nova_symbols.specs.declared.names.Shape.{Shape}
 use Rattle.nova_symbols.specs.declared.names.Shape.TheVariants.{Alone, Processor, Memory, Load, Arithmetic, Transfer, Device}
 use Rattle.nova_symbols.specs.declared.names.Naming.{Naming}
@@ -8,7 +8,7 @@ use Rattle.nova_symbols.specs.Names.{memory_names, load_names, arithmetic_names,
 
 -- the place of a name in a table, in either case
 abbrev pub name_place : List (List ℕ) → List ℕ → Option ℕ
-name_place table word = position (λ name. bytes_eq name (str_to_ascii_uppercase word)) table
+name_place table word = position (λ name. is_spelled word name) table
 
 abbrev pub otherwise : Option Naming → Option Naming → Option Naming
 otherwise (Some n) other = Some n

@@ -10,7 +10,7 @@ use crate::names::{
     Naming, Shape, letter, name_and_letters, place_of_name, push_all, push_entry, push_octal,
 };
 use crate::operands::operand_at;
-use crate::text::Text;
+use line_text::Text;
 
 const ARITHMETIC_NAMES: [&str; 8] = ["COM", "NEG", "MOV", "INC", "ADC", "SUB", "ADD", "AND"];
 
@@ -24,7 +24,7 @@ const SKIP_NAMES: [&str; 7] = ["SKP", "SZC", "SNC", "SZR", "SNR", "SEZ", "SBN"];
 
 // The text of a word of which bit 0 is 1.
 #[tactic(auto, unfolding(crate::specs::Canon::arithmetic_text))]
-pub fn arithmetic_text(w: u16) -> Text
+pub fn arithmetic_text(w: u16) -> Text<32>
     ensures { result ≡ arithmetic_text w }
 {
     let mut text = Text::new();
@@ -41,7 +41,7 @@ pub fn arithmetic_text(w: u16) -> Text
 }
 
 #[tactic(auto, unfolding(crate::specs::Canon::skip_text))]
-fn push_skip(text: &mut Text, skip: u16)
+fn push_skip(text: &mut Text<32>, skip: u16)
     requires skip { skip < 8 }
     requires room { length text.old ≤ 26 }
     ensures text { text.new ≡ text.old ++ skip_text skip }

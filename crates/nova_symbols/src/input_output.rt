@@ -12,7 +12,7 @@ use crate::names::{
     Naming, Shape, name_and_letters, place_of_name, push_all, push_entry, push_octal,
 };
 use crate::operands::{device_number_at, operand_at};
-use crate::text::Text;
+use line_text::Text;
 
 const TRANSFER_NAMES: [&str; 7] = ["NIO", "DIA", "DOA", "DIB", "DOB", "DIC", "DOC"];
 
@@ -38,7 +38,7 @@ const PROCESSOR_NAMES: [&str; 3] = ["READS", "INTA", "MSKO"];
 
 // The text of a word of input and output.
 #[tactic(auto, unfolding(crate::specs::Canon::input_output_text))]
-pub fn input_output_text(w: u16) -> Text
+pub fn input_output_text(w: u16) -> Text<32>
     requires { (0o60000 ≤ w) × (w < 0o100000) }
     ensures { result ≡ input_output_text w }
 {
@@ -60,7 +60,7 @@ pub fn input_output_text(w: u16) -> Text
 
 // Appends the general form.
 #[tactic(auto, unfolding(crate::specs::Canon::transfer_text))]
-fn push_transfer(text: &mut Text, w: u16)
+fn push_transfer(text: &mut Text<32>, w: u16)
     requires { length text.old ≤ 0 }
     ensures { text.new ≡ text.old ++ transfer_text w }
 {
@@ -82,7 +82,7 @@ fn push_transfer(text: &mut Text, w: u16)
 
 // An accumulator 0 is left out behind a name that sets and reads none.
 #[tactic(auto, unfolding(crate::specs::Canon::device_alone_text))]
-fn push_device_alone(text: &mut Text, w: u16)
+fn push_device_alone(text: &mut Text<32>, w: u16)
     requires { length text.old ≤ 15 }
     ensures { text.new ≡ text.old ++ device_alone_text w }
 {
@@ -94,7 +94,7 @@ fn push_device_alone(text: &mut Text, w: u16)
 }
 
 #[tactic(auto, unfolding(crate::specs::Canon::accumulator_device_text))]
-fn push_accumulator_device(text: &mut Text, w: u16)
+fn push_accumulator_device(text: &mut Text<32>, w: u16)
     requires { length text.old ≤ 15 }
     ensures { text.new ≡ text.old ++ accumulator_device_text w }
 {
@@ -104,7 +104,7 @@ fn push_accumulator_device(text: &mut Text, w: u16)
 }
 
 #[tactic(auto, unfolding(crate::specs::Canon::device_text))]
-fn push_device(text: &mut Text, code: u16)
+fn push_device(text: &mut Text<32>, code: u16)
     requires code { code < 64 }
     requires room { length text.old ≤ 20 }
     ensures { text.new ≡ text.old ++ device_text code }

@@ -8,7 +8,6 @@ mod memory_reference;
 mod names;
 mod operands;
 pub mod reader;
-mod text;
 pub mod writer;
 
 pub use fault::SymbolFault;

@@ -6,7 +6,7 @@ ghost use Rattle.nova_symbols.specs.Canon.{short_octal, signed_octal, address_te
 ghost use Rattle.nova_symbols.specs.Canon.{load_text};
 
 use crate::names::{Naming, Shape, place_of_name, push_all, push_entry, push_octal};
-use crate::text::Text;
+use line_text::Text;
 
 const MEMORY_NAMES: [&str; 4] = ["JMP", "JSR", "ISZ", "DSZ"];
 
@@ -16,7 +16,7 @@ const INDIRECT_MARKS: [&str; 2] = ["", "@"];
 
 // The text of a jump or a modification of memory.
 #[tactic(auto, unfolding(crate::specs::Canon::memory_text))]
-pub fn memory_text(w: u16) -> Text
+pub fn memory_text(w: u16) -> Text<32>
     ensures { result ≡ memory_text w }
 {
     let mut text = Text::new();
@@ -28,7 +28,7 @@ pub fn memory_text(w: u16) -> Text
 
 // The text of a load or a store.
 #[tactic(auto, unfolding(crate::specs::Canon::load_text))]
-pub fn load_text(w: u16) -> Text
+pub fn load_text(w: u16) -> Text<32>
     requires { (0o20000 ≤ w) × (w < 0o60000) }
     ensures { result ≡ load_text w }
 {
@@ -42,7 +42,7 @@ pub fn load_text(w: u16) -> Text
 }
 
 #[tactic(auto, unfolding(crate::specs::Canon::target_text))]
-fn push_target(text: &mut Text, w: u16)
+fn push_target(text: &mut Text<32>, w: u16)
     requires { length text.old ≤ 8 }
     ensures text { text.new ≡ text.old ++ target_text w }
 {
@@ -51,7 +51,7 @@ fn push_target(text: &mut Text, w: u16)
 }
 
 #[tactic(auto, unfolding(crate::specs::Canon::address_text))]
-fn push_address(text: &mut Text, index: u16, displacement: u16)
+fn push_address(text: &mut Text<32>, index: u16, displacement: u16)
     requires index { index < 4 }
     requires displacement { displacement < 256 }
     requires room { length text.old ≤ 13 }
@@ -71,7 +71,7 @@ fn push_address(text: &mut Text, index: u16, displacement: u16)
 
 // Appends a displacement as a number with a sign, of which a plus sign is as it is passed.
 #[tactic(auto, unfolding(crate::specs::Canon::signed_octal))]
-fn push_signed(text: &mut Text, plus: &[u8], displacement: u16)
+fn push_signed(text: &mut Text<32>, plus: &[u8], displacement: u16)
     requires plus { length plus.now ≤ 1 }
     requires displacement { displacement < 256 }
     requires room { length text.old ≤ 20 }
@@ -88,7 +88,7 @@ fn push_signed(text: &mut Text, plus: &[u8], displacement: u16)
 }
 
 #[tactic(auto, unfolding(crate::specs::Canon::short_octal))]
-fn push_short_octal(text: &mut Text, n: u16)
+fn push_short_octal(text: &mut Text<32>, n: u16)
     requires n { n < 2 ^ 9 }
     requires room { length text.old ≤ 25 }
     ensures text { text.new ≡ text.old ++ short_octal n }

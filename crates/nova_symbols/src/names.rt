@@ -1,12 +1,12 @@
 ghost use Rattle.std.specs.Prelude.{◌≡◌, ℕ, ◌+◌, ◌<◌, ◌≤◌, ◌^◌, ◌++◌, length, map, nat_le, IsTrue, IfSome, take, drop};
 ghost use Rattle.std.specs.List.{list_all, position};
-ghost use Rattle.std.specs.Str.{bytes_eq, str_to_ascii_uppercase};
+ghost use Rattle.line_words.specs.Words.{is_spelled};
 ghost use Rattle.nova_word.specs.Numbers.{octal_digits};
 ghost use Rattle.nova_symbols.specs.Names.{entry};
 ghost use Rattle.nova_symbols.specs.Naming.{name_place, letter};
 
-use crate::text::Text;
-use nova_word::write_octal;
+use line_text::Text;
+use line_words::is_spelled;
 
 /// Which operands follow a name.
 #[derive(Clone, Copy, Debug, PartialEq, Eq)]
@@ -46,18 +46,9 @@ impl Naming {
 
 // A word is that name, in either case.
 fn is_name(name: &str, word: &[u8]) -> bool
-    ensures { result ≡ bytes_eq name.now (str_to_ascii_uppercase word.now) }
+    ensures { result ≡ is_spelled word.now name.now }
 {
-    let letters = name.as_bytes();
-    if letters.len() != word.len() {
-        return false;
-    }
-    for (i, letter) in letters.iter().enumerate() {
-        if *letter != word[i].to_ascii_uppercase() {
-            return false;
-        }
-    }
-    true
+    is_spelled(word, name.as_bytes())
 }
 
 // The place of a name in a table.
@@ -70,7 +61,7 @@ pub fn place_of_name(table: &[&'static str], word: &[u8]) -> Option<usize>
 }
 
 fn same_name_place(table: &[&'static str], word: &[u8]) -> Option<usize>
-    ensures place { result ≡ position (λ name. bytes_eq name.now (str_to_ascii_uppercase word.now)) table.now }
+    ensures place { result ≡ position (λ name. is_spelled word.now name.now) table.now }
     ensures within { IfSome result (λ k. k < length table.now) }
 {
     table.iter().position(|name| is_name(name, word))
@@ -115,7 +106,7 @@ pub fn entry(table: &[&'static str], k: usize) -> &'static str
 }
 
 // Appends the text at that place of a table.
-pub fn push_entry(text: &mut Text, table: &[&'static str], k: usize)
+pub fn push_entry(text: &mut Text<32>, table: &[&'static str], k: usize)
     requires within { k < length table.now }
     requires short { IsTrue (list_all (λ name. nat_le (length name.now) 5) table.now) }
     requires room { length text.old ≤ 27 }
@@ -126,25 +117,21 @@ pub fn push_entry(text: &mut Text, table: &[&'static str], k: usize)
 }
 
 // Appends bytes for which there is room.
-pub fn push_all(text: &mut Text, bytes: &[u8])
+pub fn push_all(text: &mut Text<32>, bytes: &[u8])
     requires { length text.old + length bytes.now ≤ 32 }
     ensures text { text.new ≡ text.old ++ bytes.now }
     ensures length { length text.new ≡ length text.old + length bytes.now }
 {
-    for b in bytes {
-        text.push(*b);
-    }
+    text.push_all(bytes);
 }
 
 // Appends that many octal digits of a number.
-pub fn push_octal(text: &mut Text, n: u16, digits: usize)
+pub fn push_octal(text: &mut Text<32>, n: u16, digits: usize)
     requires digits { (0 < digits) × (digits ≤ 3) }
     requires fits { n < 8 ^ digits }
     requires room { length text.old ≤ 29 }
     ensures text { text.new ≡ text.old ++ octal_digits digits n }
     ensures length { length text.new ≡ length text.old + digits }
 {
-    let mut buffer = [0u8; 12];
-    let count = write_octal(u32::from(n), digits, &mut buffer);
-    push_all(text, &buffer[..count]);
+    text.push_octal(u32::from(n), digits);
 }

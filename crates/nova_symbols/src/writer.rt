@@ -4,7 +4,7 @@ ghost use Rattle.nova_symbols.specs.Canon.{canon};
 use crate::arithmetic::arithmetic_text;
 use crate::input_output::input_output_text;
 use crate::memory_reference::{load_text, memory_text};
-use crate::text::Text;
+use line_text::Text;
 use nova_word::Word;
 
 /// Writes the canonical symbolic text of a word first into `out`, and answers its length in bytes.
@@ -14,14 +14,11 @@ pub fn print(w: Word, out: &mut [u8; 32]) -> usize
     ensures length { result ≡ length (canon w) }
     ensures text { out.new ≡ canon w ++ drop (length (canon w)) out.old }
 {
-    let text = canonical_text(w.0);
-    let count = text.len();
-    out[..count].copy_from_slice(text.as_slice());
-    count
+    canonical_text(w.0).copy_to(out)
 }
 
 #[tactic(auto, unfolding(crate::specs::Canon::canon))]
-fn canonical_text(w: u16) -> Text
+fn canonical_text(w: u16) -> Text<32>
     ensures { result ≡ canon w }
 {
     if w < 0o20000 {

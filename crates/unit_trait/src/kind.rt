@@ -1,4 +1,4 @@
-ghost use Rattle.std.specs.Prelude.{◌≡◌, ◌+◌, ◌<◌, ◌≤◌, ◌++◌, ◌↔◌, IsTrue, length, take, drop};
+ghost use Rattle.std.specs.Prelude.{◌≡◌, ◌<◌, ◌≤◌, ◌++◌, ◌↔◌, IsTrue, length, drop};
 ghost use Rattle.unit_trait.specs.Kinds.{kind_name, units_of, takes_file, TakesFile, unit_name, decimal_below_100};
 
 use crate::clock::CLOCK;
@@ -11,6 +11,7 @@ use crate::punch::PUNCH;
 use crate::reader::READER;
 use crate::tape::TAPE;
 use crate::teleprinter::{TTO, TTO1};
+use line_text::Text;
 
 /// The kinds of units, in bus order.
 #[derive(Clone, Copy, Debug, PartialEq, Eq)]
@@ -101,38 +102,30 @@ pub fn unit_text(unit: UnitName, out: &mut [u8; 8]) -> usize
     ensures count { result ≡ length (unit_name unit) }
     ensures text { out.new ≡ unit_name unit ++ drop (length (unit_name unit)) out.old }
 {
-    let end = put_first(unit.kind.name().as_bytes(), out);
-    if units_of(unit.kind) == 1 {
-        end
-    } else {
-        put_number(unit.unit, end, out)
-    }
+    unit_name(unit).copy_to(out)
 }
 
-/// Puts bytes first into `out`, and answers how many.
-pub fn put_first(bytes: &[u8], out: &mut [u8; 8]) -> usize
-    requires { length bytes.now ≤ 8 }
-    ensures count { result ≡ length bytes.now }
-    ensures text { out.new ≡ bytes.now ++ drop (length bytes.now) out.old }
+// The name of a unit.
+fn unit_name(unit: UnitName) -> Text<8>
+    requires { unit.unit < units_of unit.kind }
+    ensures { result ≡ unit_name unit }
 {
-    out[..bytes.len()].copy_from_slice(bytes);
-    bytes.len()
+    let mut text = Text::new();
+    text.push_all(unit.kind.name().as_bytes());
+    if units_of(unit.kind) > 1 {
+        push_decimal(unit.unit, &mut text);
+    }
+    text
 }
 
-// Puts a number below 100 in decimal behind that place, and answers where it ends.
-fn put_number(n: u8, at: usize, out: &mut [u8; 8]) -> usize
+// Adds a number below 100 in decimal.
+fn push_decimal(n: u8, text: &mut Text<8>)
     requires number { n < 100 }
-    requires room { at ≤ 6 }
-    ensures count { result ≡ at + length (decimal_below_100 n) }
-    ensures text { out.new ≡ take at out.old ++
-        (decimal_below_100 n ++ drop (at + length (decimal_below_100 n)) out.old) }
+    requires room { length text.old ≤ 6 }
+    ensures { text.new ≡ text.old ++ decimal_below_100 n }
 {
-    if n < 10 {
-        out[at] = b'0' + n;
-        at + 1
-    } else {
-        out[at] = b'0' + n / 10;
-        out[at + 1] = b'0' + n % 10;
-        at + 2
+    if n >= 10 {
+        text.push(b'0' + n / 10);
     }
+    text.push(b'0' + n % 10);
 }

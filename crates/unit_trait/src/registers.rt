@@ -3,8 +3,9 @@ ghost use Rattle.unit_trait.specs.Registers.{register_at, name_at};
 ghost use Rattle.unit_trait.specs.Seen.{seen, HasShortName};
 
 use crate::device::Register;
-use crate::kind::{Kind, put_first};
+use crate::kind::Kind;
 use crate::{clock, disk, keyboard, printer, punch, reader, tape, teleprinter};
+use line_text::Text;
 
 // A register of a kind, by its number from 0.
 fn register_at(kind: Kind, i: u8) -> Option<Register>
@@ -70,9 +71,18 @@ pub fn reg_text(kind: Kind, i: u8, out: &mut [u8; 8]) -> usize
     ensures text { out.new ≡ name_at kind i ++ drop (length (name_at kind i)) out.old }
 {
     match register_at(kind, i) {
-        Some(register) => put_first(register.name.as_bytes(), out),
+        Some(register) => name_text(register).copy_to(out),
         None => 0,
     }
+}
+
+fn name_text(register: Register) -> Text<8>
+    requires { HasShortName register }
+    ensures { result ≡ register.name.now }
+{
+    let mut text = Text::new();
+    text.push_all(register.name.as_bytes());
+    text
 }
 
 #[cfg(test)]

@@ -28,3 +28,13 @@ fn bytes_are_kept_while_there_is_room(rt: HostRuntime) -> Result<(), Fail> {
     assert!(rt; line.is_empty());
     Ok(())
 }
+
+#[test]
+fn a_text_is_written_first(rt: HostRuntime) -> Result<(), Fail> {
+    let mut text = Text::<4>::new();
+    text.push_all(b"PC");
+    let mut out = [b'-'; 4];
+    assert_eq!(rt; text.copy_to(&mut out), 2);
+    assert_eq!(rt; out.as_slice(), b"PC--".as_slice());
+    Ok(())
+}

@@ -1,5 +1,5 @@
 use super::*;
-use crate::kind::{UnitName, unit_text};
+use crate::kind::{UnitName, takes_file, unit_text};
 use std::test::Fail;
 
 const KINDS: [Kind; 11] = [
@@ -47,21 +47,36 @@ fn registers_stand_in_their_order(rt: HostRuntime) -> Result<(), Fail> {
 }
 
 #[test]
-fn registers_have_their_limits(rt: HostRuntime) -> Result<(), Fail> {
-    let cases: [(Kind, u8, Option<(u32, u32)>); 10] = [
-        (Kind::Dsk, 3, Some((1, 65535))),
-        (Kind::Dsk, 4, Some((0, 8191))),
-        (Kind::Dsk, 6, Some((0, 15))),
+fn registers_have_their_limits_and_what_they_hold_at_first(rt: HostRuntime) -> Result<(), Fail> {
+    type Facts = ((u32, u32), u32, bool);
+    let cases: [(Kind, u8, Option<Facts>); 14] = [
+        (Kind::Dsk, 1, Some(((0, 1), 0, true))),
+        (Kind::Dsk, 2, Some(((0, 1), 0, false))),
+        (Kind::Dsk, 3, Some(((1, 65535), 200, false))),
+        (Kind::Dsk, 4, Some(((0, 8191), 0, false))),
+        (Kind::Dsk, 6, Some(((0, 15), 0, true))),
         (Kind::Dsk, 8, None),
-        (Kind::Mta, 8, Some((0, 65535))),
-        (Kind::Mta, 16, Some((0, 67108864))),
+        (Kind::Mta, 3, Some(((1, 65535), 1000, false))),
+        (Kind::Mta, 8, Some(((0, 65535), 0, true))),
+        (Kind::Mta, 16, Some(((0, 67108864), 0, false))),
         (Kind::Mta, 17, None),
-        (Kind::Lpt, 4, Some((0, 127))),
-        (Kind::Ptr, 5, Some((0, 16777216))),
-        (Kind::Clk, 2, Some((0, 3))),
+        (Kind::Lpt, 4, Some(((0, 127), 0, false))),
+        (Kind::Ptr, 5, Some(((0, 16777216), 0, false))),
+        (Kind::Clk, 2, Some(((0, 3), 0, true))),
+        (Kind::Tto1, 2, Some(((1, 65535), 100, false))),
     ];
     for (kind, i, wanted) in cases {
-        assert!(rt; reg_limit(kind, i) == wanted);
+        assert!(rt; reg_limit(kind, i) == wanted.map(|facts| facts.0));
+        assert!(rt; reg_initial(kind, i) == wanted.map(|facts| facts.1));
+        assert!(rt; is_cleared(kind, i) == wanted.map(|facts| facts.2));
+    }
+    Ok(())
+}
+
+#[test]
+fn files_are_attached_to_five_kinds(rt: HostRuntime) -> Result<(), Fail> {
+    for (place, kind) in KINDS.iter().enumerate() {
+        assert!(rt; takes_file(*kind) == (place < 5));
     }
     Ok(())
 }
