@@ -100,6 +100,8 @@ def tree(tokens):
             stack.pop()
         else:
             stack[-1].append(token)
+    if len(stack) > 1:
+        raise SourceError("a bracket that nothing closes")
     return top[1:]
 
 
@@ -210,7 +212,8 @@ class Specs:
 
     def __init__(self, text, is_outer_constructor):
         """`is_outer_constructor` tells of a path and a name there whether the name is a constructor."""
-        self.scope = scope_of(text)
+        text = re.sub(r"^(pub )?use [^{}\n]*\{[^{}]*\}", lambda use: use[0].replace("\n", " "), text, flags=re.M)
+        self.scope = scope_of(without_comments(text, "--"))
         self.definitions = {}
         self.constructors = {}  # constructor: name of its type
         for name, comment, chunks in self.chunks(text):
@@ -220,7 +223,7 @@ class Specs:
     def chunks(text):
         """Each definition with its comment and its parts, a part being a line and those below that stand further in."""
         comment, found = [], []
-        for line in re.sub(r"\{[^{}]*\}", lambda use: use[0].replace("\n", " "), text).split("\n"):
+        for line in text.split("\n"):
             code = without_comments(line, "--").rstrip()
             if line.startswith("--"):
                 comment.append(line[2:].strip())
@@ -252,18 +255,19 @@ class Specs:
 
     def names_of_type(self, name, kind, text):
         """The names of a record or a data type: parameters, and then fields or constructors with their types."""
-        head, _, body = text.partition("where")
+        head, body = re.split(r"\bwhere\b", text, maxsplit=1)
         bound = set()
         found = set()
         for item in parsed(head)[parsed(head).index(name) + 1:]:
             found |= names_of_group(item, bound) if isinstance(item, list) else free_names([item], bound)
         for part in re.split(r"\n  (?=\S)", body)[1:]:
             items = [item for item in parsed(part) if item != "pub"]
-            found |= free_names(items[2:], bound)
+            place = items.index(":")
+            found |= free_names(items[place + 1:], bound)
             if kind == "record":
-                bound.add(items[0])  # the fields below may name it
+                bound.update(items[:place])  # the fields below may name it
             else:
-                self.constructors[items[0]] = name
+                self.constructors.update((constructor, name) for constructor in items[:place])
         return found
 
     def is_constructor(self, word, is_outer_constructor):
@@ -321,8 +325,8 @@ class Source:
         return Definition(name, self.doc_above(name), lines, names, scope, words)
 
     def end_of_type(self, start):
-        opens = re.compile(r"[{;]").search(self.code, start)
-        return opens.end() if opens[0] == ";" else balanced(self.code, opens.start())
+        ends = re.compile(r"\s*;").match(self.code, start) or re.compile(r"\{|\)\s*;").search(self.code, start)
+        return balanced(self.code, ends.start()) if ends[0] == "{" else ends.end()
 
     def doc_above(self, name):
         found = re.search(rf"((?:^///.*\n)+)(?:^#\[.*\n)*^(?:pub(?:\([^)]*\))? )?(?:struct|enum) {name}\b", self.text, re.M)
@@ -348,9 +352,22 @@ def field_types(body, is_enum):
     """The names of types in the body of a struct or an enum: not those of fields and variants."""
     inner = re.sub(r"#\[[^\]]*\]|\bpub(?:\([^)]*\))?", "", body)
     if is_enum:
-        inner = re.sub(r"([{},)]\s*)\w+\s*(?=[,}({])", r"\1", inner)  # variants
+        variants = split_text(inner[inner.index("{") + 1:inner.rindex("}")])
+        inner = " ".join(re.sub(r"^\w+", "", variant) for variant in variants)
     inner = re.sub(r"\b\w+\s*:(?!:)", "", inner)  # fields
     return set(re.findall(r"\w+(?:::\w+)*", inner))
+
+
+def split_text(text):
+    """The parts of a list with commas between them, without blanks round each."""
+    parts, depth = [""], 0
+    for letter in text:
+        depth += (letter in "({[") - (letter in ")}]")
+        if letter == "," and depth == 0:
+            parts.append("")
+        else:
+            parts[-1] += letter
+    return [part.strip() for part in parts if part.strip()]
 
 
 def rust_uses(code):
@@ -366,14 +383,5 @@ def use_tree(before, text):
         path = before + path.strip()
         yield (alias.strip() or path.split("::")[-1]), path
         return
-    before += text[:start]
-    inner = text[start + 1:text.rindex("}")]
-    depth, part = 0, ""
-    for letter in inner + ",":
-        depth += {"{": 1, "}": -1}.get(letter, 0)
-        if letter == "," and depth == 0:
-            if part.strip():
-                yield from use_tree(before, part.strip())
-            part = ""
-        else:
-            part += letter
+    for part in split_text(text[start + 1:text.rindex("}")]):
+        yield from use_tree(before + text[:start], part)
