@@ -10,7 +10,9 @@ from dataclasses import dataclass, field
 
 WORD = r"[^\W\d]\w*"
 TOKEN = re.compile(rf'"(?:[^"\\]|\\.)*"|{WORD}(?:\.\w+)*|\d\w*|\.\w+|[(){{}};,]|[^\s\w(){{}};,"]+')
-USE = re.compile(r"^[ \t]*(?:pub |ghost )*use[ \t]+Rattle\.([\w.]+?)(?:\.\{([^}]*)\}|[ \t]+as[ \t]+(\w+))?[ \t]*;?[ \t]*$", re.M)
+USE = re.compile(
+    r"^[ \t]*(?:pub |ghost )*use[ \t]+Rattle\.([\w.]+?)(?:\.\{([^}]*)\}|[ \t]+as[ \t]+(\w+))?[ \t]*;?[ \t]*$", re.M
+)
 DEFINES = re.compile(rf"(?:(?:abbrev|unfoldable|pub|opaque)[ ])*(?:(record|data)[ ]+({WORD})|(\S+)[ ]*:[ ])")
 # Words of the language, and the types that no file defines.
 KEYWORDS = {"record", "if", "then", "else", "let", "in", "do", "λ", "Type", "Unit", "where", "_"}
@@ -255,7 +257,7 @@ class Specs:
 
     def names_of_type(self, name, kind, text):
         """The names of a record or a data type: parameters, and then fields or constructors with their types."""
-        head, body = re.split(r"\bwhere\b", text, maxsplit=1)
+        head, body = (re.split(r"\bwhere\b", text, maxsplit=1) + [""])[:2]
         bound = set()
         found = set()
         for item in parsed(head)[parsed(head).index(name) + 1:]:
@@ -329,7 +331,8 @@ class Source:
         return balanced(self.code, ends.start()) if ends[0] == "{" else ends.end()
 
     def doc_above(self, name):
-        found = re.search(rf"((?:^///.*\n)+)(?:^#\[.*\n)*^(?:pub(?:\([^)]*\))? )?(?:struct|enum) {name}\b", self.text, re.M)
+        begins = rf"((?:^///.*\n)+)(?:^#\[.*\n)*^(?:pub(?:\([^)]*\))? )?(?:struct|enum) {name}\b"
+        found = re.search(begins, self.text, re.M)
         return " ".join(re.findall(r"^/// ?(.*)$", found[1], re.M)) if found else ""
 
     def functions(self):
