@@ -1,7 +1,7 @@
 -- The first fault of a list, as a loop over it finds it.
 use Rattle.std.proofs.Common.{◌≡◌, ℕ, ◌+◌, ◌<◌, zero, suc, List, length, get_or, drop, Option, Some, None, ap, sym, ◌∙◌, refl, add-one, arith, Bool, true, false, nat_le}
 use Rattle.std.proofs.Math.Seq.{drop-cons, drop-length}
-use Rattle.nova_machine.specs.declared.registers.CpuReg.{CpuReg}
+use Rattle.unit_trait.specs.declared.processor.CpuReg.{CpuReg}
 use Rattle.scp_parser.specs.declared.listing.Item.{Item}
 use Rattle.scp_examine.specs.declared.fault.ExamineFault.{ExamineFault}
 use Rattle.scp_examine.specs.Places.{Register, cells, registers_of}

@@ -1,12 +1,13 @@
 -- What a value in places one behind another leaves.
 use Rattle.std.proofs.Common.{◌≡◌, ℕ, ◌+◌, ◌^◌, ◌<◌, ◌≤◌, zero, suc, List, [], ◌∷◌, ◌++◌, length, get_or, take, None, ap, sym, ◌∙◌, refl, arith, Bool, true, false, nat_le}
 use borrow.Author.Tests.{leb-true}
-use Rattle.nova_machine.specs.declared.registers.CpuReg.{CpuReg}
-use Rattle.nova_machine.specs.declared.registers.CpuReg.TheVariants.{Ac0, Ac1, Ac2, Ac3, C, Pc, Ion, Hold, Mask, Sr, StopDev, Size}
+use Rattle.unit_trait.specs.declared.processor.CpuReg.{CpuReg}
+use Rattle.unit_trait.specs.declared.processor.CpuReg.TheVariants.{Ac0, Ac1, Ac2, Ac3, C, Pc, Ion, Hold, Mask, Sr, StopDev, Size}
 use Rattle.nova_machine.specs.Machine.{MachineState}
 use Rattle.scp_parser.specs.declared.listing.Name.{Name}
 use Rattle.scp_parser.specs.declared.listing.Item.{Item}
-use Rattle.scp_examine.specs.Places.{Place, Cell, Register, cells, registers_of, all_registers, places_of}
+use Rattle.unit_trait.specs.Processor.{all_registers}
+use Rattle.scp_examine.specs.Places.{Place, Cell, Register, cells, registers_of, places_of}
 use Rattle.scp_examine.specs.Checks.{deposit_fault, item_fault, largest_word, out_of_range_unless, value_fault, values_fault}
 use Rattle.scp_examine.specs.Effect.{all_places, filled, with_value}
 use Rattle.scp_examine.proofs.FaultLemmas.{words_fault}

@@ -1,7 +1,7 @@
 -- Which faults an EXAMINE has: never that a register is read only, or that the console refused a byte.
 use Rattle.std.proofs.Common.{◌≡◌, ℕ, ◌∷◌, [], Bool, true, false, List, Option, Some, None, Err, sym, subst, refl}
 use Rattle.nova_machine.specs.Machine.{MachineState}
-use Rattle.nova_machine.specs.declared.registers.CpuReg.{CpuReg}
+use Rattle.unit_trait.specs.declared.processor.CpuReg.{CpuReg}
 use Rattle.scp_parser.specs.declared.listing.Name.{Name}
 use Rattle.scp_parser.specs.declared.listing.Name.TheVariants as whose
 use Rattle.scp_parser.specs.declared.listing.Condition.{Condition}
@@ -10,7 +10,7 @@ use Rattle.scp_parser.specs.declared.listing.Item.TheVariants.{At, Range, Count,
 use Rattle.scp_parser.specs.declared.listing.Listing.{Listing}
 use Rattle.scp_examine.specs.declared.fault.ExamineFault.{ExamineFault}
 use Rattle.scp_examine.specs.declared.fault.ExamineFault.TheVariants.{NoSuchName, OutOfRange, ReadOnlyName, Console}
-use Rattle.scp_examine.specs.Places.{register_at}
+use Rattle.scp_examine.specs.Places.{named_register}
 use Rattle.scp_examine.specs.Checks.{condition_fault, item_fault, items_fault, memory_fault, or_fault, out_of_range_unless, register_fault, state_fault}
 use Rattle.scp_examine.specs.Effect.{ConsoleCause, Examines, FaultIs, examine_fault}
 
@@ -44,7 +44,7 @@ item_fault-kind size device (At a) = memory_fault-kind device _
 item_fault-kind size device (Range a b) = memory_fault-kind device _
 item_fault-kind size device (Count a n) = memory_fault-kind device _
 item_fault-kind size device All = memory_fault-kind device _
-item_fault-kind size device (Reg i) = register_fault-kind (register_at device i)
+item_fault-kind size device (Reg i) = register_fault-kind (named_register device i)
 item_fault-kind size device State = state_fault-kind device
 item_fault-kind size device Unknown = tt
 
@@ -65,7 +65,7 @@ condition_fault-kind (Some c) = out_of_range-kind _
 pub examine_fault-kind : (m : MachineState) (l : Listing) → IsListFault (examine_fault m l)
 unfolding examine_fault
 examine_fault-kind m l =
-    or_fault-kind (condition_fault l.condition) (items_fault (item_fault m.memory.size l.device) l.items) (condition_fault-kind l.condition) (items_fault-kind m.memory.size l.device l.items)
+    or_fault-kind (condition_fault l.condition) (items_fault (item_fault m.processor.memory.size l.device) l.items) (condition_fault-kind l.condition) (items_fault-kind m.processor.memory.size l.device l.items)
 
 pub fault-kind : (m : MachineState) (l : Listing) (fault : ExamineFault) → Some fault ≡ examine_fault m l → IsListFault (Some fault)
 fault-kind m l fault e = subst IsListFault (sym e) (examine_fault-kind m l)

@@ -3,7 +3,7 @@ use Rattle.std.proofs.Common.{◌≡◌, ℕ, ◌==◌, ◌<◌, ◌≤◌, zero
 use Rattle.std.proofs.lemmas.List.{get_or-set_same}
 use Rattle.std.proofs.lemmas.Bool.{lt-ltb, leb-true}
 use Rattle.nova_memory.specs.Memory.{MemoryState, IsMemory, get, put}
-use Rattle.nova_machine.specs.declared.registers.CpuReg.TheVariants.{Ac0, Ac1, Ac2, Ac3, C, Pc, Ion, Hold, Mask, Sr, StopDev, Size}
+use Rattle.unit_trait.specs.declared.processor.CpuReg.TheVariants.{Ac0, Ac1, Ac2, Ac3, C, Pc, Ion, Hold, Mask, Sr, StopDev, Size}
 use Rattle.scp_examine.specs.Places.{Cell, Register}
 use Rattle.scp_examine.specs.Checks.{out_of_range_unless}
 use Rattle.scp_examine.specs.Laws.{DepositReadsBack}
@@ -24,11 +24,11 @@ pub flag_fits : (v : ℕ) → out_of_range_unless (nat_le v 1) ≡ None → (if 
 flag_fits v none = flag v (leb-true v 1 (fits_from_none (nat_le v 1) none))
 
 pub reads_back : DepositReadsBack
-reads_back m (Cell a) v is h none = get_put m.memory a v is.memory h
-reads_back m (Register Ac0) v is h none = let n : 0 < length m.cpu.accumulators = omega (arith, is.accumulators) in get_or-set_same m.cpu.accumulators 0 v 0 n
-reads_back m (Register Ac1) v is h none = let n : 1 < length m.cpu.accumulators = omega (arith, is.accumulators) in get_or-set_same m.cpu.accumulators 1 v 0 n
-reads_back m (Register Ac2) v is h none = let n : 2 < length m.cpu.accumulators = omega (arith, is.accumulators) in get_or-set_same m.cpu.accumulators 2 v 0 n
-reads_back m (Register Ac3) v is h none = let n : 3 < length m.cpu.accumulators = omega (arith, is.accumulators) in get_or-set_same m.cpu.accumulators 3 v 0 n
+reads_back m (Cell a) v is h none = get_put m.processor.memory a v is.memory h
+reads_back m (Register Ac0) v is h none = let n : 0 < length m.processor.cpu.accumulators = omega (arith, is.accumulators) in get_or-set_same m.processor.cpu.accumulators 0 v 0 n
+reads_back m (Register Ac1) v is h none = let n : 1 < length m.processor.cpu.accumulators = omega (arith, is.accumulators) in get_or-set_same m.processor.cpu.accumulators 1 v 0 n
+reads_back m (Register Ac2) v is h none = let n : 2 < length m.processor.cpu.accumulators = omega (arith, is.accumulators) in get_or-set_same m.processor.cpu.accumulators 2 v 0 n
+reads_back m (Register Ac3) v is h none = let n : 3 < length m.processor.cpu.accumulators = omega (arith, is.accumulators) in get_or-set_same m.processor.cpu.accumulators 3 v 0 n
 reads_back m (Register C) v is h none = flag_fits v none
 reads_back m (Register Pc) v is h none = refl
 reads_back m (Register Ion) v is h none = flag_fits v none

@@ -4,7 +4,7 @@ use Rattle.std.proofs.Math.Seq.{take-suc, take-append-add, take-append-le}
 use Rattle.std.proofs.lemmas.List.{take-append-drop, append-nil}
 use Rattle.host_files.specs.Streams.{AddsPart}
 use Rattle.nova_machine.specs.Machine.{MachineState}
-use Rattle.nova_machine.specs.declared.registers.CpuReg.{CpuReg}
+use Rattle.unit_trait.specs.declared.processor.CpuReg.{CpuReg}
 use Rattle.scp_parser.specs.declared.listing.Name.{Name}
 use Rattle.scp_parser.specs.declared.listing.Condition.{Condition}
 use Rattle.scp_parser.specs.declared.listing.Item.{Item}

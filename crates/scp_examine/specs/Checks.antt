@@ -1,8 +1,8 @@
 -- The faults of lists, values and conditions. Items are checked from the left before anything is printed or changed.
 use Rattle.std.specs.Prelude.{ℕ, ◌+◌, ◌^◌, ◌-◌, Bool, true, ◌&&◌, nat_le, nat_lt, List, [], ◌∷◌, Option, Some, None, if◌then◌else◌}
-use Rattle.nova_machine.specs.declared.registers.CpuReg.{CpuReg}
-use Rattle.nova_machine.specs.declared.registers.CpuReg.TheVariants.{Size}
-use Rattle.nova_machine.specs.Registers.{largest_of}
+use Rattle.unit_trait.specs.declared.processor.CpuReg.{CpuReg}
+use Rattle.unit_trait.specs.declared.processor.CpuReg.TheVariants.{Size}
+use Rattle.unit_trait.specs.Processor.{largest_of}
 use Rattle.scp_parser.specs.declared.listing.Name.{Name}
 use Rattle.scp_parser.specs.declared.listing.Name.TheVariants as whose
 use Rattle.scp_parser.specs.declared.listing.Condition.{Condition}
@@ -10,7 +10,7 @@ use Rattle.scp_parser.specs.declared.listing.Item.{Item}
 use Rattle.scp_parser.specs.declared.listing.Item.TheVariants.{At, Range, Count, All, Reg, State, Unknown}
 use Rattle.scp_examine.specs.declared.fault.ExamineFault.{ExamineFault}
 use Rattle.scp_examine.specs.declared.fault.ExamineFault.TheVariants.{NoSuchName, OutOfRange, ReadOnlyName}
-use Rattle.scp_examine.specs.Places.{Place, Cell, Register, register_at, places_of}
+use Rattle.scp_examine.specs.Places.{Place, Cell, Register, named_register, places_of}
 
 -- the first of two faults
 abbrev pub or_fault : Option ExamineFault → Option ExamineFault → Option ExamineFault
@@ -40,7 +40,7 @@ item_fault size device (At a) = memory_fault device (nat_lt a size)
 item_fault size device (Range a b) = memory_fault device (nat_le a b && nat_lt b size)
 item_fault size device (Count a n) = memory_fault device (nat_lt 0 n && nat_le (a + n) size)
 item_fault size device All = memory_fault device true
-item_fault size device (Reg i) = register_fault (register_at device i)
+item_fault size device (Reg i) = register_fault (named_register device i)
 item_fault size device State = state_fault device
 item_fault size device Unknown = Some NoSuchName
 

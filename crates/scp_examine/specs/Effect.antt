@@ -1,7 +1,7 @@
 -- What EXAMINE, DEPOSIT and ASSERT do (SIMH Users' Guide, "Examining and Changing State").
-use Rattle.std.specs.Prelude.{◌≡◌, ℕ, ◌≤◌, Bool, List, [], ◌∷◌, ◌++◌, Option, Some, None, Result, Ok, Err, MatchResult, if◌then◌else◌}
+use Rattle.std.specs.Prelude.{◌≡◌, ℕ, Bool, List, [], ◌∷◌, ◌++◌, Option, Some, None, Result, Ok, Err, if◌then◌else◌}
 use Rattle.nova_memory.specs.Memory.{put}
-use Rattle.fault_counts.specs.Faults.{Rose}
+use Rattle.fault_counts.specs.Faults.{raised}
 use Rattle.host_files.specs.Streams.{AddsPart}
 use Rattle.nova_machine.specs.Machine.{MachineState}
 use Rattle.nova_machine.specs.Registers.{register_of, with_register}
@@ -28,15 +28,11 @@ listed m symbolic condition (place ∷ more) = (if is_chosen m condition place t
 
 -- the fault of an EXAMINE: of its condition, and then of its items from the left
 unfoldable pub examine_fault : MachineState → Listing → Option ExamineFault
-examine_fault m l = or_fault (condition_fault l.condition) (items_fault (item_fault m.memory.size l.device) l.items)
+examine_fault m l = or_fault (condition_fault l.condition) (items_fault (item_fault m.processor.memory.size l.device) l.items)
 
 -- what an EXAMINE without a fault prints
 unfoldable pub examined : MachineState → Listing → List ℕ
-examined m l = listed m l.symbolic l.condition (all_places m.memory.size l.device l.items)
-
--- what is printed of a text: the whole, or first bytes of it where the console refused one
-abbrev pub Prints : {T E : Type 0} → List ℕ → List ℕ → Result T E → List ℕ → Type 0
-Prints before text result after = MatchResult result (λ _. after ≡ before ++ text) (λ _. AddsPart before text after)
+examined m l = listed m l.symbolic l.condition (all_places m.processor.memory.size l.device l.items)
 
 -- A call of `examine`: it prints the whole text; or a byte of it was refused, and what comes before was printed; or a
 -- fault stood before all printing.
@@ -56,15 +52,14 @@ FaultIs first (Err NoSuchName) = first ≡ Some NoSuchName
 FaultIs first (Err OutOfRange) = first ≡ Some OutOfRange
 FaultIs first (Err ReadOnlyName) = ⊥
 
--- The console's count of faults has not fallen. It rose where the answer is that a byte was refused, and stands still
--- with every other answer.
+-- The console counts one fault where the answer is that a byte was refused, and none with every other answer.
 abbrev pub ConsoleCause : {T : Type 0} → ℕ → ℕ → Result T ExamineFault → Type 0
-ConsoleCause before now (Err Console) = (before ≤ now) × Rose before now
+ConsoleCause before now (Err Console) = now ≡ raised before
 ConsoleCause before now result = now ≡ before
 
 -- the machine with a value in a place
 abbrev pub with_value : ℕ → MachineState → Place → MachineState
-with_value value m (Cell a) = record m { memory = put m.memory a value }
+with_value value m (Cell a) = record m { processor = record m.processor { memory = put m.processor.memory a value } }
 with_value value m (Register r) = with_register m r value
 
 -- the machine with a value in each of the places
@@ -74,15 +69,15 @@ filled value m (place ∷ more) = filled value (with_value value m place) more
 
 -- the fault of a DEPOSIT: of its items from the left
 unfoldable pub fault_of_deposit : MachineState → Listing → ℕ → Option ExamineFault
-fault_of_deposit m l value = items_fault (deposit_fault m.memory.size l.device value) l.items
+fault_of_deposit m l value = items_fault (deposit_fault m.processor.memory.size l.device value) l.items
 
 -- the machine after a DEPOSIT without a fault
 unfoldable pub deposited : MachineState → Listing → ℕ → MachineState
-deposited m l value = filled value m (all_places m.memory.size l.device l.items)
+deposited m l value = filled value m (all_places m.processor.memory.size l.device l.items)
 
 -- what a place holds
 abbrev pub value_at : MachineState → Place → ℕ
-value_at m (Cell a) = get m.memory a
+value_at m (Cell a) = get m.processor.memory a
 value_at m (Register r) = register_of m r
 
 -- a test of the one place of its item
@@ -92,8 +87,8 @@ test_of m c (place ∷ more) = if condition_fits (largest_at place) c then Ok (m
 
 abbrev pub test_after : Option ExamineFault → MachineState → Test → Result Bool ExamineFault
 test_after (Some fault) m t = Err fault
-test_after None m t = test_of m t.condition (places_of m.memory.size t.device t.item)
+test_after None m t = test_of m t.condition (places_of m.processor.memory.size t.device t.item)
 
 -- what ASSERT tests: its item is checked first, and then its condition, up to the largest value of the item
 unfoldable pub tested : MachineState → Test → Result Bool ExamineFault
-tested m t = test_after (item_fault m.memory.size t.device t.item) m t
+tested m t = test_after (item_fault m.processor.memory.size t.device t.item) m t

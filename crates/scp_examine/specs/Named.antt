@@ -2,7 +2,8 @@
 use Rattle.std.specs.Prelude.{ℕ, ◌+◌, ◌≤◌, List, [], ◌∷◌}
 use Rattle.scp_examine.specs.declared.item.Named.{Named}
 use Rattle.scp_examine.specs.declared.item.Named.TheVariants as named
-use Rattle.scp_examine.specs.Places.{Place, Register, cells, registers_of, all_registers}
+use Rattle.unit_trait.specs.Processor.{all_registers}
+use Rattle.scp_examine.specs.Places.{Place, Register, cells, registers_of}
 
 -- the places that are named, in order
 abbrev pub places_in : Named → List Place

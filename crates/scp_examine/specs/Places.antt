@@ -1,12 +1,12 @@
 -- The places that an item of a list names: words of memory, and registers.
-use Rattle.std.specs.Prelude.{ℕ, ◌+◌, ◌-◌, ◌^◌, zero, suc, Bool, true, false, not, nat_eq, nat_lt, nat_le, bit_and, List, [], ◌∷◌, ◌++◌, codes, slice_get, Option, Some, None}
+use Rattle.std.specs.Prelude.{ℕ, ◌+◌, ◌-◌, ◌^◌, zero, suc, Bool, true, false, not, nat_eq, nat_lt, nat_le, bit_and, List, [], ◌∷◌, ◌++◌, slice_get, Option, Some, None}
 use Rattle.nova_word.specs.Numbers.{octal_digits}
 use Rattle.nova_memory.specs.Memory.{get}
 use Rattle.nova_symbols.specs.Canon.{canon}
-use Rattle.nova_machine.specs.declared.registers.CpuReg.{CpuReg}
-use Rattle.nova_machine.specs.declared.registers.CpuReg.TheVariants.{Ac0, Ac1, Ac2, Ac3, C, Pc, Ion, Hold, Mask, Sr, StopDev, Size}
+use Rattle.unit_trait.specs.declared.processor.CpuReg.{CpuReg}
 use Rattle.nova_machine.specs.Machine.{MachineState}
-use Rattle.nova_machine.specs.Registers.{register_of, largest_of}
+use Rattle.nova_machine.specs.Registers.{register_of}
+use Rattle.unit_trait.specs.Processor.{all_registers, register_name, largest_of, digits_of}
 use Rattle.scp_parser.specs.declared.listing.Name.{Name}
 use Rattle.scp_parser.specs.declared.listing.Name.TheVariants as whose
 use Rattle.scp_parser.specs.declared.listing.Rel.{Rel}
@@ -20,14 +20,10 @@ pub data Place : Type 0 where
   Cell : ℕ → Place
   Register : CpuReg → Place
 
--- the registers of the processor, in order
-abbrev pub all_registers : List CpuReg
-all_registers = Ac0 ∷ Ac1 ∷ Ac2 ∷ Ac3 ∷ C ∷ Pc ∷ Ion ∷ Hold ∷ Mask ∷ Sr ∷ StopDev ∷ Size ∷ []
-
 -- the register with that number, in the order of the processor or of a device; a machine has no devices yet
-abbrev pub register_at : Name → ℕ → Option CpuReg
-register_at whose.Cpu i = slice_get all_registers i
-register_at (whose.Device kind) i = None
+abbrev pub named_register : Name → ℕ → Option CpuReg
+named_register whose.Cpu i = slice_get all_registers i
+named_register (whose.Device kind) i = None
 
 -- so many words from an address
 unfoldable pub cells : ℕ → ℕ → List Place
@@ -52,33 +48,9 @@ places_of size device (At a) = cells a 1
 places_of size device (Range a b) = cells a (b + 1 - a)
 places_of size device (Count a n) = cells a n
 places_of size device All = cells 0 size
-places_of size device (Reg i) = one_register (register_at device i)
+places_of size device (Reg i) = one_register (named_register device i)
 places_of size device State = all_of device
 places_of size device Unknown = []
-
--- the name of a register
-abbrev pub name_of : CpuReg → List ℕ
-name_of Ac0 = codes "AC0"
-name_of Ac1 = codes "AC1"
-name_of Ac2 = codes "AC2"
-name_of Ac3 = codes "AC3"
-name_of C = codes "C"
-name_of Pc = codes "PC"
-name_of Ion = codes "ION"
-name_of Hold = codes "HOLD"
-name_of Mask = codes "MASK"
-name_of Sr = codes "SR"
-name_of StopDev = codes "STOP_DEV"
-name_of Size = codes "SIZE"
-
--- how many octal digits the largest value of a register has
-abbrev pub digits_of : CpuReg → ℕ
-digits_of C = 1
-digits_of Pc = 5
-digits_of Ion = 1
-digits_of Hold = 1
-digits_of StopDev = 1
-digits_of register = 6
 
 -- a word as it is printed: as symbolic text, or in octal
 abbrev pub word_text : Bool → ℕ → List ℕ
@@ -89,10 +61,14 @@ word_text false w = octal_digits 6 w
 abbrev pub line_of : List ℕ → List ℕ → List ℕ
 line_of name value = name ++ 58 ∷ 9 ∷ [] ++ value ++ 10 ∷ []
 
+-- what EXAMINE prints of a register
+abbrev pub register_text : MachineState → CpuReg → List ℕ
+register_text m r = line_of (register_name r) (octal_digits (digits_of r) (register_of m r))
+
 -- what EXAMINE prints of a place
 unfoldable pub place_text : MachineState → Bool → Place → List ℕ
-place_text m symbolic (Cell a) = line_of (octal_digits 5 a) (word_text symbolic (get m.memory a))
-place_text m symbolic (Register r) = line_of (name_of r) (octal_digits (digits_of r) (register_of m r))
+place_text m symbolic (Cell a) = line_of (octal_digits 5 a) (word_text symbolic (get m.processor.memory a))
+place_text m symbolic (Register r) = register_text m r
 
 -- a comparison of two numbers
 abbrev pub compares : Rel → ℕ → ℕ → Bool
@@ -117,7 +93,7 @@ chosen_word (Some c) w = meets c w
 
 -- whether EXAMINE shows a place: a condition chooses among words of memory, and leaves registers
 abbrev pub is_chosen : MachineState → Option Condition → Place → Bool
-is_chosen m condition (Cell a) = chosen_word condition (get m.memory a)
+is_chosen m condition (Cell a) = chosen_word condition (get m.processor.memory a)
 is_chosen m condition (Register r) = true
 
 -- the largest value of a place

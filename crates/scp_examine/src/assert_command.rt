@@ -6,9 +6,10 @@ ghost use Rattle.scp_examine.specs.Effect.{test_of, tested};
 
 use crate::check::{LARGEST_WORD, condition_fits, item_fault};
 use crate::fault::ExamineFault;
-use crate::place::{meets, register_at, word_at};
-use nova_machine::{CpuReg, Machine};
+use crate::place::{meets, named_register, word_at};
+use nova_machine::Machine;
 use scp_parser::{Condition, Item, Name, Test};
+use unit_trait::CpuReg;
 
 /// Whether what ASSERT names meets its condition (SIMH Users' Guide, "Executing Command Files").
 ///
@@ -34,14 +35,14 @@ fn test_item(
     item: Item,
     condition: Condition,
 ) -> Result<bool, ExamineFault>
-    requires size { machine.now.memory.size ≤ 2 ^ 15 }
+    requires size { machine.now.processor.memory.size ≤ 2 ^ 15 }
     requires kind { IsTested item }
-    requires fault { item_fault machine.now.memory.size device item ≡ None }
-    ensures { result ≡ test_of machine.now condition (places_of machine.now.memory.size device item) }
+    requires fault { item_fault machine.now.processor.memory.size device item ≡ None }
+    ensures { result ≡ test_of machine.now condition (places_of machine.now.processor.memory.size device item) }
 {
     match item {
         Item::At(at) => test_cell(machine, at as u16, condition),
-        Item::Reg(number) => test_register(machine, register_at(device, number), condition),
+        Item::Reg(number) => test_register(machine, named_register(device, number), condition),
         _ => Err(ExamineFault::NoSuchName),
     }
 }

@@ -1,7 +1,7 @@
 // The faults of items, values and conditions.
 ghost use Rattle.std.specs.Prelude.{◌≡◌, ℕ, ◌+◌, ◌≤◌, ◌^◌, ◌&&◌, nat_le, nat_lt};
-ghost use Rattle.nova_machine.specs.Registers.{largest_of};
-ghost use Rattle.scp_examine.specs.Places.{Register, all_registers, cells, places_of, register_at, registers_of};
+ghost use Rattle.unit_trait.specs.Processor.{all_registers, largest_of};
+ghost use Rattle.scp_examine.specs.Places.{Register, cells, named_register, places_of, registers_of};
 ghost use Rattle.scp_examine.specs.Checks.{condition_fault, condition_fits, deposit_fault, item_fault, items_fault};
 ghost use Rattle.scp_examine.specs.Checks.{mask_fits, memory_fault, out_of_range_unless, register_fault, state_fault};
 ghost use Rattle.scp_examine.specs.Checks.{value_fault, values_fault};
@@ -9,9 +9,9 @@ ghost use Rattle.scp_examine.specs.Named.{places_in, IsWithin};
 
 use crate::fault::ExamineFault;
 use crate::item::{Named, named_by};
-use crate::place::{ALL_REGISTERS, register_at};
-use nova_machine::CpuReg;
+use crate::place::named_register;
 use scp_parser::{Condition, Item, Name};
+use unit_trait::CpuReg;
 
 /// The largest value of a word.
 pub const LARGEST_WORD: u32 = 0o177777;
@@ -78,7 +78,7 @@ pub fn item_fault(size: u16, device: Name, item: Item) -> Option<ExamineFault>
         Item::Range(from, to) => memory_fault(device, range_fits(size, from, to)),
         Item::Count(from, count) => memory_fault(device, count_fits(size, from, count)),
         Item::All => memory_fault(device, true),
-        Item::Reg(number) => register_fault(register_at(device, number)),
+        Item::Reg(number) => register_fault(named_register(device, number)),
         Item::State => state_fault(device),
         Item::Unknown => Some(ExamineFault::NoSuchName),
     }
@@ -164,7 +164,7 @@ fn value_fault(value: u32, named: Named) -> Option<ExamineFault>
     match named {
         Named::Words(_, count) => words_value_fault(value, count),
         Named::Register(register) => registers_value_fault(value, &[register]),
-        Named::State => registers_value_fault(value, &ALL_REGISTERS),
+        Named::State => registers_value_fault(value, &CpuReg::ALL),
     }
 }
 

@@ -1,6 +1,7 @@
 ghost use Rattle.std.specs.Prelude.{◌≡◌, IsTrue, OnErr, None};
-ghost use Rattle.fault_counts.specs.Faults.{HasCause};
-ghost use Rattle.scp_examine.specs.Effect.{ConsoleCause, Examines, FaultIs, Prints, examine_fault, examined};
+ghost use Rattle.fault_counts.specs.Faults.{CountsFault};
+ghost use Rattle.host_files.specs.Streams.{Puts};
+ghost use Rattle.scp_examine.specs.Effect.{ConsoleCause, Examines, FaultIs, examine_fault, examined};
 
 use crate::check::{condition_fault, items_fault};
 use crate::fault::ExamineFault;
@@ -40,17 +41,17 @@ fn first_fault(machine: &Machine, what: &Listing) -> Option<ExamineFault>
     }
 }
 
-// Prints the lines of a list that has no fault.
+// Puts the lines of a list that has no fault.
 #[tactic(auto, unfolding(crate::specs::Effect::examined, crate::specs::Effect::examine_fault))]
 fn show_listing<S: Sink>(machine: &Machine, what: &Listing, out: &mut S) -> Result<(), ExamineFault>
     requires { examine_fault machine.now what.now ≡ None }
-    ensures told { IsTrue S.tells → Prints
+    ensures told { IsTrue S.tells → Puts
         (S.written out.old)
         (examined machine.now what.now)
         result
         (S.written out.new) }
     ensures fault { OnErr result (result ≡ Err ExamineFault.Console) }
-    ensures cause { HasCause (S.fault_count out.old) (S.fault_count out.new) result }
+    ensures counts { CountsFault (S.fault_count out.old) (S.fault_count out.new) result }
 {
     let items = what.items.as_slice();
     match show_items(

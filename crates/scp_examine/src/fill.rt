@@ -1,20 +1,20 @@
 // What DEPOSIT puts into the items of a list that has no fault.
 ghost use Rattle.std.specs.Prelude.{◌≡◌, ◌+◌, ◌≤◌, ◌<◌, ◌^◌, None};
-ghost use Rattle.nova_memory.specs.Memory.{put};
 ghost use Rattle.nova_machine.specs.Registers.{with_register};
-ghost use Rattle.scp_examine.specs.Places.{Register, cells, places_of};
+ghost use Rattle.scp_examine.specs.Places.{Cell, Register, cells, places_of};
 ghost use Rattle.scp_examine.specs.Checks.{deposit_fault, items_fault, value_fault, values_fault};
 ghost use Rattle.scp_examine.specs.Named.{places_in, IsWithin};
-ghost use Rattle.scp_examine.specs.Effect.{all_places, filled};
+ghost use Rattle.scp_examine.specs.Effect.{all_places, filled, with_value};
 
 use crate::item::{Named, named_by};
-use nova_machine::{CpuReg, Machine};
+use nova_machine::Machine;
 use nova_word::{Addr, Word};
 use scp_parser::{Item, Name};
+use unit_trait::CpuReg;
 
 fn fill_cell(machine: &mut Machine, at: u16, value: u16)
     requires { at < 2 ^ 15 }
-    ensures { machine.new ≡ record machine.old { memory = put machine.old.memory at value } }
+    ensures { machine.new ≡ with_value value machine.old (Cell at) }
 {
     machine
         .memory_mut()

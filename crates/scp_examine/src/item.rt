@@ -1,12 +1,12 @@
 // What an item names, once it is known to have no fault.
 ghost use Rattle.std.specs.Prelude.{◌≡◌, ◌≤◌, ◌^◌};
-ghost use Rattle.scp_examine.specs.Places.{all_of, one_register, places_of, register_at};
+ghost use Rattle.scp_examine.specs.Places.{all_of, named_register, one_register, places_of};
 ghost use Rattle.scp_examine.specs.Checks.{item_fault};
 ghost use Rattle.scp_examine.specs.Named.{places_in, IsWithin};
 
-use crate::place::register_at;
-use nova_machine::CpuReg;
+use crate::place::named_register;
 use scp_parser::{Item, Name};
+use unit_trait::CpuReg;
 
 /// What an item names.
 #[derive(Clone, Copy)]
@@ -36,25 +36,25 @@ pub fn named_by(size: u16, device: Name, item: Item) -> Named
         Item::Range(from, to) => Named::Words(from as u16, (to + 1 - from) as u16),
         Item::Count(from, count) => Named::Words(from as u16, count as u16),
         Item::All => Named::Words(0, size),
-        Item::Reg(number) => register_named(device, number),
-        Item::State => state_of(device),
+        Item::Reg(number) => one_register(device, number),
+        Item::State => all_of(device),
         Item::Unknown => Named::NOTHING,
     }
 }
 
 #[tactic(auto, unfolding(crate::specs::Places::cells))]
-fn register_named(device: Name, number: u8) -> Named
-    ensures places { places_in result ≡ one_register (register_at device number) }
+fn one_register(device: Name, number: u8) -> Named
+    ensures places { places_in result ≡ one_register (named_register device number) }
     ensures within { IsWithin 0 result }
 {
-    match register_at(device, number) {
+    match named_register(device, number) {
         Some(register) => Named::Register(register),
         None => Named::NOTHING,
     }
 }
 
 #[tactic(auto, unfolding(crate::specs::Places::cells))]
-fn state_of(device: Name) -> Named
+fn all_of(device: Name) -> Named
     ensures places { places_in result ≡ all_of device }
     ensures within { IsWithin 0 result }
 {

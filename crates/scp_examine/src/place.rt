@@ -1,36 +1,21 @@
 // The places that an item names, and what is printed of one.
 ghost use Rattle.std.specs.Prelude.{◌≡◌, ◌+◌, ◌≤◌, ◌<◌, ◌^◌, ◌++◌, length, slice_get};
 ghost use Rattle.nova_memory.specs.Memory.{get};
-ghost use Rattle.nova_machine.specs.Registers.{largest_of};
+ghost use Rattle.unit_trait.specs.Processor.{all_registers};
 ghost use Rattle.nova_symbols.specs.Canon.{canon};
-ghost use Rattle.scp_examine.specs.Places.{Cell, Register, all_registers, chosen_word, compares, digits_of, masked};
-ghost use Rattle.scp_examine.specs.Places.{meets, name_of, place_text, register_at, word_text};
+ghost use Rattle.scp_examine.specs.Places.{Cell, chosen_word, compares, masked, meets, named_register, place_text};
+ghost use Rattle.scp_examine.specs.Places.{register_text, word_text};
 
 use line_text::Text;
-use nova_machine::{CpuReg, Machine};
+use nova_machine::Machine;
 use nova_symbols::print;
 use nova_word::{Addr, Word};
 use scp_parser::{Condition, Name, Rel};
-
-/// The registers of the processor, in their order.
-pub const ALL_REGISTERS: [CpuReg; 12] = [
-    CpuReg::Ac0,
-    CpuReg::Ac1,
-    CpuReg::Ac2,
-    CpuReg::Ac3,
-    CpuReg::C,
-    CpuReg::Pc,
-    CpuReg::Ion,
-    CpuReg::Hold,
-    CpuReg::Mask,
-    CpuReg::Sr,
-    CpuReg::StopDev,
-    CpuReg::Size,
-];
+use unit_trait::CpuReg;
 
 /// The register with that number, in the order of the processor or of a device. A machine has no devices yet.
-pub fn register_at(device: Name, number: u8) -> Option<CpuReg>
-    ensures { result ≡ register_at device number }
+pub fn named_register(device: Name, number: u8) -> Option<CpuReg>
+    ensures { result ≡ named_register device number }
 {
     match device {
         Name::Cpu => processor_register(number),
@@ -41,58 +26,24 @@ pub fn register_at(device: Name, number: u8) -> Option<CpuReg>
 fn processor_register(number: u8) -> Option<CpuReg>
     ensures { result ≡ slice_get all_registers number }
 {
-    ALL_REGISTERS.get(usize::from(number)).copied()
-}
-
-fn name_of(register: CpuReg) -> &'static [u8]
-    ensures name { result.now ≡ name_of register }
-    ensures short { length result.now ≤ 8 }
-{
-    match register {
-        CpuReg::Ac0 => b"AC0",
-        CpuReg::Ac1 => b"AC1",
-        CpuReg::Ac2 => b"AC2",
-        CpuReg::Ac3 => b"AC3",
-        CpuReg::C => b"C",
-        CpuReg::Pc => b"PC",
-        CpuReg::Ion => b"ION",
-        CpuReg::Hold => b"HOLD",
-        CpuReg::Mask => b"MASK",
-        CpuReg::Sr => b"SR",
-        CpuReg::StopDev => b"STOP_DEV",
-        CpuReg::Size => b"SIZE",
-    }
-}
-
-// How many octal digits the largest value of a register has.
-fn digits_of(register: CpuReg) -> usize
-    ensures value { result ≡ digits_of register }
-    ensures some { 0 < result × result ≤ 6 }
-    ensures fits { largest_of register < 8 ^ result }
-{
-    match register {
-        CpuReg::C | CpuReg::Ion | CpuReg::Hold | CpuReg::StopDev => 1,
-        CpuReg::Pc => 5,
-        _ => 6,
-    }
+    CpuReg::ALL.get(usize::from(number)).copied()
 }
 
 /// What EXAMINE prints of a register.
-#[tactic(auto, unfolding(crate::specs::Places::place_text))]
-pub fn register_line(machine: &Machine, symbolic: bool, register: CpuReg) -> Text
-    ensures { result ≡ place_text machine.now symbolic (Register register) }
+pub fn register_line(machine: &Machine, register: CpuReg) -> Text<80>
+    ensures { result ≡ register_text machine.now register }
 {
     let mut text = Text::new();
-    text.push_all(name_of(register));
+    text.push_all(register.name().as_bytes());
     text.push_all(b":\t");
-    text.push_octal(machine.cpu_reg(register), digits_of(register));
+    text.push_octal(machine.cpu_reg(register), register.digits());
     text.push(b'\n');
     text
 }
 
 /// What EXAMINE prints of a word of memory.
 #[tactic(auto, unfolding(crate::specs::Places::place_text))]
-pub fn cell_line(machine: &Machine, symbolic: bool, at: u16) -> Text
+pub fn cell_line(machine: &Machine, symbolic: bool, at: u16) -> Text<80>
     requires { at < 2 ^ 15 }
     ensures { result ≡ place_text machine.now symbolic (Cell at) }
 {
@@ -107,13 +58,13 @@ pub fn cell_line(machine: &Machine, symbolic: bool, at: u16) -> Text
 /// The word at an address.
 pub fn word_at(machine: &Machine, at: u16) -> Word
     requires { at < 2 ^ 15 }
-    ensures word { result ≡ get machine.now.memory at }
+    ensures word { result ≡ get machine.now.processor.memory at }
     ensures range { result < 2 ^ 16 }
 {
     machine.memory().read(Addr::of_word(Word(at)))
 }
 
-fn push_word(text: &mut Text, symbolic: bool, word: Word)
+fn push_word(text: &mut Text<80>, symbolic: bool, word: Word)
     requires { length text.old ≤ 40 }
     ensures text { text.new ≡ text.old ++ word_text symbolic word }
     ensures bound { length text.new ≤ length text.old + 32 }

@@ -1,16 +1,18 @@
 // What EXAMINE prints of the items of a list that has no fault.
 ghost use Rattle.std.specs.Prelude.{◌≡◌, ◌+◌, ◌≤◌, ◌<◌, ◌^◌, ◌∷◌, [], None, IsTrue};
-ghost use Rattle.fault_counts.specs.Faults.{HasCause};
+ghost use Rattle.fault_counts.specs.Faults.{CountsFault};
+ghost use Rattle.host_files.specs.Streams.{Puts};
 ghost use Rattle.scp_examine.specs.Places.{Cell, Register, cells, places_of, registers_of};
 ghost use Rattle.scp_examine.specs.Checks.{item_fault, items_fault};
 ghost use Rattle.scp_examine.specs.Named.{places_in, IsWithin};
-ghost use Rattle.scp_examine.specs.Effect.{Prints, all_places, listed};
+ghost use Rattle.scp_examine.specs.Effect.{all_places, listed};
 
 use crate::item::{Named, named_by};
-use crate::place::{ALL_REGISTERS, cell_line, is_chosen, register_line, word_at};
+use crate::place::{cell_line, is_chosen, register_line, word_at};
 use host_files::{Failed, Sink, put_all};
-use nova_machine::{CpuReg, Machine};
+use nova_machine::Machine;
 use scp_parser::{Condition, Item, Name};
+use unit_trait::CpuReg;
 
 // The line of a word of memory, where the condition chooses it.
 #[tactic(auto, unfolding(crate::specs::Effect::listed))]
@@ -22,12 +24,12 @@ fn show_cell<S: Sink>(
     out: &mut S,
 ) -> Result<(), Failed>
     requires { at < 2 ^ 15 }
-    ensures told { IsTrue S.tells → Prints
+    ensures told { IsTrue S.tells → Puts
         (S.written out.old)
         (listed machine.now symbolic condition (Cell at ∷ []))
         result
         (S.written out.new) }
-    ensures cause { HasCause (S.fault_count out.old) (S.fault_count out.new) result }
+    ensures counts { CountsFault (S.fault_count out.old) (S.fault_count out.new) result }
 {
     let word = word_at(machine, at);
     if is_chosen(condition, u64::from(word.0)) {
@@ -39,7 +41,7 @@ fn show_cell<S: Sink>(
 }
 
 // The line of a register, whatever the condition is.
-#[tactic(auto, unfolding(crate::specs::Effect::listed))]
+#[tactic(auto, unfolding(crate::specs::Effect::listed, crate::specs::Places::place_text))]
 fn show_register<S: Sink>(
     machine: &Machine,
     symbolic: bool,
@@ -47,14 +49,14 @@ fn show_register<S: Sink>(
     register: CpuReg,
     out: &mut S,
 ) -> Result<(), Failed>
-    ensures told { IsTrue S.tells → Prints
+    ensures told { IsTrue S.tells → Puts
         (S.written out.old)
         (listed machine.now symbolic condition (Register register ∷ []))
         result
         (S.written out.new) }
-    ensures cause { HasCause (S.fault_count out.old) (S.fault_count out.new) result }
+    ensures counts { CountsFault (S.fault_count out.old) (S.fault_count out.new) result }
 {
-    let line = register_line(machine, symbolic, register);
+    let line = register_line(machine, register);
     put_all(out, line.as_slice())
 }
 
@@ -67,12 +69,12 @@ fn show_cells<S: Sink>(
     out: &mut S,
 ) -> Result<(), Failed>
     requires { from + count ≤ 2 ^ 15 }
-    ensures told { IsTrue S.tells → Prints
+    ensures told { IsTrue S.tells → Puts
         (S.written out.old)
         (listed machine.now symbolic condition (cells from count))
         result
         (S.written out.new) }
-    ensures cause { HasCause (S.fault_count out.old) (S.fault_count out.new) result }
+    ensures counts { CountsFault (S.fault_count out.old) (S.fault_count out.new) result }
 {
     for i in 0..count {
         show_cell(machine, symbolic, condition, from + i, out)?;
@@ -87,12 +89,12 @@ fn show_registers<S: Sink>(
     registers: &[CpuReg],
     out: &mut S,
 ) -> Result<(), Failed>
-    ensures told { IsTrue S.tells → Prints
+    ensures told { IsTrue S.tells → Puts
         (S.written out.old)
         (listed machine.now symbolic condition (registers_of registers.now))
         result
         (S.written out.new) }
-    ensures cause { HasCause (S.fault_count out.old) (S.fault_count out.new) result }
+    ensures counts { CountsFault (S.fault_count out.old) (S.fault_count out.new) result }
 {
     for register in registers {
         show_register(machine, symbolic, condition, *register, out)?;
@@ -108,17 +110,17 @@ fn show_named<S: Sink>(
     out: &mut S,
 ) -> Result<(), Failed>
     requires { IsWithin (2 ^ 15) named }
-    ensures told { IsTrue S.tells → Prints
+    ensures told { IsTrue S.tells → Puts
         (S.written out.old)
         (listed machine.now symbolic condition (places_in named))
         result
         (S.written out.new) }
-    ensures cause { HasCause (S.fault_count out.old) (S.fault_count out.new) result }
+    ensures counts { CountsFault (S.fault_count out.old) (S.fault_count out.new) result }
 {
     match named {
         Named::Words(from, count) => show_cells(machine, symbolic, condition, from, count, out),
         Named::Register(register) => show_register(machine, symbolic, condition, register, out),
-        Named::State => show_registers(machine, symbolic, condition, &ALL_REGISTERS, out),
+        Named::State => show_registers(machine, symbolic, condition, &CpuReg::ALL, out),
     }
 }
 
@@ -130,20 +132,20 @@ fn show_item<S: Sink>(
     item: Item,
     out: &mut S,
 ) -> Result<(), Failed>
-    requires { item_fault machine.now.memory.size device item ≡ None }
-    ensures told { IsTrue S.tells → Prints
+    requires { item_fault machine.now.processor.memory.size device item ≡ None }
+    ensures told { IsTrue S.tells → Puts
         (S.written out.old)
-        (listed machine.now symbolic condition (places_of machine.now.memory.size device item))
+        (listed machine.now symbolic condition (places_of machine.now.processor.memory.size device item))
         result
         (S.written out.new) }
-    ensures cause { HasCause (S.fault_count out.old) (S.fault_count out.new) result }
+    ensures counts { CountsFault (S.fault_count out.old) (S.fault_count out.new) result }
 {
     let size = machine.memory().size();
     let named = named_by(size, device, item);
     show_named(machine, symbolic, condition, named, out)
 }
 
-/// Prints the lines of items that have no fault. Where the console refuses a byte, what comes before it was printed.
+/// Puts the lines of items that have no fault. Where the console refuses a byte, what comes before it was printed.
 pub fn show_items<S: Sink>(
     machine: &Machine,
     symbolic: bool,
@@ -152,13 +154,13 @@ pub fn show_items<S: Sink>(
     items: &[Item],
     out: &mut S,
 ) -> Result<(), Failed>
-    requires { items_fault (item_fault machine.now.memory.size device) items.now ≡ None }
-    ensures told { IsTrue S.tells → Prints
+    requires { items_fault (item_fault machine.now.processor.memory.size device) items.now ≡ None }
+    ensures told { IsTrue S.tells → Puts
         (S.written out.old)
-        (listed machine.now symbolic condition (all_places machine.now.memory.size device items.now))
+        (listed machine.now symbolic condition (all_places machine.now.processor.memory.size device items.now))
         result
         (S.written out.new) }
-    ensures cause { HasCause (S.fault_count out.old) (S.fault_count out.new) result }
+    ensures counts { CountsFault (S.fault_count out.old) (S.fault_count out.new) result }
 {
     for item in items {
         show_item(machine, symbolic, condition, device, *item, out)?;

@@ -1,4 +1,4 @@
-use Rattle.std.proofs.Common.{◌+◌, ◌∷◌, [], refl, ap, ◌∙◌, arith}
+use Rattle.std.proofs.Common.{◌+◌, ◌∷◌, [], refl, ap, ◌∙◌}
 use Rattle.std.proofs.lemmas.Result.{err_from_is_err_and}
 use Rattle.scp_examine.specs.Places.{Cell, cells}
 use Rattle.scp_examine.specs.Effect.{listed}
@@ -17,7 +17,7 @@ loop-i-preserved g c = record {
       listed_more c.args.machine.now c.args.symbolic c.args.condition (g.S.Sink.written c.args.out.now) (g.S.Sink.written c.loop-i.out) (g.S.Sink.written c.show_cell.new.out)
       (cells c.args.from c.loop-i.i) (Cell (c.args.from + c.loop-i.i) ∷ []) (cells c.args.from (c.loop-i.i + 1))
       (cells-more c.args.from c.loop-i.i) (c.loop-i.invariant.written told) (c.in_ok-show_cell.ensures.told told);
-  quiet = omega (arith, c.loop-i.invariant.quiet, c.in_ok-show_cell.ensures.cause.quiet);
+  quiet = c.in_ok-show_cell.ensures.counts ∙ c.loop-i.invariant.quiet;
 }
 
 pub returns-in_err-show_cell-clause-told : goal.returns-in_err-show_cell-clause-told

@@ -6,6 +6,6 @@ use Rattle.scp_examine.proofs.show.show_items.Given as goal
 abbrev pub invariant-loop-item : goal.invariant-loop-item
 invariant-loop-item g l = record {
   written : IsTrue g.S.Sink.tells
-      → g.S.Sink.written l.out ≡ g.S.Sink.written l.fn.out ++ listed l.machine l.symbolic l.condition (all_places l.machine.memory.size l.device (take l.item-index l.items));
+      → g.S.Sink.written l.out ≡ g.S.Sink.written l.fn.out ++ listed l.machine l.symbolic l.condition (all_places l.machine.processor.memory.size l.device (take l.item-index l.items));
   quiet : g.S.Sink.fault_count l.out ≡ g.S.Sink.fault_count l.fn.out;
 }
