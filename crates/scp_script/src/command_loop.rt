@@ -71,7 +71,6 @@ fn answer<S: Sink>(session: &mut Session, line: &[u8], out: &mut S) -> Progress
 }
 
 /// Does a command, and prints the text of its fault where it is refused.
-#[tactic(auto, unfolding(crate::specs::Session::text_reply, scp_commands::specs::Effect::does))]
 fn obey<S: Sink>(session: &mut Session, command: &Command, out: &mut S) -> Progress
     ensures told { IsAnswer (with_complaint (effect session.old.limit session.old.live command.now)) result
         session.new.live S.tells (S.written out.old) (S.written out.new) }
@@ -100,6 +99,7 @@ fn deny_line<S: Sink>(session: &Session, fault: ParseFault, out: &mut S) -> Prog
 /// Prints the text of a fault.
 fn complain<S: Sink>(fault: CommandFault, out: &mut S) -> Progress
     ensures told { Complains S.tells (S.written out.old) (fault_text fault) result (S.written out.new) }
+    ensures exit { HasExitStatus result }
     ensures counts { AnswerCounts result (S.fault_count out.old) (S.fault_count out.new) }
 {
     match fault.put_text(out) {
