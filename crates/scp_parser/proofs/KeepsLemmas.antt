@@ -6,7 +6,7 @@ use Rattle.std.proofs.lemmas.Bool.Decides.{nat_tests}
 use Rattle.unit_trait.specs.declared.kind.Kind.{Kind}
 use Rattle.unit_trait.specs.declared.kind.Kind.TheVariants.{Mta, Tti1}
 use Rattle.unit_trait.specs.declared.kind.UnitName.{UnitName}
-use Rattle.unit_trait.specs.Kinds.{kind_name}
+use Rattle.unit_trait.specs.Kinds.{kind_name, TakesFile}
 use Rattle.scp_parser.specs.declared.command.Shown.{Shown}
 use Rattle.scp_parser.specs.declared.command.Shown.TheVariants as shown
 use Rattle.scp_parser.specs.declared.command.Verb.{Verb}
@@ -15,8 +15,9 @@ use Rattle.line_words.specs.Words.{past_blanks}
 use Rattle.scp_parser.specs.declared.fault.ParseFault.{ParseFault}
 use Rattle.scp_parser.specs.declared.names.CommandName.{CommandName}
 use Rattle.scp_parser.specs.declared.names.CommandName.TheVariants as name
-use Rattle.scp_parser.specs.Command.{TakesFile, IsNamedUnit, ShowsUnit, Keeps, request_of, IsKept}
-use Rattle.scp_parser.specs.Names.{is_spelled, unit_kinds, first_of, command_named}
+use Rattle.scp_parser.specs.Command.{IsNamedUnit, ShowsUnit, Keeps, request_of, IsKept}
+use Rattle.line_words.specs.Words.{is_spelled}
+use Rattle.scp_parser.specs.Names.{unit_kinds, first_of, command_named}
 use Rattle.scp_parser.specs.Operands.{or_else, unit_alone, drive_at, drive_of, kind_named, octal, decimal, unit_of, subject_of}
 use Rattle.scp_parser.specs.Reading.{◌>>=◌, next_word, needed, needed_found, ended, last_number, numbered, listing, examine, valued, instruction, deposit, show, operands, command_found, named}
 
@@ -50,7 +51,7 @@ abbrev pub NamesUnit : Kind → Type 0
 NamesUnit kind = TakesFile kind ⊎ (kind ≡ Tti1)
 
 unit_kinds_name : Each NamesUnit unit_kinds
-unit_kinds_name = (inl tt, (inl tt, (inl tt, (inl tt, (inl tt, (inr refl, tt))))))
+unit_kinds_name = (inl refl, (inl refl, (inl refl, (inl refl, (inl refl, (inr refl, tt))))))
 
 below_eight : (b : ℕ) → (leb 48 b && ltb b 56) ≡ true → b - 48 < 8
 below_eight b h = grind (arith, nat_tests)
@@ -59,7 +60,7 @@ drive_at_keeps : (text : List ℕ) (u : UnitName) → drive_at text ≡ Some u �
 drive_at_keeps [] u h = absurd (cc h)
 drive_at_keeps (b ∷ []) u h =
     let parts = cond_some (leb 48 b && ltb b 56) (record { kind = Mta; unit = b - 48 }) u h in
-    subst IsNamedUnit parts.1 (inl tt, inl (refl, below_eight b parts.0))
+    subst IsNamedUnit parts.1 (inl refl, inl (refl, below_eight b parts.0))
 drive_at_keeps (b ∷ c ∷ more) u h = absurd (cc h)
 
 drive_of_keeps : (text : List ℕ) (u : UnitName) → drive_of text ≡ Some u → IsNamedUnit u
@@ -152,8 +153,6 @@ operands_keeps line name.Cont text v h = ended_keeps (Keeps line) verb.Cont text
 operands_keeps line name.Step text v h = numbered_keeps line (λ n. verb.Step n) (last_number decimal text) v (λ n. tt) h
 operands_keeps line name.Show text v h = show_keeps line text v h
 operands_keeps line name.Exit text v h = numbered_keeps line (λ n. verb.Exit n) (last_number decimal text) v (λ n. tt) h
-operands_keeps line name.Quit text v h = numbered_keeps line (λ n. verb.Exit n) (last_number decimal text) v (λ n. tt) h
-operands_keeps line name.Bye text v h = numbered_keeps line (λ n. verb.Exit n) (last_number decimal text) v (λ n. tt) h
 operands_keeps line name.Reset text v h = absurd (cc h)
 operands_keeps line name.NoExpect text v h = absurd (cc h)
 operands_keeps line name.NoSend text v h = absurd (cc h)

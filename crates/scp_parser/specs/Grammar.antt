@@ -8,7 +8,7 @@ use Rattle.scp_parser.specs.declared.listing.Name.TheVariants as whose
 use Rattle.scp_parser.specs.declared.listing.Condition.{Condition}
 use Rattle.scp_parser.specs.declared.listing.Listing.{Listing}
 use Rattle.scp_parser.specs.declared.names.CommandName.{CommandName}
-use Rattle.scp_parser.specs.declared.names.CommandName.TheVariants.{Examine, Deposit, Run, Go, Cont, Step, Show, Exit, Quit, Bye}
+use Rattle.scp_parser.specs.declared.names.CommandName.TheVariants.{Examine, Deposit, Run, Go, Cont, Step, Show, Exit}
 use Rattle.scp_parser.specs.Command.{Request}
 use Rattle.scp_parser.specs.Command as request
 use Rattle.scp_parser.specs.Names.{IsCommandName}
@@ -118,8 +118,6 @@ Operates Cont text asked = Ends request.Cont text asked
 Operates Step text asked = HasNumber IsDecimal text (λ n. request.Step n) asked
 Operates Show text asked = Then (Takes IsSubject text) (λ s. Ends (request.Show s.0) s.1) asked
 Operates Exit text asked = HasNumber IsDecimal text (λ n. request.Exit n) asked
-Operates Quit text asked = HasNumber IsDecimal text (λ n. request.Exit n) asked
-Operates Bye text asked = HasNumber IsDecimal text (λ n. request.Exit n) asked
 Operates name text asked = ⊥
 
 -- a comment begins with `;` or `#`, and a label with `:`
