@@ -1,6 +1,6 @@
 -- No word is an abbreviation of two commands.
-use Rattle.std.specs.Prelude.{nat_le, Contains}
-use Rattle.std.proofs.Common.{◌≡◌, ℕ, ◌≤◌, Bool, true, cond, Some, List, length, take, map, refl, ap, sym, ◌∙◌, arith}
+use Rattle.std.specs.Prelude.{nat_le}
+use Rattle.std.proofs.Common.{◌≡◌, ℕ, ◌≤◌, Bool, true, cond, Some, List, length, take, refl, ap, sym, ◌∙◌, arith}
 use Rattle.std.specs.Char.{to_ascii_uppercase}
 use Rattle.std.specs.Option.{option_map}
 use Rattle.std.proofs.lemmas.Bool.{and_parts, and_from, leb-true, le-leb}
@@ -48,15 +48,15 @@ two_share word a b first second =
 rows_apart : are_apart share command_rows ≡ true
 rows_apart = refl
 
-pub command_found : (word : List ℕ) (command : CommandName) → command_named word ≡ Some command → IsCommandName word command
+pub name_found : (word : List ℕ) (command : CommandName) → command_named word ≡ Some command → IsCommandName word command
 unfolding command_named
-command_found word command h =
+name_found word command h =
     let (of, found, means) = mapped (λ (r : CommandRow). r.command) (first_of (is_row_name word) command_rows) command h in
     let first = first_found (is_row_name word) command_rows of found in
     record { of = of; listed = first.0; means = means; names = row_is word of first.1 }
 
-pub command_reads : (word : List ℕ) (command : CommandName) → IsCommandName word command → command_named word ≡ Some command
+pub name_reads : (word : List ℕ) (command : CommandName) → IsCommandName word command → command_named word ≡ Some command
 unfolding command_named
-command_reads word command h =
+name_reads word command h =
     ap (option_map (λ (r : CommandRow). r.command)) (first_is (is_row_name word) share command_rows h.of (two_share word) rows_apart h.listed (row_passes word h.of h.names))
     ∙ ap (λ (c : CommandName). Some c) h.means

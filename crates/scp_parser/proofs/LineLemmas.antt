@@ -7,7 +7,7 @@ use Rattle.std.proofs.lemmas.Bool.{leb-true, eqb-true, eq-eqb, le-leb, lt-leb, c
 use Rattle.std.proofs.lemmas.List.{nil_from_length}
 use Rattle.std.proofs.lemmas.List.Elements.{All-nil, All-contains}
 use Rattle.std.proofs.lemmas.List.Sums.{AllPass-from_list_all}
-use Rattle.line_words.specs.Words.{IsBlank, StartsIn, Begins, past_blanks}
+use Rattle.line_words.specs.Words.{IsBlank, Begins, past_blanks}
 use Rattle.scp_parser.specs.declared.command.Verb.{Verb}
 use Rattle.scp_parser.specs.declared.command.Verb.TheVariants as verb
 use Rattle.scp_parser.specs.declared.fault.ParseFault.{ParseFault}
@@ -85,7 +85,7 @@ mark_not_blank b mark blank = omega (arith, mark, blank)
 name_not_mark : (b : ℕ) (more : List ℕ) (name : CommandName) → IsCommandName (b ∷ more) name → IsMark b → ⊥
 name_not_mark b more name is mark =
     let begins = All-contains (λ (of : CommandRow). begins_in_letter of.name ≡ true) command_rows is.of
-        (AllPass-from_list_all (λ (of : CommandRow). begins_in_letter of.name) command_rows rows_begin_in_letters) is.listed in
+    (AllPass-from_list_all (λ (of : CommandRow). begins_in_letter of.name) command_rows rows_begin_in_letters) is.listed in
     let letter : 65 ≤ to_ascii_uppercase b = first_letter is.of.name _ (to_ascii_uppercase b) (length more) begins is.names.spelled in
     omega (arith, letter, mark_low b mark)
 
@@ -121,9 +121,9 @@ abbrev short_verb : List ℕ → Result Verb ParseFault
 short_verb line = cond (asks_nothing line) (Ok verb.Nothing) (placed_in (length line) (named line))
 
 -- a line that is too long, whatever stands in it
-pub long_line : (line : List ℕ) → longest_line < length line → reading line ≡ Err TooLong
+pub long-line : (line : List ℕ) → longest_line < length line → reading line ≡ Err TooLong
 unfolding reading verb_of
-long_line line long = ap (map_ok (request_of line)) (cond-false (leb (length line) longest_line) (short_verb line) (Err TooLong) (lt-leb (length line) longest_line long))
+long-line line long = ap (map_ok (request_of line)) (cond-false (leb (length line) longest_line) (short_verb line) (Err TooLong) (lt-leb (length line) longest_line long))
 
 short_line : (line : List ℕ) → length line ≤ longest_line → reading line ≡ map_ok (request_of line) (short_verb line)
 unfolding reading verb_of
@@ -165,7 +165,7 @@ module _ (d : Forms_decided) where
       ∙ placed_ok line (length line) (operands name rest) what ((operands_settle d line name rest).reads what operates)
 
   faults_given : (line : List ℕ) (e : ParseFault) → Faults line e → reading line ≡ Err e
-  faults_given line e (too_long _ long) = long_line line long
+  faults_given line e (too_long _ long) = long-line line long
   faults_given line e (unknown _ word rest short asks begins never) = unknown_line line word rest short asks begins (none_named word (command_named word) d refl never)
   faults_given line e (operands_form _ word rest name fault short begins is faulty) =
       operands_line line word rest name short begins is ((d.command word name).1 is)
@@ -202,7 +202,7 @@ module _ (d : Forms_decided) where
   line_found : (line : List ℕ) → IsFound line (reading line)
   line_found line =
       elim (cases_lt longest_line (length line)) [
-        | inl long ↦ subst (IsFound line) (sym (long_line line long)) (too_long line long)
+        | inl long ↦ subst (IsFound line) (sym (long-line line long)) (too_long line long)
         | inr short ↦ short_found line short
       ]
 

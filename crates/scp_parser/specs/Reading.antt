@@ -56,11 +56,11 @@ unfoldable pub ended : {V : Type 0} → V → List ℕ → Result V ParseFault
 ended what text = let left = length (past_blanks text) in if left == 0 then Ok what else Err (Extra left)
 
 -- a number that may be left out at the end of a line
-abbrev pub given : ℕ × List ℕ → Result (Option ℕ × List ℕ) ParseFault
-given number = Ok (Some number.0, number.1)
+abbrev pub some_number : ℕ × List ℕ → Result (Option ℕ × List ℕ) ParseFault
+some_number number = Ok (Some number.0, number.1)
 
 unfoldable pub last_number : (List ℕ → Option ℕ) → List ℕ → Result (Option ℕ × List ℕ) ParseFault
-last_number form text = if length (past_blanks text) == 0 then Ok (None, text) else (needed true form text >>= given)
+last_number form text = if length (past_blanks text) == 0 then Ok (None, text) else (needed true form text >>= some_number)
 
 -- a command with a number that may be left out
 abbrev pub numbered : {V : Type 0} → (Option ℕ → V) → Result (Option ℕ × List ℕ) ParseFault → Result V ParseFault
