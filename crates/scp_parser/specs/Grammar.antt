@@ -107,8 +107,8 @@ HasValue false text make asked = Then (Takes IsOctal text) (λ n. Ends (make n.0
 abbrev pub IsListing : Bool → List ℕ → Listing × List ℕ → Type 0
 IsListing conditions text l = Lists conditions text l.0 l.1
 
--- what a command asks for, by its name and the operands behind it; one that this version of the program does not have
--- asks for nothing
+-- what a command asks for, by its name and the operands behind it; with one that this version of the program does not
+-- have no line is a command
 abbrev pub Operates : CommandName → List ℕ → Request → Type 0
 Operates Examine text asked = Then (IsListing true text) (λ l. Ends (request.Examine l.0) l.1) asked
 Operates Deposit text asked = Then (IsListing false text) (λ l. HasValue l.0.symbolic l.1 (λ n. request.Deposit l.0 n)) asked
