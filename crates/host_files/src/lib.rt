@@ -10,4 +10,4 @@ pub mod streams;
 pub use byte_sink::ByteSink;
 pub use byte_source::ByteSource;
 pub use std::alloc::AllocError as OutOfMemory;
-pub use streams::{Failed, Sink, Source, next_byte, put_all};
+pub use streams::{Failed, Sink, Source, next_byte, put_all, put_pieces};

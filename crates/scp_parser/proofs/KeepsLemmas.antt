@@ -15,7 +15,7 @@ use Rattle.line_words.specs.Words.{past_blanks}
 use Rattle.scp_parser.specs.declared.fault.ParseFault.{ParseFault}
 use Rattle.scp_parser.specs.declared.names.CommandName.{CommandName}
 use Rattle.scp_parser.specs.declared.names.CommandName.TheVariants as name
-use Rattle.scp_parser.specs.Command.{TakesFile, IsNamedUnit, ShowsUnit, Keeps}
+use Rattle.scp_parser.specs.Command.{TakesFile, IsNamedUnit, ShowsUnit, Keeps, request_of, IsKept}
 use Rattle.scp_parser.specs.Names.{is_spelled, unit_kinds, first_of, command_named}
 use Rattle.scp_parser.specs.Operands.{or_else, unit_alone, drive_at, drive_of, kind_named, octal, decimal, unit_of, subject_of}
 use Rattle.scp_parser.specs.Reading.{◌>>=◌, next_word, needed, needed_found, ended, last_number, numbered, listing, examine, valued, instruction, deposit, show, operands, command_found, named}
@@ -180,3 +180,20 @@ found_keeps line (Some name) rest v h = operands_keeps line name rest v h
 pub named_keeps : (line : List ℕ) (v : Verb) → named line ≡ Ok v → Keeps line v
 unfolding named
 named_keeps line v h = found_keeps line (command_named (next_word line).0) (next_word line).1 v h
+
+-- what a verb keeps holds of its request
+pub request_kept : (line : List ℕ) (v : Verb) → Keeps line v → IsKept (request_of line v)
+request_kept line (verb.Expect count text actions) h = h.0.1
+request_kept line (verb.Send after delay text) h = h.1
+request_kept line (verb.Attach option unit name) h = (h.0, h.1, h.2.1)
+request_kept line (verb.AttachPort kind port) h = h
+request_kept line (verb.Detach (Some unit)) h = h
+request_kept line (verb.Load name) h = h.1
+request_kept line (verb.Save name) h = h.1
+request_kept line (verb.Dump from to name) h = h.1
+request_kept line (verb.Restore force name) h = h.1
+request_kept line (verb.Disconnect kind) h = h
+request_kept line (verb.Show subject) h = h
+request_kept line (verb.Do echo strict name arguments) h = h.0.1
+request_kept line (verb.Assert test) h = h
+request_kept line v h = tt

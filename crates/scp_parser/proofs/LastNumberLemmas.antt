@@ -3,22 +3,18 @@ use Rattle.std.proofs.Common.{◌≡◌, ℕ, true, eqb, Option, Some, None, Res
 use Rattle.std.proofs.lemmas.Bool.{eq-eqb, ne_eqb, cond-true, cond-false}
 use Rattle.line_words.specs.Words.{IsBlanks, Begins, past_blanks}
 use Rattle.scp_parser.specs.declared.fault.ParseFault.{ParseFault}
-use Rattle.scp_parser.specs.declared.command.Verb.{Verb}
-use Rattle.scp_parser.specs.Grammar.{IsLastNumber, left_out, given as given_form}
+use Rattle.scp_parser.specs.Command.{Request}
+use Rattle.scp_parser.specs.Grammar.{Takes, Ends, HasNumber, IsLastNumber, left_out, given as given_form}
 use Rattle.scp_parser.specs.Faults.{WordFaults, missing, bad, EndFaults, LastNumberFaults, bad_number, behind_number}
-use Rattle.scp_parser.specs.Reading.{◌>>=◌, next_word, needed, ended, given, last_number, numbered}
+use Rattle.scp_parser.specs.Reading.{◌>>=◌, next_word, needed, ended, given, last_number, numbered, map_ok}
 use Rattle.scp_parser.proofs.Decides.{Decides}
 use Rattle.scp_parser.proofs.WordLemmas.{first_word, begins_past, begins_not_blank, past_of_blanks}
-use Rattle.scp_parser.proofs.Settles.{Sound, Settles, sound_weaker}
-use Rattle.scp_parser.proofs.OperandLemmas.{Ends, Takes, ended_settles, needed_settles}
+use Rattle.scp_parser.proofs.Settles.{Sound, Settles, sound_weaker, same_settles}
+use Rattle.scp_parser.proofs.OperandLemmas.{ended_settles, map_ended, needed_settles}
 
--- a command with that number
-abbrev pub HasNumber : (List ℕ → ℕ → Type 0) → List ℕ → (Option ℕ → Verb) → Verb → Type 0
-HasNumber Form text make verb = (number : Option ℕ) × IsLastNumber Form text number × (verb ≡ make number)
-
-module _ (Form : List ℕ → ℕ → Type 0) (form : List ℕ → Option ℕ) (decides : Decides Form form) (none : form [] ≡ None) (make : Option ℕ → Verb) where
+module _ (Form : List ℕ → ℕ → Type 0) (form : List ℕ → Option ℕ) (decides : Decides Form form) (none : form [] ≡ None) (make : Option ℕ → Request) where
   -- the number that is there, and then the end
-  behind : Result (ℕ × List ℕ) ParseFault → Result Verb ParseFault
+  behind : Result (ℕ × List ℕ) ParseFault → Result Request ParseFault
   behind r = numbered make (r >>= given)
 
   none_given : (text : List ℕ) → IsBlanks text → numbered make (last_number form text) ≡ ended (make None) text
@@ -39,9 +35,9 @@ module _ (Form : List ℕ → ℕ → Type 0) (form : List ℕ → Option ℕ) (
   there_given text word rest n begins is =
       one_given text word rest begins ∙ ap behind ((needed_settles Form form decides none true text).reads (n, rest) (word, begins, is))
 
-  number_reads : (text : List ℕ) (verb : Verb) (number : Option ℕ) → IsLastNumber Form text number → verb ≡ make number → numbered make (last_number form text) ≡ Ok verb
-  number_reads text verb number (left_out are) is = none_given text are ∙ (ended_settles (make None) text).reads verb (are, is)
-  number_reads text verb number (given_form word rest n begins here are) is = there_given text word rest n begins here ∙ (ended_settles (make (Some n)) rest).reads verb (are, is)
+  number_reads : (text : List ℕ) (asked : Request) (number : Option ℕ) → IsLastNumber Form text number → asked ≡ make number → numbered make (last_number form text) ≡ Ok asked
+  number_reads text asked number (left_out are) is = none_given text are ∙ (ended_settles (make None) text).reads asked (are, is)
+  number_reads text asked number (given_form word rest n begins here are) is = there_given text word rest n begins here ∙ (ended_settles (make (Some n)) rest).reads asked (are, is)
 
   number_faults : (text : List ℕ) (e : ParseFault) → LastNumberFaults Form text e → numbered make (last_number form text) ≡ Err e
   unfolding behind
@@ -58,7 +54,7 @@ module _ (Form : List ℕ → ℕ → Type 0) (form : List ℕ → Option ℕ) (
   unfolding behind
   behind_found text word rest begins (Ok x) is =
       sound_weaker (Ends (make (Some x.0)) x.1) (HasNumber Form text make) (EndFaults x.1) (LastNumberFaults Form text) (ended (make (Some x.0)) x.1)
-      (λ verb ends. (Some x.0, given_form is.0 x.1 x.0 is.1 is.2 ends.0, ends.1))
+      (λ asked ends. (Some x.0, given_form is.0 x.1 x.0 is.1 is.2 ends.0, ends.1))
       (λ e ends. behind_number is.0 x.1 x.0 e is.1 is.2 ends)
       (ended_settles (make (Some x.0)) x.1).found
   behind_found text word rest begins (Err e) is = word_fault text word rest e begins is
@@ -80,7 +76,19 @@ module _ (Form : List ℕ → ℕ → Type 0) (form : List ℕ → Option ℕ) (
 
   pub number_settles : (text : List ℕ) → Settles (numbered make (last_number form text)) (HasNumber Form text make) (LastNumberFaults Form text)
   number_settles text = record {
-    reads = λ verb is. number_reads text verb is.0 is.1 is.2;
+    reads = λ asked is. number_reads text asked is.0 is.1 is.2;
     faults = number_faults text;
     found = number_found text;
   }
+
+-- the same, where what the line asks for is seen otherwise
+
+map_numbered : {A B : Type 0} (see : A → B) (make : Option ℕ → A) (number : Result (Option ℕ × List ℕ) ParseFault) → map_ok see (numbered make number) ≡ numbered (λ n. see (make n)) number
+map_numbered see make (Ok n) = map_ended see (make n.0) n.1
+map_numbered see make (Err e) = refl
+
+pub number_seen : {A : Type 0} (see : A → Request) (Form : List ℕ → ℕ → Type 0) (form : List ℕ → Option ℕ) → Decides Form form → form [] ≡ None → (make : Option ℕ → A) (text : List ℕ)
+    → Settles (map_ok see (numbered make (last_number form text))) (HasNumber Form text (λ n. see (make n))) (LastNumberFaults Form text)
+number_seen see Form form decides none make text =
+    same_settles (HasNumber Form text (λ n. see (make n))) (LastNumberFaults Form text) (map_ok see (numbered make (last_number form text))) (numbered (λ n. see (make n)) (last_number form text))
+    (map_numbered see make (last_number form text)) (number_settles Form form decides none (λ n. see (make n)) text)

@@ -9,18 +9,19 @@ use Rattle.line_words.specs.Words.{IsBlank, StartsIn, Begins, past_blanks}
 use Rattle.scp_parser.specs.declared.command.Verb.{Verb}
 use Rattle.scp_parser.specs.declared.command.Verb.TheVariants as verb
 use Rattle.scp_parser.specs.declared.fault.ParseFault.{ParseFault}
-use Rattle.scp_parser.specs.declared.fault.ParseFault.TheVariants.{Unknown, TooLong, NotBuilt}
+use Rattle.scp_parser.specs.declared.fault.ParseFault.TheVariants.{Unknown, TooLong}
 use Rattle.scp_parser.specs.declared.names.CommandName.{CommandName}
 use Rattle.scp_parser.specs.declared.names.CommandName.TheVariants.{Examine}
-use Rattle.scp_parser.specs.Command.{CommandLine}
+use Rattle.scp_parser.specs.Command.{Request, request_of}
+use Rattle.scp_parser.specs.Command as request
 use Rattle.scp_parser.specs.Names.{full_name, IsCommandName, command_named}
 use Rattle.scp_parser.specs.Grammar.{longest_line, IsMark, BeginsWithMark, AsksNothing, Operates, Parses, nothing as nothing_form, command as command_form}
-use Rattle.scp_parser.specs.Faults.{placed, Faults, too_long, unknown, not_built, operands as operands_form}
-use Rattle.scp_parser.specs.Reading.{next_word, operands, is_mark, begins_with_mark, asks_nothing, command_found, named, placed_in, verb_of, with_line, reading}
+use Rattle.scp_parser.specs.Faults.{placed, Faults, too_long, unknown, OperandFaults, operands as operands_form}
+use Rattle.scp_parser.specs.Reading.{next_word, operands, is_mark, begins_with_mark, asks_nothing, command_found, named, placed_in, verb_of, map_ok, reading}
 use Rattle.scp_parser.proofs.FormsDecided.{Forms_decided}
 use Rattle.scp_parser.proofs.WordLemmas.{first_word, begins_next, begins_past, begins_not_blank, past_blanks_split, past_of_blanks, blanks_from_past}
 use Rattle.scp_parser.proofs.Settles.{Sound, Settles}
-use Rattle.scp_parser.proofs.OperatesLemmas.{NamedFaults, operands_settle}
+use Rattle.scp_parser.proofs.OperatesLemmas.{operands_settle}
 
 -- a line that asks for nothing
 
@@ -95,25 +96,35 @@ command_asks line word rest name begins is (inr mark) = command_no_mark line wor
 
 -- the verb of a line
 
+-- a reading by its place from the beginning of its line
+placed_ok : (line : List ℕ) (n : ℕ) (r : Result Verb ParseFault) (what : Request) → map_ok (request_of line) r ≡ Ok what → map_ok (request_of line) (placed_in n r) ≡ Ok what
+placed_ok line n (Ok v) what h = h
+placed_ok line n (Err e) what h = absurd (cc h)
+
+placed_err : (line : List ℕ) (n : ℕ) (r : Result Verb ParseFault) (e : ParseFault) → map_ok (request_of line) r ≡ Err e → map_ok (request_of line) (placed_in n r) ≡ Err (placed n e)
+placed_err line n (Ok v) e h = absurd (cc h)
+placed_err line n (Err f) e h = let same : f ≡ e = cc h in ap (λ (g : ParseFault). Err (placed n g)) same
+
 abbrev short_verb : List ℕ → Result Verb ParseFault
 short_verb line = cond (asks_nothing line) (Ok verb.Nothing) (placed_in (length line) (named line))
 
-long_line : (line : List ℕ) → longest_line < length line → reading line ≡ Err TooLong
+-- a line that is too long, whatever stands in it
+pub long_line : (line : List ℕ) → longest_line < length line → reading line ≡ Err TooLong
 unfolding reading verb_of
-long_line line long = ap (with_line line) (cond-false (leb (length line) longest_line) (short_verb line) (Err TooLong) (lt-leb (length line) longest_line long))
+long_line line long = ap (map_ok (request_of line)) (cond-false (leb (length line) longest_line) (short_verb line) (Err TooLong) (lt-leb (length line) longest_line long))
 
-short_line : (line : List ℕ) → length line ≤ longest_line → reading line ≡ with_line line (short_verb line)
+short_line : (line : List ℕ) → length line ≤ longest_line → reading line ≡ map_ok (request_of line) (short_verb line)
 unfolding reading verb_of
-short_line line short = ap (with_line line) (cond-true (leb (length line) longest_line) (short_verb line) (Err TooLong) (le-leb (length line) longest_line short))
+short_line line short = ap (map_ok (request_of line)) (cond-true (leb (length line) longest_line) (short_verb line) (Err TooLong) (le-leb (length line) longest_line short))
 
-nothing_line : (line : List ℕ) → length line ≤ longest_line → AsksNothing line → reading line ≡ Ok (record { text = line; verb = verb.Nothing })
+nothing_line : (line : List ℕ) → length line ≤ longest_line → AsksNothing line → reading line ≡ Ok request.Nothing
 nothing_line line short asks =
-    short_line line short ∙ ap (with_line line) (cond-true (asks_nothing line) (Ok verb.Nothing) (placed_in (length line) (named line)) (asks_passes line asks))
+    short_line line short ∙ ap (map_ok (request_of line)) (cond-true (asks_nothing line) (Ok verb.Nothing) (placed_in (length line) (named line)) (asks_passes line asks))
 
-named_line : (line : List ℕ) → length line ≤ longest_line → (AsksNothing line → ⊥) → reading line ≡ with_line line (placed_in (length line) (named line))
+named_line : (line : List ℕ) → length line ≤ longest_line → (AsksNothing line → ⊥) → reading line ≡ map_ok (request_of line) (placed_in (length line) (named line))
 named_line line short asks =
     let none : asks_nothing line ≡ false = false_from_ne_true (asks_nothing line) (λ e. asks (asks_is line e)) in
-    short_line line short ∙ ap (with_line line) (cond-false (asks_nothing line) (Ok verb.Nothing) (placed_in (length line) (named line)) none)
+    short_line line short ∙ ap (map_ok (request_of line)) (cond-false (asks_nothing line) (Ok verb.Nothing) (placed_in (length line) (named line)) none)
 
 named_by : (line word rest : List ℕ) (o : Option CommandName) → Begins line word rest → command_named word ≡ o → named line ≡ command_found o rest
 unfolding named
@@ -122,51 +133,44 @@ named_by line word rest o begins is =
 
 -- a line whose word names no command
 unknown_line : (line word rest : List ℕ) → length line ≤ longest_line → (AsksNothing line → ⊥) → Begins line word rest → command_named word ≡ None → reading line ≡ Err Unknown
-unknown_line line word rest short asks begins is = named_line line short asks ∙ ap (λ (r : Result Verb ParseFault). with_line line (placed_in (length line) r)) (named_by line word rest None begins is)
+unknown_line line word rest short asks begins is = named_line line short asks ∙ ap (λ (r : Result Verb ParseFault). map_ok (request_of line) (placed_in (length line) r)) (named_by line word rest None begins is)
 
 -- a line by the operands behind its command's name
 operands_line : (line word rest : List ℕ) (name : CommandName) → length line ≤ longest_line → Begins line word rest → IsCommandName word name → command_named word ≡ Some name
-    → reading line ≡ with_line line (placed_in (length line) (operands name rest))
+    → reading line ≡ map_ok (request_of line) (placed_in (length line) (operands name rest))
 operands_line line word rest name short begins is some =
-    named_line line short (command_asks line word rest name begins is) ∙ ap (λ (r : Result Verb ParseFault). with_line line (placed_in (length line) r)) (named_by line word rest (Some name) begins some)
+    named_line line short (command_asks line word rest name begins is) ∙ ap (λ (r : Result Verb ParseFault). map_ok (request_of line) (placed_in (length line) r)) (named_by line word rest (Some name) begins some)
 
 none_named : (word : List ℕ) (o : Option CommandName) → Forms_decided → command_named word ≡ o → ((name : CommandName) → IsCommandName word name → ⊥) → o ≡ None
 none_named word None d is never = refl
 none_named word (Some name) d is never = absurd (never name ((d.command word name).0 is))
 
 module _ (d : Forms_decided) where
-  parses_given : (line : List ℕ) (c : CommandLine) → Parses line c → reading line ≡ Ok c
+  parses_given : (line : List ℕ) (c : Request) → Parses line c → reading line ≡ Ok c
   parses_given line c (nothing_form _ short asks) = nothing_line line short asks
   parses_given line c (command_form _ word rest name what short begins is operates) =
       operands_line line word rest name short begins is ((d.command word name).1 is)
-      ∙ ap (λ (r : Result Verb ParseFault). with_line line (placed_in (length line) r)) ((operands_settle d name rest).reads what operates)
-
-  named_fault : (line word rest : List ℕ) (name : CommandName) (e : ParseFault) → length line ≤ longest_line → Begins line word rest → IsCommandName word name → NamedFaults name rest e
-      → reading line ≡ Err (placed (length line) e)
-  named_fault line word rest name e short begins is faulty =
-      operands_line line word rest name short begins is ((d.command word name).1 is)
-      ∙ ap (λ (r : Result Verb ParseFault). with_line line (placed_in (length line) r)) ((operands_settle d name rest).faults e faulty)
+      ∙ placed_ok line (length line) (operands name rest) what ((operands_settle d line name rest).reads what operates)
 
   faults_given : (line : List ℕ) (e : ParseFault) → Faults line e → reading line ≡ Err e
   faults_given line e (too_long _ long) = long_line line long
   faults_given line e (unknown _ word rest short asks begins never) = unknown_line line word rest short asks begins (none_named word (command_named word) d refl never)
-  faults_given line e (not_built _ word rest name short begins is unbuilt) = named_fault line word rest name NotBuilt short begins is (inr (unbuilt, refl))
-  faults_given line e (operands_form _ word rest name fault short begins is faulty) = named_fault line word rest name fault short begins is (inl faulty)
+  faults_given line e (operands_form _ word rest name fault short begins is faulty) =
+      operands_line line word rest name short begins is ((d.command word name).1 is)
+      ∙ placed_err line (length line) (operands name rest) fault ((operands_settle d line name rest).faults fault faulty)
 
-  abbrev IsFound : List ℕ → Result CommandLine ParseFault → Type 0
+  abbrev IsFound : List ℕ → Result Request ParseFault → Type 0
   IsFound line r = Sound (Parses line) (Faults line) r
 
   operands_found : (line word rest : List ℕ) (name : CommandName) → length line ≤ longest_line → Begins line word rest → IsCommandName word name → (r : Result Verb ParseFault)
-      → Sound (Operates name rest) (NamedFaults name rest) r → IsFound line (with_line line (placed_in (length line) r))
-  operands_found line word rest name short begins is (Ok what) operates = command_form line word rest name what short begins is operates
-  operands_found line word rest name short begins is (Err e) (inl faulty) = operands_form line word rest name e short begins is faulty
-  operands_found line word rest name short begins is (Err e) (inr (unbuilt, same)) =
-      subst (λ (f : ParseFault). Faults line (placed (length line) f)) (sym same) (not_built line word rest name short begins is unbuilt)
+      → Sound (Operates name rest) (OperandFaults name rest) (map_ok (request_of line) r) → IsFound line (map_ok (request_of line) (placed_in (length line) r))
+  operands_found line word rest name short begins is (Ok v) operates = command_form line word rest name (request_of line v) short begins is operates
+  operands_found line word rest name short begins is (Err e) faulty = operands_form line word rest name e short begins is faulty
 
   word_found : (line word rest : List ℕ) (o : Option CommandName) → length line ≤ longest_line → (AsksNothing line → ⊥) → Begins line word rest → command_named word ≡ o → IsFound line (reading line)
   word_found line word rest (Some name) short asks begins named_so =
       let is = (d.command word name).0 named_so in
-      subst (IsFound line) (sym (operands_line line word rest name short begins is named_so)) (operands_found line word rest name short begins is (operands name rest) (operands_settle d name rest).found)
+      subst (IsFound line) (sym (operands_line line word rest name short begins is named_so)) (operands_found line word rest name short begins is (operands name rest) (operands_settle d line name rest).found)
   word_found line word rest None short asks begins named_so =
       let never : (name : CommandName) → IsCommandName word name → ⊥ = λ name is. let some = (d.command word name).1 is in cc in
       subst (IsFound line) (sym (unknown_line line word rest short asks begins named_so)) (unknown line word rest short asks begins never)
@@ -194,7 +198,7 @@ module _ (d : Forms_decided) where
   line_settles line = record { reads = parses_given line; faults = faults_given line; found = line_found line }
 
   -- a line is that command exactly where it is read as that command
-  pub parses_reading : (line : List ℕ) (c : CommandLine) → (reading line ≡ Ok c) ↔ Parses line c
+  pub parses_reading : (line : List ℕ) (c : Request) → (reading line ≡ Ok c) ↔ Parses line c
   parses_reading line c = ((λ is. subst (IsFound line) is (line_found line)), parses_given line c)
 
   -- a line has that fault exactly where it is read as that fault

@@ -9,13 +9,13 @@ use Rattle.scp_parser.specs.declared.listing.Listing.{Listing}
 use Rattle.scp_parser.specs.declared.fault.ParseFault.{ParseFault}
 use Rattle.scp_parser.specs.Forms.{IsCondition, IsDevice, IsList}
 use Rattle.scp_parser.specs.Operands.{condition_of, device_of, symbolic_of, items_of}
-use Rattle.scp_parser.specs.Grammar.{IsSymbolicOption, MayBeginCondition, Chooses, Lists, name_of}
+use Rattle.scp_parser.specs.Grammar.{IsSymbolicOption, MayBeginCondition, Chooses, Lists, IsListing, Takes, name_of}
 use Rattle.scp_parser.specs.Faults.{WordFaults, ListFaults, at_list}
 use Rattle.scp_parser.specs.Reading.{◌>>=◌, maybe, maybe_condition, needed, Choice, choice, listing_with, listing}
 use Rattle.scp_parser.proofs.FormsDecided.{Forms_decided}
 use Rattle.scp_parser.proofs.NothingLemmas.{no_symbolic, no_device, no_condition, no_items}
 use Rattle.scp_parser.proofs.Settles.{Sound, Settles}
-use Rattle.scp_parser.proofs.OperandLemmas.{Takes, maybe_given, maybe_begins, needed_settles}
+use Rattle.scp_parser.proofs.OperandLemmas.{maybe_given, maybe_begins, needed_settles}
 
 abbrev ConditionFound : Type 0
 ConditionFound = Option Condition × List ℕ
@@ -92,9 +92,6 @@ module _ (d : Forms_decided) where
       listing_by conditions text rest symbolic device condition is
       ∙ ap (λ (r : Result (List Item × List ℕ) ParseFault). r >>= listing_with c) ((list_settles device rest).faults e faulty)
 
-  abbrev IsListing : Bool → List ℕ → Listing × List ℕ → Type 0
-  IsListing conditions text l = Lists conditions text l.0 l.1
-
   list_found : (conditions : Bool) (text : List ℕ) (c : Choice) → Chooses conditions text c.symbolic c.device c.condition c.rest → (r : Result (List Item × List ℕ) ParseFault)
       → Sound (Takes (IsList c.device) c.rest) (WordFaults (IsList c.device) false c.rest) r → Sound (IsListing conditions text) (ListFaults conditions text) (r >>= listing_with c)
   list_found conditions text c is (Ok x) takes = record { word = takes.0; before = c.rest; chooses = is; begins = takes.1; list = takes.2 }
@@ -106,7 +103,7 @@ module _ (d : Forms_decided) where
       let c = choice conditions text in
       list_found conditions text c (chooses conditions text) (needed false (items_of c.device) c.rest) (list_settles c.device c.rest).found
 
-  pub listing_settles : (conditions : Bool) (text : List ℕ) → Settles (listing conditions text) (λ l. Lists conditions text l.0 l.1) (ListFaults conditions text)
+  pub listing_settles : (conditions : Bool) (text : List ℕ) → Settles (listing conditions text) (IsListing conditions text) (ListFaults conditions text)
   listing_settles conditions text = record {
     reads = listing_reads conditions text;
     faults = listing_faults conditions text;

@@ -1,29 +1,26 @@
 -- One operand: one that may be left out, one that must be there, and the end of a line.
-use Rattle.std.proofs.Common.{◌≡◌, ℕ, ◌<◌, Bool, cond, eqb, Option, Some, None, Ok, Err, List, [], ◌∷◌, ◌++◌, length, refl, ap, sym, subst, ◌∙◌, inl, inr, arith, length-append}
+use Rattle.std.proofs.Common.{◌≡◌, ℕ, ◌<◌, Bool, true, false, cond, eqb, Option, Some, None, Result, Ok, Err, List, [], ◌∷◌, ◌++◌, length, refl, ap, sym, subst, ◌∙◌, inl, inr, arith, length-append}
 use Rattle.std.proofs.lemmas.Bool.{eq-eqb, ne_eqb, cond-true, cond-false}
 use Rattle.line_words.specs.Words.{IsBlanks, Begins, past_blanks}
 use Rattle.scp_parser.specs.declared.fault.ParseFault.{ParseFault}
 use Rattle.scp_parser.specs.declared.fault.ParseFault.TheVariants.{Missing, Extra}
-use Rattle.scp_parser.specs.declared.command.Verb.{Verb}
-use Rattle.scp_parser.specs.Grammar.{MayBegin, there, not_there}
+use Rattle.scp_parser.specs.Command.{Request}
+use Rattle.scp_parser.specs.Grammar.{MayBegin, there, not_there, Takes, Ends}
 use Rattle.scp_parser.specs.Faults.{bad_word, WordFaults, missing, bad, EndFaults, extra}
-use Rattle.scp_parser.specs.Reading.{next_word, maybe_found, maybe, needed_found, needed, ended}
+use Rattle.scp_parser.specs.Reading.{next_word, maybe_found, maybe, needed_found, needed, ended, map_ok}
 use Rattle.scp_parser.proofs.Decides.{Decides}
 use Rattle.scp_parser.proofs.WordLemmas.{first_word, begins_next, begins_past, blanks_next, past_of_blanks}
-use Rattle.scp_parser.proofs.Settles.{Sound, Settles}
+use Rattle.scp_parser.proofs.Settles.{Sound, Settles, same_settles}
 
 -- the end of a line
 
-abbrev pub Ends : Verb → List ℕ → Verb → Type 0
-Ends what text verb = IsBlanks text × (verb ≡ what)
-
-ended_blank : (what : Verb) (text : List ℕ) → IsBlanks text → ended what text ≡ Ok what
+ended_blank : (what : Request) (text : List ℕ) → IsBlanks text → ended what text ≡ Ok what
 unfolding ended
 ended_blank what text are =
     let none : length (past_blanks text) ≡ 0 = ap length (past_of_blanks text are) in
     cond-true (eqb (length (past_blanks text)) 0) (Ok what) (Err (Extra (length (past_blanks text)))) (eq-eqb (length (past_blanks text)) 0 none)
 
-ended_extra : (what : Verb) (text word rest : List ℕ) → Begins text word rest → ended what text ≡ Err (Extra (length (word ++ rest)))
+ended_extra : (what : Request) (text word rest : List ℕ) → Begins text word rest → ended what text ≡ Err (Extra (length (word ++ rest)))
 unfolding ended
 ended_extra what text word rest begins =
     let past = begins_past text word rest begins in
@@ -31,10 +28,10 @@ ended_extra what text word rest begins =
     ap (λ (t : List ℕ). cond (eqb (length t) 0) (Ok what) (Err (Extra (length t)))) past
     ∙ cond-false (eqb (length (word ++ rest)) 0) (Ok what) (Err (Extra (length (word ++ rest)))) (ne_eqb (length (word ++ rest)) 0 some)
 
-ended_faults : (what : Verb) (text : List ℕ) (e : ParseFault) → EndFaults text e → ended what text ≡ Err e
+ended_faults : (what : Request) (text : List ℕ) (e : ParseFault) → EndFaults text e → ended what text ≡ Err e
 ended_faults what text e (extra word rest begins) = ended_extra what text word rest begins
 
-ended_found : (what : Verb) (text : List ℕ) → Sound (Ends what text) (EndFaults text) (ended what text)
+ended_found : (what : Request) (text : List ℕ) → Sound (Ends what text) (EndFaults text) (ended what text)
 ended_found what text =
     elim (first_word text) [
       | inl are ↦ subst (Sound (Ends what text) (EndFaults text)) (sym (ended_blank what text are)) (are, refl)
@@ -44,22 +41,31 @@ ended_found what text =
           subst (Sound (Ends what text) (EndFaults text)) (sym (ended_extra what text word rest begins)) (extra word rest begins)
     ]
 
-pub ended_settles : (what : Verb) (text : List ℕ) → Settles (ended what text) (Ends what text) (EndFaults text)
+pub ended_settles : (what : Request) (text : List ℕ) → Settles (ended what text) (Ends what text) (EndFaults text)
 ended_settles what text = record {
-  reads = λ verb is. ended_blank what text is.0 ∙ ap (λ (v : Verb). Ok v) (sym is.1);
+  reads = λ asked is. ended_blank what text is.0 ∙ ap (λ (a : Request). Ok a) (sym is.1);
   faults = ended_faults what text;
   found = ended_found what text;
 }
+
+-- the end of a line, where what it asks for is seen otherwise
+
+map_cond : {A B : Type 0} (see : A → B) (b : Bool) (what : A) (fault : ParseFault) → map_ok see (cond b (Ok what) (Err fault)) ≡ cond b (Ok (see what)) (Err fault)
+map_cond see true what fault = refl
+map_cond see false what fault = refl
+
+pub map_ended : {A B : Type 0} (see : A → B) (what : A) (text : List ℕ) → map_ok see (ended what text) ≡ ended (see what) text
+unfolding ended
+map_ended see what text = map_cond see (eqb (length (past_blanks text)) 0) what (Extra (length (past_blanks text)))
+
+pub ended_seen : {A : Type 0} (see : A → Request) (what : A) (text : List ℕ) → Settles (map_ok see (ended what text)) (Ends (see what) text) (EndFaults text)
+ended_seen see what text = same_settles (Ends (see what) text) (EndFaults text) (map_ok see (ended what text)) (ended (see what) text) (map_ended see what text) (ended_settles (see what) text)
 
 -- what a function of a form says of a word
 
 none_of : {V : Type 0} (Form : List ℕ → V → Type 0) (form : List ℕ → Option V) (word : List ℕ) (o : Option V) → Decides Form form → form word ≡ o → ((v : V) → Form word v → ⊥) → o ≡ None
 none_of Form form word (Some v) decides is none = absurd (none v ((decides word v).0 is))
 none_of Form form word None decides is none = refl
-
--- a word that the next operand has, and its value
-abbrev pub Takes : {V : Type 0} → (List ℕ → V → Type 0) → List ℕ → V × List ℕ → Type 0
-Takes Form text x = (word : List ℕ) × Begins text word x.1 × Form word x.0
 
 module _ {V : Type 0} (Form : List ℕ → V → Type 0) (form : List ℕ → Option V) (decides : Decides Form form) (none : form [] ≡ None) where
   some_given : (word : List ℕ) (v : V) → Form word v → form word ≡ Some v

@@ -1,7 +1,9 @@
 -- What it means that a reader's result is settled by a relation of its values and one of its faults.
 use Rattle.std.proofs.Common.{◌≡◌, Result, Ok, Err, refl, ap, sym, subst, ◌∙◌, ◌⊎◌, inl, inr}
 use Rattle.scp_parser.specs.declared.fault.ParseFault.{ParseFault}
-use Rattle.scp_parser.specs.Reading.{◌>>=◌}
+use Rattle.scp_parser.specs.Grammar.{Then}
+use Rattle.scp_parser.specs.Faults.{FaultThen}
+use Rattle.scp_parser.specs.Reading.{◌>>=◌, map_ok}
 
 -- the value or the fault of a result is one of the relation
 abbrev pub Sound : {A : Type 0} → (A → Type 0) → (ParseFault → Type 0) → Result A ParseFault → Type 0
@@ -22,12 +24,6 @@ sound_weaker R Q F G (Ok x) f g h = f x h
 sound_weaker R Q F G (Err e) f g h = g e h
 
 -- a step of a reader behind another
-
-abbrev pub Then : {A B : Type 0} → (A → Type 0) → (A → B → Type 0) → B → Type 0
-Then {A} R Q y = (x : A) × R x × Q x y
-
-abbrev pub FaultThen : {A : Type 0} → (ParseFault → Type 0) → (A → Type 0) → (A → ParseFault → Type 0) → ParseFault → Type 0
-FaultThen {A} F R G e = F e ⊎ ((x : A) × R x × G x e)
 
 then_found : {A B : Type 0} (R : A → Type 0) (F : ParseFault → Type 0) (f : A → Result B ParseFault) (Q : A → B → Type 0) (G : A → ParseFault → Type 0) (r : Result A ParseFault) → Sound R F r
     → ((x : A) → R x → Settles (f x) (Q x) (G x)) → Sound (Then R Q) (FaultThen F R G) (r >>= f)
@@ -60,3 +56,18 @@ restated R Q F G r s to from onto back = record {
 -- a result that is always a value
 pub settled_value : {A : Type 0} (x : A) → Settles (Ok x) (λ y. y ≡ x) (λ e. ⊥)
 settled_value x = record { reads = λ y is. ap (λ z. Ok z) (sym is); faults = λ e is. absurd is; found = refl }
+
+-- the same of a result that is seen otherwise
+
+pub same_settles : {A : Type 0} (R : A → Type 0) (F : ParseFault → Type 0) (r s : Result A ParseFault) → r ≡ s → Settles s R F → Settles r R F
+same_settles R F r s same h = subst (λ (t : Result _ ParseFault). Settles t R F) (sym same) h
+
+map_then : {A B C : Type 0} (see : B → C) (r : Result A ParseFault) (f : A → Result B ParseFault) → map_ok see (r >>= f) ≡ (r >>= (λ x. map_ok see (f x)))
+map_then see (Ok x) f = refl
+map_then see (Err e) f = refl
+
+pub then_seen : {A B C : Type 0} (see : B → C) (R : A → Type 0) (F : ParseFault → Type 0) (f : A → Result B ParseFault) (Q : A → C → Type 0) (G : A → ParseFault → Type 0) (r : Result A ParseFault)
+    → Settles r R F → ((x : A) → R x → Settles (map_ok see (f x)) (Q x) (G x)) → Settles (map_ok see (r >>= f)) (Then R Q) (FaultThen F R G)
+then_seen see R F f Q G r first next =
+    same_settles (Then R Q) (FaultThen F R G) (map_ok see (r >>= f)) (r >>= (λ x. map_ok see (f x))) (map_then see r f)
+    (then_settles R F (λ x. map_ok see (f x)) Q G r first next)

@@ -1,24 +1,51 @@
--- A command line and what it asks for, and the facts that each command keeps.
-use Rattle.std.specs.Prelude.{◌≡◌, ◌⊎◌, ℕ, ◌-◌, ◌+◌, ◌*◌, ◌<◌, ◌≤◌, List, [], ◌∷◌, ◌++◌, length, take, drop, Some}
+-- What a command line asks for, and the facts that each command keeps.
+use Rattle.std.specs.Prelude.{◌≡◌, ◌⊎◌, ℕ, ◌-◌, ◌+◌, ◌*◌, ◌<◌, ◌≤◌, Bool, List, [], ◌∷◌, ◌++◌, length, take, drop, Option, Some}
 use Rattle.std.specs.Str.{IsUtf8}
 use Rattle.unit_trait.specs.declared.kind.Kind.{Kind}
 use Rattle.unit_trait.specs.declared.kind.Kind.TheVariants.{Dsk, Mta, Lpt, Ptr, Ptp, Tti1}
 use Rattle.unit_trait.specs.declared.kind.UnitName.{UnitName}
+use Rattle.scp_parser.specs.declared.listing.Listing.{Listing}
+use Rattle.scp_parser.specs.declared.listing.Test.{Test}
 use Rattle.scp_parser.specs.declared.listing.Item.{Item}
 use Rattle.scp_parser.specs.declared.listing.Item.TheVariants.{At, Reg, Unknown}
 use Rattle.scp_parser.specs.declared.command.Piece.{Piece}
 use Rattle.scp_parser.specs.declared.command.Shown.{Shown}
 use Rattle.scp_parser.specs.declared.command.Shown.TheVariants as shown
 use Rattle.scp_parser.specs.declared.command.Verb.{Verb}
-use Rattle.scp_parser.specs.declared.command.Verb.TheVariants.{Nothing, Break, Expect, Send, Attach, AttachPort, Detach, Load, Save, Dump, Restore, Disconnect, Show, Do, Goto, Assert, Echo}
+use Rattle.scp_parser.specs.declared.command.Verb.TheVariants as verb
 
--- the bytes of a line, and what it asks for
-pub record CommandLine : Type 0 where
-  pub text : List ℕ
-  pub verb : Verb
-
-abbrev pub no_command : CommandLine
-no_command = record { text = []; verb = Nothing }
+-- What a line asks for: the verb of its command, with the bytes themselves where the program has places in the line. A
+-- quoted text stands with its quotes.
+pub data Request : Type 0 where
+  Nothing : Request
+  Examine : Listing → Request
+  Deposit : Listing → ℕ → Request
+  Run : Option ℕ → Request
+  Go : Option ℕ → Request
+  Cont : Request
+  Step : Option ℕ → Request
+  Reset : Request
+  Break : ℕ → ℕ → List ℕ → Request
+  NoBreak : Option ℕ → Request
+  Expect : ℕ → List ℕ → List ℕ → Request
+  NoExpect : Request
+  Send : ℕ → ℕ → List ℕ → Request
+  NoSend : Request
+  Attach : ℕ → UnitName → List ℕ → Request
+  AttachPort : Kind → ℕ → Request
+  Detach : Option UnitName → Request
+  Load : List ℕ → Request
+  Save : List ℕ → Request
+  Dump : ℕ → ℕ → List ℕ → Request
+  Restore : Bool → List ℕ → Request
+  SetSize : ℕ → Request
+  Disconnect : Kind → Request
+  Show : Shown → Request
+  Do : Bool → Bool → List ℕ → List ℕ → Request
+  Goto : List ℕ → Request
+  Assert : Test → Request
+  Echo : List ℕ → Request
+  Exit : Option ℕ → Request
 
 -- the bytes that a piece of a line names
 abbrev pub piece_of : List ℕ → Piece → List ℕ
@@ -27,6 +54,38 @@ piece_of line p = take (p.to - p.from) (drop p.from line)
 -- the ends of a piece are in order and within the line
 abbrev pub IsPiece : List ℕ → Piece → Type 0
 IsPiece line p = (p.from ≤ p.to) × (p.to ≤ length line)
+
+-- a verb of a line, with the bytes of its pieces
+abbrev pub request_of : List ℕ → Verb → Request
+request_of line verb.Nothing = Nothing
+request_of line (verb.Examine listing) = Examine listing
+request_of line (verb.Deposit listing value) = Deposit listing value
+request_of line (verb.Run address) = Run address
+request_of line (verb.Go address) = Go address
+request_of line verb.Cont = Cont
+request_of line (verb.Step count) = Step count
+request_of line verb.Reset = Reset
+request_of line (verb.Break at count actions) = Break at count (piece_of line actions)
+request_of line (verb.NoBreak at) = NoBreak at
+request_of line (verb.Expect count text actions) = Expect count (piece_of line text) (piece_of line actions)
+request_of line verb.NoExpect = NoExpect
+request_of line (verb.Send after delay text) = Send after delay (piece_of line text)
+request_of line verb.NoSend = NoSend
+request_of line (verb.Attach option unit name) = Attach option unit (piece_of line name)
+request_of line (verb.AttachPort kind port) = AttachPort kind port
+request_of line (verb.Detach unit) = Detach unit
+request_of line (verb.Load name) = Load (piece_of line name)
+request_of line (verb.Save name) = Save (piece_of line name)
+request_of line (verb.Dump from to name) = Dump from to (piece_of line name)
+request_of line (verb.Restore force name) = Restore force (piece_of line name)
+request_of line (verb.SetSize size) = SetSize size
+request_of line (verb.Disconnect kind) = Disconnect kind
+request_of line (verb.Show subject) = Show subject
+request_of line (verb.Do echo strict name arguments) = Do echo strict (piece_of line name) (piece_of line arguments)
+request_of line (verb.Goto label) = Goto (piece_of line label)
+request_of line (verb.Assert test) = Assert test
+request_of line (verb.Echo text) = Echo (piece_of line text)
+request_of line (verb.Exit status) = Exit status
 
 -- the bytes that stand for one byte of a quoted text
 pub data Stands : List ℕ → ℕ → Type 0 where
@@ -96,22 +155,39 @@ abbrev pub ShowsUnit : Shown → Type 0
 ShowsUnit (shown.Unit unit) = IsNamedUnit unit
 ShowsUnit subject = Unit {0}
 
--- what a command keeps: each piece lies within the line and is what it is read as, and each unit can be named
+-- what holds of each request: a text is quoted, a file can have its name, a unit can be named, an item can be tested
+abbrev pub IsKept : Request → Type 0
+IsKept (Expect count text actions) = IsQuoted text
+IsKept (Send after delay text) = IsQuoted text
+IsKept (Attach option unit name) = IsAttachOption option × IsFileUnit unit × IsFileName name
+IsKept (AttachPort kind port) = kind ≡ Tti1
+IsKept (Detach (Some unit)) = IsNamedUnit unit
+IsKept (Load name) = IsFileName name
+IsKept (Save name) = IsFileName name
+IsKept (Dump from to name) = IsFileName name
+IsKept (Restore force name) = IsFileName name
+IsKept (Disconnect kind) = kind ≡ Tti1
+IsKept (Show subject) = ShowsUnit subject
+IsKept (Do echo strict name arguments) = IsFileName name
+IsKept (Assert test) = IsTested test.item
+IsKept request = Unit {0}
+
+-- what a verb keeps: each piece lies within the line and is what it is read as, and each unit can be named
 abbrev pub Keeps : List ℕ → Verb → Type 0
-Keeps line (Break at count actions) = IsPiece line actions
-Keeps line (Expect count text actions) = IsQuotedPiece line text × IsPiece line actions
-Keeps line (Send after delay text) = IsQuotedPiece line text
-Keeps line (Attach option unit name) = IsAttachOption option × IsFileUnit unit × IsNamePiece line name
-Keeps line (AttachPort kind port) = kind ≡ Tti1
-Keeps line (Detach (Some unit)) = IsNamedUnit unit
-Keeps line (Load name) = IsNamePiece line name
-Keeps line (Save name) = IsNamePiece line name
-Keeps line (Dump from to name) = IsNamePiece line name
-Keeps line (Restore force name) = IsNamePiece line name
-Keeps line (Disconnect kind) = kind ≡ Tti1
-Keeps line (Show subject) = ShowsUnit subject
-Keeps line (Do echo strict name arguments) = IsNamePiece line name × IsPiece line arguments
-Keeps line (Goto label) = IsPiece line label
-Keeps line (Assert test) = IsTested test.item
-Keeps line (Echo text) = IsPiece line text
+Keeps line (verb.Break at count actions) = IsPiece line actions
+Keeps line (verb.Expect count text actions) = IsQuotedPiece line text × IsPiece line actions
+Keeps line (verb.Send after delay text) = IsQuotedPiece line text
+Keeps line (verb.Attach option unit name) = IsAttachOption option × IsFileUnit unit × IsNamePiece line name
+Keeps line (verb.AttachPort kind port) = kind ≡ Tti1
+Keeps line (verb.Detach (Some unit)) = IsNamedUnit unit
+Keeps line (verb.Load name) = IsNamePiece line name
+Keeps line (verb.Save name) = IsNamePiece line name
+Keeps line (verb.Dump from to name) = IsNamePiece line name
+Keeps line (verb.Restore force name) = IsNamePiece line name
+Keeps line (verb.Disconnect kind) = kind ≡ Tti1
+Keeps line (verb.Show subject) = ShowsUnit subject
+Keeps line (verb.Do echo strict name arguments) = IsNamePiece line name × IsPiece line arguments
+Keeps line (verb.Goto label) = IsPiece line label
+Keeps line (verb.Assert test) = IsTested test.item
+Keeps line (verb.Echo text) = IsPiece line text
 Keeps line verb = Unit {0}

@@ -1,20 +1,17 @@
 -- The one fault of each line that is no command. The words are taken from the left: the first that is not as the
 -- grammar wants it is at fault. A place is said by how many bytes of the line are left there.
-use Rattle.std.specs.Prelude.{◌≡◌, ℕ, ◌-◌, ◌<◌, ◌≤◌, Bool, true, false, ◌||◌, ◌&&◌, nat_le, List, [], ◌∷◌, ◌++◌, length, Option, if◌then◌else◌}
+use Rattle.std.specs.Prelude.{◌≡◌, ◌⊎◌, ℕ, ◌-◌, ◌<◌, ◌≤◌, Bool, true, false, ◌||◌, ◌&&◌, nat_le, List, [], ◌∷◌, ◌++◌, length, Option, if◌then◌else◌}
 use Rattle.line_words.specs.Words.{IsBlanks, Begins}
-use Rattle.nova_symbols.specs.declared.fault.SymbolFault.{SymbolFault}
-use Rattle.nova_symbols.specs.Faults as symbols
-use Rattle.scp_parser.specs.declared.listing.Listing.{Listing}
+use Rattle.nova_symbols.specs.Forms.{Reads}
 use Rattle.scp_parser.specs.declared.listing.Name.{Name}
 use Rattle.scp_parser.specs.declared.listing.Condition.{Condition}
-use Rattle.scp_parser.specs.declared.command.Shown.{Shown}
 use Rattle.scp_parser.specs.declared.fault.ParseFault.{ParseFault}
 use Rattle.scp_parser.specs.declared.fault.ParseFault.TheVariants.{Unknown, Missing, BadNumber, BadName, BadSymbol, Extra, TooLong, NotBuilt}
 use Rattle.scp_parser.specs.declared.names.CommandName.{CommandName}
 use Rattle.scp_parser.specs.declared.names.CommandName.TheVariants.{Examine, Deposit, Run, Go, Cont, Step, Show, Exit, Quit, Bye}
-use Rattle.scp_parser.specs.Names.{IsCommandName, is_built}
+use Rattle.scp_parser.specs.Names.{IsCommandName}
 use Rattle.scp_parser.specs.Forms.{IsOctal, IsDecimal, IsList, IsSubject}
-use Rattle.scp_parser.specs.Grammar.{longest_line, Chooses, Lists, IsInside, AsksNothing}
+use Rattle.scp_parser.specs.Grammar.{longest_line, Chooses, IsListing, Takes, IsInside, AsksNothing}
 
 abbrev pub is_decimal_digit : ℕ → Bool
 is_decimal_digit b = nat_le 48 b && nat_le b 57
@@ -46,28 +43,33 @@ pub data LastNumberFaults (Form : List ℕ → ℕ → Type 0) (text : List ℕ)
 pub data ListFaults (conditions : Bool) (text : List ℕ) : ParseFault → Type 0 where
   at_list : (symbolic : Bool) (device : Name) (condition : Option Condition) (rest : List ℕ) (fault : ParseFault) → Chooses conditions text symbolic device condition rest → WordFaults (IsList device) false rest fault → ListFaults conditions text fault
 
--- the faults of the value of a DEPOSIT
-pub data ValueFaults : Bool → List ℕ → ParseFault → Type 0 where
-  no_instruction : (text : List ℕ) → IsBlanks text → ValueFaults true text Missing
-  bad_symbol : (text inside behind : List ℕ) (fault : SymbolFault) → IsInside text inside behind → symbols.Faults inside fault → ValueFaults true text (BadSymbol (length (inside ++ behind)))
-  at_number : (text : List ℕ) (fault : ParseFault) → WordFaults IsOctal true text fault → ValueFaults false text fault
-  behind_value : (text word rest : List ℕ) (n : ℕ) (fault : ParseFault) → Begins text word rest → IsOctal word n → EndFaults rest fault → ValueFaults false text fault
+-- the faults of an operand, and of what follows it
+abbrev pub FaultThen : {A : Type 0} → (ParseFault → Type 0) → (A → Type 0) → (A → ParseFault → Type 0) → ParseFault → Type 0
+FaultThen {A} F R G fault = F fault ⊎ ((x : A) × R x × G x fault)
 
--- the faults of the operands of each command
-pub data OperandFaults : CommandName → List ℕ → ParseFault → Type 0 where
-  in_examine : (text : List ℕ) (fault : ParseFault) → ListFaults true text fault → OperandFaults Examine text fault
-  behind_examine : (text rest : List ℕ) (listing : Listing) (fault : ParseFault) → Lists true text listing rest → EndFaults rest fault → OperandFaults Examine text fault
-  in_deposit : (text : List ℕ) (fault : ParseFault) → ListFaults false text fault → OperandFaults Deposit text fault
-  in_value : (text rest : List ℕ) (listing : Listing) (fault : ParseFault) → Lists false text listing rest → ValueFaults listing.symbolic rest fault → OperandFaults Deposit text fault
-  in_run : (text : List ℕ) (fault : ParseFault) → LastNumberFaults IsOctal text fault → OperandFaults Run text fault
-  in_go : (text : List ℕ) (fault : ParseFault) → LastNumberFaults IsOctal text fault → OperandFaults Go text fault
-  behind_cont : (text : List ℕ) (fault : ParseFault) → EndFaults text fault → OperandFaults Cont text fault
-  in_step : (text : List ℕ) (fault : ParseFault) → LastNumberFaults IsDecimal text fault → OperandFaults Step text fault
-  in_show : (text : List ℕ) (fault : ParseFault) → WordFaults IsSubject false text fault → OperandFaults Show text fault
-  behind_show : (text word rest : List ℕ) (subject : Shown) (fault : ParseFault) → Begins text word rest → IsSubject word subject → EndFaults rest fault → OperandFaults Show text fault
-  in_exit : (text : List ℕ) (fault : ParseFault) → LastNumberFaults IsDecimal text fault → OperandFaults Exit text fault
-  in_quit : (text : List ℕ) (fault : ParseFault) → LastNumberFaults IsDecimal text fault → OperandFaults Quit text fault
-  in_bye : (text : List ℕ) (fault : ParseFault) → LastNumberFaults IsDecimal text fault → OperandFaults Bye text fault
+-- the faults of symbolic text up to the end of the line: none is there, or it is the text of no word
+pub data InstructionFaults (text : List ℕ) : ParseFault → Type 0 where
+  no_instruction : IsBlanks text → InstructionFaults text Missing
+  bad_symbol : (inside behind : List ℕ) → IsInside text inside behind → ((w : ℕ) → Reads inside w → ⊥) → InstructionFaults text (BadSymbol (length (inside ++ behind)))
+
+-- the faults of a value
+abbrev pub ValueFaults : Bool → List ℕ → ParseFault → Type 0
+ValueFaults true text fault = InstructionFaults text fault
+ValueFaults false text fault = FaultThen (WordFaults IsOctal true text) (Takes IsOctal text) (λ n. EndFaults n.1) fault
+
+-- the faults of the operands of each command, and that of each that this version of the program does not have
+abbrev pub OperandFaults : CommandName → List ℕ → ParseFault → Type 0
+OperandFaults Examine text fault = FaultThen (ListFaults true text) (IsListing true text) (λ l. EndFaults l.1) fault
+OperandFaults Deposit text fault = FaultThen (ListFaults false text) (IsListing false text) (λ l. ValueFaults l.0.symbolic l.1) fault
+OperandFaults Run text fault = LastNumberFaults IsOctal text fault
+OperandFaults Go text fault = LastNumberFaults IsOctal text fault
+OperandFaults Cont text fault = EndFaults text fault
+OperandFaults Step text fault = LastNumberFaults IsDecimal text fault
+OperandFaults Show text fault = FaultThen (WordFaults IsSubject false text) (Takes IsSubject text) (λ s. EndFaults s.1) fault
+OperandFaults Exit text fault = LastNumberFaults IsDecimal text fault
+OperandFaults Quit text fault = LastNumberFaults IsDecimal text fault
+OperandFaults Bye text fault = LastNumberFaults IsDecimal text fault
+OperandFaults name text fault = fault ≡ NotBuilt
 
 -- a fault by its place from the beginning of a line of that length
 abbrev pub placed : ℕ → ParseFault → ParseFault
@@ -77,10 +79,9 @@ placed length (BadSymbol left) = BadSymbol (length - left)
 placed length (Extra left) = Extra (length - left)
 placed length fault = fault
 
--- the faults of lines: a line that is too long, then one whose first word names no command, then one whose command is
--- not built, then the first fault of the operands
+-- the faults of lines: a line that is too long, then one whose first word names no command, then one whose command
+-- this version does not have, or else the first fault of the operands
 pub data Faults : List ℕ → ParseFault → Type 0 where
   too_long : (line : List ℕ) → longest_line < length line → Faults line TooLong
   unknown : (line word rest : List ℕ) → length line ≤ longest_line → (AsksNothing line → ⊥) → Begins line word rest → ((name : CommandName) → IsCommandName word name → ⊥) → Faults line Unknown
-  not_built : (line word rest : List ℕ) (name : CommandName) → length line ≤ longest_line → Begins line word rest → IsCommandName word name → is_built name ≡ false → Faults line NotBuilt
   operands : (line word rest : List ℕ) (name : CommandName) (fault : ParseFault) → length line ≤ longest_line → Begins line word rest → IsCommandName word name → OperandFaults name rest fault → Faults line (placed (length line) fault)

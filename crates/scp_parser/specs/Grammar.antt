@@ -7,12 +7,10 @@ use Rattle.scp_parser.specs.declared.listing.Name.{Name}
 use Rattle.scp_parser.specs.declared.listing.Name.TheVariants as whose
 use Rattle.scp_parser.specs.declared.listing.Condition.{Condition}
 use Rattle.scp_parser.specs.declared.listing.Listing.{Listing}
-use Rattle.scp_parser.specs.declared.command.Shown.{Shown}
-use Rattle.scp_parser.specs.declared.command.Verb.{Verb}
-use Rattle.scp_parser.specs.declared.command.Verb.TheVariants as verb
 use Rattle.scp_parser.specs.declared.names.CommandName.{CommandName}
 use Rattle.scp_parser.specs.declared.names.CommandName.TheVariants.{Examine, Deposit, Run, Go, Cont, Step, Show, Exit, Quit, Bye}
-use Rattle.scp_parser.specs.Command.{CommandLine}
+use Rattle.scp_parser.specs.Command.{Request}
+use Rattle.scp_parser.specs.Command as request
 use Rattle.scp_parser.specs.Names.{IsCommandName}
 use Rattle.scp_parser.specs.Forms.{IsOctal, IsDecimal, IsList, IsCondition, IsDevice, IsSubject, IsSymbolic}
 
@@ -72,28 +70,57 @@ pub record IsInside (text inside behind : List ℕ) : Type 0 where
   pub starts : StartsIn (λ b. IsBlank b → ⊥) inside
   pub ends : EndsWithoutBlank inside
 
--- the value of a DEPOSIT: symbolic text up to the end of the line, or an octal number
-pub data IsValue : Bool → List ℕ → ℕ → Type 0 where
-  instruction : (text inside behind : List ℕ) (w : ℕ) → IsInside text inside behind → Reads inside w → IsValue true text w
-  number : (text word rest : List ℕ) (n : ℕ) → Begins text word rest → IsOctal word n → IsBlanks rest → IsValue false text n
+-- the word of the symbolic text that goes up to the end of the line
+pub record IsInstruction (text : List ℕ) (w : ℕ) : Type 0 where
+  pub inside : List ℕ
+  pub behind : List ℕ
+  pub there : IsInside text inside behind
+  pub reads : Reads inside w
 
 -- a number that may be left out at the end of a line
 pub data IsLastNumber (Form : List ℕ → ℕ → Type 0) (text : List ℕ) : Option ℕ → Type 0 where
   left_out : IsBlanks text → IsLastNumber Form text None
   given : (word rest : List ℕ) (n : ℕ) → Begins text word rest → Form word n → IsBlanks rest → IsLastNumber Form text (Some n)
 
--- what a command asks for, by its name and the operands behind it
-pub data Operates : CommandName → List ℕ → Verb → Type 0 where
-  examine : (text rest : List ℕ) (listing : Listing) → Lists true text listing rest → IsBlanks rest → Operates Examine text (verb.Examine listing)
-  deposit : (text rest : List ℕ) (listing : Listing) (value : ℕ) → Lists false text listing rest → IsValue listing.symbolic rest value → Operates Deposit text (verb.Deposit listing value)
-  run : (text : List ℕ) (address : Option ℕ) → IsLastNumber IsOctal text address → Operates Run text (verb.Run address)
-  go : (text : List ℕ) (address : Option ℕ) → IsLastNumber IsOctal text address → Operates Go text (verb.Go address)
-  cont : (text : List ℕ) → IsBlanks text → Operates Cont text verb.Cont
-  step : (text : List ℕ) (count : Option ℕ) → IsLastNumber IsDecimal text count → Operates Step text (verb.Step count)
-  show : (text word rest : List ℕ) (subject : Shown) → Begins text word rest → IsSubject word subject → IsBlanks rest → Operates Show text (verb.Show subject)
-  exit : (text : List ℕ) (status : Option ℕ) → IsLastNumber IsDecimal text status → Operates Exit text (verb.Exit status)
-  quit : (text : List ℕ) (status : Option ℕ) → IsLastNumber IsDecimal text status → Operates Quit text (verb.Exit status)
-  bye : (text : List ℕ) (status : Option ℕ) → IsLastNumber IsDecimal text status → Operates Bye text (verb.Exit status)
+-- an operand, and what follows it
+abbrev pub Then : {A B : Type 0} → (A → Type 0) → (A → B → Type 0) → B → Type 0
+Then {A} R Q y = (x : A) × R x × Q x y
+
+-- a word that the next operand has, with its value and what follows it
+abbrev pub Takes : {V : Type 0} → (List ℕ → V → Type 0) → List ℕ → V × List ℕ → Type 0
+Takes Form text x = (word : List ℕ) × Begins text word x.1 × Form word x.0
+
+-- the end of a line, behind what a command asks for
+abbrev pub Ends : Request → List ℕ → Request → Type 0
+Ends what text asked = IsBlanks text × (asked ≡ what)
+
+-- a command with a number that may be left out
+abbrev pub HasNumber : (List ℕ → ℕ → Type 0) → List ℕ → (Option ℕ → Request) → Request → Type 0
+HasNumber Form text make asked = (number : Option ℕ) × IsLastNumber Form text number × (asked ≡ make number)
+
+-- a command with a value: symbolic text up to the end of the line, or an octal number
+abbrev pub HasValue : Bool → List ℕ → (ℕ → Request) → Request → Type 0
+HasValue true text make asked = Then (IsInstruction text) (λ w a. a ≡ make w) asked
+HasValue false text make asked = Then (Takes IsOctal text) (λ n. Ends (make n.0) n.1) asked
+
+-- a list, with what follows it
+abbrev pub IsListing : Bool → List ℕ → Listing × List ℕ → Type 0
+IsListing conditions text l = Lists conditions text l.0 l.1
+
+-- what a command asks for, by its name and the operands behind it; one that this version of the program does not have
+-- asks for nothing
+abbrev pub Operates : CommandName → List ℕ → Request → Type 0
+Operates Examine text asked = Then (IsListing true text) (λ l. Ends (request.Examine l.0) l.1) asked
+Operates Deposit text asked = Then (IsListing false text) (λ l. HasValue l.0.symbolic l.1 (λ n. request.Deposit l.0 n)) asked
+Operates Run text asked = HasNumber IsOctal text (λ n. request.Run n) asked
+Operates Go text asked = HasNumber IsOctal text (λ n. request.Go n) asked
+Operates Cont text asked = Ends request.Cont text asked
+Operates Step text asked = HasNumber IsDecimal text (λ n. request.Step n) asked
+Operates Show text asked = Then (Takes IsSubject text) (λ s. Ends (request.Show s.0) s.1) asked
+Operates Exit text asked = HasNumber IsDecimal text (λ n. request.Exit n) asked
+Operates Quit text asked = HasNumber IsDecimal text (λ n. request.Exit n) asked
+Operates Bye text asked = HasNumber IsDecimal text (λ n. request.Exit n) asked
+Operates name text asked = ⊥
 
 -- a comment begins with `;` or `#`, and a label with `:`
 abbrev pub IsMark : ℕ → Type 0
@@ -108,6 +135,6 @@ abbrev pub AsksNothing : List ℕ → Type 0
 AsksNothing line = IsBlanks line ⊎ BeginsWithMark line
 
 -- which line is which command
-pub data Parses : List ℕ → CommandLine → Type 0 where
-  nothing : (line : List ℕ) → length line ≤ longest_line → AsksNothing line → Parses line (record { text = line; verb = verb.Nothing })
-  command : (line word rest : List ℕ) (name : CommandName) (what : Verb) → length line ≤ longest_line → Begins line word rest → IsCommandName word name → Operates name rest what → Parses line (record { text = line; verb = what })
+pub data Parses : List ℕ → Request → Type 0 where
+  nothing : (line : List ℕ) → length line ≤ longest_line → AsksNothing line → Parses line request.Nothing
+  command : (line word rest : List ℕ) (name : CommandName) (what : Request) → length line ≤ longest_line → Begins line word rest → IsCommandName word name → Operates name rest what → Parses line what

@@ -84,20 +84,6 @@ pub record IsCommandName (word : List ℕ) (name : CommandName) : Type 0 where
   pub enough : least_letters name ≤ length word
   pub spelled : IsSpelled word (take (length word) (full_name name))
 
--- the commands that this version of the program has
-abbrev pub is_built : CommandName → Bool
-is_built Examine = true
-is_built Deposit = true
-is_built Run = true
-is_built Go = true
-is_built Cont = true
-is_built Step = true
-is_built Show = true
-is_built Exit = true
-is_built Quit = true
-is_built Bye = true
-is_built name = false
-
 -- the kinds of units whose registers EXAMINE and DEPOSIT name
 abbrev pub device_kinds : List Kind
 device_kinds = Dsk ∷ Mta ∷ Lpt ∷ Ptr ∷ Ptp ∷ Clk ∷ Tti ∷ Tto ∷ Tti1 ∷ Tto1 ∷ []

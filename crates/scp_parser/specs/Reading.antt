@@ -14,7 +14,7 @@ use Rattle.scp_parser.specs.declared.fault.ParseFault.{ParseFault}
 use Rattle.scp_parser.specs.declared.fault.ParseFault.TheVariants.{Unknown, Missing, BadSymbol, Extra, TooLong, NotBuilt}
 use Rattle.scp_parser.specs.declared.names.CommandName.{CommandName}
 use Rattle.scp_parser.specs.declared.names.CommandName.TheVariants.{Examine, Deposit, Run, Go, Cont, Step, Show, Exit, Quit, Bye}
-use Rattle.scp_parser.specs.Command.{CommandLine}
+use Rattle.scp_parser.specs.Command.{Request, request_of}
 use Rattle.scp_parser.specs.Names.{command_named}
 use Rattle.scp_parser.specs.Operands.{octal, decimal, items_of, condition_of, device_of, subject_of, symbolic_of}
 use Rattle.scp_parser.specs.Grammar.{longest_line, name_of}
@@ -24,6 +24,11 @@ infixl 10 ◌>>=◌
 abbrev pub ◌>>=◌ : {A B : Type 0} → Result A ParseFault → (A → Result B ParseFault) → Result B ParseFault
 (Ok x) >>= f = f x
 (Err e) >>= f = Err e
+
+-- what is read, seen otherwise
+abbrev pub map_ok : {A B : Type 0} → (A → B) → Result A ParseFault → Result B ParseFault
+map_ok f (Ok x) = Ok (f x)
+map_ok f (Err e) = Err e
 
 -- the next word, which has no byte where none is left, and what follows it
 unfoldable pub next_word : List ℕ → List ℕ × List ℕ
@@ -47,7 +52,7 @@ abbrev pub needed : {V : Type 0} → Bool → (List ℕ → Option V) → List �
 needed only_number form text = let next = next_word text in needed_found only_number (form next.0) next.0 next.1
 
 -- what a line asks for, if nothing but blanks is left
-unfoldable pub ended : Verb → List ℕ → Result Verb ParseFault
+unfoldable pub ended : {V : Type 0} → V → List ℕ → Result V ParseFault
 ended what text = let left = length (past_blanks text) in if left == 0 then Ok what else Err (Extra left)
 
 -- a number that may be left out at the end of a line
@@ -58,7 +63,7 @@ unfoldable pub last_number : (List ℕ → Option ℕ) → List ℕ → Result (
 last_number form text = if length (past_blanks text) == 0 then Ok (None, text) else (needed true form text >>= given)
 
 -- a command with a number that may be left out
-abbrev pub numbered : (Option ℕ → Verb) → Result (Option ℕ × List ℕ) ParseFault → Result Verb ParseFault
+abbrev pub numbered : {V : Type 0} → (Option ℕ → V) → Result (Option ℕ × List ℕ) ParseFault → Result V ParseFault
 numbered make number = number >>= (λ n. ended (make n.0) n.1)
 
 -- what stands before a list: the option, the device and the condition, and what follows
@@ -159,9 +164,5 @@ verb_of line =
     else Err TooLong
 
 -- the command of a line, or its fault
-abbrev pub with_line : List ℕ → Result Verb ParseFault → Result CommandLine ParseFault
-with_line line (Ok what) = Ok (record { text = line; verb = what })
-with_line line (Err fault) = Err fault
-
-unfoldable pub reading : List ℕ → Result CommandLine ParseFault
-reading line = with_line line (verb_of line)
+unfoldable pub reading : List ℕ → Result Request ParseFault
+reading line = map_ok (request_of line) (verb_of line)

@@ -109,26 +109,33 @@ pub struct Command {
 
 impl Model for Command {
     ghost use Rattle.std.specs.Prelude.{◌≤◌, take};
-    ghost use Rattle.scp_parser.specs.Command.{CommandLine, Keeps};
+    ghost use Rattle.scp_parser.specs.Command.{Request, request_of, Keeps};
 
-    ghost Value = { CommandLine };
+    ghost Value = { Request };
 
-    ghost view = { λ c. record { text = take c.length c.line; verb = c.verb } };
+    ghost view = { λ c. request_of (take c.length c.line) c.verb };
 
     ghost invariant = { λ c. (c.length ≤ 512) × Keeps (take c.length c.line) c.verb };
 }
 
 impl Command {
-    ghost use Rattle.scp_parser.specs.Command.{no_command};
+    ghost use Rattle.scp_parser.specs.Command.{Nothing, IsKept};
 
     /// An empty line, which asks for nothing.
     pub fn new() -> Command
-        ensures { result ≡ no_command }
+        ensures { result ≡ Nothing }
     {
         Command {
             line: [0; LONGEST_LINE],
             length: 0,
             verb: Verb::Nothing,
         }
+    }
+    /// The law of what holds of each command: a text is quoted, a file can have its name, a unit can be named, the
+    /// option of ATTACH is a letter that it has, and an item of ASSERT can be tested.
+    pub fn keeps(&self)
+        ensures { IsKept self.now }
+    {
+        let _ = &self.verb;
     }
 }

@@ -1,9 +1,9 @@
-ghost use Rattle.std.specs.Prelude.{◌≡◌, ◌↔◌, ◌⊎◌, ◌≤◌, List, ℕ, length, Ok, IsOk, OnErr, IfOk};
-ghost use Rattle.scp_parser.specs.Command.{CommandLine, Keeps};
+ghost use Rattle.std.specs.Prelude.{◌≡◌, ◌↔◌, ◌⊎◌, ◌≤◌, List, ℕ, length, Result, Ok, Err, IsOk, OnErr, IfOk};
+ghost use Rattle.scp_parser.specs.Command.{Request, Keeps};
 ghost use Rattle.scp_parser.specs.Faults.{Faults, placed};
 ghost use Rattle.scp_parser.specs.Grammar.{Parses};
 ghost use Rattle.scp_parser.specs.Reading.{operands, examine, deposit, show, asks_nothing, named, verb_of};
-ghost use Rattle.scp_parser.specs.Reading.{with_line, reading};
+ghost use Rattle.scp_parser.specs.Reading.{reading};
 ghost use Rattle.scp_parser.specs.Views.{run, go, step, exit};
 ghost use Rattle.scp_parser.specs.declared.fault.ParseFault.{ParseFault};
 
@@ -21,7 +21,7 @@ use line_words::past_blanks;
 /// values are octal, counts and statuses decimal. A fault leaves `into` as it was.
 pub fn read_command(line: &[u8], into: &mut Command) -> Result<(), ParseFault>
     // A command exactly where the line is that command.
-    ensures command { (c : CommandLine) → (IsOk result × (into.new ≡ c)) ↔ Parses line.now c }
+    ensures command { (c : Request) → (IsOk result × (into.new ≡ c)) ↔ Parses line.now c }
     // A fault exactly where the line has that fault.
     ensures fault { (fault : ParseFault) → (result ≡ Err fault) ↔ Faults line.now fault }
     ensures kept { OnErr result (into.new ≡ into.old) }
@@ -177,16 +177,19 @@ fn show(text: &[u8]) -> Result<Verb, ParseFault>
     ended(Verb::Show(subject), rest)
 }
 
-/// The law that no line is two commands.
+/// The law that a line is the command that it is read as, and that no line is two commands.
 pub fn no_line_is_two_commands()
-    ensures { (line : List ℕ) (one other : CommandLine) → Parses line one → Parses line other → one ≡ other }
+    ensures reading { (line : List ℕ) (c : Request) → (reading line ≡ Ok c) ↔ Parses line c }
+    ensures one { (line : List ℕ) (one other : Request) → Parses line one → Parses line other → one ≡ other }
 {}
 
-/// The law that each line has a command or a fault, and not both, and one of them alone.
+/// The law that a line has the fault that it is read with, and that each line has a command or a fault, and not both,
+/// and one of them alone.
 pub fn each_line_has_a_command_or_a_fault()
+    ensures reading { (line : List ℕ) (fault : ParseFault) → (reading line ≡ Err fault) ↔ Faults line fault }
     ensures either { (line : List ℕ)
-        → ((c : CommandLine) × Parses line c) ⊎ ((fault : ParseFault) × Faults line fault) }
-    ensures never_both { (line : List ℕ) (c : CommandLine) (fault : ParseFault)
+        → ((c : Request) × Parses line c) ⊎ ((fault : ParseFault) × Faults line fault) }
+    ensures never_both { (line : List ℕ) (c : Request) (fault : ParseFault)
         → Parses line c → Faults line fault → ⊥ }
     ensures one_fault { (line : List ℕ) (one other : ParseFault) → Faults line one → Faults line other → one ≡ other }
 {}

@@ -1,5 +1,5 @@
 use super::Machine;
-use crate::registers::{CpuReg, RegFault};
+use unit_trait::{CpuReg, RegFault};
 use nova_word::{Addr, Word};
 use std::test::Fail;
 

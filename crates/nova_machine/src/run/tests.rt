@@ -1,6 +1,6 @@
 use crate::laws;
 use crate::machine::{Machine, RunLimit, Stop};
-use crate::registers::CpuReg;
+use unit_trait::CpuReg;
 use nova_word::{Addr, Word};
 use std::alloc::{AllocError, Global};
 use std::test::Fail;
