@@ -122,7 +122,7 @@ turns-limited one step first (suc n) k s limit some passes =
           let from = turns-go one first n s goes in
           let rest = turns one false n next.after in
           let inner = turns-limited one step false n k next.after (subst P (ap (λ (p : Part). p.stop) from) limit) some
-              (subst Q (ap (λ (p : Part). p.after) from) passes) in
+          (subst Q (ap (λ (p : Part). p.after) from) passes) in
           ap (λ c. turns step first c s) both ∙ turns-go step first (n + k) s goes
           ∙ ap (behind_made next.made) inner
           ∙ behind-behind next.made rest.made (turns step true k rest.after)
@@ -217,15 +217,15 @@ takes-stop first n s =
     elim (stop-cases p.stop) [
       | inl goes ↦ inr goes
       | inr w ↦ inl (record {
-          least = next.least;
-          most = omega (arith, next.most);
-          stepped = λ h. let e = next.ended (subst P (sym h) tt) in let limit = ap (λ (x : Part). x.stop) e.1 in absurd (cc);
-          limited = λ h. let e = next.ended h in inr (ap (λ (x : Part). x.after.machine.time) e.1 ∙ e.0);
-          unchanged = next.unchanged;
-          interrupts = next.interrupts;
-          released = next.released;
-          held = next.held;
-        })
+        least = next.least;
+        most = omega (arith, next.most);
+        stepped = λ h. let e = next.ended (subst P (sym h) tt) in let limit = ap (λ (x : Part). x.stop) e.1 in absurd (cc);
+        limited = λ h. let e = next.ended h in inr (ap (λ (x : Part). x.after.machine.time) e.1 ∙ e.0);
+        unchanged = next.unchanged;
+        interrupts = next.interrupts;
+        released = next.released;
+        held = next.held;
+      })
     ]
 
 takes-none : (step first : Bool) (s : Seen) → Takes 0 s (silent (Some (expired step)) s)
@@ -249,9 +249,9 @@ takes-turns step first (suc n) s =
     elim (stop-cases (next_turn first s).stop) [
       | inl goes ↦ subst P (sym (turns-go step first n s goes)) (takes-more first n s _ goes (takes-turns step false n (next_turn first s).after))
       | inr w ↦ elim (takes-stop first n s) [
-          | inl takes ↦ subst P (sym (turns-stop step first n s w.0 w.1)) takes
-          | inr goes ↦ let wrong = w.1 in absurd (cc)
-        ]
+        | inl takes ↦ subst P (sym (turns-stop step first n s w.0 w.1)) takes
+        | inr goes ↦ let wrong = w.1 in absurd (cc)
+      ]
     ]
 
 pub runs-take-time : RunTakesTime
@@ -260,5 +260,6 @@ runs-take-time = record {
   most = λ step n s. (takes-turns step true n s).most;
   stepped = λ step n s. (takes-turns step true n s).stepped;
   limited = λ step n s. (takes-turns step true n s).limited;
+  held = λ step n s. (takes-turns step true n s).held;
   unchanged = λ step n s. (takes-turns step true n s).unchanged;
 }

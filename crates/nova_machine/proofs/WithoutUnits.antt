@@ -20,7 +20,6 @@ without-units = record {
   first = first-same;
   unchanged = λ step n s. (takes-turns step true n s).interrupts;
   released = λ step n s. (takes-turns step true n s).released;
-  held = λ step n s. (takes-turns step true n s).held;
   not_built = λ first s. (stops-fetch s.machine).not_built;
   unbuilt = λ first s h. ap seen ((stops-fetch s.machine).unbuilt h);
 }

@@ -46,6 +46,8 @@ pub record RunTakesTime : Type 0 where
   pub stepped : (step : Bool) (n : ℕ) (s : Seen) → (run step n s).stop ≡ Some Stepped → (run step n s).after.machine.time ≡ s.machine.time + n
   pub limited : (step : Bool) (n : ℕ) (s : Seen) → IsLimit (run step n s).stop
       → ((run step n s).after.machine.time ≡ s.machine.time + n) ⊎ ((run step n s).after.machine.time ≡ last_time)
+  -- where no instruction was executed, interrupts wait as before
+  pub held : (step : Bool) (n : ℕ) (s : Seen) → (run step n s).after.machine.time ≡ s.machine.time → (run step n s).after.machine.ints.hold ≡ s.machine.ints.hold
   pub unchanged : (step : Bool) (n : ℕ) (s : Seen) → Unchanged s.machine (run step n s).after.machine
 
 -- the word that the next turn fetches

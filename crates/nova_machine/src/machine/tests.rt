@@ -1,7 +1,7 @@
 use super::Machine;
-use unit_trait::{CpuReg, RegFault};
 use nova_word::{Addr, Word};
 use std::test::Fail;
+use unit_trait::{CpuReg, RegFault};
 
 /// The registers that can be set, in their order, and the largest value of each.
 const LARGEST: [(CpuReg, u32); 11] = [

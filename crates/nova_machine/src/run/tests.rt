@@ -1,9 +1,9 @@
 use crate::laws;
 use crate::machine::{Machine, RunLimit, Stop};
-use unit_trait::CpuReg;
 use nova_word::{Addr, Word};
 use std::alloc::{AllocError, Global};
 use std::test::Fail;
+use unit_trait::CpuReg;
 
 /// A machine with these words from 100 on, and PC there.
 fn machine_with(alloc: Global, words: &[u16]) -> Result<Machine, AllocError> {
