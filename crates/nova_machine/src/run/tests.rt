@@ -67,6 +67,7 @@ fn a_run_ends_at_a_stop(rt: HostRuntime) -> Result<(), Fail> {
 fn a_run_may_be_split(rt: HostRuntime) -> Result<(), Fail> {
     laws::runs_split();
     laws::runs_take_time();
+    laws::nothing_comes_from_units();
     // INC 0,0, ISZ 20, JMP .-2: two rounds and an INC
     for first in 0..8u64 {
         let mut machine = machine_with(rt.alloc(), &[0o101400, 0o010020, 0o000776])?;
