@@ -4,15 +4,14 @@ use Rattle.std.proofs.lemmas.Bool.Decides.{nat_tests}
 use Rattle.observations.specs.Observations.{Observation}
 use Rattle.nova_machine.specs.declared.machine.Stop.{Stop}
 use Rattle.nova_machine.specs.declared.machine.Stop.TheVariants.{Stepped, Limit}
-use Rattle.nova_machine.specs.Machine.{MachineState}
-use Rattle.nova_machine.specs.Seen.{Seen, seen}
+use Rattle.nova_machine.specs.Seen.{Seen}
 use Rattle.nova_machine.specs.Parts.{Part, silent, behind_made}
-use Rattle.nova_machine.specs.Turn.{turn, still, fetch}
+use Rattle.nova_machine.specs.Turn.{turn}
 use Rattle.nova_machine.specs.Run.{turns, run, next_turn, expired, last_time}
 use Rattle.nova_machine.specs.Laws.{IsLimit, PassesNoBreak, Unchanged, RunSplits, RunTakesTime}
 use Rattle.nova_machine.specs.LawsWithoutUnits.{SameInterrupts}
 use Rattle.nova_machine.proofs.Runs.{turns-none, turns-stop, turns-go}
-use Rattle.nova_machine.proofs.Turns.{Turns, turns-fetch, unchanged-same, unchanged-then, interrupts-same, interrupts-then}
+use Rattle.nova_machine.proofs.Turns.{turns-fetch, unchanged-same, unchanged-then, interrupts-same, interrupts-then}
 
 -- a turn where time may have ended: it stops for a limit exactly there, and then all is as it was
 pub record NextTurn (before : Seen) (p : Part) : Type 0 where

@@ -1,5 +1,5 @@
 -- The laws that hold as long as there are no units.
-use Rattle.std.proofs.Common.{◌≡◌, Bool, true, false, refl, ap, if◌then◌else◌}
+use Rattle.std.proofs.Common.{true, refl, ap}
 use Rattle.nova_machine.specs.Seen.{Seen, seen}
 use Rattle.nova_machine.specs.Turn.{turn}
 use Rattle.nova_machine.specs.Run.{next_turn}

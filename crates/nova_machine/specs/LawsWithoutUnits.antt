@@ -1,5 +1,5 @@
 -- What holds of every run as long as there are no units, no interrupts and no breaks. These laws go when those come.
-use Rattle.std.specs.Prelude.{◌≡◌, ◌≢◌, ◌↔◌, ℕ, ◌+◌, ◌<◌, ◌≤◌, Bool, false, Some, []}
+use Rattle.std.specs.Prelude.{◌≡◌, ◌≢◌, ◌↔◌, ℕ, ◌<◌, ◌≤◌, Bool, false, Some, []}
 use Rattle.nova_word.specs.Bits.{bits}
 use Rattle.nova_machine.specs.declared.machine.Stop.TheVariants.{NotBuilt}
 use Rattle.nova_machine.specs.Machine.{MachineState}
