@@ -1,5 +1,7 @@
--- What holds of every command: it reads nothing, and one that is refused has changed nothing.
-use Rattle.std.proofs.Common.{◌≡◌, ℕ, ◌+◌, Bool, true, false, cond, List, [], ◌∷◌, ◌++◌, refl, ap, sym, ◌∙◌, Option, Some, None, Result, Ok, Err, if◌then◌else◌, nat_le, ◌&&◌, ◌^◌, min, unwrap_or}
+-- What holds of every command: it reads nothing, the status of an exit is small, and one that is refused has changed
+-- nothing.
+use Rattle.std.proofs.Common.{◌≡◌, ℕ, ◌+◌, Bool, true, false, cond, List, [], ◌∷◌, ◌++◌, refl, ap, sym, subst, ◌∙◌, Option, Some, None, Result, Ok, Err, if◌then◌else◌, nat_le, ◌&&◌, ◌^◌, min, unwrap_or}
+use Rattle.std.proofs.lemmas.Bool.{leb-true}
 use Rattle.observations.specs.Observations.{Observation, Prints, reads_of, map_made}
 use Rattle.nova_machine.specs.Seen.{seen}
 use Rattle.nova_machine.specs.Parts.{Part}
@@ -13,9 +15,12 @@ use Rattle.scp_parser.specs.Command.{Request}
 use Rattle.scp_parser.specs.Command as request
 use Rattle.scp_examine.specs.declared.fault.ExamineFault.{ExamineFault}
 use Rattle.scp_examine.specs.Effect.{examine_fault, fault_of_deposit}
+use Rattle.scp_commands.specs.declared.next.Next.TheVariants.{Go, Ran, Exit}
 use Rattle.scp_commands.specs.declared.fault.CommandFault.{CommandFault}
+use Rattle.scp_commands.specs.declared.fault.CommandFault.TheVariants.{OutOfRange}
 use Rattle.scp_commands.specs.Live.{Live, with_seen}
-use Rattle.scp_commands.specs.Reply.{Reply, goes, says, refused}
+use Rattle.scp_commands.specs.Reply.{Answer, Reply, goes, says, refused}
+use Rattle.scp_commands.specs.Doing.{Does, IsExitAnswer}
 use Rattle.scp_commands.specs.RunEffects.{stop_line, run_answer, ran, running, address_fits, started, run_from, stepped, step_of}
 use Rattle.scp_commands.specs.ListEffects.{names_device, examine_after, examine_reply, handed, deposit_after, deposit_reply}
 use Rattle.scp_commands.specs.ShowEffects.{show_reply}
@@ -28,6 +33,7 @@ use Rattle.nova_machine.proofs.Silent.{nothing-made}
 -- what holds of a reply to a command that was given in that state
 pub record Fair (live : Live) (reply : Reply) : Type 0 where
   pub reads : reads_of reply.made ≡ 0
+  pub exit : IsExitAnswer reply.answer
   pub refused : (fault : CommandFault) → reply.answer ≡ Err fault → IsUntouched live reply
 
 fair-if : (b : Bool) (live : Live) (x y : Reply) → Fair live x → Fair live y → Fair live (if b then x else y)
@@ -35,17 +41,21 @@ fair-if true live x y first second = first
 fair-if false live x y first second = second
 
 fair-goes : (before live : Live) → Fair before (goes live)
-fair-goes before live = record { reads = refl; refused = λ fault h. absurd (cc) }
+fair-goes before live = record { reads = refl; exit = tt; refused = λ fault h. absurd (cc) }
 
 fair-says : (text : List ℕ) (before live : Live) → Fair before (says text live)
-fair-says text before live = record { reads = refl; refused = λ fault h. absurd (cc) }
+fair-says text before live = record { reads = refl; exit = tt; refused = λ fault h. absurd (cc) }
 
 fair-refused : (fault : CommandFault) (live : Live) → Fair live (refused fault live)
-fair-refused fault live = record { reads = refl; refused = λ other h. record { state = refl; text = refl } }
+fair-refused fault live = record { reads = refl; exit = tt; refused = λ other h. record { state = refl; text = refl } }
 
 run_answer-ok : (stop : Option Stop) (fault : CommandFault) → run_answer stop ≡ Err fault → ⊥
 run_answer-ok (Some stop) fault h = absurd (cc)
 run_answer-ok None fault h = absurd (cc)
+
+run_answer-exit : (stop : Option Stop) → IsExitAnswer (run_answer stop)
+run_answer-exit (Some stop) = tt
+run_answer-exit None = tt
 
 fair-ran : (step : Bool) (count : ℕ) (before live : Live) → Fair before (ran live (run step count (seen live.machine)))
 unfolding ran
@@ -53,6 +63,7 @@ fair-ran step count before live =
     let p = run step count (seen live.machine) in
     record {
       reads = ap (λ l. reads_of l) (ran-silent live p (nothing-made step count (seen live.machine)));
+      exit = run_answer-exit p.stop;
       refused = λ fault h. absurd (run_answer-ok p.stop fault h);
     }
 
@@ -90,8 +101,12 @@ fair-show live subject = fair-refused _ live
 
 fair-exit : (live : Live) (status : Option ℕ) → Fair live (exit_reply live status)
 unfolding exit_reply
-fair-exit live status =
-    fair-if (nat_le (unwrap_or status 0) 99) live _ _ (record { reads = refl; refused = λ fault h. absurd (cc) }) (fair-refused _ live)
+fair-exit live status = exit-if (nat_le (unwrap_or status 0) 99) refl
+  where
+    exit-if : (b : Bool) → nat_le (unwrap_or status 0) 99 ≡ b
+        → Fair live (if b then record { made = []; answer = Ok (Exit (unwrap_or status 0)); after = live } else refused OutOfRange live)
+    exit-if true is = record { reads = refl; exit = leb-true (unwrap_or status 0) 99 is; refused = λ fault h. absurd (cc) }
+    exit-if false is = fair-refused OutOfRange live
 
 pub fair-effect : (limit : ℕ) (live : Live) (r : Request) → Fair live (effect limit live r)
 unfolding effect
@@ -111,6 +126,14 @@ pub does-reads : (limit : ℕ) (live : Live) (asked : Asked) → reads_of (does 
 unfolding does
 does-reads limit live (Ok r) = (fair-effect limit live r).reads
 does-reads limit live (Err fault) = refl
+
+-- the status of an exit that is answered is 0 to 99
+pub does-exit : (limit : ℕ) (live : Live) (r : Request) (answer : Answer) (now : Live) (tells : Bool) (before after : List ℕ)
+    → Does (effect limit live r) answer now tells before after → IsExitAnswer answer
+does-exit limit live r (Ok (Exit status)) now tells before after h = subst (λ (a : Answer). IsExitAnswer a) (sym h.0) (fair-effect limit live r).exit
+does-exit limit live r (Ok Go) now tells before after h = tt
+does-exit limit live r (Ok (Ran stop)) now tells before after h = tt
+does-exit limit live r (Err fault) now tells before after h = tt
 
 pub refusals-change-nothing : RefusalsChangeNothing
 refusals-change-nothing limit live r fault h none = (fair-effect limit live r).refused fault h

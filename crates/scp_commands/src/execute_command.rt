@@ -1,6 +1,6 @@
 ghost use Rattle.std.specs.Prelude.{◌≡◌};
 ghost use Rattle.scp_commands.specs.Effect.{effect};
-ghost use Rattle.scp_commands.specs.Doing.{Does, ConsoleCounts, IsExitAnswer};
+ghost use Rattle.scp_commands.specs.Doing.{Does, ConsoleCounts};
 
 use crate::exit_command::exit;
 use crate::fault::CommandFault;
@@ -27,7 +27,6 @@ pub fn execute<S: Sink>(
         (S.written out.old) (S.written out.new) }
     ensures limit { session.new.limit ≡ session.old.limit }
     ensures counts { ConsoleCounts result (S.fault_count out.old) (S.fault_count out.new) }
-    ensures exit { IsExitAnswer result }
 {
     match &command.verb {
         Verb::Nothing => Ok(Next::Go),

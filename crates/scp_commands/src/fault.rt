@@ -1,7 +1,8 @@
-ghost use Rattle.std.specs.Prelude.{◌≡◌, IsTrue};
+ghost use Rattle.std.specs.Prelude.{◌≡◌, IsTrue, option_map};
 ghost use Rattle.fault_counts.specs.Faults.{CountsFault};
 ghost use Rattle.host_files.specs.Streams.{Puts};
-ghost use Rattle.scp_commands.specs.FaultText.{with_newline, with_place, line_fault, list_fault, parse_text, fault_text};
+ghost use Rattle.scp_commands.specs.FaultText.{line_fault, list_fault, parse_words, parse_place, fault_words};
+ghost use Rattle.scp_commands.specs.FaultText.{fault_place, words_line, fault_text};
 
 use host_files::{Failed, Sink, put_pieces};
 use itoa::Buffer;
@@ -48,54 +49,82 @@ impl CommandFault {
         }
     }
 
+    // The words of the fault; none for `Console`.
+    fn words(self) -> Option<&'static [u8]>
+        ensures { option_map (λ words. words.now) result ≡ fault_words self }
+    {
+        let words: &'static [u8] = match self {
+            CommandFault::Parse(fault) => parse_words(fault),
+            CommandFault::NoSuchName => b"No such name",
+            CommandFault::OutOfRange => b"Value out of range",
+            CommandFault::ReadOnlyName => b"Read only name",
+            CommandFault::Console => return None,
+            CommandFault::NotBuilt => b"Not built",
+        };
+        Some(words)
+    }
+
+    // The place of the fault, if it has one.
+    fn place(self) -> Option<usize>
+        ensures { result ≡ fault_place self }
+    {
+        match self {
+            CommandFault::Parse(fault) => parse_place(fault),
+            _ => None,
+        }
+    }
+
     /// Prints the text of the fault, a line; nothing for `Console`.
-    #[tactic(auto, unfolding(crate::specs::FaultText::fault_text))]
     pub fn put_text<S: Sink>(self, out: &mut S) -> Result<(), Failed>
         ensures told { IsTrue S.tells → Puts (S.written out.old) (fault_text self) result (S.written out.new) }
         ensures counts { CountsFault (S.fault_count out.old) (S.fault_count out.new) result }
     {
-        match self {
-            CommandFault::Parse(fault) => put_parse_text(fault, out),
-            CommandFault::NoSuchName => put_line(b"No such name", out),
-            CommandFault::OutOfRange => put_line(b"Value out of range", out),
-            CommandFault::ReadOnlyName => put_line(b"Read only name", out),
-            CommandFault::Console => put_pieces(out, &[]),
-            CommandFault::NotBuilt => put_line(b"Not built", out),
+        match self.words() {
+            None => Ok(()),
+            Some(words) => put_words(words, self.place(), out),
         }
     }
 }
 
-// Prints the text of the fault of a line that is no command.
-#[tactic(auto, unfolding(crate::specs::FaultText::parse_text))]
-fn put_parse_text<S: Sink>(fault: ParseFault, out: &mut S) -> Result<(), Failed>
-    ensures told { IsTrue S.tells → Puts (S.written out.old) (parse_text fault) result (S.written out.new) }
-    ensures counts { CountsFault (S.fault_count out.old) (S.fault_count out.new) result }
+// The words of the fault of a line that is no command.
+fn parse_words(fault: ParseFault) -> &'static [u8]
+    ensures { result.now ≡ parse_words fault }
 {
     match fault {
-        ParseFault::Unknown => put_line(b"Unknown command", out),
-        ParseFault::Missing => put_line(b"Too few arguments", out),
-        ParseFault::TooLong => put_line(b"Line too long", out),
-        ParseFault::NotBuilt => put_line(b"Not built", out),
-        ParseFault::BadNumber(place) => put_placed(b"Invalid number at ", place, out),
-        ParseFault::BadName(place) => put_placed(b"Invalid name at ", place, out),
-        ParseFault::BadSymbol(place) => put_placed(b"Invalid instruction at ", place, out),
-        ParseFault::Extra(place) => put_placed(b"Too many arguments at ", place, out),
+        ParseFault::Unknown => b"Unknown command",
+        ParseFault::Missing => b"Too few arguments",
+        ParseFault::TooLong => b"Line too long",
+        ParseFault::NotBuilt => b"Not built",
+        ParseFault::BadNumber(_) => b"Invalid number at ",
+        ParseFault::BadName(_) => b"Invalid name at ",
+        ParseFault::BadSymbol(_) => b"Invalid instruction at ",
+        ParseFault::Extra(_) => b"Too many arguments at ",
     }
 }
 
-// Prints a line.
-fn put_line<S: Sink>(text: &[u8], out: &mut S) -> Result<(), Failed>
-    ensures told { IsTrue S.tells → Puts (S.written out.old) (with_newline text.now) result (S.written out.new) }
-    ensures counts { CountsFault (S.fault_count out.old) (S.fault_count out.new) result }
+// The place of such a fault, if it has one.
+fn parse_place(fault: ParseFault) -> Option<usize>
+    ensures { result ≡ parse_place fault }
 {
-    put_pieces(out, &[text, b"\n"])
+    match fault {
+        ParseFault::BadNumber(place)
+        | ParseFault::BadName(place)
+        | ParseFault::BadSymbol(place)
+        | ParseFault::Extra(place) => Some(place),
+        _ => None,
+    }
 }
 
-// Prints a line that ends with a place in decimal.
-fn put_placed<S: Sink>(text: &[u8], place: usize, out: &mut S) -> Result<(), Failed>
-    ensures told { IsTrue S.tells → Puts (S.written out.old) (with_place text.now place) result (S.written out.new) }
+// Prints words and a place, as a line.
+fn put_words<S: Sink>(words: &[u8], place: Option<usize>, out: &mut S) -> Result<(), Failed>
+    ensures told { IsTrue S.tells → Puts (S.written out.old) (words_line words.now place) result (S.written out.new) }
     ensures counts { CountsFault (S.fault_count out.old) (S.fault_count out.new) result }
 {
-    let mut buffer = Buffer::new();
-    put_pieces(out, &[text, buffer.format(place).as_bytes(), b"\n"])
+    match place {
+        None => put_pieces(out, &[words, b"\n"]),
+        Some(place) => {
+            let mut buffer = Buffer::new();
+            put_pieces(out, &[words, buffer.format(place).as_bytes(), b"\n"])
+        }
+    }
 }

@@ -1,5 +1,5 @@
 // EXAMINE and DEPOSIT.
-ghost use Rattle.std.specs.Prelude.{◌≡◌, []};
+ghost use Rattle.std.specs.Prelude.{◌≡◌, ℕ, Bool, List, []};
 ghost use Rattle.scp_commands.specs.ListEffects.{names_device, examine_reply, handed, deposit_reply};
 ghost use Rattle.scp_commands.specs.Doing.{Does, ConsoleCounts};
 
@@ -31,12 +31,21 @@ pub fn examine_list<S: Sink>(
 }
 
 /// DEPOSIT puts its value into its list. It prints nothing.
-#[tactic(auto, unfolding(crate::specs::ListEffects::deposit_reply))]
 pub fn deposit_list(
     session: &mut Session,
     listing: &Listing,
     value: u64,
 ) -> Result<Next, CommandFault>
+    ensures told { (tells : Bool) (text : List ℕ)
+        → Does (deposit_reply session.old.live listing.now value) result session.new.live tells text text }
+    ensures limit { session.new.limit ≡ session.old.limit }
+    ensures counts { (count : ℕ) → ConsoleCounts result count count }
+{
+    fill_list(session, listing, value)
+}
+
+#[tactic(auto, unfolding(crate::specs::ListEffects::deposit_reply))]
+fn fill_list(session: &mut Session, listing: &Listing, value: u64) -> Result<Next, CommandFault>
     ensures answer { result ≡ (deposit_reply session.old.live listing.now value).answer }
     ensures live { session.new.live ≡ (deposit_reply session.old.live listing.now value).after }
     ensures silent { (deposit_reply session.old.live listing.now value).made ≡ [] }

@@ -1,3 +1,8 @@
+ghost use Rattle.std.specs.Prelude.{◌≡◌};
+ghost use Rattle.scp_commands.specs.Doing.{told_or_console};
+
+use crate::fault::CommandFault;
+use host_files::Failed;
 use nova_machine::Stop;
 
 /// What comes behind a command that was done.
@@ -9,4 +14,14 @@ pub enum Next {
     Ran(Stop),
     /// The end of the session, with that status, from 0 to 99.
     Exit(u8),
+}
+
+/// What a command answers that prints a text and then has that to say.
+pub fn told_or_console(printed: Result<(), Failed>, next: Next) -> Result<Next, CommandFault>
+    ensures { result ≡ told_or_console printed next }
+{
+    match printed {
+        Ok(()) => Ok(next),
+        Err(Failed) => Err(CommandFault::Console),
+    }
 }

@@ -10,7 +10,7 @@ ghost use Rattle.scp_commands.specs.Doing.{Does, ConsoleCounts};
 
 use crate::counts::is_count;
 use crate::fault::CommandFault;
-use crate::next::Next;
+use crate::next::{Next, told_or_console};
 use crate::session::Session;
 use host_files::{Failed, Sink, put_pieces};
 use line_text::Text;
@@ -135,10 +135,8 @@ fn run_up_to<S: Sink>(
     ensures counts { ConsoleCounts result (S.fault_count out.old) (S.fault_count out.new) }
 {
     let stop = session.machine.run(limit);
-    match put_stop(stop, &session.machine, out) {
-        Ok(()) => Ok(Next::Ran(stop)),
-        Err(Failed) => Err(CommandFault::Console),
-    }
+    let printed = put_stop(stop, &session.machine, out);
+    told_or_console(printed, Next::Ran(stop))
 }
 
 // Prints that a machine has stopped: the name of the stop, PC in five octal digits, and the word there in six.

@@ -6,7 +6,7 @@ ghost use Rattle.scp_commands.specs.ShowEffects.{time_text, show_reply};
 ghost use Rattle.scp_commands.specs.Doing.{Does, ConsoleCounts};
 
 use crate::fault::CommandFault;
-use crate::next::Next;
+use crate::next::{Next, told_or_console};
 use crate::session::Session;
 use host_files::{Failed, Sink, put_pieces};
 use itoa::Buffer;
@@ -21,10 +21,10 @@ pub fn show<S: Sink>(session: &Session, subject: Shown, out: &mut S) -> Result<N
     ensures counts { ConsoleCounts result (S.fault_count out.old) (S.fault_count out.new) }
 {
     match subject {
-        Shown::Time => match put_time(&session.machine, out) {
-            Ok(()) => Ok(Next::Go),
-            Err(Failed) => Err(CommandFault::Console),
-        },
+        Shown::Time => {
+            let printed = put_time(&session.machine, out);
+            told_or_console(printed, Next::Go)
+        }
         _ => Err(CommandFault::NotBuilt),
     }
 }

@@ -3,3 +3,5 @@ pub mod ShowLemmas
 pub mod KindLemmas
 pub mod FillLemmas
 pub mod LawLemmas
+pub mod RegisterLemmas
+pub mod DepositLemmas

@@ -18,4 +18,7 @@ pub use assert_command::holds;
 pub use deposit_command::deposit;
 pub use examine_command::examine;
 pub use fault::ExamineFault;
-pub use laws::{deposits_read_back, registers_are_printed_by_their_names};
+pub use laws::{
+    deposits_change_the_listed_places_alone, deposits_read_back,
+    registers_are_printed_by_their_names, symbolic_devices_are_the_kinds,
+};

@@ -43,35 +43,31 @@ fn a_place_is_compared(rt: HostRuntime) -> Result<(), Fail> {
 }
 
 #[test]
-fn a_bound_is_the_largest_value_of_the_item(rt: HostRuntime) -> Result<(), Fail> {
+fn a_bad_item_and_a_condition_above_its_largest_value_are_answered(
+    rt: HostRuntime,
+) -> Result<(), Fail> {
     let machine = Machine::new(rt.alloc())?;
+    let bad_name = Err(ExamineFault::NoSuchName);
+    let out_of_range = Err(ExamineFault::OutOfRange);
     let cases = [
-        (0, None, 0o177777, Ok(false)),
-        (0, None, 0o200000, Err(ExamineFault::OutOfRange)),
-        (4, None, 1, Ok(false)),
-        (4, None, 2, Err(ExamineFault::OutOfRange)),
-        (4, Some(2), 0, Err(ExamineFault::OutOfRange)),
-        (11, None, 0o100000, Ok(true)),
-        (12, None, u64::MAX, Err(ExamineFault::NoSuchName)),
+        (Item::Reg(0), None, 0o177777, Ok(false)),
+        (Item::Reg(0), None, 0o200000, out_of_range),
+        (Item::Reg(4), None, 1, Ok(false)),
+        (Item::Reg(4), None, 2, out_of_range),
+        (Item::Reg(4), Some(2), 0, out_of_range),
+        (Item::Reg(11), None, 0o100000, Ok(true)),
+        (Item::Reg(12), None, u64::MAX, bad_name),
+        (Item::Unknown, None, u64::MAX, bad_name),
+        (Item::At(0o100000), None, 0, out_of_range),
+        (Item::At(0), None, 0o200000, out_of_range),
+        (Item::At(0), None, 0, Ok(true)),
     ];
-    for (number, mask, value, answer) in cases {
-        let test = test_of(Item::Reg(number), mask, Rel::Eq, value);
+    for (item, mask, value, answer) in cases {
+        let test = test_of(item, mask, Rel::Eq, value);
         assert_eq!(rt; holds(&machine, &test), answer);
     }
-    Ok(())
-}
-
-#[test]
-fn a_bad_item_is_answered(rt: HostRuntime) -> Result<(), Fail> {
-    let machine = Machine::new(rt.alloc())?;
-    let unknown = test_of(Item::Unknown, None, Rel::Eq, u64::MAX);
-    assert_eq!(rt; holds(&machine, &unknown), Err(ExamineFault::NoSuchName));
-    let beyond = test_of(Item::At(0o100000), None, Rel::Eq, 0);
-    assert_eq!(rt; holds(&machine, &beyond), Err(ExamineFault::OutOfRange));
-    let above = test_of(Item::At(0), None, Rel::Eq, 0o200000);
-    assert_eq!(rt; holds(&machine, &above), Err(ExamineFault::OutOfRange));
     let mut device = test_of(Item::At(0), None, Rel::Eq, 0);
     device.device = Name::Device(Kind::Tti);
-    assert_eq!(rt; holds(&machine, &device), Err(ExamineFault::NoSuchName));
+    assert_eq!(rt; holds(&machine, &device), bad_name);
     Ok(())
 }

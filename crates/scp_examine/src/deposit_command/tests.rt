@@ -7,8 +7,15 @@ use std::test::Fail;
 use unit_trait::Kind;
 
 #[test]
-fn a_value_goes_into_every_item(rt: HostRuntime) -> Result<(), Fail> {
+fn a_value_goes_into_every_item_whatever_the_condition_is(rt: HostRuntime) -> Result<(), Fail> {
     let mut machine = Machine::new(rt.alloc())?;
+    let mut all = list_of(&[Item::All]);
+    all.condition = Some(Condition {
+        mask: Some(u64::MAX),
+        rel: Rel::Eq,
+        value: 1,
+    });
+    assert_eq!(rt; deposit(&mut machine, &all, 5), Ok(()));
     let list = list_of(&[
         Item::At(0o77),
         Item::Range(0o101, 0o102),
@@ -19,27 +26,11 @@ fn a_value_goes_into_every_item(rt: HostRuntime) -> Result<(), Fail> {
     for at in [0o77, 0o101, 0o102, 0o77776, 0o77777] {
         assert_eq!(rt; word(&machine, at), 0o177777, "at {at}");
     }
-    for at in [0, 0o76, 0o100, 0o103, 0o77775] {
-        assert_eq!(rt; word(&machine, at), 0, "at {at}");
+    for at in [0, 0o76, 0o100, 0o103, 0o40000, 0o77775] {
+        assert_eq!(rt; word(&machine, at), 5, "at {at}");
     }
     assert_eq!(rt; machine.cpu_reg(CpuReg::Ac1), 0o177777);
     assert_eq!(rt; machine.cpu_reg(CpuReg::Ac0), 0);
-    Ok(())
-}
-
-#[test]
-fn a_value_goes_into_all_words_whatever_the_condition_is(rt: HostRuntime) -> Result<(), Fail> {
-    let mut machine = Machine::new(rt.alloc())?;
-    let mut list = list_of(&[Item::All]);
-    list.condition = Some(Condition {
-        mask: Some(u64::MAX),
-        rel: Rel::Eq,
-        value: 1,
-    });
-    assert_eq!(rt; deposit(&mut machine, &list, 5), Ok(()));
-    for at in [0, 0o77, 0o40000, 0o77777] {
-        assert_eq!(rt; word(&machine, at), 5, "at {at}");
-    }
     Ok(())
 }
 
@@ -74,56 +65,72 @@ fn each_register_takes_its_largest_value(rt: HostRuntime) -> Result<(), Fail> {
 }
 
 #[test]
-fn a_bad_item_changes_nothing(rt: HostRuntime) -> Result<(), Fail> {
+fn a_list_with_a_fault_changes_nothing(rt: HostRuntime) -> Result<(), Fail> {
     let mut machine = Machine::new(rt.alloc())?;
+    // The first two items of four, the value, and the first fault.
     let cases = [
-        (Item::Unknown, 1, ExamineFault::NoSuchName),
-        (Item::Reg(12), 1, ExamineFault::NoSuchName),
-        (Item::At(0o100000), 1, ExamineFault::OutOfRange),
-        (Item::Range(5, 4), 1, ExamineFault::OutOfRange),
-        (Item::Count(5, 0), 1, ExamineFault::OutOfRange),
-        (Item::Reg(4), 2, ExamineFault::OutOfRange),
-        (Item::Reg(11), 1, ExamineFault::ReadOnlyName),
-        (Item::State, 0, ExamineFault::ReadOnlyName),
-        (Item::State, 2, ExamineFault::OutOfRange),
+        (Item::At(0o100), Item::Unknown, 1, ExamineFault::NoSuchName),
+        (Item::At(0o100), Item::Reg(12), 1, ExamineFault::NoSuchName),
+        (
+            Item::At(0o100),
+            Item::At(0o100000),
+            1,
+            ExamineFault::OutOfRange,
+        ),
+        (
+            Item::At(0o100),
+            Item::Range(5, 4),
+            1,
+            ExamineFault::OutOfRange,
+        ),
+        (
+            Item::At(0o100),
+            Item::Count(5, 0),
+            1,
+            ExamineFault::OutOfRange,
+        ),
+        (Item::At(0o100), Item::Reg(4), 2, ExamineFault::OutOfRange),
+        (
+            Item::At(0o100),
+            Item::Reg(11),
+            1,
+            ExamineFault::ReadOnlyName,
+        ),
+        (Item::At(0o100), Item::State, 0, ExamineFault::ReadOnlyName),
+        (Item::At(0o100), Item::State, 2, ExamineFault::OutOfRange),
+        (
+            Item::Reg(11),
+            Item::Unknown,
+            0o200000,
+            ExamineFault::ReadOnlyName,
+        ),
+        (
+            Item::At(0o100),
+            Item::Unknown,
+            0o200000,
+            ExamineFault::OutOfRange,
+        ),
+        (Item::All, Item::Unknown, u32::MAX, ExamineFault::OutOfRange),
+        (
+            Item::Unknown,
+            Item::At(0o100),
+            u32::MAX,
+            ExamineFault::NoSuchName,
+        ),
     ];
-    for (item, value, fault) in cases {
-        let list = list_of(&[Item::At(0o100), item, Item::Reg(11), Item::Unknown]);
+    for (first, second, value, fault) in cases {
+        let list = list_of(&[first, second, Item::Reg(11), Item::Unknown]);
         assert_eq!(rt; deposit(&mut machine, &list, value), Err(fault));
         assert_eq!(rt; word(&machine, 0o100), 0);
         assert_eq!(rt; machine.cpu_reg(CpuReg::Ac0), 0);
-    }
-    Ok(())
-}
-
-#[test]
-fn the_value_is_checked_at_each_item(rt: HostRuntime) -> Result<(), Fail> {
-    let mut machine = Machine::new(rt.alloc())?;
-    let cases = [
-        (Item::Reg(11), 0o200000, ExamineFault::ReadOnlyName),
-        (Item::At(0o100), 0o200000, ExamineFault::OutOfRange),
-        (Item::All, u32::MAX, ExamineFault::OutOfRange),
-        (Item::Unknown, u32::MAX, ExamineFault::NoSuchName),
-    ];
-    for (item, value, fault) in cases {
-        let list = list_of(&[item, Item::Unknown]);
-        assert_eq!(rt; deposit(&mut machine, &list, value), Err(fault));
-        assert_eq!(rt; word(&machine, 0o100), 0);
         assert_eq!(rt; machine.cpu_reg(CpuReg::Size), 0o100000);
     }
-    Ok(())
-}
-
-#[test]
-fn no_device_has_registers_or_memory(rt: HostRuntime) -> Result<(), Fail> {
-    let mut machine = Machine::new(rt.alloc())?;
+    // No device has registers or memory yet.
     for item in [Item::At(u64::MAX), Item::All, Item::Reg(0), Item::State] {
         let mut list = list_of(&[item]);
         list.device = Name::Device(Kind::Dsk);
-        assert_eq!(rt;
-            deposit(&mut machine, &list, 1),
-            Err(ExamineFault::NoSuchName)
-        );
+        let answer = deposit(&mut machine, &list, 1);
+        assert_eq!(rt; answer, Err(ExamineFault::NoSuchName));
     }
     Ok(())
 }

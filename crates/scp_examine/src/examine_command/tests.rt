@@ -7,10 +7,12 @@ use scp_parser::{Condition, Item, Name, Rel};
 use std::test::Fail;
 use unit_trait::Kind;
 
-// INC 0,0 and HALT at 100, and registers that differ.
+// INC 0,0 and HALT at 100, 5 and 6 at 200, and registers that differ.
 fn fill(machine: &mut Machine) {
     put(machine, 0o100, 0o101400);
     put(machine, 0o101, 0o63077);
+    put(machine, 0o200, 5);
+    put(machine, 0o201, 6);
     let registers = [
         (CpuReg::Ac0, 0o177777),
         (CpuReg::Ac1, 1),
@@ -27,111 +29,46 @@ fn fill(machine: &mut Machine) {
     }
 }
 
+fn condition(mask: Option<u64>, rel: Rel, value: u64) -> Option<Condition> {
+    Some(Condition { mask, rel, value })
+}
+
 #[test]
-fn an_item_is_printed(rt: HostRuntime) -> Result<(), Fail> {
+fn the_places_of_a_list_are_printed_in_order(rt: HostRuntime) -> Result<(), Fail> {
     let mut machine = Machine::new(rt.alloc())?;
     fill(&mut machine);
-    let cases = [
-        (Item::Reg(0), "AC0:\t177777\n"),
-        (Item::Reg(4), "C:\t1\n"),
-        (Item::Reg(5), "PC:\t00100\n"),
-        (Item::Reg(11), "SIZE:\t100000\n"),
-        (Item::At(0o100), "00100:\t101400\n"),
-        (Item::At(0o77777), "77777:\t000000\n"),
+    let cases: [(&[Item], bool, &str); 11] = [
+        (&[Item::Reg(0)], false, "AC0:\t177777\n"),
+        (&[Item::Reg(4)], false, "C:\t1\n"),
+        (&[Item::Reg(5)], false, "PC:\t00100\n"),
+        (&[Item::Reg(11)], false, "SIZE:\t100000\n"),
+        (&[Item::At(0o100)], false, "00100:\t101400\n"),
+        (&[Item::At(0o77777)], false, "77777:\t000000\n"),
         (
-            Item::Range(0o100, 0o101),
+            &[Item::Range(0o100, 0o101)],
+            false,
             "00100:\t101400\n00101:\t063077\n",
         ),
-        (Item::Range(0o77777, 0o77777), "77777:\t000000\n"),
-        (Item::Count(0o77, 2), "00077:\t000000\n00100:\t101400\n"),
+        (&[Item::Range(0o77777, 0o77777)], false, "77777:\t000000\n"),
+        (
+            &[Item::Count(0o77, 2)],
+            false,
+            "00077:\t000000\n00100:\t101400\n",
+        ),
+        (
+            &[Item::Reg(4), Item::At(0o101), Item::Reg(0), Item::At(0o101)],
+            false,
+            "C:\t1\n00101:\t063077\nAC0:\t177777\n00101:\t063077\n",
+        ),
+        (
+            &[Item::Range(0o100, 0o101), Item::Reg(0)],
+            true,
+            "00100:\tINC 0,0\n00101:\tHALT\nAC0:\t177777\n",
+        ),
     ];
-    for (item, text) in cases {
-        let mut sink = ByteSink::with_room(rt.alloc(), 300)?;
-        assert_eq!(rt; examine(&machine, &list_of(&[item]), &mut sink), Ok(()));
-        assert_eq!(rt; sink.bytes(), text.as_bytes());
-    }
-    Ok(())
-}
-
-#[test]
-fn items_are_printed_in_their_order(rt: HostRuntime) -> Result<(), Fail> {
-    let mut machine = Machine::new(rt.alloc())?;
-    fill(&mut machine);
-    let list = list_of(&[Item::Reg(4), Item::At(0o101), Item::Reg(0), Item::At(0o101)]);
-    let mut sink = ByteSink::with_room(rt.alloc(), 300)?;
-    assert_eq!(rt; examine(&machine, &list, &mut sink), Ok(()));
-    assert_eq!(rt;
-        sink.bytes(),
-        b"C:\t1\n00101:\t063077\nAC0:\t177777\n00101:\t063077\n".as_slice()
-    );
-    Ok(())
-}
-
-#[test]
-fn the_state_is_every_register(rt: HostRuntime) -> Result<(), Fail> {
-    let mut machine = Machine::new(rt.alloc())?;
-    fill(&mut machine);
-    let lines = [
-        "AC0:\t177777\n",
-        "AC1:\t000001\n",
-        "AC2:\t000002\n",
-        "AC3:\t000003\n",
-        "C:\t1\n",
-        "PC:\t00100\n",
-        "ION:\t0\n",
-        "HOLD:\t1\n",
-        "MASK:\t052525\n",
-        "SR:\t123456\n",
-        "STOP_DEV:\t0\n",
-        "SIZE:\t100000\n",
-    ];
-    let mut wanted = ByteSink::with_room(rt.alloc(), 300)?;
-    for line in lines {
-        assert_eq!(rt; put_all(&mut wanted, line.as_bytes()).is_ok(), true);
-    }
-    let mut sink = ByteSink::with_room(rt.alloc(), 300)?;
-    assert_eq!(rt;
-        examine(&machine, &list_of(&[Item::State]), &mut sink),
-        Ok(())
-    );
-    assert_eq!(rt; sink.bytes(), wanted.bytes());
-    Ok(())
-}
-
-#[test]
-fn words_are_printed_as_symbolic_text(rt: HostRuntime) -> Result<(), Fail> {
-    let mut machine = Machine::new(rt.alloc())?;
-    fill(&mut machine);
-    let mut list = list_of(&[Item::Range(0o100, 0o101), Item::Reg(0)]);
-    list.symbolic = true;
-    let mut sink = ByteSink::with_room(rt.alloc(), 300)?;
-    assert_eq!(rt; examine(&machine, &list, &mut sink), Ok(()));
-    assert_eq!(rt;
-        sink.bytes(),
-        b"00100:\tINC 0,0\n00101:\tHALT\nAC0:\t177777\n".as_slice()
-    );
-    Ok(())
-}
-
-#[test]
-fn a_condition_chooses_words_and_no_registers(rt: HostRuntime) -> Result<(), Fail> {
-    let mut machine = Machine::new(rt.alloc())?;
-    put(&mut machine, 0o100, 5);
-    put(&mut machine, 0o101, 6);
-    let cases = [
-        (None, Rel::Eq, 6, "00101:\t000006\nC:\t0\n"),
-        (None, Rel::Ne, 6, "00100:\t000005\nC:\t0\n"),
-        (None, Rel::Lt, 6, "00100:\t000005\nC:\t0\n"),
-        (None, Rel::Le, 6, "00100:\t000005\n00101:\t000006\nC:\t0\n"),
-        (None, Rel::Gt, 5, "00101:\t000006\nC:\t0\n"),
-        (None, Rel::Ge, 5, "00100:\t000005\n00101:\t000006\nC:\t0\n"),
-        (Some(2), Rel::Eq, 2, "00101:\t000006\nC:\t0\n"),
-        (Some(3), Rel::Lt, 2, "00100:\t000005\nC:\t0\n"),
-        (Some(0), Rel::Ne, 0, "C:\t0\n"),
-    ];
-    for (mask, rel, value, text) in cases {
-        let mut list = list_of(&[Item::Range(0o100, 0o101), Item::Reg(4)]);
-        list.condition = Some(Condition { mask, rel, value });
+    for (items, symbolic, text) in cases {
+        let mut list = list_of(items);
+        list.symbolic = symbolic;
         let mut sink = ByteSink::with_room(rt.alloc(), 300)?;
         assert_eq!(rt; examine(&machine, &list, &mut sink), Ok(()));
         assert_eq!(rt; sink.bytes(), text.as_bytes());
@@ -140,89 +77,145 @@ fn a_condition_chooses_words_and_no_registers(rt: HostRuntime) -> Result<(), Fai
 }
 
 #[test]
-fn a_bad_item_prints_nothing(rt: HostRuntime) -> Result<(), Fail> {
-    let machine = Machine::new(rt.alloc())?;
-    let cases = [
-        (Item::At(0o100000), ExamineFault::OutOfRange),
-        (Item::Range(5, 4), ExamineFault::OutOfRange),
-        (Item::Range(0, u64::MAX), ExamineFault::OutOfRange),
-        (Item::Count(0o100, 0), ExamineFault::OutOfRange),
-        (Item::Count(0o77777, 2), ExamineFault::OutOfRange),
-        (Item::Count(1, u64::MAX), ExamineFault::OutOfRange),
-        (Item::Unknown, ExamineFault::NoSuchName),
-        (Item::Reg(12), ExamineFault::NoSuchName),
+fn the_state_is_every_register(rt: HostRuntime) -> Result<(), Fail> {
+    let mut machine = Machine::new(rt.alloc())?;
+    fill(&mut machine);
+    let lines = [
+        "AC0:\t177777\nAC1:\t000001\nAC2:\t000002\nAC3:\t000003\n",
+        "C:\t1\nPC:\t00100\nION:\t0\nHOLD:\t1\n",
+        "MASK:\t052525\nSR:\t123456\nSTOP_DEV:\t0\nSIZE:\t100000\n",
     ];
-    for (item, fault) in cases {
-        let list = list_of(&[Item::State, item, Item::At(u64::MAX), Item::Unknown]);
+    let mut wanted = ByteSink::with_room(rt.alloc(), 300)?;
+    for line in lines {
+        assert_eq!(rt; put_all(&mut wanted, line.as_bytes()).is_ok(), true);
+    }
+    let mut sink = ByteSink::with_room(rt.alloc(), 300)?;
+    let list = list_of(&[Item::State]);
+    assert_eq!(rt; examine(&machine, &list, &mut sink), Ok(()));
+    assert_eq!(rt; sink.bytes(), wanted.bytes());
+    Ok(())
+}
+
+#[test]
+fn a_condition_chooses_words_and_no_registers(rt: HostRuntime) -> Result<(), Fail> {
+    let mut machine = Machine::new(rt.alloc())?;
+    fill(&mut machine);
+    let five = "00200:\t000005\nION:\t0\n";
+    let six = "00201:\t000006\nION:\t0\n";
+    let both = "00200:\t000005\n00201:\t000006\nION:\t0\n";
+    let cases = [
+        (None, Rel::Eq, 6, six),
+        (None, Rel::Ne, 6, five),
+        (None, Rel::Lt, 6, five),
+        (None, Rel::Le, 6, both),
+        (None, Rel::Gt, 5, six),
+        (None, Rel::Ge, 5, both),
+        (Some(2), Rel::Eq, 2, six),
+        (Some(3), Rel::Lt, 2, five),
+        (Some(0), Rel::Ne, 0, "ION:\t0\n"),
+    ];
+    for (mask, rel, value, text) in cases {
+        let mut list = list_of(&[Item::Range(0o200, 0o201), Item::Reg(6)]);
+        list.condition = condition(mask, rel, value);
+        let mut sink = ByteSink::with_room(rt.alloc(), 300)?;
+        assert_eq!(rt; examine(&machine, &list, &mut sink), Ok(()));
+        assert_eq!(rt; sink.bytes(), text.as_bytes());
+    }
+    Ok(())
+}
+
+#[test]
+fn a_list_with_a_fault_prints_nothing(rt: HostRuntime) -> Result<(), Fail> {
+    let machine = Machine::new(rt.alloc())?;
+    let reader = Name::Device(Kind::Ptr);
+    let above = condition(None, Rel::Ne, 0o200000);
+    let mask_above = condition(Some(0o200000), Rel::Ne, 0);
+    let far_above = condition(Some(0), Rel::Ne, u64::MAX);
+    // The second item of three, the condition and the device of the list.
+    let cases = [
+        (
+            Item::At(0o100000),
+            None,
+            Name::Cpu,
+            ExamineFault::OutOfRange,
+        ),
+        (Item::Range(5, 4), None, Name::Cpu, ExamineFault::OutOfRange),
+        (
+            Item::Range(0, u64::MAX),
+            None,
+            Name::Cpu,
+            ExamineFault::OutOfRange,
+        ),
+        (
+            Item::Count(0o100, 0),
+            None,
+            Name::Cpu,
+            ExamineFault::OutOfRange,
+        ),
+        (
+            Item::Count(0o77777, 2),
+            None,
+            Name::Cpu,
+            ExamineFault::OutOfRange,
+        ),
+        (
+            Item::Count(1, u64::MAX),
+            None,
+            Name::Cpu,
+            ExamineFault::OutOfRange,
+        ),
+        (Item::Unknown, None, Name::Cpu, ExamineFault::NoSuchName),
+        (Item::Reg(12), None, Name::Cpu, ExamineFault::NoSuchName),
+        (Item::Unknown, above, Name::Cpu, ExamineFault::OutOfRange),
+        (
+            Item::Unknown,
+            mask_above,
+            Name::Cpu,
+            ExamineFault::OutOfRange,
+        ),
+        (
+            Item::Unknown,
+            far_above,
+            Name::Cpu,
+            ExamineFault::OutOfRange,
+        ),
+        (Item::At(0), None, reader, ExamineFault::NoSuchName),
+        (Item::State, above, reader, ExamineFault::OutOfRange),
+    ];
+    for (item, condition, device, fault) in cases {
+        let mut list = list_of(&[Item::State, item, Item::At(u64::MAX), Item::Unknown]);
+        list.condition = condition;
+        list.device = device;
         let mut sink = ByteSink::with_room(rt.alloc(), 300)?;
         assert_eq!(rt; examine(&machine, &list, &mut sink), Err(fault));
         assert_eq!(rt; sink.bytes(), b"".as_slice());
         assert_eq!(rt; sink.faults(), 0);
     }
-    Ok(())
-}
-
-#[test]
-fn no_device_has_registers_or_memory(rt: HostRuntime) -> Result<(), Fail> {
-    let machine = Machine::new(rt.alloc())?;
     for item in [Item::At(u64::MAX), Item::All, Item::Reg(0), Item::State] {
         let mut list = list_of(&[item]);
-        list.device = Name::Device(Kind::Ptr);
+        list.device = reader;
         let mut sink = ByteSink::with_room(rt.alloc(), 300)?;
-        assert_eq!(rt;
-            examine(&machine, &list, &mut sink),
-            Err(ExamineFault::NoSuchName)
-        );
+        let answer = examine(&machine, &list, &mut sink);
+        assert_eq!(rt; answer, Err(ExamineFault::NoSuchName));
         assert_eq!(rt; sink.bytes(), b"".as_slice());
     }
     Ok(())
 }
 
 #[test]
-fn a_condition_is_checked_before_the_items(rt: HostRuntime) -> Result<(), Fail> {
-    let machine = Machine::new(rt.alloc())?;
-    for (mask, value) in [(None, 0o200000), (Some(0o200000), 0), (Some(0), u64::MAX)] {
-        let mut list = list_of(&[Item::Unknown]);
-        list.condition = Some(Condition {
-            mask,
-            rel: Rel::Ne,
-            value,
-        });
-        let mut sink = ByteSink::with_room(rt.alloc(), 300)?;
-        assert_eq!(rt;
-            examine(&machine, &list, &mut sink),
-            Err(ExamineFault::OutOfRange)
-        );
-    }
-    Ok(())
-}
-
-#[test]
-fn a_console_without_room_ends_the_list(rt: HostRuntime) -> Result<(), Fail> {
+fn a_console_that_refuses_a_byte_ends_the_list(rt: HostRuntime) -> Result<(), Fail> {
     let machine = Machine::new(rt.alloc())?;
     let list = list_of(&[Item::Range(0o100, 0o101), Item::Reg(0)]);
-    let mut sink = ByteSink::with_room(rt.alloc(), 20)?;
-    assert_eq!(rt;
-        examine(&machine, &list, &mut sink),
-        Err(ExamineFault::Console)
-    );
-    assert_eq!(rt; sink.bytes(), b"00100:\t000000\n00101:".as_slice());
-    assert_eq!(rt; sink.faults(), 1);
-    Ok(())
-}
-
-#[test]
-fn a_write_that_fails_ends_the_list(rt: HostRuntime) -> Result<(), Fail> {
-    let machine = Machine::new(rt.alloc())?;
-    let list = list_of(&[Item::Range(0o100, 0o101), Item::Reg(0)]);
-    let mut sink = ByteSink::with_room(rt.alloc(), 300)?;
-    sink.fail_call(1)?;
-    assert_eq!(rt;
-        examine(&machine, &list, &mut sink),
-        Err(ExamineFault::Console)
-    );
-    assert_eq!(rt; sink.bytes(), b"00100:\t000000\n".as_slice());
-    assert_eq!(rt; sink.faults(), 1);
+    let mut small = ByteSink::with_room(rt.alloc(), 20)?;
+    let mut failing = ByteSink::with_room(rt.alloc(), 300)?;
+    failing.fail_call(1)?;
+    let refused = Err(ExamineFault::Console);
+    assert_eq!(rt; examine(&machine, &list, &mut small), refused);
+    assert_eq!(rt; small.bytes(), b"00100:\t000000\n00101:".as_slice());
+    assert_eq!(rt; small.faults(), 1);
+    assert_eq!(rt; examine(&machine, &list, &mut failing), refused);
+    assert_eq!(rt; failing.bytes(), b"00100:\t000000\n".as_slice());
+    assert_eq!(rt; failing.faults(), 1);
     Ok(())
 }
 

@@ -1,0 +1,91 @@
+-- DEPOSIT never answers for the console.
+use Rattle.std.proofs.Common.{◌≡◌, ℕ, Bool, true, false, List, [], ◌∷◌, refl, Option, Some, None, Ok, Err, if◌then◌else◌, nat_le, unwrap_or}
+use Rattle.unit_trait.specs.declared.processor.CpuReg.{CpuReg}
+use Rattle.unit_trait.specs.declared.processor.CpuReg.TheVariants.{Size}
+use Rattle.scp_parser.specs.declared.listing.Name.{Name}
+use Rattle.scp_parser.specs.declared.listing.Name.TheVariants as whose
+use Rattle.scp_parser.specs.declared.listing.Item.{Item}
+use Rattle.scp_parser.specs.declared.listing.Item.TheVariants.{At, Range, Count, All, Reg, State, Unknown}
+use Rattle.scp_parser.specs.declared.listing.Listing.{Listing}
+use Rattle.scp_examine.specs.declared.fault.ExamineFault.{ExamineFault}
+use Rattle.scp_examine.specs.declared.fault.ExamineFault.TheVariants as list
+use Rattle.scp_examine.specs.Places.{Place, Cell, Register, named_register, places_of}
+use Rattle.scp_examine.specs.Checks.{or_fault, out_of_range_unless, memory_fault, register_fault, state_fault, item_fault, items_fault, value_fault, values_fault, deposit_fault}
+use Rattle.scp_examine.specs.Effect.{fault_of_deposit}
+use Rattle.scp_commands.specs.Live.{Live}
+use Rattle.scp_commands.specs.Reply.{Reply}
+use Rattle.scp_commands.specs.ListEffects.{names_device, handed, deposit_after, deposit_reply}
+use Rattle.scp_commands.proofs.ReplyLemmas.{IsOwn}
+
+-- a fault that is not the console's, or none
+abbrev IsListsOwn : Option ExamineFault → Type 0
+IsListsOwn (Some list.Console) = ⊥
+IsListsOwn fault = Unit {0}
+
+own-or : (first second : Option ExamineFault) → IsListsOwn first → IsListsOwn second → IsListsOwn (or_fault first second)
+own-or (Some fault) second a b = a
+own-or None second a b = b
+
+own-range : (fits : Bool) → IsListsOwn (out_of_range_unless fits)
+own-range true = tt
+own-range false = tt
+
+own-memory : (device : Name) (fits : Bool) → IsListsOwn (memory_fault device fits)
+own-memory whose.Cpu fits = own-range fits
+own-memory (whose.Device kind) fits = tt
+
+own-register : (r : Option CpuReg) → IsListsOwn (register_fault r)
+own-register None = tt
+own-register (Some r) = tt
+
+own-state : (device : Name) → IsListsOwn (state_fault device)
+own-state whose.Cpu = tt
+own-state (whose.Device kind) = tt
+
+own-item : (size : ℕ) (device : Name) (item : Item) → IsListsOwn (item_fault size device item)
+unfolding item_fault
+own-item size device (At a) = own-memory device _
+own-item size device (Range a b) = own-memory device _
+own-item size device (Count a n) = own-memory device _
+own-item size device All = own-memory device _
+own-item size device (Reg i) = own-register (named_register device i)
+own-item size device State = own-state device
+own-item size device Unknown = tt
+
+own-value : (value : ℕ) (place : Place) → IsListsOwn (value_fault value place)
+own-value value (Cell a) = own-range _
+own-value value (Register Size) = tt
+own-value value (Register r) = own-range _
+
+own-values : (value : ℕ) (places : List Place) → IsListsOwn (values_fault value places)
+unfolding values_fault
+own-values value [] = tt
+own-values value (place ∷ more) = own-or (value_fault value place) (values_fault value more) (own-value value place) (own-values value more)
+
+own-deposit : (size : ℕ) (device : Name) (value : ℕ) (item : Item) → IsListsOwn (deposit_fault size device value item)
+unfolding deposit_fault
+own-deposit size device value item =
+    own-or (item_fault size device item) (values_fault value (places_of size device item)) (own-item size device item) (own-values value (places_of size device item))
+
+own-items : (fault_of : Item → Option ExamineFault) → ((item : Item) → IsListsOwn (fault_of item)) → (items : List Item) → IsListsOwn (items_fault fault_of items)
+unfolding items_fault
+own-items fault_of own [] = tt
+own-items fault_of own (item ∷ more) = own-or (fault_of item) (items_fault fault_of more) (own item) (own-items fault_of own more)
+
+own-after : (fault : Option ExamineFault) (live : Live) (l : Listing) (value : ℕ) → IsListsOwn fault → IsOwn (deposit_after fault live l value).answer
+own-after None live l value own = tt
+own-after (Some list.NoSuchName) live l value own = tt
+own-after (Some list.OutOfRange) live l value own = tt
+own-after (Some list.ReadOnlyName) live l value own = tt
+own-after (Some list.Console) live l value own = absurd own
+
+own-if : (b : Bool) (x y : Reply) → IsOwn x.answer → IsOwn y.answer → IsOwn (if b then x else y).answer
+own-if true x y a b = a
+own-if false x y a b = b
+
+pub deposit-own : (live : Live) (l : Listing) (value : ℕ) → IsOwn (deposit_reply live l value).answer
+unfolding deposit_reply fault_of_deposit
+deposit-own live l value =
+    own-if (names_device l.device) _ _ tt
+    (own-after (fault_of_deposit live.machine l (handed value)) live l (handed value)
+    (own-items (deposit_fault live.machine.processor.memory.size l.device (handed value)) (own-deposit live.machine.processor.memory.size l.device (handed value)) l.items))
