@@ -4,15 +4,14 @@ use Rattle.std.proofs.lemmas.Bool.Decides.{nat_tests}
 use Rattle.observations.specs.Observations.{Observation}
 use Rattle.nova_machine.specs.declared.machine.Stop.{Stop}
 use Rattle.nova_machine.specs.declared.machine.Stop.TheVariants.{Stepped, Limit}
-use Rattle.nova_machine.specs.Machine.{MachineState}
-use Rattle.nova_machine.specs.Seen.{Seen, seen}
+use Rattle.nova_machine.specs.Seen.{Seen}
 use Rattle.nova_machine.specs.Parts.{Part, silent, behind_made}
-use Rattle.nova_machine.specs.Turn.{turn, still, fetch}
+use Rattle.nova_machine.specs.Turn.{turn}
 use Rattle.nova_machine.specs.Run.{turns, run, next_turn, expired, last_time}
 use Rattle.nova_machine.specs.Laws.{IsLimit, PassesNoBreak, Unchanged, RunSplits, RunTakesTime}
 use Rattle.nova_machine.specs.LawsWithoutUnits.{SameInterrupts}
 use Rattle.nova_machine.proofs.Runs.{turns-none, turns-stop, turns-go}
-use Rattle.nova_machine.proofs.Turns.{Turns, turns-fetch, unchanged-same, unchanged-then, interrupts-same, interrupts-then}
+use Rattle.nova_machine.proofs.Turns.{turns-fetch, unchanged-same, unchanged-then, interrupts-same, interrupts-then}
 
 -- a turn where time may have ended: it stops for a limit exactly there, and then all is as it was
 pub record NextTurn (before : Seen) (p : Part) : Type 0 where
@@ -122,7 +121,7 @@ turns-limited one step first (suc n) k s limit some passes =
           let from = turns-go one first n s goes in
           let rest = turns one false n next.after in
           let inner = turns-limited one step false n k next.after (subst P (ap (λ (p : Part). p.stop) from) limit) some
-              (subst Q (ap (λ (p : Part). p.after) from) passes) in
+          (subst Q (ap (λ (p : Part). p.after) from) passes) in
           ap (λ c. turns step first c s) both ∙ turns-go step first (n + k) s goes
           ∙ ap (behind_made next.made) inner
           ∙ behind-behind next.made rest.made (turns step true k rest.after)
@@ -217,15 +216,15 @@ takes-stop first n s =
     elim (stop-cases p.stop) [
       | inl goes ↦ inr goes
       | inr w ↦ inl (record {
-          least = next.least;
-          most = omega (arith, next.most);
-          stepped = λ h. let e = next.ended (subst P (sym h) tt) in let limit = ap (λ (x : Part). x.stop) e.1 in absurd (cc);
-          limited = λ h. let e = next.ended h in inr (ap (λ (x : Part). x.after.machine.time) e.1 ∙ e.0);
-          unchanged = next.unchanged;
-          interrupts = next.interrupts;
-          released = next.released;
-          held = next.held;
-        })
+        least = next.least;
+        most = omega (arith, next.most);
+        stepped = λ h. let e = next.ended (subst P (sym h) tt) in let limit = ap (λ (x : Part). x.stop) e.1 in absurd (cc);
+        limited = λ h. let e = next.ended h in inr (ap (λ (x : Part). x.after.machine.time) e.1 ∙ e.0);
+        unchanged = next.unchanged;
+        interrupts = next.interrupts;
+        released = next.released;
+        held = next.held;
+      })
     ]
 
 takes-none : (step first : Bool) (s : Seen) → Takes 0 s (silent (Some (expired step)) s)
@@ -249,9 +248,9 @@ takes-turns step first (suc n) s =
     elim (stop-cases (next_turn first s).stop) [
       | inl goes ↦ subst P (sym (turns-go step first n s goes)) (takes-more first n s _ goes (takes-turns step false n (next_turn first s).after))
       | inr w ↦ elim (takes-stop first n s) [
-          | inl takes ↦ subst P (sym (turns-stop step first n s w.0 w.1)) takes
-          | inr goes ↦ let wrong = w.1 in absurd (cc)
-        ]
+        | inl takes ↦ subst P (sym (turns-stop step first n s w.0 w.1)) takes
+        | inr goes ↦ let wrong = w.1 in absurd (cc)
+      ]
     ]
 
 pub runs-take-time : RunTakesTime
@@ -260,5 +259,6 @@ runs-take-time = record {
   most = λ step n s. (takes-turns step true n s).most;
   stepped = λ step n s. (takes-turns step true n s).stepped;
   limited = λ step n s. (takes-turns step true n s).limited;
+  held = λ step n s. (takes-turns step true n s).held;
   unchanged = λ step n s. (takes-turns step true n s).unchanged;
 }

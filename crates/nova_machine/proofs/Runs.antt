@@ -1,12 +1,9 @@
 -- Turns, one further.
-use Rattle.std.proofs.Common.{◌≡◌, ℕ, suc, ◌+◌, ◌-◌, ◌<◌, ◌≤◌, ◌==◌, Bool, true, false, refl, ap, sym, ◌∙◌, arith, Option, Some, None, List, [], ◌++◌}
+use Rattle.std.proofs.Common.{◌≡◌, ℕ, suc, ◌+◌, ◌-◌, ◌<◌, ◌≤◌, ◌==◌, Bool, false, refl, ap, sym, ◌∙◌, arith, Some, None}
 use Rattle.std.proofs.lemmas.Bool.{ne_eqb}
-use Rattle.observations.specs.Observations.{Observation}
 use Rattle.nova_machine.specs.declared.machine.Stop.{Stop}
-use Rattle.nova_machine.specs.declared.machine.Turn.{Turn}
-use Rattle.nova_machine.specs.declared.machine.Turn.TheVariants.{Executed, Stopped}
 use Rattle.nova_machine.specs.Seen.{Seen}
-use Rattle.nova_machine.specs.Parts.{Part, silent, behind_made, followed, then_part, stop_of}
+use Rattle.nova_machine.specs.Parts.{silent, behind_made, followed}
 use Rattle.nova_machine.specs.Run.{next_turn, turns, run, expired}
 use Rattle.nova_machine.proofs.Silent.{next-silent}
 

@@ -3,7 +3,7 @@ use Rattle.std.proofs.Common.{◌≡◌, ℕ, zero, suc, ◌==◌, Bool, true, f
 use Rattle.observations.specs.Observations.{Observation}
 use Rattle.nova_machine.specs.declared.machine.Stop.{Stop}
 use Rattle.nova_machine.specs.Seen.{Seen}
-use Rattle.nova_machine.specs.Parts.{Part, silent, behind_made, followed, then_part}
+use Rattle.nova_machine.specs.Parts.{Part, followed}
 use Rattle.nova_machine.specs.Turn.{turn}
 use Rattle.nova_machine.specs.Run.{last_time, next_turn, turns, run}
 

@@ -1,5 +1,5 @@
 -- The stops of a turn and their causes.
-use Rattle.std.proofs.Common.{◌≡◌, ◌≢◌, ◌↔◌, ℕ, ◌+◌, ◌<◌, ◌≤◌, ◌==◌, Bool, true, false, Option, Some, None, refl, ap, sym, subst, ◌∙◌, nat_lt, if◌then◌else◌, arith}
+use Rattle.std.proofs.Common.{◌≡◌, ◌≢◌, ◌↔◌, ℕ, ◌<◌, ◌≤◌, ◌==◌, Bool, true, false, Option, Some, None, refl, ap, sym, subst, ◌∙◌, nat_lt, if◌then◌else◌, arith}
 use Rattle.std.proofs.lemmas.Bool.Decides.{nat_tests}
 use Rattle.nova_word.specs.Bits.{bits}
 use Rattle.nova_memory.specs.Memory.{get}
@@ -7,9 +7,9 @@ use Rattle.nova_memory.specs.Address.{Reference, address}
 use Rattle.nova_machine.specs.declared.machine.Stop.TheVariants.{Halt, ChainLimit, NotBuilt}
 use Rattle.nova_machine.specs.Machine.{MachineState}
 use Rattle.nova_machine.specs.Seen.{seen}
-use Rattle.nova_machine.specs.Instruction.{following, advanced}
-use Rattle.nova_machine.specs.Turn.{Turned, begun, ticked, executed, goes_on, stops, refer_to, refer, halted, halt, transfer, execute, fetch, turn}
-use Rattle.nova_machine.specs.Laws.{fetched, IsEndless, behind_halt, behind_chain, TurnStops}
+use Rattle.nova_machine.specs.Instruction.{advanced}
+use Rattle.nova_machine.specs.Turn.{Turned, begun, ticked, goes_on, stops, refer_to, refer, halt, transfer, execute, fetch, turn}
+use Rattle.nova_machine.specs.Laws.{fetched, IsEndless, behind_halt, TurnStops}
 use Rattle.nova_machine.specs.LawsWithoutUnits.{IsNotBuilt}
 
 -- the laws, at a word and what its turn comes to

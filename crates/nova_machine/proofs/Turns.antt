@@ -6,13 +6,13 @@ use Rattle.nova_memory.specs.Memory.{MemoryState, get, put}
 use Rattle.nova_memory.specs.Address.{Reference, address, indexed}
 use Rattle.nova_memory.proofs.Chains.{chain-size}
 use Rattle.nova_machine.specs.declared.machine.Stop.{Stop}
-use Rattle.nova_machine.specs.declared.machine.Stop.TheVariants.{Halt, ChainLimit, NotBuilt}
+use Rattle.nova_machine.specs.declared.machine.Stop.TheVariants.{ChainLimit, NotBuilt}
 use Rattle.nova_machine.specs.declared.interrupts.Ints.{Ints}
 use Rattle.nova_machine.specs.Processor.{ProcessorState}
-use Rattle.nova_machine.specs.Machine.{MachineState, on_processor}
+use Rattle.nova_machine.specs.Machine.{MachineState}
 use Rattle.nova_machine.specs.Instruction.{advanced, jump, jump_to_subroutine, store_and_skip, load, store, without_accumulator, memory_reference, arithmetic}
 use Rattle.nova_machine.specs.InputOutput.{skips_at_zero, multiply, divide, input_zero, unanswered, multiply_divide}
-use Rattle.nova_machine.specs.Turn.{Turned, begun, ticked, executed, goes_on, stops, refer_to, refer, halted, halt, transfer, execute, fetch}
+use Rattle.nova_machine.specs.Turn.{Turned, begun, ticked, executed, goes_on, stops, refer_to, refer, halt, transfer, execute, fetch}
 use Rattle.nova_machine.specs.Laws.{IsLimit, Unchanged}
 use Rattle.nova_machine.specs.LawsWithoutUnits.{SameInterrupts}
 

@@ -1,5 +1,5 @@
 -- The laws that hold as long as there are no units.
-use Rattle.std.proofs.Common.{◌≡◌, Bool, true, false, refl, ap, if◌then◌else◌}
+use Rattle.std.proofs.Common.{true, refl, ap}
 use Rattle.nova_machine.specs.Seen.{Seen, seen}
 use Rattle.nova_machine.specs.Turn.{turn}
 use Rattle.nova_machine.specs.Run.{next_turn}
@@ -20,7 +20,6 @@ without-units = record {
   first = first-same;
   unchanged = λ step n s. (takes-turns step true n s).interrupts;
   released = λ step n s. (takes-turns step true n s).released;
-  held = λ step n s. (takes-turns step true n s).held;
   not_built = λ first s. (stops-fetch s.machine).not_built;
   unbuilt = λ first s h. ap seen ((stops-fetch s.machine).unbuilt h);
 }

@@ -1,5 +1,5 @@
 -- What holds of every run, in a reader's words. A law is proved where a public function's contract is that law.
-use Rattle.std.specs.Prelude.{◌≡◌, ◌≢◌, ◌↔◌, ℕ, ◌+◌, ◌<◌, ◌≤◌, ◌⊎◌, Bool, true, false, Option, Some, None}
+use Rattle.std.specs.Prelude.{◌≡◌, ◌↔◌, ℕ, ◌+◌, ◌<◌, ◌≤◌, ◌⊎◌, Bool, true, false, Option, Some, None}
 use Rattle.nova_memory.specs.Memory.{get}
 use Rattle.nova_memory.specs.Address.{address}
 use Rattle.nova_machine.specs.declared.machine.Stop.{Stop}
@@ -46,6 +46,8 @@ pub record RunTakesTime : Type 0 where
   pub stepped : (step : Bool) (n : ℕ) (s : Seen) → (run step n s).stop ≡ Some Stepped → (run step n s).after.machine.time ≡ s.machine.time + n
   pub limited : (step : Bool) (n : ℕ) (s : Seen) → IsLimit (run step n s).stop
       → ((run step n s).after.machine.time ≡ s.machine.time + n) ⊎ ((run step n s).after.machine.time ≡ last_time)
+  -- where no instruction was executed, interrupts wait as before
+  pub held : (step : Bool) (n : ℕ) (s : Seen) → (run step n s).after.machine.time ≡ s.machine.time → (run step n s).after.machine.ints.hold ≡ s.machine.ints.hold
   pub unchanged : (step : Bool) (n : ℕ) (s : Seen) → Unchanged s.machine (run step n s).after.machine
 
 -- the word that the next turn fetches

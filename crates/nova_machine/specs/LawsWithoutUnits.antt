@@ -1,5 +1,5 @@
 -- What holds of every run as long as there are no units, no interrupts and no breaks. These laws go when those come.
-use Rattle.std.specs.Prelude.{◌≡◌, ◌≢◌, ◌↔◌, ℕ, ◌+◌, ◌<◌, ◌≤◌, Bool, false, Some, []}
+use Rattle.std.specs.Prelude.{◌≡◌, ◌≢◌, ◌↔◌, ℕ, ◌<◌, ◌≤◌, Bool, false, Some, []}
 use Rattle.nova_word.specs.Bits.{bits}
 use Rattle.nova_machine.specs.declared.machine.Stop.TheVariants.{NotBuilt}
 use Rattle.nova_machine.specs.Machine.{MachineState}
@@ -25,9 +25,8 @@ pub record WithoutUnits : Type 0 where
   -- a run's first turn is like every other
   pub first : (s : Seen) → PassesNoBreak s
   pub unchanged : (step : Bool) (n : ℕ) (s : Seen) → SameInterrupts s.machine (run step n s).after.machine
-  -- interrupts wait no longer where an instruction was executed, and as before where none was
+  -- interrupts wait no longer where an instruction was executed: none sets HOLD yet
   pub released : (step : Bool) (n : ℕ) (s : Seen) → s.machine.time < (run step n s).after.machine.time → (run step n s).after.machine.ints.hold ≡ false
-  pub held : (step : Bool) (n : ℕ) (s : Seen) → (run step n s).after.machine.time ≡ s.machine.time → (run step n s).after.machine.ints.hold ≡ s.machine.ints.hold
   -- a word that is not built stops a turn, and has changed nothing
   pub not_built : (first : Bool) (s : Seen) → ((turn first s).stop ≡ Some NotBuilt) ↔ IsNotBuilt (fetched s.machine)
   pub unbuilt : (first : Bool) (s : Seen) → (turn first s).stop ≡ Some NotBuilt → (turn first s).after ≡ s

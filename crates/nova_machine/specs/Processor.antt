@@ -1,5 +1,5 @@
 -- The processor: what instructions work on. It knows no time, no interrupt and no device.
-use Rattle.std.specs.Prelude.{ℕ, [], ◌∷◌, false}
+use Rattle.std.specs.Prelude.{[], ◌∷◌, false}
 use Rattle.nova_memory.specs.Memory.{MemoryState, blank}
 use Rattle.nova_machine.specs.declared.cpu.Cpu.{Cpu}
 

@@ -7,8 +7,8 @@ pub fn runs_split()
     ensures { RunSplits }
 {}
 
-/// The law that time grows by the instructions that a run has executed, at most its count; and that no run changes how
-/// many words the memory has, the switch register, or STOP_DEV.
+/// The law that time grows by the instructions that a run has executed, at most its count; that HOLD stays where none
+/// was; and that no run changes how many words the memory has, the switch register, or STOP_DEV.
 pub fn runs_take_time()
     ensures { RunTakesTime }
 {}
@@ -20,8 +20,8 @@ pub fn turns_stop()
 {}
 
 /// The law of what holds as long as there are no units: a run makes nothing; its first turn is like every other; the
-/// interrupt mask stays, and interrupts stay on or off; HOLD is cleared exactly where an instruction was executed; and
-/// a word that is not built stops a turn and changes nothing.
+/// interrupt mask stays, and interrupts stay on or off; HOLD is clear where an instruction was executed; and a word that
+/// is not built stops a turn and changes nothing.
 pub fn nothing_comes_from_units()
     ensures { WithoutUnits }
 {}

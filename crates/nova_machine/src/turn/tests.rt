@@ -1,10 +1,10 @@
 use crate::laws;
 use crate::machine::{Machine, Stop, Turn};
-use unit_trait::CpuReg;
 use nova_word::{Addr, Word};
 use std::alloc::Global;
 use std::process::Abort;
 use std::test::Fail;
+use unit_trait::CpuReg;
 
 const REGISTERS: [CpuReg; 6] = [
     CpuReg::Ac0,

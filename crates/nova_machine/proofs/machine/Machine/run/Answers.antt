@@ -1,4 +1,4 @@
-use Rattle.std.proofs.Common.{◌≡◌, ◌+◌, ◌-◌, ◌==◌, Some, None, refl, ap, sym, ◌∙◌}
+use Rattle.std.proofs.Common.{◌≡◌, ◌+◌, ◌-◌, ◌==◌, Some, ap, sym, ◌∙◌}
 use Rattle.nova_machine.specs.Seen.{seen}
 use Rattle.nova_machine.specs.Parts.{Part, silent}
 use Rattle.nova_machine.specs.Run.{run, turns, next_turn, expired}
