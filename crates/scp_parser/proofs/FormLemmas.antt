@@ -9,7 +9,7 @@ use Rattle.scp_parser.proofs.NumberLemmas.{octal_found, octal_reads, decimal_fou
 use Rattle.scp_parser.proofs.ItemLemmas.{item_found, item_reads, list_found, list_reads}
 use Rattle.scp_parser.proofs.ConditionLemmas.{condition_found, condition_reads}
 use Rattle.scp_parser.proofs.UnitLemmas.{device_found, device_reads, unit_found, unit_reads, subject_found, subject_reads, symbolic_found, symbolic_reads}
-use Rattle.scp_parser.proofs.CommandNameLemmas.{command_found, command_reads}
+use Rattle.scp_parser.proofs.CommandNameLemmas.{name_found, name_reads}
 
 pub octal_decides : Decides IsOctal octal
 octal_decides text n = (octal_found text n, octal_reads text n)
@@ -39,4 +39,4 @@ pub symbolic_decides : Decides (λ text on. IsSymbolic text × (on ≡ true)) sy
 symbolic_decides text on = (symbolic_found text on, symbolic_reads text on)
 
 pub command_decides : Decides IsCommandName command_named
-command_decides word name = (command_found word name, command_reads word name)
+command_decides word name = (name_found word name, name_reads word name)

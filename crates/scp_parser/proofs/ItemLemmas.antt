@@ -1,23 +1,26 @@
 -- Items and lists of items.
-use Rattle.std.specs.Prelude.{not, nat_le, nat_lt, codes}
+use Rattle.std.specs.Prelude.{not, nat_le, codes}
 use Rattle.std.proofs.Common.{◌≡◌, ◌⊎◌, inl, inr, ℕ, ◌<◌, ◌≤◌, zero, suc, Bool, true, false, cond, ◌&&◌, ◌||◌, ◌==◌, Some, None, List, [], ◌∷◌, ◌++◌, length, refl, ap, sym, ◌∙◌, subst, arith, append-nil}
 use Rattle.std.specs.List.{list_all}
 use Rattle.std.specs.Option.{option_map}
-use Rattle.std.proofs.lemmas.Bool.{both_ways, and_parts, and_from, or_cases, or_left, or_right, not-true, false_from_ne_true, leb-true, le-leb, ltb-true, lt-ltb, eqb-true, eq-eqb, not_from_false, ne_eqb}
+use Rattle.std.proofs.lemmas.Bool.{both_ways, and_parts, and_from, or_cases, or_left, or_right, not-true, false_from_ne_true, leb-true, le-leb, eqb-true, eq-eqb, not_from_false, ne_eqb}
 use Rattle.std.proofs.lemmas.List.Sums.{AllPass-from_list_all, list_all-from_AllPass}
 use Rattle.std.proofs.lemmas.List.Folds.{list_all-append}
 use Rattle.std.proofs.lemmas.Option.{slice_get_within, get_or_from_slice_get}
-use Rattle.nova_word.specs.Numbers.{IsDigit}
+use Rattle.nova_word.specs.Numbers.{IsDigit, is_digit}
+use Rattle.nova_word.proofs.ReadingLemmas.{digit_is, digit_passes}
 use Rattle.unit_trait.specs.declared.kind.Kind.TheVariants.{Dsk, Mta, Lpt, Ptr, Ptp, Clk, Tti, Tto, Tti1, Tto1, Qty}
 use Rattle.scp_parser.specs.declared.listing.Name.{Name}
 use Rattle.scp_parser.specs.declared.listing.Name.TheVariants.{Cpu, Device}
 use Rattle.scp_parser.specs.declared.listing.Item.{Item}
 use Rattle.scp_parser.specs.declared.listing.Item.TheVariants.{At, Range, Count, All as AllWords, Reg, State, Unknown}
-use Rattle.scp_parser.specs.Names.{IsSpelled, is_spelled, register_names}
-use Rattle.scp_parser.specs.Forms.{IsOctal, IsDecimal, IsLetter, IsDecimalDigit, IsName, IsRegister, IsItem, at, range, count, all_words, state, register, unknown, AreItems, last, more, IsList}
-use Rattle.scp_parser.specs.Operands.{or_else, both, octal, decimal, is_digit, is_letter, is_name_byte, is_name, register_named, unknown_name, named_item, front, behind, numbered_item, item_of, has_comma, items_up_to, items_of}
+use Rattle.line_words.specs.Words.{IsSpelled, is_spelled}
+use Rattle.scp_parser.specs.Names.{register_names}
+use Rattle.scp_parser.specs.Forms.{IsOctal, IsDecimal, IsLetter, IsName, IsRegister, IsItem, at, range, count, all_words, state, register, unknown, AreItems, last, more, IsList}
+use Rattle.scp_parser.specs.Operands.{or_else, both, octal, decimal, is_letter, is_name_byte, is_name, register_named, unknown_name, named_item, front, behind, range_of, count_of, numbered_item, item_of, has_mark, items_up_to, items_of}
 use Rattle.scp_parser.proofs.ChoiceLemmas.{chosen, same_some, none_from, either_answer, first_answer, second_answer, mapped, two_answers, put_together}
-use Rattle.scp_parser.proofs.SpellingLemmas.{spelled_is, is_spelled_so, are_alike, alike, starts_digit, spelled_starts, lacks, spelled_lacks}
+use Rattle.line_words.proofs.SpellingLemmas.{spelled_is, is_spelled_so, spelled_alike}
+use Rattle.scp_parser.proofs.SpellingLemmas.{starts_digit, spelled_starts, lacks, spelled_lacks}
 use Rattle.scp_parser.proofs.NumberLemmas.{octal_found, octal_reads, decimal_found, decimal_reads, number_lacks, number_starts}
 use Rattle.scp_parser.proofs.ListLemmas.{are_apart, place_found, place_is}
 use Rattle.scp_parser.proofs.SplitLemmas.{front_is, behind_is, split_behind, split_comma, holds_mark, no_comma, a_comma}
@@ -25,7 +28,7 @@ use Rattle.scp_parser.proofs.SplitLemmas.{front_is, behind_is, split_behind, spl
 -- names
 
 abbrev IsNameByte : ℕ → Type 0
-IsNameByte c = IsLetter c ⊎ (IsDecimalDigit c ⊎ (c ≡ 95))
+IsNameByte c = IsLetter c ⊎ (IsDigit 10 c ⊎ (c ≡ 95))
 
 between_is : (low high b : ℕ) → (nat_le low b && nat_le b high) ≡ true → (low ≤ b) × (b ≤ high)
 between_is low high b h =
@@ -47,20 +50,11 @@ letter_passes b h = elim h [
   | inr small ↦ or_right (nat_le 65 b && nat_le b 90) (nat_le 97 b && nat_le b 122) (between_passes 97 122 b small)
 ]
 
-digit_is : (b : ℕ) → is_digit 10 b ≡ true → IsDecimalDigit b
-digit_is b h =
-    let parts = and_parts (nat_le 48 b) (nat_lt b 58) h in
-    let high = ltb-true b 58 parts.1 in
-    (leb-true 48 b parts.0, omega arith)
-
-digit_passes : (b : ℕ) → IsDecimalDigit b → is_digit 10 b ≡ true
-digit_passes b h = and_from (nat_le 48 b) (nat_lt b 58) (le-leb 48 b h.0) (lt-ltb b 58 (omega (arith, h.1)))
-
 name_byte_is : (b : ℕ) → is_name_byte b ≡ true → IsNameByte b
 name_byte_is b h = elim (or_cases (is_letter b) (is_digit 10 b || b == 95) h) [
   | inl letter ↦ inl (letter_is b letter)
   | inr rest ↦ elim (or_cases (is_digit 10 b) (b == 95) rest) [
-    | inl digit ↦ inr (inl (digit_is b digit))
+    | inl digit ↦ inr (inl (digit_is 10 b digit))
     | inr low_line ↦ inr (inr (eqb-true b 95 low_line))
   ]
 ]
@@ -69,7 +63,7 @@ name_byte_passes : (b : ℕ) → IsNameByte b → is_name_byte b ≡ true
 name_byte_passes b h = elim h [
   | inl letter ↦ or_left (is_letter b) (is_digit 10 b || b == 95) (letter_passes b letter)
   | inr rest ↦ or_right (is_letter b) (is_digit 10 b || b == 95) (elim rest [
-    | inl digit ↦ or_left (is_digit 10 b) (b == 95) (digit_passes b digit)
+    | inl digit ↦ or_left (is_digit 10 b) (b == 95) (digit_passes 10 b digit)
     | inr low_line ↦ or_right (is_digit 10 b) (b == 95) (eq-eqb b 95 low_line)
   ])
 ]
@@ -90,9 +84,9 @@ name_passes (b ∷ rest) h =
     (list_all-from_AllPass is_name_byte rest (λ k d l. name_byte_passes _ (h.1 k d l)))
 
 letter_no_digit : (b : ℕ) → IsLetter b → is_digit 10 b ≡ false
-letter_no_digit b letter = false_from_ne_true (is_digit 10 b) (λ digit. apart letter (digit_is b digit))
+letter_no_digit b letter = false_from_ne_true (is_digit 10 b) (λ digit. apart letter (digit_is 10 b digit))
   where
-    apart : IsLetter b → IsDecimalDigit b → ⊥
+    apart : IsLetter b → IsDigit 10 b → ⊥
     apart letter digit = elim letter [ inl capital ↦ omega (arith, capital.0, digit.1) | inr small ↦ omega (arith, small.0, digit.1) ]
 
 name_starts : (text : List ℕ) → IsName text → starts_digit text ≡ false
@@ -122,7 +116,7 @@ name_lacks (b ∷ rest) h =
 
 -- registers
 
-registers_apart : (device : Name) → are_apart are_alike (register_names device) ≡ true
+registers_apart : (device : Name) → are_apart is_spelled (register_names device) ≡ true
 registers_apart Cpu = refl
 registers_apart (Device Dsk) = refl
 registers_apart (Device Mta) = refl
@@ -145,13 +139,13 @@ register_found device text k h =
 register_reads : (device : Name) (text : List ℕ) (k : ℕ) → IsRegister device text k → register_named device text ≡ Some k
 unfolding register_named
 register_reads device text k h =
-    place_is (λ name. is_spelled text name) are_alike (register_names device) k h.name
-    (λ one other first second. alike text one other (spelled_is text one first) (spelled_is text other second))
+    place_is (λ name. is_spelled text name) is_spelled (register_names device) k h.name
+    (λ one other first second. spelled_alike text one other (spelled_is text one first) (spelled_is text other second))
     (registers_apart device) h.is (is_spelled_so text h.name h.spelled)
 
 -- a name that begins with no digit, holds no comma, and is neither ALL nor STATE
 abbrev is_plain : List ℕ → Bool
-is_plain name = not (starts_digit name) && (lacks 44 name && (not (are_alike name (codes "ALL")) && not (are_alike name (codes "STATE"))))
+is_plain name = not (starts_digit name) && (lacks 44 name && (not (is_spelled name (codes "ALL")) && not (is_spelled name (codes "STATE"))))
 
 registers_plain : (device : Name) → list_all is_plain (register_names device) ≡ true
 registers_plain Cpu = refl
@@ -174,23 +168,23 @@ record Plain (text : List ℕ) : Type 0 where
   not_state : is_spelled text (codes "STATE") ≡ false
 
 -- a text with the name of a register that is not alike another name
-not_spelled : (text name other : List ℕ) → IsSpelled text name → are_alike name other ≡ false → is_spelled text other ≡ false
+not_spelled : (text name other : List ℕ) → IsSpelled text name → is_spelled name other ≡ false → is_spelled text other ≡ false
 not_spelled text name other is apart =
-    false_from_ne_true (is_spelled text other) (λ h. both_ways (are_alike name other) apart (alike text name other is (spelled_is text other h)))
+    false_from_ne_true (is_spelled text other) (λ h. both_ways (is_spelled name other) apart (spelled_alike text name other is (spelled_is text other h)))
 
 register_plain : (device : Name) (text : List ℕ) (k : ℕ) → IsRegister device text k → Plain text
 register_plain device text k h =
     let within = slice_get_within (register_names device) k h.name h.is in
     let plain = AllPass-from_list_all is_plain (register_names device) (registers_plain device) k h.name within in
     let here : is_plain h.name ≡ true = ap is_plain (sym (get_or_from_slice_get (register_names device) k h.name h.name h.is)) ∙ plain in
-    let one = and_parts (not (starts_digit h.name)) (lacks 44 h.name && (not (are_alike h.name (codes "ALL")) && not (are_alike h.name (codes "STATE")))) here in
-    let two = and_parts (lacks 44 h.name) (not (are_alike h.name (codes "ALL")) && not (are_alike h.name (codes "STATE"))) one.1 in
-    let three = and_parts (not (are_alike h.name (codes "ALL"))) (not (are_alike h.name (codes "STATE"))) two.1 in
+    let one = and_parts (not (starts_digit h.name)) (lacks 44 h.name && (not (is_spelled h.name (codes "ALL")) && not (is_spelled h.name (codes "STATE")))) here in
+    let two = and_parts (lacks 44 h.name) (not (is_spelled h.name (codes "ALL")) && not (is_spelled h.name (codes "STATE"))) one.1 in
+    let three = and_parts (not (is_spelled h.name (codes "ALL"))) (not (is_spelled h.name (codes "STATE"))) two.1 in
     record {
       starts = spelled_starts text h.name h.spelled ∙ not-true (starts_digit h.name) one.0;
       no_comma = spelled_lacks text h.name h.spelled ∙ two.0;
-      not_all = not_spelled text h.name (codes "ALL") h.spelled (not-true (are_alike h.name (codes "ALL")) three.0);
-      not_state = not_spelled text h.name (codes "STATE") h.spelled (not-true (are_alike h.name (codes "STATE")) three.1);
+      not_all = not_spelled text h.name (codes "ALL") h.spelled (not-true (is_spelled h.name (codes "ALL")) three.0);
+      not_state = not_spelled text h.name (codes "STATE") h.spelled (not-true (is_spelled h.name (codes "STATE")) three.1);
     }
 
 -- items by names
@@ -243,7 +237,7 @@ named_found device text item h =
 not_digit : (base mark : ℕ) → mark < 48 → IsDigit base mark → ⊥
 not_digit base mark low digit = omega (arith, digit.0)
 
-range_found : (device : Name) (text : List ℕ) (item : Item) → both (λ a b. Range a b) (octal (front 45 text)) (octal (behind 45 text)) ≡ Some item → IsItem device text item
+range_found : (device : Name) (text : List ℕ) (item : Item) → range_of text ≡ Some item → IsItem device text item
 range_found device text item h =
     let two = two_answers (λ a b. Range a b) (octal (front 45 text)) (octal (behind 45 text)) item h in
     let from = octal_found (front 45 text) two.left two.first in
@@ -251,7 +245,7 @@ range_found device text item h =
     subst (λ (t : List ℕ). IsItem device t item) (sym (split_behind 45 text to.is.some))
     (subst (λ (i : Item). IsItem device (front 45 text ++ 45 ∷ behind 45 text) i) two.made (range (front 45 text) (behind 45 text) two.left two.right from to))
 
-count_found : (device : Name) (text : List ℕ) (item : Item) → both (λ a n. Count a n) (octal (front 47 text)) (decimal (behind 47 text)) ≡ Some item → IsItem device text item
+count_found : (device : Name) (text : List ℕ) (item : Item) → count_of text ≡ Some item → IsItem device text item
 count_found device text item h =
     let two = two_answers (λ a n. Count a n) (octal (front 47 text)) (decimal (behind 47 text)) item h in
     let from = octal_found (front 47 text) two.left two.first in
@@ -262,11 +256,11 @@ count_found device text item h =
 numbered_found : (device : Name) (text : List ℕ) (item : Item) → numbered_item text ≡ Some item → IsItem device text item
 unfolding numbered_item
 numbered_found device text item h =
-    elim (either_answer (option_map (λ a. At a) (octal text)) (or_else (both (λ a b. Range a b) (octal (front 45 text)) (octal (behind 45 text))) (both (λ a n. Count a n) (octal (front 47 text)) (decimal (behind 47 text)))) item h) [
+    elim (either_answer (option_map (λ a. At a) (octal text)) (or_else (range_of text) (count_of text)) item h) [
       | inl one ↦
           let (a, read, same) = mapped (λ a. At a) (octal text) item one in
           subst (λ (i : Item). IsItem device text i) same (at text a (octal_found text a read))
-      | inr rest ↦ elim (either_answer (both (λ a b. Range a b) (octal (front 45 text)) (octal (behind 45 text))) (both (λ a n. Count a n) (octal (front 47 text)) (decimal (behind 47 text))) item rest.1) [
+      | inr rest ↦ elim (either_answer (range_of text) (count_of text) item rest.1) [
         | inl two ↦ range_found device text item two
         | inr number ↦ count_found device text item number.1
       ]
@@ -290,10 +284,10 @@ range_reads from to a b first second =
 
 -- a text of an address and a count is no range
 no_range : (from number : List ℕ) (a n : ℕ) → IsOctal from a → IsDecimal number n
-    → both (λ a b. Range a b) (octal (front 45 (from ++ 47 ∷ number))) (octal (behind 45 (from ++ 47 ∷ number))) ≡ None
+    → range_of (from ++ 47 ∷ number) ≡ None
 no_range from number a n first second =
     let text = from ++ 47 ∷ number in
-    none_from (both (λ a b. Range a b) (octal (front 45 text)) (octal (behind 45 text)))
+    none_from (range_of text)
     (λ item h.
     let two = two_answers (λ a b. Range a b) (octal (front 45 text)) (octal (behind 45 text)) item h in
     let to = octal_found (behind 45 text) two.right two.second in
@@ -404,7 +398,7 @@ unfolding items_up_to
 items_found zero device text items h = absurd (cc)
 items_found (suc room) device text items h =
     let several = both (λ item items. item ∷ items) (item_of device (front 44 text)) (items_up_to room device (behind 44 text)) in
-    elim (chosen (has_comma text) several (option_map (λ item. item ∷ []) (item_of device text)) (Some items) h) [
+    elim (chosen (has_mark 44 text) several (option_map (λ item. item ∷ []) (item_of device text)) (Some items) h) [
       | inl comma ↦
           let two = two_answers (λ item items. item ∷ items) (item_of device (front 44 text)) (items_up_to room device (behind 44 text)) items comma.1 in
           let first = item_found device (front 44 text) two.left two.first in

@@ -6,7 +6,7 @@ use Rattle.std.proofs.lemmas.Bool.Decides.{nat_tests}
 use Rattle.unit_trait.specs.declared.kind.Kind.{Kind}
 use Rattle.unit_trait.specs.declared.kind.Kind.TheVariants.{Mta, Tti1}
 use Rattle.unit_trait.specs.declared.kind.UnitName.{UnitName}
-use Rattle.unit_trait.specs.Kinds.{kind_name}
+use Rattle.unit_trait.specs.Kinds.{kind_name, TakesFile}
 use Rattle.scp_parser.specs.declared.command.Shown.{Shown}
 use Rattle.scp_parser.specs.declared.command.Shown.TheVariants as shown
 use Rattle.scp_parser.specs.declared.command.Verb.{Verb}
@@ -15,8 +15,9 @@ use Rattle.line_words.specs.Words.{past_blanks}
 use Rattle.scp_parser.specs.declared.fault.ParseFault.{ParseFault}
 use Rattle.scp_parser.specs.declared.names.CommandName.{CommandName}
 use Rattle.scp_parser.specs.declared.names.CommandName.TheVariants as name
-use Rattle.scp_parser.specs.Command.{TakesFile, IsNamedUnit, ShowsUnit, Keeps, request_of, IsKept}
-use Rattle.scp_parser.specs.Names.{is_spelled, unit_kinds, first_of, command_named}
+use Rattle.scp_parser.specs.Command.{IsNamedUnit, ShowsUnit, Keeps}
+use Rattle.line_words.specs.Words.{is_spelled}
+use Rattle.scp_parser.specs.Names.{unit_kinds, first_of, command_named}
 use Rattle.scp_parser.specs.Operands.{or_else, unit_alone, drive_at, drive_of, kind_named, octal, decimal, unit_of, subject_of}
 use Rattle.scp_parser.specs.Reading.{◌>>=◌, next_word, needed, needed_found, ended, last_number, numbered, listing, examine, valued, instruction, deposit, show, operands, command_found, named}
 
@@ -25,13 +26,13 @@ abbrev pub Each : {T : Type 0} → (T → Type 0) → List T → Type 0
 Each P [] = Unit {0}
 Each P (x ∷ more) = P x × Each P more
 
-step : {T : Type 0} (P : T → Type 0) (y x : T) (b : Bool) (rest : Option T) → P y → cond b (Some y) rest ≡ Some x → (rest ≡ Some x → P x) → P x
-step P y x true rest here h later = subst P (same_Some y x h) here
-step P y x false rest here h later = later h
+first_step : {T : Type 0} (P : T → Type 0) (y x : T) (b : Bool) (rest : Option T) → P y → cond b (Some y) rest ≡ Some x → (rest ≡ Some x → P x) → P x
+first_step P y x true rest here h later = subst P (same_Some y x h) here
+first_step P y x false rest here h later = later h
 
 first_keeps : {T : Type 0} (P : T → Type 0) (test : T → Bool) (xs : List T) (x : T) → Each P xs → first_of test xs ≡ Some x → P x
 first_keeps P test [] x each h = absurd (cc h)
-first_keeps P test (y ∷ more) x each h = step P y x (test y) (first_of test more) each.0 h (λ later. first_keeps P test more x each.1 later)
+first_keeps P test (y ∷ more) x each h = first_step P y x (test y) (first_of test more) each.0 h (λ later. first_keeps P test more x each.1 later)
 
 or_else_keeps : {T : Type 0} (P : T → Type 0) (a b : Option T) (x : T) → or_else a b ≡ Some x → (a ≡ Some x → P x) → (b ≡ Some x → P x) → P x
 or_else_keeps P (Some y) b x h first second = first h
@@ -50,7 +51,7 @@ abbrev pub NamesUnit : Kind → Type 0
 NamesUnit kind = TakesFile kind ⊎ (kind ≡ Tti1)
 
 unit_kinds_name : Each NamesUnit unit_kinds
-unit_kinds_name = (inl tt, (inl tt, (inl tt, (inl tt, (inl tt, (inr refl, tt))))))
+unit_kinds_name = (inl refl, (inl refl, (inl refl, (inl refl, (inl refl, (inr refl, tt))))))
 
 below_eight : (b : ℕ) → (leb 48 b && ltb b 56) ≡ true → b - 48 < 8
 below_eight b h = grind (arith, nat_tests)
@@ -59,7 +60,7 @@ drive_at_keeps : (text : List ℕ) (u : UnitName) → drive_at text ≡ Some u �
 drive_at_keeps [] u h = absurd (cc h)
 drive_at_keeps (b ∷ []) u h =
     let parts = cond_some (leb 48 b && ltb b 56) (record { kind = Mta; unit = b - 48 }) u h in
-    subst IsNamedUnit parts.1 (inl tt, inl (refl, below_eight b parts.0))
+    subst IsNamedUnit parts.1 (inl refl, inl (refl, below_eight b parts.0))
 drive_at_keeps (b ∷ c ∷ more) u h = absurd (cc h)
 
 drive_of_keeps : (text : List ℕ) (u : UnitName) → drive_of text ≡ Some u → IsNamedUnit u
@@ -152,8 +153,6 @@ operands_keeps line name.Cont text v h = ended_keeps (Keeps line) verb.Cont text
 operands_keeps line name.Step text v h = numbered_keeps line (λ n. verb.Step n) (last_number decimal text) v (λ n. tt) h
 operands_keeps line name.Show text v h = show_keeps line text v h
 operands_keeps line name.Exit text v h = numbered_keeps line (λ n. verb.Exit n) (last_number decimal text) v (λ n. tt) h
-operands_keeps line name.Quit text v h = numbered_keeps line (λ n. verb.Exit n) (last_number decimal text) v (λ n. tt) h
-operands_keeps line name.Bye text v h = numbered_keeps line (λ n. verb.Exit n) (last_number decimal text) v (λ n. tt) h
 operands_keeps line name.Reset text v h = absurd (cc h)
 operands_keeps line name.NoExpect text v h = absurd (cc h)
 operands_keeps line name.NoSend text v h = absurd (cc h)
@@ -180,20 +179,3 @@ found_keeps line (Some name) rest v h = operands_keeps line name rest v h
 pub named_keeps : (line : List ℕ) (v : Verb) → named line ≡ Ok v → Keeps line v
 unfolding named
 named_keeps line v h = found_keeps line (command_named (next_word line).0) (next_word line).1 v h
-
--- what a verb keeps holds of its request
-pub request_kept : (line : List ℕ) (v : Verb) → Keeps line v → IsKept (request_of line v)
-request_kept line (verb.Expect count text actions) h = h.0.1
-request_kept line (verb.Send after delay text) h = h.1
-request_kept line (verb.Attach option unit name) h = (h.0, h.1, h.2.1)
-request_kept line (verb.AttachPort kind port) h = h
-request_kept line (verb.Detach (Some unit)) h = h
-request_kept line (verb.Load name) h = h.1
-request_kept line (verb.Save name) h = h.1
-request_kept line (verb.Dump from to name) h = h.1
-request_kept line (verb.Restore force name) h = h.1
-request_kept line (verb.Disconnect kind) h = h
-request_kept line (verb.Show subject) h = h
-request_kept line (verb.Do echo strict name arguments) h = h.0.1
-request_kept line (verb.Assert test) h = h
-request_kept line v h = tt

@@ -6,7 +6,7 @@ use Rattle.scp_parser.specs.declared.fault.ParseFault.{ParseFault}
 use Rattle.scp_parser.specs.Command.{Request}
 use Rattle.scp_parser.specs.Grammar.{Takes, Ends, HasNumber, IsLastNumber, left_out, given as given_form}
 use Rattle.scp_parser.specs.Faults.{WordFaults, missing, bad, EndFaults, LastNumberFaults, bad_number, behind_number}
-use Rattle.scp_parser.specs.Reading.{◌>>=◌, next_word, needed, ended, given, last_number, numbered, map_ok}
+use Rattle.scp_parser.specs.Reading.{◌>>=◌, next_word, needed, ended, some_number, last_number, numbered, map_ok}
 use Rattle.scp_parser.proofs.Decides.{Decides}
 use Rattle.scp_parser.proofs.WordLemmas.{first_word, begins_past, begins_not_blank, past_of_blanks}
 use Rattle.scp_parser.proofs.Settles.{Sound, Settles, sound_weaker, same_settles}
@@ -15,20 +15,20 @@ use Rattle.scp_parser.proofs.OperandLemmas.{ended_settles, map_ended, needed_set
 module _ (Form : List ℕ → ℕ → Type 0) (form : List ℕ → Option ℕ) (decides : Decides Form form) (none : form [] ≡ None) (make : Option ℕ → Request) where
   -- the number that is there, and then the end
   behind : Result (ℕ × List ℕ) ParseFault → Result Request ParseFault
-  behind r = numbered make (r >>= given)
+  behind r = numbered make (r >>= some_number)
 
-  none_given : (text : List ℕ) → IsBlanks text → numbered make (last_number form text) ≡ ended (make None) text
+  left_out_given : (text : List ℕ) → IsBlanks text → numbered make (last_number form text) ≡ ended (make None) text
   unfolding last_number
-  none_given text are =
+  left_out_given text are =
       let is : length (past_blanks text) ≡ 0 = ap length (past_of_blanks text are) in
-      ap (numbered make) (cond-true (eqb (length (past_blanks text)) 0) (Ok (None, text)) (needed true form text >>= given) (eq-eqb (length (past_blanks text)) 0 is))
+      ap (numbered make) (cond-true (eqb (length (past_blanks text)) 0) (Ok (None, text)) (needed true form text >>= some_number) (eq-eqb (length (past_blanks text)) 0 is))
 
   one_given : (text word rest : List ℕ) → Begins text word rest → numbered make (last_number form text) ≡ behind (needed true form text)
   unfolding last_number behind
   one_given text word rest begins =
       let past = begins_past text word rest begins in
       let some : length (past_blanks text) ≡ 0 → ⊥ = λ is. omega (arith, begins.is.some, length-append word rest, ap length past, is) in
-      ap (numbered make) (cond-false (eqb (length (past_blanks text)) 0) (Ok (None, text)) (needed true form text >>= given) (ne_eqb (length (past_blanks text)) 0 some))
+      ap (numbered make) (cond-false (eqb (length (past_blanks text)) 0) (Ok (None, text)) (needed true form text >>= some_number) (ne_eqb (length (past_blanks text)) 0 some))
 
   there_given : (text word rest : List ℕ) (n : ℕ) → Begins text word rest → Form word n → numbered make (last_number form text) ≡ ended (make (Some n)) rest
   unfolding behind
@@ -36,7 +36,7 @@ module _ (Form : List ℕ → ℕ → Type 0) (form : List ℕ → Option ℕ) (
       one_given text word rest begins ∙ ap behind ((needed_settles Form form decides none true text).reads (n, rest) (word, begins, is))
 
   number_reads : (text : List ℕ) (asked : Request) (number : Option ℕ) → IsLastNumber Form text number → asked ≡ make number → numbered make (last_number form text) ≡ Ok asked
-  number_reads text asked number (left_out are) is = none_given text are ∙ (ended_settles (make None) text).reads asked (are, is)
+  number_reads text asked number (left_out are) is = left_out_given text are ∙ (ended_settles (make None) text).reads asked (are, is)
   number_reads text asked number (given_form word rest n begins here are) is = there_given text word rest n begins here ∙ (ended_settles (make (Some n)) rest).reads asked (are, is)
 
   number_faults : (text : List ℕ) (e : ParseFault) → LastNumberFaults Form text e → numbered make (last_number form text) ≡ Err e
@@ -66,7 +66,7 @@ module _ (Form : List ℕ → ℕ → Type 0) (form : List ℕ → Option ℕ) (
   number_found : (text : List ℕ) → Sound (HasNumber Form text make) (LastNumberFaults Form text) (numbered make (last_number form text))
   number_found text =
       elim (first_word text) [
-        | inl are ↦ subst (Sound (HasNumber Form text make) (LastNumberFaults Form text)) (sym (none_given text are)) (left_out_found text are)
+        | inl are ↦ subst (Sound (HasNumber Form text make) (LastNumberFaults Form text)) (sym (left_out_given text are)) (left_out_found text are)
         | inr begins ↦
             let word = (next_word text).0 in
             let rest = (next_word text).1 in

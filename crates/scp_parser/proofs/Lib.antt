@@ -1,8 +1,7 @@
 mod Decides
-pub mod ItemsLemmas
+pub mod ItemLoopLemmas
 pub mod KeepsLemmas
 pub mod MarkLemmas
-pub mod ReaderNumberLemmas
 pub mod RegisterLemmas
 mod ChoiceLemmas
 mod SpellingLemmas

@@ -1,20 +1,21 @@
 -- Which line is which command and which fault: the function of lines gives exactly what the grammar says.
-use Rattle.std.proofs.Common.{◌≡◌, ◌↔◌, ℕ, ◌<◌, ◌≤◌, suc, true, false, ◌||◌, cond, eqb, leb, Option, Some, None, Result, Ok, Err, List, [], ◌∷◌, ◌++◌, length, take, refl, ap, sym, subst, ◌∙◌, inl, inr, arith}
-use Rattle.std.specs.Char.{to_ascii_lowercase}
-use Rattle.std.specs.Str.{str_to_ascii_lowercase}
-use Rattle.std.proofs.lemmas.Bool.{eqb-true, eq-eqb, le-leb, lt-leb, cases_Bool, cases_lt, or_cases, or_left, or_right, cond-true, cond-false, false_from_ne_true}
+use Rattle.std.proofs.Common.{◌≡◌, ◌↔◌, ℕ, ◌<◌, ◌≤◌, suc, Bool, true, false, ◌||◌, cond, eqb, leb, Option, Some, None, Result, Ok, Err, List, [], ◌∷◌, ◌++◌, length, take, refl, ap, sym, subst, ◌∙◌, inl, inr, arith}
+use Rattle.std.specs.Char.{to_ascii_uppercase}
+use Rattle.std.specs.Prelude.{nat_le}
+use Rattle.std.specs.List.{list_all}
+use Rattle.std.proofs.lemmas.Bool.{leb-true, eqb-true, eq-eqb, le-leb, lt-leb, cases_Bool, cases_lt, or_cases, or_left, or_right, cond-true, cond-false, false_from_ne_true}
 use Rattle.std.proofs.lemmas.List.{nil_from_length}
-use Rattle.std.proofs.lemmas.List.Elements.{All-nil}
-use Rattle.line_words.specs.Words.{IsBlank, StartsIn, Begins, past_blanks}
+use Rattle.std.proofs.lemmas.List.Elements.{All-nil, All-contains}
+use Rattle.std.proofs.lemmas.List.Sums.{AllPass-from_list_all}
+use Rattle.line_words.specs.Words.{IsBlank, Begins, past_blanks}
 use Rattle.scp_parser.specs.declared.command.Verb.{Verb}
 use Rattle.scp_parser.specs.declared.command.Verb.TheVariants as verb
 use Rattle.scp_parser.specs.declared.fault.ParseFault.{ParseFault}
 use Rattle.scp_parser.specs.declared.fault.ParseFault.TheVariants.{Unknown, TooLong}
 use Rattle.scp_parser.specs.declared.names.CommandName.{CommandName}
-use Rattle.scp_parser.specs.declared.names.CommandName.TheVariants.{Examine}
 use Rattle.scp_parser.specs.Command.{Request, request_of}
 use Rattle.scp_parser.specs.Command as request
-use Rattle.scp_parser.specs.Names.{full_name, IsCommandName, command_named}
+use Rattle.scp_parser.specs.Names.{CommandRow, command_rows, IsCommandName, command_named}
 use Rattle.scp_parser.specs.Grammar.{longest_line, IsMark, BeginsWithMark, AsksNothing, Operates, Parses, nothing as nothing_form, command as command_form}
 use Rattle.scp_parser.specs.Faults.{placed, Faults, too_long, unknown, OperandFaults, operands as operands_form}
 use Rattle.scp_parser.specs.Reading.{next_word, operands, is_mark, begins_with_mark, asks_nothing, command_found, named, placed_in, verb_of, map_ok, reading}
@@ -60,21 +61,32 @@ asks_passes line (inr mark) = or_left (begins_with_mark line) (eqb (length (past
 
 -- no command's name begins with a mark
 
-name_letter : (name : CommandName) (n : ℕ) → StartsIn (λ b. 97 ≤ b) (str_to_ascii_lowercase (take (suc n) (full_name name)))
-name_letter Examine n = omega arith
-name_letter name n = omega arith
+abbrev begins_in_letter : List ℕ → Bool
+begins_in_letter [] = false
+begins_in_letter (b ∷ more) = nat_le 65 b
 
-mark_low : (b : ℕ) → IsMark b → to_ascii_lowercase b < 97
-mark_low b (inl semicolon) = subst (λ (c : ℕ). to_ascii_lowercase c < 97) (sym semicolon) (omega arith)
-mark_low b (inr (inl hash)) = subst (λ (c : ℕ). to_ascii_lowercase c < 97) (sym hash) (omega arith)
-mark_low b (inr (inr colon)) = subst (λ (c : ℕ). to_ascii_lowercase c < 97) (sym colon) (omega arith)
+rows_begin_in_letters : list_all (λ (of : CommandRow). begins_in_letter of.name) command_rows ≡ true
+rows_begin_in_letters = refl
+
+first_letter : (name more : List ℕ) (b n : ℕ) → begins_in_letter name ≡ true → b ∷ more ≡ take (suc n) name → 65 ≤ b
+first_letter [] more b n h same = absurd (cc)
+first_letter (c ∷ rest) more b n h same =
+    let first : b ≡ c = cc in
+    omega (arith, leb-true 65 c h, first)
+
+mark_low : (b : ℕ) → IsMark b → to_ascii_uppercase b < 65
+mark_low b (inl semicolon) = subst (λ (c : ℕ). to_ascii_uppercase c < 65) (sym semicolon) (omega arith)
+mark_low b (inr (inl hash)) = subst (λ (c : ℕ). to_ascii_uppercase c < 65) (sym hash) (omega arith)
+mark_low b (inr (inr colon)) = subst (λ (c : ℕ). to_ascii_uppercase c < 65) (sym colon) (omega arith)
 
 mark_not_blank : (b : ℕ) → IsMark b → IsBlank b → ⊥
 mark_not_blank b mark blank = omega (arith, mark, blank)
 
 name_not_mark : (b : ℕ) (more : List ℕ) (name : CommandName) → IsCommandName (b ∷ more) name → IsMark b → ⊥
 name_not_mark b more name is mark =
-    let letter : 97 ≤ to_ascii_lowercase b = subst (StartsIn (λ c. 97 ≤ c)) (sym is.spelled) (name_letter name (length more)) in
+    let begins = All-contains (λ (of : CommandRow). begins_in_letter of.name ≡ true) command_rows is.of
+    (AllPass-from_list_all (λ (of : CommandRow). begins_in_letter of.name) command_rows rows_begin_in_letters) is.listed in
+    let letter : 65 ≤ to_ascii_uppercase b = first_letter is.of.name _ (to_ascii_uppercase b) (length more) begins is.names.spelled in
     omega (arith, letter, mark_low b mark)
 
 -- a word at the front of a line that begins with a mark
@@ -109,9 +121,9 @@ abbrev short_verb : List ℕ → Result Verb ParseFault
 short_verb line = cond (asks_nothing line) (Ok verb.Nothing) (placed_in (length line) (named line))
 
 -- a line that is too long, whatever stands in it
-pub long_line : (line : List ℕ) → longest_line < length line → reading line ≡ Err TooLong
+pub long-line : (line : List ℕ) → longest_line < length line → reading line ≡ Err TooLong
 unfolding reading verb_of
-long_line line long = ap (map_ok (request_of line)) (cond-false (leb (length line) longest_line) (short_verb line) (Err TooLong) (lt-leb (length line) longest_line long))
+long-line line long = ap (map_ok (request_of line)) (cond-false (leb (length line) longest_line) (short_verb line) (Err TooLong) (lt-leb (length line) longest_line long))
 
 short_line : (line : List ℕ) → length line ≤ longest_line → reading line ≡ map_ok (request_of line) (short_verb line)
 unfolding reading verb_of
@@ -153,7 +165,7 @@ module _ (d : Forms_decided) where
       ∙ placed_ok line (length line) (operands name rest) what ((operands_settle d line name rest).reads what operates)
 
   faults_given : (line : List ℕ) (e : ParseFault) → Faults line e → reading line ≡ Err e
-  faults_given line e (too_long _ long) = long_line line long
+  faults_given line e (too_long _ long) = long-line line long
   faults_given line e (unknown _ word rest short asks begins never) = unknown_line line word rest short asks begins (none_named word (command_named word) d refl never)
   faults_given line e (operands_form _ word rest name fault short begins is faulty) =
       operands_line line word rest name short begins is ((d.command word name).1 is)
@@ -190,7 +202,7 @@ module _ (d : Forms_decided) where
   line_found : (line : List ℕ) → IsFound line (reading line)
   line_found line =
       elim (cases_lt longest_line (length line)) [
-        | inl long ↦ subst (IsFound line) (sym (long_line line long)) (too_long line long)
+        | inl long ↦ subst (IsFound line) (sym (long-line line long)) (too_long line long)
         | inr short ↦ short_found line short
       ]
 

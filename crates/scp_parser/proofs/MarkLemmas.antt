@@ -3,8 +3,9 @@ use Rattle.std.proofs.Common.{◌≡◌, ◌+◌, ◌≤◌, ℕ, eqb, Option, S
 use Rattle.std.specs.List.{position_or_len}
 use Rattle.std.proofs.lemmas.List.{drop_all}
 use Rattle.std.proofs.lemmas.Bool.Decides.{nat_tests}
-use Rattle.scp_parser.specs.Operands.{is_number, octal, decimal, front, behind, both}
-use Rattle.scp_parser.specs.Views.{some_behind, range_of, count_of}
+use Rattle.scp_parser.specs.Operands.{octal, front, behind, both, range_of, count_of}
+use Rattle.scp_parser.specs.Views.{some_behind}
+use Rattle.scp_parser.proofs.NothingLemmas.{no_octal, no_decimal}
 
 -- where nothing stands behind a mark, no byte is left behind it
 behind_none : (mark : ℕ) (text : List ℕ) → some_behind mark text ≡ None → behind mark text ≡ []
@@ -12,20 +13,12 @@ behind_none mark text h =
     let past : length text ≤ position_or_len (λ b. eqb b mark) text + 1 = grind (arith, nat_tests) in
     drop_all (position_or_len (λ b. eqb b mark) text + 1) text past
 
-octal_of_none : octal [] ≡ None
-unfolding octal is_number
-octal_of_none = refl
-
-decimal_of_none : decimal [] ≡ None
-unfolding decimal is_number
-decimal_of_none = refl
-
 both_none : {A B C : Type 0} (f : A → B → C) (a : Option A) → both f a None ≡ None
 both_none f (Some a) = refl
 both_none f None = refl
 
 pub range_none : (text : List ℕ) → some_behind 45 text ≡ None → range_of text ≡ None
-range_none text h = rw (behind_none 45 text h) (rw octal_of_none (both_none _ (octal (front 45 text))))
+range_none text h = rw (behind_none 45 text h) (rw no_octal (both_none _ (octal (front 45 text))))
 
 pub count_none : (text : List ℕ) → some_behind 47 text ≡ None → count_of text ≡ None
-count_none text h = rw (behind_none 47 text h) (rw decimal_of_none (both_none _ (octal (front 47 text))))
+count_none text h = rw (behind_none 47 text h) (rw no_decimal (both_none _ (octal (front 47 text))))

@@ -1,16 +1,17 @@
 -- The text without a byte has no form.
 use Rattle.std.proofs.Common.{◌≡◌, [], None, refl}
 use Rattle.unit_trait.specs.declared.kind.Kind.TheVariants.{Dsk, Mta, Lpt, Ptr, Ptp, Clk, Tti, Tto, Tti1, Tto1, Qty}
+use Rattle.nova_word.specs.Numbers.{number_read}
 use Rattle.scp_parser.specs.declared.listing.Name.{Name}
 use Rattle.scp_parser.specs.declared.listing.Name.TheVariants as whose
-use Rattle.scp_parser.specs.Operands.{is_number, octal, decimal, is_name, register_named, named_item, numbered_item, item_of, items_up_to, items_of, condition_of, kind_named, device_of, drive_of, unit_of, subject_of, symbolic_of}
+use Rattle.scp_parser.specs.Operands.{octal, decimal, is_name, register_named, named_item, numbered_item, item_of, items_up_to, items_of, condition_of, kind_named, device_of, drive_of, unit_of, subject_of, symbolic_of}
 
 pub no_octal : octal [] ≡ None
-unfolding octal is_number
+unfolding octal number_read
 no_octal = refl
 
 pub no_decimal : decimal [] ≡ None
-unfolding decimal is_number
+unfolding decimal number_read
 no_decimal = refl
 
 pub no_condition : condition_of [] ≡ None
@@ -30,7 +31,7 @@ unfolding subject_of unit_of kind_named drive_of
 no_subject = refl
 
 pub no_items : (device : Name) → items_of device [] ≡ None
-unfolding items_of items_up_to item_of named_item register_named is_name numbered_item octal is_number decimal
+unfolding items_of items_up_to item_of named_item register_named is_name numbered_item octal number_read decimal
 no_items whose.Cpu = refl
 no_items (whose.Device Dsk) = refl
 no_items (whose.Device Mta) = refl

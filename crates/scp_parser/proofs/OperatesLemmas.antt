@@ -1,17 +1,17 @@
 -- What each command asks for, by the operands behind its name.
-use Rattle.std.proofs.Common.{◌≡◌, ℕ, Bool, true, false, cond, Option, Result, Ok, Err, List, refl, ap, sym, inl, inr}
+use Rattle.std.proofs.Common.{◌≡◌, ℕ, Bool, true, false, cond, Option, Ok, Err, List, refl, ap, sym, inl, inr}
 use Rattle.scp_parser.specs.declared.listing.Listing.{Listing}
 use Rattle.scp_parser.specs.declared.command.Verb.{Verb}
 use Rattle.scp_parser.specs.declared.command.Verb.TheVariants as verb
 use Rattle.scp_parser.specs.declared.fault.ParseFault.{ParseFault}
 use Rattle.scp_parser.specs.declared.fault.ParseFault.TheVariants.{NotBuilt}
 use Rattle.scp_parser.specs.declared.names.CommandName.{CommandName}
-use Rattle.scp_parser.specs.declared.names.CommandName.TheVariants.{Examine, Deposit, Run, Go, Cont, Step, Show, Exit, Quit, Bye}
+use Rattle.scp_parser.specs.declared.names.CommandName.TheVariants.{Examine, Deposit, Run, Go, Cont, Step, Show, Exit}
 use Rattle.scp_parser.specs.Command.{Request, request_of}
 use Rattle.scp_parser.specs.Command as request
 use Rattle.scp_parser.specs.Forms.{IsOctal, IsDecimal, IsSubject}
 use Rattle.scp_parser.specs.Operands.{octal, decimal, subject_of}
-use Rattle.scp_parser.specs.Grammar.{Then, Takes, Ends, HasNumber, IsInstruction, HasValue, IsListing, Operates}
+use Rattle.scp_parser.specs.Grammar.{Takes, Ends, HasNumber, IsInstruction, HasValue, IsListing, Operates}
 use Rattle.scp_parser.specs.Faults.{WordFaults, EndFaults, LastNumberFaults, ListFaults, FaultThen, InstructionFaults, ValueFaults, OperandFaults}
 use Rattle.scp_parser.specs.Reading.{◌>>=◌, map_ok, needed, ended, last_number, numbered, listing, instruction, examine, valued, deposit, show, operands}
 use Rattle.scp_parser.proofs.FormsDecided.{Forms_decided}
@@ -52,7 +52,7 @@ module _ (d : Forms_decided) (line : List ℕ) where
 
   value_settles : (symbolic : Bool) (l : Listing) (text : List ℕ)
       → Settles (map_ok see (cond symbolic (instruction text >>= (λ w. Ok (verb.Deposit l w))) (needed true octal text >>= (λ n. ended (verb.Deposit l n.0) n.1))))
-        (HasValue symbolic text (λ n. request.Deposit l n)) (ValueFaults symbolic text)
+      (HasValue symbolic text (λ n. request.Deposit l n)) (ValueFaults symbolic text)
   value_settles true l text = symbolic_settles l text
   value_settles false l text = plain_settles l text
 
@@ -93,6 +93,4 @@ module _ (d : Forms_decided) (line : List ℕ) where
   operands_settle Step text = decimal_settles (λ n. verb.Step n) text
   operands_settle Show text = show_settles text
   operands_settle Exit text = decimal_settles (λ n. verb.Exit n) text
-  operands_settle Quit text = decimal_settles (λ n. verb.Exit n) text
-  operands_settle Bye text = decimal_settles (λ n. verb.Exit n) text
   operands_settle name text = no_request

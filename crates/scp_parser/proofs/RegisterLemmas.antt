@@ -1,25 +1,18 @@
 -- The search for a register by its name.
-use Rattle.std.proofs.Common.{◌≡◌, ◌+◌, ◌<◌, ◌≤◌, ℕ, Bool, true, false, cond, ltb, Option, Some, None, List, [], length, get_or, arith, inl, inr}
+use Rattle.std.proofs.Common.{◌≡◌, ◌+◌, ◌<◌, ◌≤◌, ℕ, Bool, false, cond, ltb, Option, Some, None, List, [], length, get_or, arith, inl, inr}
 use Rattle.std.specs.List.{position, slice_get}
 use Rattle.std.proofs.lemmas.List.Sums.{position_or_len_is}
-use Rattle.std.proofs.lemmas.Option.{slice_get_within, slice_get_cases, get_or_from_slice_get}
+use Rattle.std.proofs.lemmas.Option.{slice_get_cases, get_or_from_slice_get}
 use Rattle.std.proofs.lemmas.Bool.Decides.{nat_tests}
 use borrow.Author.Count.{below_more}
 use Rattle.scp_parser.specs.declared.listing.Name.{Name}
-use Rattle.scp_parser.specs.Names.{is_spelled, register_names}
+use Rattle.line_words.specs.Words.{is_spelled}
+use Rattle.scp_parser.specs.Names.{register_names}
 use Rattle.scp_parser.specs.Operands.{register_named}
 
 -- a place in a list, by the test that it is within
-place_within : (place n : ℕ) → place < n → cond (ltb place n) (Some place) None ≡ Some place
-place_within place n h = grind (arith, nat_tests)
-
 place_past : (place n : ℕ) → place ≡ n → cond (ltb place n) (Some place) None ≡ None
 place_past place n h = grind (arith, nat_tests)
-
-position_found : {X : Type 0} (p : X → Bool) (xs : List X) (i : ℕ) (d : X) → i < length xs → ((k : ℕ) → k < i → p (get_or xs k d) ≡ false) → p (get_or xs i d) ≡ true → position p xs ≡ Some i
-position_found p xs i d within before here =
-    let place = position_or_len_is p xs i d (omega arith) before (λ _. here) in
-    rw place (place_within i (length xs) within)
 
 position_none : {X : Type 0} (p : X → Bool) (xs : List X) (i : ℕ) (d : X) → i ≡ length xs → ((k : ℕ) → k < i → p (get_or xs k d) ≡ false) → position p xs ≡ None
 position_none p xs i d end before =
@@ -29,14 +22,6 @@ position_none p xs i d end before =
 -- the names before a register's number are not its name
 abbrev pub NoneBefore : Name → List ℕ → ℕ → Type 0
 NoneBefore device word i = (k : ℕ) → k < i → is_spelled word (get_or (register_names device) k []) ≡ false
-
-pub register_found : (device : Name) (word name : List ℕ) (i : ℕ) → slice_get (register_names device) i ≡ Some name → is_spelled word name ≡ true → NoneBefore device word i → register_named device word ≡ Some i
-unfolding register_named
-register_found device word name i is same before =
-    let names = register_names device in
-    let here : get_or names i [] ≡ name = get_or_from_slice_get names i name [] is in
-    let passes : is_spelled word (get_or names i []) ≡ true = rw here same in
-    position_found (λ n. is_spelled word n) names i [] (slice_get_within names i name is) before passes
 
 some_none : {X : Type 0} {o : Option X} {x : X} → o ≡ Some x → o ≡ None → ⊥
 some_none p q = cc (p, q)

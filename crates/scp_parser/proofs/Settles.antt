@@ -1,5 +1,5 @@
 -- What it means that a reader's result is settled by a relation of its values and one of its faults.
-use Rattle.std.proofs.Common.{◌≡◌, Result, Ok, Err, refl, ap, sym, subst, ◌∙◌, ◌⊎◌, inl, inr}
+use Rattle.std.proofs.Common.{◌≡◌, Result, Ok, Err, refl, ap, sym, subst, ◌∙◌, inl, inr}
 use Rattle.scp_parser.specs.declared.fault.ParseFault.{ParseFault}
 use Rattle.scp_parser.specs.Grammar.{Then}
 use Rattle.scp_parser.specs.Faults.{FaultThen}

@@ -5,7 +5,7 @@ use Rattle.std.specs.List.{list_all, before_first, after_first, position_or_len}
 use Rattle.std.proofs.lemmas.Bool.{and_parts, and_right, eqb-true, ltb-true, le-ltb, lt-ltb}
 use Rattle.std.proofs.lemmas.List.{take_at, drop_at}
 use Rattle.std.proofs.lemmas.List.Sums.{split_at_first, passes_at_first}
-use Rattle.scp_parser.specs.Operands.{front, behind, has_comma}
+use Rattle.scp_parser.specs.Operands.{front, behind, has_mark}
 use Rattle.scp_parser.proofs.SpellingLemmas.{lacks}
 
 -- the first byte that passes behind bytes that do not
@@ -52,13 +52,13 @@ pub holds_mark : (mark : ℕ) (text rest : List ℕ) → lacks mark (text ++ mar
 holds_mark mark [] rest = rw (same_mark mark) refl
 holds_mark mark (b ∷ text) rest = and_right (not (b == mark)) (lacks mark (text ++ mark ∷ rest)) (holds_mark mark text rest)
 
-pub no_comma : (text : List ℕ) → lacks 44 text ≡ true → has_comma text ≡ false
+pub no_comma : (text : List ℕ) → lacks 44 text ≡ true → has_mark 44 text ≡ false
 no_comma text none = let at = no_place (λ b. b == 44) text none in le-ltb (position_or_len (λ b. b == 44) text) (length text) (omega arith)
 
-pub a_comma : (text rest : List ℕ) → lacks 44 text ≡ true → has_comma (text ++ 44 ∷ rest) ≡ true
+pub a_comma : (text rest : List ℕ) → lacks 44 text ≡ true → has_mark 44 (text ++ 44 ∷ rest) ≡ true
 a_comma text rest none =
     let at = first_place (λ b. b == 44) text rest 44 none refl in
     lt-ltb (position_or_len (λ b. b == 44) (text ++ 44 ∷ rest)) (length (text ++ 44 ∷ rest)) (omega (arith, at, length-append text (44 ∷ rest)))
 
-pub split_comma : (text : List ℕ) → has_comma text ≡ true → text ≡ front 44 text ++ 44 ∷ behind 44 text
+pub split_comma : (text : List ℕ) → has_mark 44 text ≡ true → text ≡ front 44 text ++ 44 ∷ behind 44 text
 split_comma text h = split_at 44 text (ltb-true (position_or_len (λ b. b == 44) text) (length text) h)

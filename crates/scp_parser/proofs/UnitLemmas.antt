@@ -1,8 +1,8 @@
 -- Kinds, units and subjects by their names.
 use Rattle.std.specs.Prelude.{nat_le, nat_lt, codes}
 use Rattle.std.proofs.Common.{◌≡◌, inl, inr, ℕ, ◌+◌, ◌-◌, ◌<◌, Bool, true, false, cond, ◌&&◌, Option, Some, None, List, [], ◌∷◌, ◌++◌, take, drop, refl, ap, sym, ◌∙◌, subst, arith}
-use Rattle.std.specs.Char.{to_ascii_lowercase}
-use Rattle.std.specs.Str.{str_to_ascii_lowercase}
+use Rattle.std.specs.Char.{to_ascii_uppercase}
+use Rattle.std.specs.Str.{str_to_ascii_uppercase}
 use Rattle.std.specs.Option.{option_map}
 use Rattle.std.proofs.lemmas.Bool.{both_ways, and_parts, leb-true, le-leb, ltb-true, lt-ltb}
 use Rattle.std.proofs.lemmas.Bool.Decides.{nat_tests}
@@ -13,17 +13,18 @@ use Rattle.unit_trait.specs.declared.kind.UnitName.{UnitName}
 use Rattle.unit_trait.specs.Kinds.{kind_name}
 use Rattle.scp_parser.specs.declared.command.Shown.{Shown}
 use Rattle.scp_parser.specs.declared.command.Shown.TheVariants.{Time, Cpu, Queue, Break, Expect, Send, Version, Unit as AUnit}
-use Rattle.scp_parser.specs.Names.{IsSpelled, is_spelled, device_kinds, unit_kinds}
+use Rattle.line_words.specs.Words.{IsSpelled, is_spelled}
+use Rattle.scp_parser.specs.Names.{device_kinds, unit_kinds}
 use Rattle.scp_parser.specs.Forms.{IsKind, IsDevice, IsUnit, alone, drive, IsSubject, time, cpu, queue, breaks, expects, sends, version, unit, IsSymbolic}
 use Rattle.scp_parser.specs.Operands.{kind_named, device_of, unit_alone, drive_at, drive_of, unit_of, subject_of, symbolic_of}
 use Rattle.scp_parser.proofs.ChoiceLemmas.{chosen, same_some, none_from, either_answer, first_answer, second_answer, mapped}
-use Rattle.scp_parser.proofs.SpellingLemmas.{spelled_is, is_spelled_so, are_alike, alike}
+use Rattle.line_words.proofs.SpellingLemmas.{spelled_is, is_spelled_so, spelled_alike}
 use Rattle.scp_parser.proofs.ListLemmas.{are_apart, first_found, first_is}
 
 -- kinds
 
 abbrev same_name : Kind → Kind → Bool
-same_name a b = are_alike (kind_name a) (kind_name b)
+same_name a b = is_spelled (kind_name a) (kind_name b)
 
 kind_found : (kinds : List Kind) (text : List ℕ) (kind : Kind) → kind_named kinds text ≡ Some kind → IsKind kinds text kind
 unfolding kind_named
@@ -35,7 +36,7 @@ kind_reads : (kinds : List Kind) (text : List ℕ) (kind : Kind) → are_apart s
 unfolding kind_named
 kind_reads kinds text kind apart h =
     first_is (λ k. is_spelled text (kind_name k)) same_name kinds kind
-    (λ a b first second. alike text (kind_name a) (kind_name b) (spelled_is text (kind_name a) first) (spelled_is text (kind_name b) second))
+    (λ a b first second. spelled_alike text (kind_name a) (kind_name b) (spelled_is text (kind_name a) first) (spelled_is text (kind_name b) second))
     apart h.listed (is_spelled_so text (kind_name kind) h.spelled)
 
 pub device_found : (text : List ℕ) (kind : Kind) → device_of text ≡ Some kind → IsDevice text kind
@@ -68,11 +69,15 @@ drive_at_found (b ∷ []) u h =
     ]
 drive_at_found (b ∷ c ∷ more) u h = absurd (cc)
 
-drive_spelled : (text : List ℕ) (n : ℕ) → IsSpelled (take 3 text) (codes "MTA") → drop 3 text ≡ (48 + n) ∷ [] → IsSpelled text (drive_name n)
-drive_spelled text n tape digit =
-    ap str_to_ascii_lowercase (sym (take-append-drop 3 text)) ∙ map-append to_ascii_lowercase (take 3 text) (drop 3 text)
-    ∙ ap (λ (t : List ℕ). t ++ str_to_ascii_lowercase (drop 3 text)) tape
-    ∙ ap (λ (t : List ℕ). str_to_ascii_lowercase (codes "MTA") ++ str_to_ascii_lowercase t) digit
+digit_stays : (n : ℕ) → n < 8 → to_ascii_uppercase (48 + n) ≡ 48 + n
+digit_stays n below = grind (arith, nat_tests)
+
+drive_spelled : (text : List ℕ) (n : ℕ) → n < 8 → IsSpelled (take 3 text) (codes "MTA") → drop 3 text ≡ (48 + n) ∷ [] → IsSpelled text (drive_name n)
+drive_spelled text n below tape digit =
+    ap str_to_ascii_uppercase (sym (take-append-drop 3 text)) ∙ map-append to_ascii_uppercase (take 3 text) (drop 3 text)
+    ∙ ap (λ (t : List ℕ). t ++ str_to_ascii_uppercase (drop 3 text)) tape
+    ∙ ap (λ (t : List ℕ). codes "MTA" ++ str_to_ascii_uppercase t) digit
+    ∙ ap (λ (c : ℕ). codes "MTA" ++ c ∷ []) (digit_stays n below)
 
 drive_found : (text : List ℕ) (u : UnitName) → drive_of text ≡ Some u → IsUnit text u
 unfolding drive_of
@@ -80,19 +85,19 @@ drive_found text u h =
     elim (chosen (is_spelled (take 3 text) (codes "MTA")) (drive_at (drop 3 text)) None (Some u) h) [
       | inl tape ↦
           let (n, below, digit, same) = drive_at_found (drop 3 text) u tape.1 in
-          let spelled = drive_spelled text n (spelled_is (take 3 text) (codes "MTA") tape.0) digit in
+          let spelled = drive_spelled text n below (spelled_is (take 3 text) (codes "MTA") tape.0) digit in
           subst (λ (v : UnitName). IsUnit text v) same (drive text n below spelled)
       | inr other ↦ absurd (cc)
     ]
 
-digit_alike : (b n : ℕ) → n < 8 → to_ascii_lowercase b ≡ to_ascii_lowercase (48 + n) → b ≡ 48 + n
+digit_alike : (b n : ℕ) → n < 8 → to_ascii_uppercase b ≡ 48 + n → b ≡ 48 + n
 digit_alike b n below h = grind (arith, nat_tests)
 
-drive_at_is : (rest : List ℕ) (n : ℕ) → n < 8 → str_to_ascii_lowercase rest ≡ str_to_ascii_lowercase ((48 + n) ∷ []) → drive_at rest ≡ Some (drive_unit n)
+drive_at_is : (rest : List ℕ) (n : ℕ) → n < 8 → str_to_ascii_uppercase rest ≡ (48 + n) ∷ [] → drive_at rest ≡ Some (drive_unit n)
 drive_at_is [] n below h = absurd (cc)
 drive_at_is (b ∷ []) n below h =
-    let lower : to_ascii_lowercase b ≡ to_ascii_lowercase (48 + n) = cc in
-    let same = digit_alike b n below lower in
+    let upper : to_ascii_uppercase b ≡ 48 + n = cc in
+    let same = digit_alike b n below upper in
     let value : b - 48 ≡ n = omega arith in
     rw (le-leb 48 b (omega arith), lt-ltb b 56 (omega arith)) (ap (λ (m : ℕ). Some (drive_unit m)) value)
 drive_at_is (b ∷ c ∷ more) n below h = absurd (cc)
@@ -100,12 +105,12 @@ drive_at_is (b ∷ c ∷ more) n below h = absurd (cc)
 drive_reads : (text : List ℕ) (n : ℕ) → n < 8 → IsSpelled text (drive_name n) → drive_of text ≡ Some (drive_unit n)
 unfolding drive_of
 drive_reads text n below h =
-    let tape : IsSpelled (take 3 text) (codes "MTA") = sym (take-map to_ascii_lowercase 3 text) ∙ ap (take 3) h in
-    let digit : str_to_ascii_lowercase (drop 3 text) ≡ str_to_ascii_lowercase ((48 + n) ∷ []) = sym (drop-map to_ascii_lowercase 3 text) ∙ ap (drop 3) h in
+    let tape : IsSpelled (take 3 text) (codes "MTA") = sym (take-map to_ascii_uppercase 3 text) ∙ ap (take 3) h in
+    let digit : str_to_ascii_uppercase (drop 3 text) ≡ (48 + n) ∷ [] = sym (drop-map to_ascii_uppercase 3 text) ∙ ap (drop 3) h in
     rw (is_spelled_so (take 3 text) (codes "MTA") tape) (drive_at_is (drop 3 text) n below digit)
 
 -- no kind is named as a drive
-drive_apart : (kind : Kind) (n : ℕ) → are_alike (kind_name kind) (drive_name n) ≡ false
+drive_apart : (kind : Kind) (n : ℕ) → is_spelled (kind_name kind) (drive_name n) ≡ false
 drive_apart Dsk n = refl
 drive_apart Mta n = refl
 drive_apart Lpt n = refl
@@ -120,7 +125,7 @@ drive_apart Qty n = refl
 
 kind_is_no_drive : (text : List ℕ) (kind : Kind) (n : ℕ) → IsSpelled text (kind_name kind) → IsSpelled text (drive_name n) → ⊥
 kind_is_no_drive text kind n one other =
-    both_ways (are_alike (kind_name kind) (drive_name n)) (drive_apart kind n) (alike text (kind_name kind) (drive_name n) one other)
+    both_ways (is_spelled (kind_name kind) (drive_name n)) (drive_apart kind n) (spelled_alike text (kind_name kind) (drive_name n) one other)
 
 pub unit_found : (text : List ℕ) (u : UnitName) → unit_of text ≡ Some u → IsUnit text u
 unfolding unit_of

@@ -2,8 +2,9 @@
 use Rattle.std.specs.Prelude.{◌≡◌, ◌⊎◌, ℕ, ◌-◌, ◌+◌, ◌*◌, ◌<◌, ◌≤◌, Bool, List, [], ◌∷◌, ◌++◌, length, take, drop, Option, Some}
 use Rattle.std.specs.Str.{IsUtf8}
 use Rattle.unit_trait.specs.declared.kind.Kind.{Kind}
-use Rattle.unit_trait.specs.declared.kind.Kind.TheVariants.{Dsk, Mta, Lpt, Ptr, Ptp, Tti1}
+use Rattle.unit_trait.specs.declared.kind.Kind.TheVariants.{Mta, Tti1}
 use Rattle.unit_trait.specs.declared.kind.UnitName.{UnitName}
+use Rattle.unit_trait.specs.Kinds.{TakesFile}
 use Rattle.scp_parser.specs.declared.listing.Listing.{Listing}
 use Rattle.scp_parser.specs.declared.listing.Test.{Test}
 use Rattle.scp_parser.specs.declared.listing.Item.{Item}
@@ -118,15 +119,6 @@ IsFileName name = (0 < length name) × (length name ≤ 255) × IsUtf8 name
 
 abbrev pub IsNamePiece : List ℕ → Piece → Type 0
 IsNamePiece line p = IsPiece line p × IsFileName (piece_of line p)
-
--- a kind of unit that a file is attached to
-abbrev pub TakesFile : Kind → Type 0
-TakesFile Dsk = Unit {0}
-TakesFile Mta = Unit {0}
-TakesFile Lpt = Unit {0}
-TakesFile Ptr = Unit {0}
-TakesFile Ptp = Unit {0}
-TakesFile kind = ⊥
 
 -- a drive of the tape is one of eight, and of every other kind there is one unit
 abbrev pub IsDrive : UnitName → Type 0

@@ -1,24 +1,22 @@
 -- The one fault of each line that is no command. The words are taken from the left: the first that is not as the
 -- grammar wants it is at fault. A place is said by how many bytes of the line are left there.
-use Rattle.std.specs.Prelude.{◌≡◌, ◌⊎◌, ℕ, ◌-◌, ◌<◌, ◌≤◌, Bool, true, false, ◌||◌, ◌&&◌, nat_le, List, [], ◌∷◌, ◌++◌, length, Option, if◌then◌else◌}
+use Rattle.std.specs.Prelude.{◌≡◌, ◌⊎◌, ℕ, ◌-◌, ◌<◌, ◌≤◌, Bool, true, false, ◌||◌, List, [], ◌∷◌, ◌++◌, length, Option, if◌then◌else◌}
 use Rattle.line_words.specs.Words.{IsBlanks, Begins}
+use Rattle.nova_word.specs.Numbers.{is_digit}
 use Rattle.nova_symbols.specs.Forms.{Reads}
 use Rattle.scp_parser.specs.declared.listing.Name.{Name}
 use Rattle.scp_parser.specs.declared.listing.Condition.{Condition}
 use Rattle.scp_parser.specs.declared.fault.ParseFault.{ParseFault}
 use Rattle.scp_parser.specs.declared.fault.ParseFault.TheVariants.{Unknown, Missing, BadNumber, BadName, BadSymbol, Extra, TooLong, NotBuilt}
 use Rattle.scp_parser.specs.declared.names.CommandName.{CommandName}
-use Rattle.scp_parser.specs.declared.names.CommandName.TheVariants.{Examine, Deposit, Run, Go, Cont, Step, Show, Exit, Quit, Bye}
+use Rattle.scp_parser.specs.declared.names.CommandName.TheVariants.{Examine, Deposit, Run, Go, Cont, Step, Show, Exit}
 use Rattle.scp_parser.specs.Names.{IsCommandName}
 use Rattle.scp_parser.specs.Forms.{IsOctal, IsDecimal, IsList, IsSubject}
 use Rattle.scp_parser.specs.Grammar.{longest_line, Chooses, IsListing, Takes, IsInside, AsksNothing}
 
-abbrev pub is_decimal_digit : ℕ → Bool
-is_decimal_digit b = nat_le 48 b && nat_le b 57
-
 abbrev pub begins_with_digit : List ℕ → Bool
 begins_with_digit [] = false
-begins_with_digit (b ∷ more) = is_decimal_digit b
+begins_with_digit (b ∷ more) = is_digit 10 b
 
 -- the fault of a word that is not in the form of its operand, with so many bytes left at it: a bad number where it
 -- begins with a digit or where only a number may stand, and else a bad name
@@ -67,8 +65,6 @@ OperandFaults Cont text fault = EndFaults text fault
 OperandFaults Step text fault = LastNumberFaults IsDecimal text fault
 OperandFaults Show text fault = FaultThen (WordFaults IsSubject false text) (Takes IsSubject text) (λ s. EndFaults s.1) fault
 OperandFaults Exit text fault = LastNumberFaults IsDecimal text fault
-OperandFaults Quit text fault = LastNumberFaults IsDecimal text fault
-OperandFaults Bye text fault = LastNumberFaults IsDecimal text fault
 OperandFaults name text fault = fault ≡ NotBuilt
 
 -- a fault by its place from the beginning of a line of that length

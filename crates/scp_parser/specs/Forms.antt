@@ -1,6 +1,6 @@
 -- The forms of the words of a line: numbers, names, items, conditions, devices, units and subjects.
 use Rattle.std.specs.Prelude.{◌≡◌, ◌⊎◌, ℕ, ◌+◌, ◌-◌, ◌<◌, ◌≤◌, ◌^◌, All, List, [], ◌∷◌, ◌++◌, length, codes, nat_le, slice_get, Some, None, Contains, if◌then◌else◌}
-use Rattle.nova_word.specs.Numbers.{IsNumber}
+use Rattle.nova_word.specs.Numbers.{IsDigit, IsNumber}
 use Rattle.unit_trait.specs.declared.kind.Kind.{Kind}
 use Rattle.unit_trait.specs.declared.kind.Kind.TheVariants.{Mta}
 use Rattle.unit_trait.specs.declared.kind.UnitName.{UnitName}
@@ -13,7 +13,8 @@ use Rattle.scp_parser.specs.declared.listing.Item.{Item}
 use Rattle.scp_parser.specs.declared.listing.Item.TheVariants.{At, Range, Count, All as AllWords, Reg, State, Unknown}
 use Rattle.scp_parser.specs.declared.command.Shown.{Shown}
 use Rattle.scp_parser.specs.declared.command.Shown.TheVariants.{Time, Cpu, Queue, Break, Expect, Send, Version, Unit as AUnit}
-use Rattle.scp_parser.specs.Names.{IsSpelled, device_kinds, unit_kinds, register_names}
+use Rattle.line_words.specs.Words.{IsSpelled}
+use Rattle.scp_parser.specs.Names.{device_kinds, unit_kinds, register_names}
 
 -- a number above the largest of its reader is held as this one
 abbrev pub too_large : ℕ
@@ -43,13 +44,10 @@ IsDecimal text n = IsHeld 10 largest_decimal text n
 abbrev pub IsLetter : ℕ → Type 0
 IsLetter b = ((65 ≤ b) × (b ≤ 90)) ⊎ ((97 ≤ b) × (b ≤ 122))
 
-abbrev pub IsDecimalDigit : ℕ → Type 0
-IsDecimalDigit b = (48 ≤ b) × (b ≤ 57)
-
 -- a letter, and then letters, digits and `_`
 abbrev pub IsName : List ℕ → Type 0
 IsName [] = ⊥
-IsName (b ∷ more) = IsLetter b × All (λ c. IsLetter c ⊎ (IsDecimalDigit c ⊎ (c ≡ 95))) more
+IsName (b ∷ more) = IsLetter b × All (λ c. IsLetter c ⊎ (IsDigit 10 c ⊎ (c ≡ 95))) more
 
 -- register k of the processor or of a device, by its name
 pub record IsRegister (device : Name) (text : List ℕ) (k : ℕ) : Type 0 where

@@ -8,7 +8,7 @@ use Rattle.scp_parser.specs.declared.listing.Name.TheVariants as whose
 use Rattle.scp_parser.specs.declared.listing.Condition.{Condition}
 use Rattle.scp_parser.specs.declared.listing.Listing.{Listing}
 use Rattle.scp_parser.specs.declared.names.CommandName.{CommandName}
-use Rattle.scp_parser.specs.declared.names.CommandName.TheVariants.{Examine, Deposit, Run, Go, Cont, Step, Show, Exit, Quit, Bye}
+use Rattle.scp_parser.specs.declared.names.CommandName.TheVariants.{Examine, Deposit, Run, Go, Cont, Step, Show, Exit}
 use Rattle.scp_parser.specs.Command.{Request}
 use Rattle.scp_parser.specs.Command as request
 use Rattle.scp_parser.specs.Names.{IsCommandName}
@@ -107,8 +107,8 @@ HasValue false text make asked = Then (Takes IsOctal text) (λ n. Ends (make n.0
 abbrev pub IsListing : Bool → List ℕ → Listing × List ℕ → Type 0
 IsListing conditions text l = Lists conditions text l.0 l.1
 
--- what a command asks for, by its name and the operands behind it; one that this version of the program does not have
--- asks for nothing
+-- what a command asks for, by its name and the operands behind it; with one that this version of the program does not
+-- have no line is a command
 abbrev pub Operates : CommandName → List ℕ → Request → Type 0
 Operates Examine text asked = Then (IsListing true text) (λ l. Ends (request.Examine l.0) l.1) asked
 Operates Deposit text asked = Then (IsListing false text) (λ l. HasValue l.0.symbolic l.1 (λ n. request.Deposit l.0 n)) asked
@@ -118,8 +118,6 @@ Operates Cont text asked = Ends request.Cont text asked
 Operates Step text asked = HasNumber IsDecimal text (λ n. request.Step n) asked
 Operates Show text asked = Then (Takes IsSubject text) (λ s. Ends (request.Show s.0) s.1) asked
 Operates Exit text asked = HasNumber IsDecimal text (λ n. request.Exit n) asked
-Operates Quit text asked = HasNumber IsDecimal text (λ n. request.Exit n) asked
-Operates Bye text asked = HasNumber IsDecimal text (λ n. request.Exit n) asked
 Operates name text asked = ⊥
 
 -- a comment begins with `;` or `#`, and a label with `:`

@@ -1,7 +1,9 @@
 -- The forms of words as functions: what a word stands for, if it has the form.
-use Rattle.std.specs.Prelude.{ℕ, ◌+◌, ◌-◌, ◌==◌, zero, suc, Bool, true, false, ◌&&◌, ◌||◌, nat_le, nat_lt, List, [], ◌∷◌, length, take, drop, codes, Option, Some, None, option_map, if◌then◌else◌}
+use Rattle.std.specs.Prelude.{ℕ, ◌-◌, ◌==◌, zero, suc, Bool, true, false, ◌&&◌, ◌||◌, nat_le, nat_lt, List, [], ◌∷◌, length, take, drop, codes, Option, Some, None, option_map, Result, Ok, Err, if◌then◌else◌}
 use Rattle.std.specs.List.{list_all, before_first, after_first, position, position_or_len}
-use Rattle.nova_word.specs.Numbers.{value_of}
+use Rattle.nova_word.specs.declared.numbers.NumberFault.{NumberFault}
+use Rattle.nova_word.specs.declared.numbers.NumberFault.TheVariants.{TooLarge}
+use Rattle.nova_word.specs.Numbers.{is_digit, number_read}
 use Rattle.unit_trait.specs.declared.kind.Kind.{Kind}
 use Rattle.unit_trait.specs.declared.kind.Kind.TheVariants.{Mta}
 use Rattle.unit_trait.specs.declared.kind.UnitName.{UnitName}
@@ -14,8 +16,9 @@ use Rattle.scp_parser.specs.declared.listing.Item.{Item}
 use Rattle.scp_parser.specs.declared.listing.Item.TheVariants.{At, Range, Count, All, Reg, State, Unknown}
 use Rattle.scp_parser.specs.declared.command.Shown.{Shown}
 use Rattle.scp_parser.specs.declared.command.Shown.TheVariants.{Time, Cpu, Queue, Break, Expect, Send, Version, Unit as AUnit}
-use Rattle.scp_parser.specs.Names.{is_spelled, device_kinds, unit_kinds, register_names, first_of}
-use Rattle.scp_parser.specs.Forms.{held, largest_octal, largest_decimal}
+use Rattle.line_words.specs.Words.{is_spelled}
+use Rattle.scp_parser.specs.Names.{device_kinds, unit_kinds, register_names, first_of}
+use Rattle.scp_parser.specs.Forms.{too_large, largest_octal, largest_decimal}
 
 abbrev pub or_else : {T : Type 0} → Option T → Option T → Option T
 or_else (Some x) other = Some x
@@ -27,17 +30,17 @@ both f (Some a) (Some b) = Some (f a b)
 both f (Some a) None = None
 both f None b = None
 
-abbrev pub is_digit : ℕ → ℕ → Bool
-is_digit base b = nat_le 48 b && nat_lt b (48 + base)
-
-unfoldable pub is_number : ℕ → List ℕ → Bool
-is_number base text = nat_lt 0 (length text) && list_all (is_digit base) text
+-- a number as it is held
+abbrev pub as_held : Result ℕ NumberFault → Option ℕ
+as_held (Ok n) = Some n
+as_held (Err TooLarge) = Some too_large
+as_held (Err fault) = None
 
 unfoldable pub octal : List ℕ → Option ℕ
-octal text = if is_number 8 text then Some (held largest_octal (value_of 8 text)) else None
+octal text = as_held (number_read 8 largest_octal text)
 
 unfoldable pub decimal : List ℕ → Option ℕ
-decimal text = if is_number 10 text then Some (held largest_decimal (value_of 10 text)) else None
+decimal text = as_held (number_read 10 largest_decimal text)
 
 abbrev pub is_letter : ℕ → Bool
 is_letter b = (nat_le 65 b && nat_le b 90) || (nat_le 97 b && nat_le b 122)
@@ -71,25 +74,29 @@ front mark text = before_first (λ b. b == mark) text
 abbrev pub behind : ℕ → List ℕ → List ℕ
 behind mark text = after_first (λ b. b == mark) text
 
+-- an item that is a range, and one that is an address and a count
+abbrev pub range_of : List ℕ → Option Item
+range_of text = both (λ a b. Range a b) (octal (front 45 text)) (octal (behind 45 text))
+
+abbrev pub count_of : List ℕ → Option Item
+count_of text = both (λ a n. Count a n) (octal (front 47 text)) (decimal (behind 47 text))
+
 -- an item that is an address, a range, or an address and a count
 unfoldable pub numbered_item : List ℕ → Option Item
-numbered_item text =
-    or_else (option_map (λ a. At a) (octal text))
-    (or_else (both (λ a b. Range a b) (octal (front 45 text)) (octal (behind 45 text)))
-    (both (λ a n. Count a n) (octal (front 47 text)) (decimal (behind 47 text))))
+numbered_item text = or_else (option_map (λ a. At a) (octal text)) (or_else (range_of text) (count_of text))
 
 unfoldable pub item_of : Name → List ℕ → Option Item
 item_of device text = or_else (named_item device text) (numbered_item text)
 
--- a comma stands in a text
-abbrev pub has_comma : List ℕ → Bool
-has_comma text = nat_lt (position_or_len (λ b. b == 44) text) (length text)
+-- a byte of that value stands in a text
+abbrev pub has_mark : ℕ → List ℕ → Bool
+has_mark mark text = nat_lt (position_or_len (λ b. b == mark) text) (length text)
 
 -- a list of as many items at the most
 unfoldable pub items_up_to : ℕ → Name → List ℕ → Option (List Item)
 items_up_to zero device text = None
 items_up_to (suc room) device text =
-    if has_comma text then both (λ item items. item ∷ items) (item_of device (front 44 text)) (items_up_to room device (behind 44 text))
+    if has_mark 44 text then both (λ item items. item ∷ items) (item_of device (front 44 text)) (items_up_to room device (behind 44 text))
     else option_map (λ item. item ∷ []) (item_of device text)
 
 unfoldable pub items_of : Name → List ℕ → Option (List Item)

@@ -13,7 +13,7 @@ use Rattle.scp_parser.specs.declared.command.Verb.TheVariants as verb
 use Rattle.scp_parser.specs.declared.fault.ParseFault.{ParseFault}
 use Rattle.scp_parser.specs.declared.fault.ParseFault.TheVariants.{Unknown, Missing, BadSymbol, Extra, TooLong, NotBuilt}
 use Rattle.scp_parser.specs.declared.names.CommandName.{CommandName}
-use Rattle.scp_parser.specs.declared.names.CommandName.TheVariants.{Examine, Deposit, Run, Go, Cont, Step, Show, Exit, Quit, Bye}
+use Rattle.scp_parser.specs.declared.names.CommandName.TheVariants.{Examine, Deposit, Run, Go, Cont, Step, Show, Exit}
 use Rattle.scp_parser.specs.Command.{Request, request_of}
 use Rattle.scp_parser.specs.Names.{command_named}
 use Rattle.scp_parser.specs.Operands.{octal, decimal, items_of, condition_of, device_of, subject_of, symbolic_of}
@@ -56,11 +56,11 @@ unfoldable pub ended : {V : Type 0} → V → List ℕ → Result V ParseFault
 ended what text = let left = length (past_blanks text) in if left == 0 then Ok what else Err (Extra left)
 
 -- a number that may be left out at the end of a line
-abbrev pub given : ℕ × List ℕ → Result (Option ℕ × List ℕ) ParseFault
-given number = Ok (Some number.0, number.1)
+abbrev pub some_number : ℕ × List ℕ → Result (Option ℕ × List ℕ) ParseFault
+some_number number = Ok (Some number.0, number.1)
 
 unfoldable pub last_number : (List ℕ → Option ℕ) → List ℕ → Result (Option ℕ × List ℕ) ParseFault
-last_number form text = if length (past_blanks text) == 0 then Ok (None, text) else (needed true form text >>= given)
+last_number form text = if length (past_blanks text) == 0 then Ok (None, text) else (needed true form text >>= some_number)
 
 -- a command with a number that may be left out
 abbrev pub numbered : {V : Type 0} → (Option ℕ → V) → Result (Option ℕ × List ℕ) ParseFault → Result V ParseFault
@@ -130,8 +130,6 @@ operands Cont text = ended verb.Cont text
 operands Step text = numbered (λ n. verb.Step n) (last_number decimal text)
 operands Show text = show text
 operands Exit text = numbered (λ n. verb.Exit n) (last_number decimal text)
-operands Quit text = numbered (λ n. verb.Exit n) (last_number decimal text)
-operands Bye text = numbered (λ n. verb.Exit n) (last_number decimal text)
 operands name text = Err NotBuilt
 
 -- a comment begins with `;` or `#`, and a label with `:`

@@ -1,15 +1,12 @@
 -- The forms in which the functions of the reader answer: a result that holds the rest of a line behind a reference is
 -- seen by a view.
-use Rattle.std.specs.Prelude.{◌≡◌, ℕ, ◌++◌, ◌==◌, Bool, nat_lt, List, [], ◌∷◌, length, Option, Some, None, is_some, Result, Ok, Err, if◌then◌else◌}
-use Rattle.std.specs.List.{position_or_len}
-use Rattle.scp_parser.specs.declared.listing.Item.{Item}
-use Rattle.scp_parser.specs.declared.listing.Item.TheVariants.{Range, Count}
+use Rattle.std.specs.Prelude.{◌≡◌, ℕ, ◌++◌, Bool, List, [], ◌∷◌, length, Option, Some, None, is_some, Result, Ok, Err, if◌then◌else◌}
 use Rattle.scp_parser.specs.declared.command.Verb.{Verb}
 use Rattle.scp_parser.specs.declared.command.Verb.TheVariants as verb
 use Rattle.scp_parser.specs.declared.fault.ParseFault.{ParseFault}
 use Rattle.scp_parser.specs.declared.fault.ParseFault.TheVariants.{Missing}
 use Rattle.scp_parser.specs.Faults.{bad_word}
-use Rattle.scp_parser.specs.Operands.{both, octal, decimal, front, behind, symbolic_of}
+use Rattle.scp_parser.specs.Operands.{octal, decimal, has_mark, behind, symbolic_of}
 use Rattle.scp_parser.specs.Reading.{maybe, last_number, numbered}
 
 -- what a reader answered, seen by view, is that reading
@@ -17,20 +14,9 @@ abbrev pub Gives : {X Y : Type 0} → (X → Y) → Result X ParseFault → Resu
 Gives view (Ok x) reading = reading ≡ Ok (view x)
 Gives view (Err fault) reading = reading ≡ Err fault
 
--- a byte of that value stands in a text
-abbrev pub has_mark : ℕ → List ℕ → Bool
-has_mark mark text = nat_lt (position_or_len (λ b. b == mark) text) (length text)
-
 -- what stands behind the first byte of that value, if there is one
 abbrev pub some_behind : ℕ → List ℕ → Option (List ℕ)
 some_behind mark text = if has_mark mark text then Some (behind mark text) else None
-
--- an item that is a range, and one that is an address and a count
-abbrev pub range_of : List ℕ → Option Item
-range_of text = both (λ a b. Range a b) (octal (front 45 text)) (octal (behind 45 text))
-
-abbrev pub count_of : List ℕ → Option Item
-count_of text = both (λ a n. Count a n) (octal (front 47 text)) (decimal (behind 47 text))
 
 -- the fault of a word that is not in the form of its operand, or of none
 abbrev pub bad_operand : Bool → List ℕ → List ℕ → ParseFault

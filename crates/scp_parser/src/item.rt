@@ -1,12 +1,13 @@
 ghost use Rattle.std.specs.Prelude.{◌≡◌, ◌==◌, option_map};
 ghost use Rattle.std.specs.List.{list_all, position};
 ghost use Rattle.scp_parser.specs.Operands.{is_name_byte, is_name, unknown_name, named_item, numbered_item, item_of};
-ghost use Rattle.scp_parser.specs.Operands.{items_of, front, behind};
-ghost use Rattle.scp_parser.specs.Views.{some_behind, range_of, count_of};
+ghost use Rattle.scp_parser.specs.Operands.{items_of, front, behind, range_of, count_of};
+ghost use Rattle.scp_parser.specs.Views.{some_behind};
 
 use crate::listing::{Item, Items, MOST_ITEMS, Name};
-use crate::names::{is_spelled, register_named};
+use crate::names::register_named;
 use crate::number::{decimal, octal};
+use line_words::is_spelled;
 
 /// The items of a list, with commas between them: 1 to 16.
 #[tactic(auto, unfolding(crate::specs::Operands::items_of))]

@@ -4,7 +4,7 @@ ghost use Rattle.scp_parser.specs.Operands.{octal, decimal};
 use nova_word::{NumberFault, read_decimal, read_octal};
 
 /// The octal number of a word. One that is too large for its reader is held as 2^64 - 1.
-#[tactic(auto, using(crate::proofs::ReaderNumberLemmas::octal_answers))]
+#[tactic(auto, unfolding(crate::specs::Operands::octal))]
 pub fn octal(word: &[u8]) -> Option<u64>
     ensures { result ≡ octal word.now }
 {
@@ -17,7 +17,7 @@ pub fn octal(word: &[u8]) -> Option<u64>
 }
 
 /// The decimal number of a word. One that is too large for its reader is held as 2^64 - 1.
-#[tactic(auto, using(crate::proofs::ReaderNumberLemmas::decimal_answers))]
+#[tactic(auto, unfolding(crate::specs::Operands::decimal))]
 pub fn decimal(word: &[u8]) -> Option<u64>
     ensures { result ≡ decimal word.now }
 {

@@ -10,10 +10,9 @@ use crate::condition::condition_of;
 use crate::fault::ParseFault;
 use crate::item::items_of;
 use crate::listing::{Condition, Items, Listing, Name};
-use crate::names::is_spelled;
 use crate::number::{decimal, octal};
 use crate::subject::{device_of, subject_of};
-use line_words::{past_blanks, trimmed, word_at};
+use line_words::{is_spelled, past_blanks, trimmed, word_at};
 use nova_symbols::read;
 use unit_trait::Kind;
 

@@ -110,7 +110,7 @@ fn operands(name: CommandName, text: &[u8]) -> Result<Verb, ParseFault>
         CommandName::Cont => ended(Verb::Cont, text),
         CommandName::Step => step(text),
         CommandName::Show => show(text),
-        CommandName::Exit | CommandName::Quit | CommandName::Bye => exit(text),
+        CommandName::Exit => exit(text),
         _ => Err(ParseFault::NotBuilt),
     }
 }

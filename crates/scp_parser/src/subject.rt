@@ -2,7 +2,7 @@ ghost use Rattle.std.specs.Prelude.{◌≡◌, ◌∷◌, []};
 ghost use Rattle.scp_parser.specs.Operands.{device_of, kind_named, drive_at, drive_of, unit_of, subject_of};
 
 use crate::command::Shown;
-use crate::names::is_spelled;
+use line_words::is_spelled;
 use unit_trait::{Kind, UnitName};
 
 // The kinds whose registers can be named.

@@ -7,17 +7,18 @@ use Rattle.observations.proofs.MadeLemmas.{text_of-append, reads_of-append, stan
 use Rattle.scp_commands.specs.declared.next.Next.{Next}
 use Rattle.scp_commands.specs.declared.next.Next.TheVariants.{Go, Ran, Exit as ExitNext}
 use Rattle.scp_commands.specs.declared.fault.CommandFault.{CommandFault}
+use Rattle.scp_commands.specs.declared.fault.CommandFault.TheVariants as fault
 use Rattle.scp_commands.specs.Live.{Live}
 use Rattle.scp_commands.specs.Reply.{Answer, Reply}
 use Rattle.scp_commands.specs.FaultText.{fault_text}
 use Rattle.scp_commands.specs.Effect.{Asked, does}
-use Rattle.scp_commands.specs.Doing.{IsSaid, IsBrokenOff}
+use Rattle.scp_commands.specs.Doing.{IsSaid, IsBrokenOff, Does, ConsoleCounts}
 use Rattle.scp_commands.proofs.EffectLemmas.{does-reads}
 use Rattle.scp_script.specs.declared.progress.Progress.{Progress}
 use Rattle.scp_script.specs.declared.progress.Progress.TheVariants.{GoesOn, IsOver}
 use Rattle.scp_script.specs.declared.progress.Finish.TheVariants.{Exit, EndOfInput, Commands, Console, Input}
 use Rattle.scp_script.specs.Session.{complaint, with_complaint, text_reply}
-use Rattle.scp_script.specs.Loop.{exit_of, IsAnswer, Complains}
+use Rattle.scp_script.specs.Loop.{exit_of, IsAnswer, Complains, AnswerCounts, HasExitStatus, Denies}
 
 complaint-reads : (answer : Answer) (live : Live) → reads_of (complaint answer live) ≡ 0
 complaint-reads (Ok next) live = refl
@@ -96,3 +97,40 @@ broken-off reply live tells before after off =
       told = λ t. let broken = off.told t in
           record { taken = broken.taken; written = broken.written; breaks = breaks-before reply.made more broken.taken live broken.breaks };
     }
+
+-- a command's fault is answered
+pub record Answered (reply : Reply) (result : Progress) (live : Live) (tells : Bool) (before after : List ℕ) (sink sink_now : ℕ) : Type 0 where
+  pub told : IsAnswer (with_complaint reply) result live tells before after
+  pub counts : AnswerCounts result sink sink_now
+  pub exit : HasExitStatus result
+
+answered-by : (reply : Reply) (fault : CommandFault) (result : Progress) (live : Live) (tells : Bool) (before mid after : List ℕ) (sink sink_mid sink_now : ℕ)
+    → (Err fault ≡ reply.answer) × IsSaid reply live tells before mid → sink_mid ≡ sink
+    → Complains tells mid (fault_text fault) result after × AnswerCounts result sink_mid sink_now × HasExitStatus result
+    → Answered reply result live tells before after sink sink_now
+answered-by reply fault result live tells before mid after sink sink_mid sink_now (is, said) still (told, counts, exit) = record {
+  told = complained reply fault result live tells before mid after is said told;
+  counts = subst (λ n. AnswerCounts result n sink_now) still counts;
+  exit = exit;
+}
+
+pub denied : (reply : Reply) (fault : CommandFault) (result : Progress) (live : Live) (tells : Bool) (before mid after : List ℕ) (sink sink_mid sink_now : ℕ)
+    → Does reply (Err fault) live tells before mid → ConsoleCounts (Err fault) sink sink_mid → Denies fault tells result mid after sink_mid sink_now
+    → Answered reply result live tells before after sink sink_now
+denied reply fault.Console result live tells before mid after sink sink_mid sink_now off raised (is, same, still) =
+    subst (λ (r : Progress). Answered reply r live tells before after sink sink_now) (sym is)
+    (record {
+      told = subst (λ x. IsBrokenOff (with_complaint reply) live tells before x) (sym same) (broken-off reply live tells before mid off);
+      counts = still ∙ raised;
+      exit = tt;
+    })
+denied reply (fault.Parse why) result live tells before mid after sink sink_mid sink_now does still told =
+    answered-by reply (fault.Parse why) result live tells before mid after sink sink_mid sink_now does still told
+denied reply fault.NoSuchName result live tells before mid after sink sink_mid sink_now does still told =
+    answered-by reply fault.NoSuchName result live tells before mid after sink sink_mid sink_now does still told
+denied reply fault.OutOfRange result live tells before mid after sink sink_mid sink_now does still told =
+    answered-by reply fault.OutOfRange result live tells before mid after sink sink_mid sink_now does still told
+denied reply fault.ReadOnlyName result live tells before mid after sink sink_mid sink_now does still told =
+    answered-by reply fault.ReadOnlyName result live tells before mid after sink sink_mid sink_now does still told
+denied reply fault.NotBuilt result live tells before mid after sink sink_mid sink_now does still told =
+    answered-by reply fault.NotBuilt result live tells before mid after sink sink_mid sink_now does still told

@@ -6,8 +6,11 @@ use Rattle.host_files.specs.Streams.{AddsPart}
 use Rattle.observations.specs.Observations.{Trace, text_of, reads_of}
 use Rattle.observations.specs.Cut.{ends, cut_trace}
 use Rattle.scp_commands.specs.declared.next.Next.TheVariants.{Exit as ExitNext}
+use Rattle.scp_commands.specs.declared.fault.CommandFault.{CommandFault}
+use Rattle.scp_commands.specs.declared.fault.CommandFault.TheVariants as fault
 use Rattle.scp_commands.specs.Live.{Live, CommandState}
 use Rattle.scp_commands.specs.Reply.{Answer, Reply}
+use Rattle.scp_commands.specs.FaultText.{fault_text}
 use Rattle.scp_commands.specs.Doing.{IsSaid, IsBrokenOff}
 use Rattle.scp_script.specs.declared.progress.CommandLoop.{CommandLoop}
 use Rattle.scp_script.specs.declared.progress.Finish.{Finish}
@@ -64,6 +67,11 @@ IsExitStatus finish = Unit {0}
 abbrev pub HasExitStatus : Progress → Type 0
 HasExitStatus (IsOver finish) = IsExitStatus finish
 HasExitStatus GoesOn = Unit {0}
+
+-- a fault is answered by its text, and the console's by the end of the session
+abbrev pub Denies : CommandFault → Bool → Progress → List ℕ → List ℕ → ℕ → ℕ → Type 0
+Denies fault.Console tells result before after sink sink_now = (result ≡ IsOver Console) × (after ≡ before) × (sink_now ≡ sink)
+Denies fault tells result before after sink sink_now = Complains tells before (fault_text fault) result after × AnswerCounts result sink sink_now × HasExitStatus result
 
 -- the status of a finish
 abbrev pub status_of : Finish → ℕ

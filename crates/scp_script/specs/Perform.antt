@@ -1,7 +1,7 @@
 -- What a whole session comes to, from its opening on.
 use Rattle.std.specs.Prelude.{◌≡◌, ℕ, true, List, length, drop}
 use Rattle.scp_commands.specs.Live.{Live, CommandState}
-use Rattle.scp_script.specs.declared.perform.Opening.{Opening}
+use Rattle.scp_script.specs.declared.perform_session.Opening.{Opening}
 use Rattle.scp_script.specs.declared.progress.Finish.{Finish}
 use Rattle.scp_script.specs.Lines.{reads_left}
 use Rattle.scp_script.specs.Session.{Session, trace}

@@ -6,7 +6,7 @@ ghost use Rattle.scp_commands.specs.Effect.{does, effect};
 ghost use Rattle.scp_commands.specs.FaultText.{fault_text};
 ghost use Rattle.scp_script.specs.Session.{prompt_text, text_reply, with_complaint};
 ghost use Rattle.scp_script.specs.Loop.{IsAnswer, AnswerCounts, HasExitStatus, session_of, Progresses, ProgressCause};
-ghost use Rattle.scp_script.specs.Loop.{PaysFor, Complains};
+ghost use Rattle.scp_script.specs.Loop.{PaysFor, Complains, Denies};
 
 use crate::line_reader::Reading;
 use crate::progress::{CommandLoop, Finish, Progress};
@@ -71,7 +71,6 @@ fn answer<S: Sink>(session: &mut Session, line: &[u8], out: &mut S) -> Progress
 }
 
 /// Does a command, and prints the text of its fault where it is refused.
-#[tactic(auto, unfolding(crate::specs::Session::text_reply, scp_commands::specs::Effect::does))]
 fn obey<S: Sink>(session: &mut Session, command: &Command, out: &mut S) -> Progress
     ensures told { IsAnswer (with_complaint (effect session.old.limit session.old.live command.now)) result
         session.new.live S.tells (S.written out.old) (S.written out.new) }
@@ -82,8 +81,18 @@ fn obey<S: Sink>(session: &mut Session, command: &Command, out: &mut S) -> Progr
     match execute(session, command, out) {
         Ok(Next::Exit(status)) => Progress::IsOver(Finish::Exit(status)),
         Ok(Next::Go | Next::Ran(_)) => Progress::GoesOn,
-        Err(CommandFault::Console) => Progress::IsOver(Finish::Console),
-        Err(fault) => complain(fault, out),
+        Err(fault) => deny(fault, out),
+    }
+}
+
+/// Answers a fault: by its text, or by the end of the session where the fault is that the console refused a byte.
+fn deny<S: Sink>(fault: CommandFault, out: &mut S) -> Progress
+    ensures { Denies fault S.tells result (S.written out.old) (S.written out.new) (S.fault_count out.old)
+        (S.fault_count out.new) }
+{
+    match fault {
+        CommandFault::Console => Progress::IsOver(Finish::Console),
+        _ => complain(fault, out),
     }
 }
 
@@ -100,6 +109,7 @@ fn deny_line<S: Sink>(session: &Session, fault: ParseFault, out: &mut S) -> Prog
 /// Prints the text of a fault.
 fn complain<S: Sink>(fault: CommandFault, out: &mut S) -> Progress
     ensures told { Complains S.tells (S.written out.old) (fault_text fault) result (S.written out.new) }
+    ensures exit { HasExitStatus result }
     ensures counts { AnswerCounts result (S.fault_count out.old) (S.fault_count out.new) }
 {
     match fault.put_text(out) {

@@ -4,9 +4,9 @@
 mod command_loop;
 pub mod laws;
 mod line_reader;
-pub mod perform;
+pub mod perform_session;
 pub mod progress;
 
 pub use laws::{lines_are_consumed, session_goes_line_by_line};
-pub use perform::{Opening, perform};
+pub use perform_session::{Opening, perform};
 pub use progress::Finish;

@@ -1,7 +1,7 @@
 use Rattle.std.proofs.Common.{◌≡◌, ◌-◌, Some, None, sym, arith}
 use Rattle.scp_parser.specs.Operands.{front, item_of}
 use Rattle.scp_parser.specs.Views.{some_behind}
-use Rattle.scp_parser.proofs.ItemsLemmas.{with_rest, rest_bad, rest_last, rest_more, rest_full, one_longer}
+use Rattle.scp_parser.proofs.ItemLoopLemmas.{with_rest, rest_bad, rest_last, rest_more, rest_full, one_longer}
 use Rattle.scp_parser.proofs.item.items_of.Goals as goal
 
 pub returns-in_err-item_of : goal.returns-in_err-item_of

@@ -1,6 +1,6 @@
 use Rattle.std.proofs.Common.{◌≡◌, ◌-◌, length}
 use Rattle.scp_parser.specs.Operands.{items_of}
-use Rattle.scp_parser.proofs.ItemsLemmas.{with_rest}
+use Rattle.scp_parser.proofs.ItemLoopLemmas.{with_rest}
 use Rattle.scp_parser.proofs.item.items_of.Given as goal
 
 -- the items so far and those of the rest are the whole list

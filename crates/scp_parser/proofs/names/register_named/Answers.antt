@@ -1,7 +1,8 @@
 use Rattle.std.proofs.Common.{◌≡◌, ◌<◌, Some, false, length, sym, arith}
 use Rattle.std.proofs.lemmas.Option.{slice_get_within}
 use Rattle.std.specs.List.{slice_get}
-use Rattle.scp_parser.specs.Names.{is_spelled, register_names}
+use Rattle.line_words.specs.Words.{is_spelled}
+use Rattle.scp_parser.specs.Names.{register_names}
 use Rattle.scp_parser.proofs.RegisterLemmas.{register_past, register_not}
 use Rattle.scp_parser.proofs.names.register_named.Goals as goal
 

@@ -1,5 +1,6 @@
 use Rattle.std.proofs.Common.{◌≡◌, ℕ, ◌<◌, ◌≤◌, false, [], length, get_or}
-use Rattle.scp_parser.specs.Names.{is_spelled, register_names}
+use Rattle.line_words.specs.Words.{is_spelled}
+use Rattle.scp_parser.specs.Names.{register_names}
 use Rattle.scp_parser.proofs.names.register_named.Given as goal
 
 -- no register before this number has the name

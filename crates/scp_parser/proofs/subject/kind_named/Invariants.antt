@@ -1,6 +1,7 @@
 use Rattle.std.proofs.Common.{◌≡◌, drop}
 use Rattle.unit_trait.specs.Kinds.{kind_name}
-use Rattle.scp_parser.specs.Names.{is_spelled, first_of}
+use Rattle.line_words.specs.Words.{is_spelled}
+use Rattle.scp_parser.specs.Names.{first_of}
 use Rattle.scp_parser.proofs.subject.kind_named.Given as goal
 
 -- no kind before this place is named

@@ -7,8 +7,8 @@ use Rattle.std.proofs.lemmas.Option.{cond_some}
 use Rattle.std.proofs.lemmas.Bool.Decides.{nat_tests}
 use Rattle.scp_parser.specs.declared.listing.Item.{Item}
 use Rattle.scp_parser.specs.declared.listing.Name.{Name}
-use Rattle.scp_parser.specs.Operands.{front, behind, both, item_of, items_up_to}
-use Rattle.scp_parser.specs.Views.{has_mark, some_behind}
+use Rattle.scp_parser.specs.Operands.{front, behind, both, has_mark, item_of, items_up_to}
+use Rattle.scp_parser.specs.Views.{some_behind}
 
 cond_none : {A : Type 0} (b : Bool) (x : A) → cond b (Some x) None ≡ None → b ≡ false
 cond_none true x h = absurd (cc h)
