@@ -3,8 +3,8 @@
 pub enum ExamineFault {
     /// An item names no register, or an address where a device is named.
     NoSuchName,
-    /// An address is not below the size of memory, a range is empty, or a value is above the largest of its place. So is
-    /// a condition's mask or value above the largest of what it is compared with.
+    /// An address is not below the size of memory, a range is empty, or a value is above the largest of its place. So
+    /// is a condition's mask or value above the largest of what it is compared with.
     OutOfRange,
     /// The register is read only.
     ReadOnlyName,

@@ -1,4 +1,5 @@
-//! The units of the machine: their kinds, names and registers, a file for each device; and the registers of the processor.
+//! The units of the machine: their kinds, names and registers, with a file for each device; and the registers of the
+//! processor.
 #![tactic(auto)]
 
 mod clock;
