@@ -20,9 +20,11 @@ take-behind n (b ∷ first) second =
 -- a byte of the second text is refused, behind the first
 pub part-second : (old first second new : List ℕ) → AddsPart (old ++ first) second new → AddsPart old (first ++ second) new
 part-second old first second new (n, short, added) =
-    let size = length-append first second in
-    (length first + n, omega (arith, short, size),
-      added ∙ append_assoc old first (take n second) ∙ ap (λ t. old ++ t) (sym (take-behind n first second)))
+    let size = length-append first second in (
+      length first + n,
+      omega (arith, short, size),
+      added ∙ append_assoc old first (take n second) ∙ ap (λ t. old ++ t) (sym (take-behind n first second)),
+    )
 
 -- the first text was added, and then the second was printed
 pub puts-then : {T E : Type 0} (old first mid second : List ℕ) (result : Result T E) (new : List ℕ) → mid ≡ old ++ first

@@ -15,13 +15,7 @@ fn count_in(read: Result<u64, NumberFault>) -> Option<u64>
     ensures { result ≡ count_in read }
 {
     match read {
-        Ok(count) => {
-            if is_count(count) {
-                Some(count)
-            } else {
-                None
-            }
-        }
+        Ok(count) => { if is_count(count) { Some(count) } else { None } }
         Err(_) => None,
     }
 }

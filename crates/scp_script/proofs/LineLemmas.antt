@@ -202,9 +202,9 @@ line-refused-cut s line asked taken live gives e c breaks enough =
     let wide = breaks-before (asking s ++ reply.made) b.more (text_of (asking s) ++ taken) live inner in
     let none = breaks-reads reply.made taken live breaks in
     let reads : wide.reads ≡ line_reads s.budget s.open_ s.input =
-        before-reads (asking s ++ reply.made) b.more (text_of (asking s) ++ taken) live inner
-        ∙ behind-reads (asking s) reply.made taken live breaks
-        ∙ omega (arith, none, text-reads s.limit s.live asked, asking-reads s) in
+    before-reads (asking s ++ reply.made) b.more (text_of (asking s) ++ taken) live inner
+    ∙ behind-reads (asking s) reply.made taken live breaks
+    ∙ omega (arith, none, text-reads s.limit s.live asked, asking-reads s) in
     let more : gives ≡ wide.reads + (gives - wide.reads) = omega (arith, reads, enough) in
     let shown = prompt_text s.prompt ++ taken in
     ap (cut_trace (length shown) gives) b.is

@@ -52,13 +52,19 @@ fn a_piece_that_is_taken_in_parts_is_written_whole(rt: HostRuntime) -> Result<()
 #[test]
 fn pieces_are_written_one_behind_another(rt: HostRuntime) -> Result<(), Fail> {
     let mut sink = ByteSink::with_room(rt.alloc(), 6)?;
-    assert_eq!(rt; put_pieces(&mut sink, &[b"ab".as_slice(), b"", b"c"]), Ok(()));
+    assert_eq!(rt;
+        put_pieces(&mut sink, &[b"ab".as_slice(), b"", b"c"]),
+        Ok(())
+    );
     assert_eq!(rt; put_pieces(&mut sink, &[]), Ok(()));
     assert_eq!(rt; sink.bytes(), b"abc".as_slice());
     assert_eq!(rt; sink.faults(), 0);
     let mut broken = ByteSink::with_room(rt.alloc(), 6)?;
     broken.fail_call(1)?;
-    assert_eq!(rt; put_pieces(&mut broken, &[b"ab".as_slice(), b"c", b"d"]), Err(Failed));
+    assert_eq!(rt;
+        put_pieces(&mut broken, &[b"ab".as_slice(), b"c", b"d"]),
+        Err(Failed)
+    );
     assert_eq!(rt; broken.bytes(), b"ab".as_slice());
     assert_eq!(rt; broken.faults(), 1);
     Ok(())

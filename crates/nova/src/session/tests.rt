@@ -4,8 +4,11 @@ use std::test::Fail;
 
 #[test]
 fn the_exit_code_is_the_status_of_the_session(rt: HostRuntime) -> Result<(), Fail> {
-    let cases: [(&'static [u8], usize, u8); 3] =
-        [(b"EXIT 7\n", 100, 7), (b"", 100, 0), (b"E 0\n", 3, 102)];
+    let cases: [(&'static [u8], usize, u8); 3] = [
+        (b"EXIT 7\n", 100, 7),
+        (b"", 100, 0),
+        (b"E 0\n", 3, 102),
+    ];
     for (lines, room, wanted) in cases {
         let mut words = Vec::new(rt.alloc());
         words.push(String::from_str(rt.alloc(), "-q")?)?;

@@ -8,7 +8,13 @@ fn sessions_finish_by_their_input_console_and_budget(rt: HostRuntime) -> Result<
     let cases: [(&'static [u8], u64, usize, Finish, &'static [u8]); 6] = [
         (b"", 0, 100, Finish::EndOfInput, b"sim> "),
         (b"EXIT 3\n", 1, 100, Finish::Exit(3), b"sim> "),
-        (b"\nX\n", 9, 100, Finish::EndOfInput, b"sim> sim> Unknown command\nsim> "),
+        (
+            b"\nX\n",
+            9,
+            100,
+            Finish::EndOfInput,
+            b"sim> sim> Unknown command\nsim> ",
+        ),
         (b"\n\n", 1, 100, Finish::Commands, b"sim> sim> "),
         (b"\n", 9, 7, Finish::Console, b"sim> si"),
         (b"X\n", 9, 9, Finish::Console, b"sim> Unkn"),

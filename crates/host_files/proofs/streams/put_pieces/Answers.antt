@@ -20,6 +20,6 @@ returns-clause-told g c = λ tells.
 pub returns-in_err-put_all-clause-told : goal.returns-in_err-put_all-clause-told
 returns-in_err-put_all-clause-told g c = λ tells.
     let part = pieces-part c.args.pieces.now c.loop-piece.piece-index _ (g.S.Sink.written c.loop-piece.sink) (g.S.Sink.written c.put_all.new.sink)
-        c.loop-piece-test.true (c.in_err-put_all.ensures.part tells) in
+    c.loop-piece-test.true (c.in_err-put_all.ensures.part tells) in
     let failed = err_from_is_err_and c.from_residual.result c.from_residual.ensures.1 in
     rw failed.1 (c.loop-piece.invariant.told tells (Err failed.0) (g.S.Sink.written c.put_all.new.sink) part)

@@ -16,6 +16,6 @@ returns-clause-told g c =
     let m = c.run-stop.new.self in
     let part = run c.args.limit.step c.args.limit.count (seen c.session.inside.machine) in
     let does = ran-does (live_of c.session.inside.machine) part c.run-stop.result m c.put_stop-printed.result g.S.Sink.tells before after
-        c.run-stop.ensures.silent c.run-stop.ensures.stop c.run-stop.ensures.after c.put_stop-printed.ensures.told in
+    c.run-stop.ensures.silent c.run-stop.ensures.stop c.run-stop.ensures.after c.put_stop-printed.ensures.told in
     rw (← c.session.view_is)
     (subst (λ (a : Answer). Does (ran (live_of c.session.inside.machine) part) a (live_of m) g.S.Sink.tells before after) (sym c.told_or_console.ensures) does)
