@@ -1,5 +1,6 @@
 use super::*;
 use host_files::next_byte;
+use std::io::ErrorKind;
 use std::test::Fail;
 
 /// What a reader does in one call, or in so many calls in a row.

@@ -3,6 +3,7 @@ ghost use Rattle.std.specs.Prelude.{◌≤◌, length, IfOk};
 use super::*;
 use host_files::put_all;
 use std::alloc::Global;
+use std::io::ErrorKind;
 use std::test::Fail;
 
 /// What a writer does in one call, or in so many calls in a row.

@@ -1,5 +1,4 @@
 use Rattle.std.proofs.Common.{◌∙◌, Ok, Err}
-use Rattle.host_files.specs.declared.streams.Failed.{Failed}
 use Rattle.std.proofs.lemmas.Result.{err_from_is_err_and}
 use Rattle.host_files.proofs.PutLemmas.{pieces-more, pieces-part, pieces-none}
 use Rattle.host_files.proofs.streams.put_pieces.Goals as goal
