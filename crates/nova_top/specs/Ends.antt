@@ -54,8 +54,8 @@ pub record IsCutShort (words : List (List ℕ)) (input left before after : List 
   pub cut : ((machine ≡ None) × (taken ≡ []) × (left ≡ input)) ⊎ StopsInside (opening options input) machine left taken
 
 -- Each status has its cause, told or not: 100 comes exactly where the words are outside their grammar, yielding only to
--- 102; 102 comes only where the console's count rose by one, and at any other status that count stands still; so it is
--- with 106 and the input's; and there is no other status than these.
+-- 102; 102 comes only where the console's count rose by one (at the end of its type by none), and at any other status
+-- that count stands still; so it is with 106 and the input's; and there is no other status than these.
 pub record StatusCause (words : List (List ℕ)) (status sink sink_now source source_now : ℕ) : Type 0 where
   pub usage : status ≡ 100 → options_of words ≡ None
   pub bad_words : options_of words ≡ None → (status ≡ 100) ⊎ (status ≡ 102)
@@ -70,8 +70,8 @@ pub record MachineThere (words : List (List ℕ)) (status : ℕ) (machine : Opti
   pub none : options_of words ≡ None → machine ≡ None
   pub some : (options : Options) → options_of words ≡ Some options → status ≢ 103 → IsSome machine
 
--- Without a failing call, and with memory, the status and the machine are those of the whole trace, all of whose text
--- was printed and all of whose reads were made.
+-- The status and the machine are those of the whole trace, all of whose text was printed and all of whose reads were
+-- made: so it is without a failing call and with memory.
 pub record IsComplete (words : List (List ℕ)) (input left before after : List ℕ) (status : ℕ) (machine : Option MachineState) : Type 0 where
   pub status_is : status ≡ (whole_trace words input).ended.status
   pub machine_is : machine ≡ machine_in (whole_trace words input).ended.state

@@ -38,7 +38,7 @@ parse_place (parse.BadSymbol place) = Some place
 parse_place (parse.Extra place) = Some place
 parse_place fault = None
 
--- the words of a fault; that of the console ends the session and has none
+-- the words of a fault; that of the console has none, as there is nothing left to print them on
 abbrev pub fault_words : CommandFault → Option (List ℕ)
 fault_words (Parse fault) = Some (parse_words fault)
 fault_words NoSuchName = Some (codes "No such name")

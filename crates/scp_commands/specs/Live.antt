@@ -7,6 +7,7 @@ use Rattle.nova_machine.specs.Seen.{Seen}
 pub record Live : Type 0 where
   pub machine : MachineState
 
+-- a machine alone
 abbrev pub live_of : MachineState → Live
 live_of m = record { machine = m }
 

@@ -7,9 +7,11 @@ use Rattle.scp_commands.specs.declared.next.Next.TheVariants.{Go}
 use Rattle.scp_commands.specs.declared.fault.CommandFault.{CommandFault}
 use Rattle.scp_commands.specs.Live.{Live}
 
+-- what comes next, or the fault
 abbrev pub Answer : Type 0
 Answer = Result Next CommandFault
 
+-- all that a command comes to
 pub record Reply : Type 0 where
   pub made : List (Observation Live)
   pub answer : Answer

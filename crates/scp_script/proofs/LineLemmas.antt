@@ -17,7 +17,7 @@ use Rattle.scp_commands.specs.Effect.{Asked}
 use Rattle.scp_script.specs.declared.progress.Progress.{Progress}
 use Rattle.scp_script.specs.declared.progress.Progress.TheVariants.{GoesOn, IsOver}
 use Rattle.scp_script.specs.declared.progress.Finish.TheVariants.{Exit, EndOfInput, Commands, Console, Input}
-use Rattle.scp_script.specs.Lines.{longest_line, InputEnds, Unpaid, LineComes, arrival, line_reads, reads_left, line_cost, first_line, has_lf}
+use Rattle.scp_script.specs.Lines.{InputEnds, Unpaid, LineComes, arrival, line_reads, reads_left, line_cost, first_line, has_lf}
 use Rattle.scp_script.specs.Reading.{AreRead}
 use Rattle.scp_script.specs.Session.{Session, Following, Going, Over, prompt_text, asking, behind_line, text_reply, following, text_step, step, trace}
 use Rattle.scp_script.specs.Loop.{exit_of, IsAnswer, AnswerCounts, HasExitStatus, Finishes, Progresses, ProgressCause}
@@ -295,8 +295,3 @@ answer-causes (IsOver Commands) sink sink_mid sink_now source source_now a b c s
 answer-causes (IsOver Console) sink sink_mid sink_now source source_now a b c s =
     record { console = λ e. c ∙ ap raised a; input = λ e. absurd (cc); console_only = λ n. absurd (n refl); input_only = λ _. b; exit = tt }
 answer-causes (IsOver Input) sink sink_mid sink_now source source_now a b c s = absurd c
-
--- a line that is too long has that fault
-pub long-line : (line : List ℕ) → longest_line < length line → reading line ≡ Err TooLong
-unfolding reading verb_of
-long-line line long = rw (lt-leb (length line) longest_line long) refl

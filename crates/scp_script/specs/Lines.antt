@@ -1,10 +1,6 @@
 -- The lines of the input, on the whole list of its bytes (SIMH Users' Guide, "Command Processing"), and what they cost.
 use Rattle.std.specs.Prelude.{ℕ, ◌+◌, ◌-◌, ◌*◌, ◌/◌, ◌==◌, ◌&&◌, ◌||◌, max, Bool, not, List, length, take, take_while, slice_index, nat_le, nat_eq, if◌then◌else◌}
 
--- how many bytes a command line has at most
-abbrev pub longest_line : ℕ
-longest_line = 512
-
 -- the bytes before the first LF
 abbrev pub first_line : List ℕ → List ℕ
 first_line input = take_while (λ b. not (b == 10)) input

@@ -1,8 +1,9 @@
 -- What the reader of lines does with an input.
 use Rattle.std.specs.Prelude.{◌≡◌, ◌⊎◌, ◌==◌, ◌&&◌, ◌||◌, ℕ, ◌+◌, ◌-◌, ◌%◌, ◌<◌, ◌≤◌, Bool, false, not, nat_le, List, length, drop, if◌then◌else◌}
+use Rattle.scp_parser.specs.Grammar.{longest_line}
 use Rattle.scp_script.specs.declared.line_reader.Reading.{Reading}
 use Rattle.scp_script.specs.declared.line_reader.Reading.TheVariants.{Line, TooLong, End, Unpaid, Failed}
-use Rattle.scp_script.specs.Lines.{longest_line, InputEnds, LineComes, arrival, line_reads, reads_left, line_cost, first_line, has_lf, without_cr}
+use Rattle.scp_script.specs.Lines.{InputEnds, LineComes, arrival, line_reads, reads_left, line_cost, first_line, has_lf, without_cr}
 use Rattle.scp_script.specs.Lines as lines
 
 -- the line that was read last, and whether the input's end is still to be read

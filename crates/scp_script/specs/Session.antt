@@ -98,7 +98,8 @@ unfoldable pub texts : ℕ → Session → Trace Live
 texts zero s = record { made = []; ended = record { status = 104; state = s.live } }
 texts (suc count) s = after_step (step s).made (step s).next (λ t. texts count t)
 
--- all that a session does: each text after which it goes on has cost a unit of the budget
+-- all that a session does: each text after which it goes on has cost a unit of the budget at least, so that the bound
+-- is never reached
 unfoldable pub trace : Session → Trace Live
 trace s = texts (suc s.budget) s
 

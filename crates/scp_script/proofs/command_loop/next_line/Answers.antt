@@ -2,7 +2,8 @@ use Rattle.std.proofs.Common.{Err, refl, ap, sym}
 use Rattle.scp_parser.specs.declared.fault.ParseFault.TheVariants.{TooLong}
 use Rattle.scp_parser.specs.Reading.{reading}
 use Rattle.scp_script.specs.Loop.{session_of}
-use Rattle.scp_script.proofs.LineLemmas.{prompt-refused, input-ended, budget-spent, input-failed, answered, answer-causes, long-line}
+use Rattle.scp_parser.proofs.LineLemmas.{long-line}
+use Rattle.scp_script.proofs.LineLemmas.{prompt-refused, input-ended, budget-spent, input-failed, answered, answer-causes}
 use Rattle.scp_script.proofs.command_loop.next_line.Goals as goal
 
 pub returns-in-Err-clause-told : goal.returns-in-Err-clause-told
