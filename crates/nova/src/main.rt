@@ -10,12 +10,15 @@ ghost use Rattle.nova_top.specs.Outside.{options_of, texts_of};
 mod session;
 mod words;
 
+use clock_unit::Clk;
 use host_streams::{ReaderSource, WriterSink};
 use session::session;
 use std::alloc::AllocError as OutOfMemory;
 use std::env::Env;
 use std::io;
 use std::process::ExitCode;
+use tty_units::{Tti, Tto};
+use unit_trait::Unit;
 
 /// The exit status where memory does not suffice.
 const NO_MEMORY: u8 = 103;
@@ -35,7 +38,7 @@ fn command_line_session<R: Env + Input + Print + AllocGlobal>(
     standard_session(rt, words.as_slice())
 }
 
-/// Runs a session over these words and the runtime's standard streams.
+/// Runs a session over these words and the runtime's standard streams, with a new unit of each kind that is built.
 fn standard_session<R: Input + Print + AllocGlobal>(
     rt: &R,
     words: &[String],
@@ -46,5 +49,9 @@ fn standard_session<R: Input + Print + AllocGlobal>(
 {
     let mut input = ReaderSource::new(rt.alloc(), rt.reader())?;
     let mut output = WriterSink::new(io::writer(rt));
-    Ok(session(rt.alloc(), words, &mut input, &mut output))
+    let mut units: Vec<Box<dyn Unit>> = Vec::new(rt.alloc());
+    units.push(Box::new(rt.alloc(), Clk::new())?)?;
+    units.push(Box::new(rt.alloc(), Tti::new())?)?;
+    units.push(Box::new(rt.alloc(), Tto::new())?)?;
+    Ok(session(rt.alloc(), words, units, &mut input, &mut output))
 }

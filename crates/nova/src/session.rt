@@ -1,6 +1,7 @@
-ghost use Rattle.std.specs.Prelude.{◌≡◌, ◌≢◌, None, IsTrue};
+ghost use Rattle.std.specs.Prelude.{◌≡◌, ◌≢◌, map, None, IsTrue};
 ghost use Rattle.std.specs.Process.{exit_status};
 ghost use Rattle.fault_counts.specs.Faults.{Rose};
+ghost use Rattle.nova_top.specs.Standard.{IsStandard};
 ghost use Rattle.nova_top.specs.Outside.{options_of, texts_of};
 ghost use Rattle.nova_top.specs.Ends.{IsOutcome, IsCutShort, StatusCause, IsComplete};
 ghost use Rattle.nova.specs.Machines.{OfSomeMachine};
@@ -9,15 +10,18 @@ use host_files::{Sink, Source};
 use nova_top::simulate;
 use std::alloc::Global;
 use std::process::ExitCode;
+use unit_trait::Unit;
 
-/// Runs a session over any input and output. The exit code is the status that `simulate` has answered, so it keeps all
+/// Runs a session over any input and output, with the standard units in whichever types. The exit code is the status that `simulate` has answered, so it keeps all
 /// that `simulate` promises of its status, the input and the console.
-pub fn session<C: Source, S: Sink>(
+pub fn session<U: Unit, C: Source, S: Sink>(
     alloc: Global,
     words: &[String],
+    units: Vec<U>,
     input: &mut C,
     output: &mut S,
 ) -> ExitCode
+    requires { IsStandard (map U.unit_state units.items) }
     ensures outcome { IsTrue C.tells → IsTrue S.tells → exit_status result ≢ 103
         → OfSomeMachine (λ machine. IsOutcome (texts_of words.now) (C.left input.old) (C.left input.new)
         (S.written output.old) (S.written output.new) (exit_status result) machine) }
@@ -33,7 +37,7 @@ pub fn session<C: Source, S: Sink>(
         (S.fault_count output.new) (C.fault_count input.old) (C.fault_count input.new) }
     ensures unread { options_of (texts_of words.now) ≡ None → input.new ≡ input.old }
 {
-    let ending = simulate(alloc, words, input, output);
+    let ending = simulate(alloc, words, units, input, output);
     ExitCode::from(ending.status)
 }
 

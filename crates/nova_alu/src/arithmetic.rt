@@ -35,7 +35,7 @@ pub fn arith(word: Word, acs: [Word; 4], carry: bool) -> Arith
 /// Executes the instruction as `arith` does, on accumulators and a Carry where they stand, and answers whether the next
 /// instruction is skipped. One accumulator is written at the most, and all four are never read together: a processor
 /// waits where it reads several words at once of which one was just written.
-#[inline]
+#[inline(always)]
 #[tactic(auto, unfolding(crate::specs::Arithmetic::loaded_accumulators, crate::specs::Arithmetic::loaded_carry, crate::specs::Arithmetic::skips_next))]
 pub fn arith_in_place(word: Word, acs: &mut [Word; 4], carry: &mut bool) -> bool
     ensures accumulators { acs.new ≡ loaded_accumulators word acs.old carry.old }

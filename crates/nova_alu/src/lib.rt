@@ -10,5 +10,5 @@ mod shifts;
 mod skips;
 
 pub use arithmetic::{arith, arith_in_place};
-pub use multiply_divide::{Divided, divide, multiply};
+pub use multiply_divide::{Divided, divide, divide_in_place, multiply, multiply_in_place};
 pub use outcome::Arith;

@@ -1,4 +1,4 @@
-ghost use Rattle.std.specs.Prelude.{◌≡◌, ◌^◌, ◌<◌, All, slice_index};
+ghost use Rattle.std.specs.Prelude.{◌≡◌, ◌^◌, ◌<◌, ◌+◌, ◌*◌, ◌/◌, ◌%◌, nat_le, All, slice_index};
 ghost use Rattle.nova_alu.specs.MultiplyDivide.{divided, double_word, multiplied, divide_overflows, product};
 
 use nova_word::Word;
@@ -31,6 +31,74 @@ pub fn multiply(acs: [Word; 4]) -> [Word; 4]
         multiplier,
         other,
     ]
+}
+
+/// Executes MUL as `multiply` does, on accumulators where they stand. All four are never read together: a processor
+/// waits where it reads several words at once of which one was just written.
+#[inline(always)]
+#[tactic(auto, unfolding(crate::specs::MultiplyDivide::multiplied))]
+pub fn multiply_in_place(acs: &mut [Word; 4])
+    ensures { acs.new ≡ multiplied acs.old }
+{
+    let whole = product_of(acs[0], acs[1], acs[2]);
+    acs[0] = high_of(whole);
+    acs[1] = low_of(whole);
+}
+
+#[inline(always)]
+fn product_of(addend: Word, multiplicand: Word, multiplier: Word) -> u32
+    ensures { result ≡ multiplicand * multiplier + addend }
+{
+    u32::from(multiplicand.0) * u32::from(multiplier.0) + u32::from(addend.0)
+}
+
+#[inline(always)]
+fn high_of(number: u32) -> Word
+    ensures { result ≡ number / 2 ^ 16 }
+{
+    Word((number / 65536) as u16)
+}
+
+#[inline(always)]
+fn low_of(number: u32) -> Word
+    ensures { result ≡ number % 2 ^ 16 }
+{
+    Word((number % 65536) as u16)
+}
+
+/// Executes DIV as `divide` does, on accumulators and a Carry where they stand.
+#[inline(always)]
+#[tactic(auto, unfolding(crate::specs::MultiplyDivide::divided))]
+pub fn divide_in_place(acs: &mut [Word; 4], carry: &mut bool)
+    ensures accumulators { acs.new ≡ divided acs.old }
+    ensures carry { carry.new ≡ divide_overflows acs.old }
+{
+    let overflows = is_at_least(acs[0], acs[2]);
+    *carry = overflows;
+    if !overflows {
+        let (quotient, remainder) = quotient_of(acs[0], acs[1], acs[2]);
+        acs[0] = remainder;
+        acs[1] = quotient;
+    }
+}
+
+#[inline(always)]
+fn is_at_least(word: Word, other: Word) -> bool
+    ensures { result ≡ nat_le other word }
+{
+    word.0 >= other.0
+}
+
+// The quotient and the remainder of a double word, where the quotient fits a word.
+#[inline(always)]
+fn quotient_of(high: Word, low: Word, divisor: Word) -> (Word, Word)
+    requires { high < divisor }
+    ensures quotient { result.0 ≡ (high * 2 ^ 16 + low) / divisor }
+    ensures remainder { result.1 ≡ (high * 2 ^ 16 + low) % divisor }
+{
+    let dividend = u32::from(high.0) * 65536 + u32::from(low.0);
+    let by = u32::from(divisor.0);
+    (Word((dividend / by) as u16), Word((dividend % by) as u16))
 }
 
 /// Executes DIV: the unsigned number in AC0 (high) and AC1 is divided by AC2, with the quotient in AC1 and the remainder
@@ -67,7 +135,7 @@ pub fn divide(acs: [Word; 4]) -> Divided
 
 #[cfg(test)]
 mod tests {
-    use super::{divide, multiply};
+    use super::{divide, divide_in_place, multiply, multiply_in_place};
     use nova_word::Word;
 
     fn words(numbers: [u16; 4]) -> [Word; 4] {
@@ -87,6 +155,9 @@ mod tests {
         ];
         for (acs, want) in products {
             assert_eq!(rt; multiply(words(acs)), words(want));
+            let mut standing = words(acs);
+            multiply_in_place(&mut standing);
+            assert_eq!(rt; standing, words(want));
         }
         let quotients = [
             ([5, 3, 5, 8], [5, 3, 5, 8], true),
@@ -103,6 +174,11 @@ mod tests {
             let got = divide(words(acs));
             assert_eq!(rt; got.acs, words(want));
             assert_eq!(rt; got.carry, carry);
+            let mut standing = words(acs);
+            let mut flag = !carry;
+            divide_in_place(&mut standing, &mut flag);
+            assert_eq!(rt; standing, words(want));
+            assert_eq!(rt; flag, carry);
         }
     }
 }

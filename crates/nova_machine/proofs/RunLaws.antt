@@ -9,9 +9,8 @@ use Rattle.nova_machine.specs.Parts.{Part, silent, behind_made}
 use Rattle.nova_machine.specs.Turn.{turn}
 use Rattle.nova_machine.specs.Run.{turns, run, next_turn, expired, last_time}
 use Rattle.nova_machine.specs.Laws.{IsLimit, PassesNoBreak, Unchanged, RunSplits, RunTakesTime}
-use Rattle.nova_machine.specs.LawsWithoutUnits.{SameInterrupts}
 use Rattle.nova_machine.proofs.Runs.{turns-none, turns-stop, turns-go}
-use Rattle.nova_machine.proofs.Turns.{turns-fetch, unchanged-same, unchanged-then, interrupts-same, interrupts-then}
+use Rattle.nova_machine.proofs.Turns.{turns-turn, unchanged-same, unchanged-then}
 
 -- a turn where time may have ended: it stops for a limit exactly there, and then all is as it was
 pub record NextTurn (before : Seen) (p : Part) : Type 0 where
@@ -20,8 +19,6 @@ pub record NextTurn (before : Seen) (p : Part) : Type 0 where
   pub most : p.after.machine.time ≤ before.machine.time + 1
   pub ended : IsLimit p.stop → (before.machine.time ≡ last_time) × (p ≡ silent (Some Limit) before)
   pub unchanged : Unchanged before.machine p.after.machine
-  pub interrupts : SameInterrupts before.machine p.after.machine
-  pub released : before.machine.time < p.after.machine.time → p.after.machine.ints.hold ≡ false
   pub held : p.after.machine.time ≡ before.machine.time → p.after.machine.ints.hold ≡ before.machine.ints.hold
 
 next-if : (b : Bool) (s : Seen) (x y : Part) → (b ≡ true → NextTurn s x) → NextTurn s y → NextTurn s (if b then x else y)
@@ -35,23 +32,18 @@ next-ended s end = record {
   most = omega arith;
   ended = λ limit. (end, refl);
   unchanged = unchanged-same s.machine;
-  interrupts = interrupts-same s.machine;
-  released = λ h. absurd (omega arith);
   held = λ _. refl;
 }
 
 next-made : (first : Bool) (s : Seen) → NextTurn s (turn first s)
-unfolding turn
 next-made first s =
-    let t = turns-fetch s.machine in
+    let t = turns-turn first s in
     record {
       goes = t.goes;
       least = t.least;
       most = t.most;
       ended = λ limit. absurd (t.other limit);
       unchanged = t.unchanged;
-      interrupts = t.interrupts;
-      released = t.released;
       held = t.held;
     }
 
@@ -181,12 +173,7 @@ pub record Takes (n : ℕ) (s : Seen) (p : Part) : Type 0 where
   pub stepped : p.stop ≡ Some Stepped → p.after.machine.time ≡ s.machine.time + n
   pub limited : IsLimit p.stop → (p.after.machine.time ≡ s.machine.time + n) ⊎ (p.after.machine.time ≡ last_time)
   pub unchanged : Unchanged s.machine p.after.machine
-  pub interrupts : SameInterrupts s.machine p.after.machine
-  pub released : s.machine.time < p.after.machine.time → p.after.machine.ints.hold ≡ false
   pub held : p.after.machine.time ≡ s.machine.time → p.after.machine.ints.hold ≡ s.machine.ints.hold
-
-same-or-more : (a b : ℕ) → a ≤ b → (b ≡ a) ⊎ (a < b)
-same-or-more a b least = grind arith
 
 -- turns that go on from the state of the next one
 takes-more : (first : Bool) (n : ℕ) (s : Seen) (p : Part) → (next_turn first s).stop ≡ None → Takes n (next_turn first s).after p → Takes (suc n) s (behind_made (next_turn first s).made p)
@@ -200,11 +187,6 @@ takes-more first n s p goes t =
       stepped = λ h. let e = t.stepped h in omega (arith, one, e);
       limited = λ h. elim (t.limited h) [ inl e ↦ inl (omega (arith, one, e)) | inr e ↦ inr e ];
       unchanged = unchanged-then s.machine now p.after.machine next.unchanged t.unchanged;
-      interrupts = interrupts-then s.machine now p.after.machine next.interrupts t.interrupts;
-      released = λ _. elim (same-or-more now.time p.after.machine.time t.least) [
-        | inl same ↦ t.held same ∙ next.released (omega (arith, one))
-        | inr more ↦ t.released more
-      ];
       held = λ h. absurd (omega (arith, one, t.least, h));
     }
 
@@ -221,8 +203,6 @@ takes-stop first n s =
         stepped = λ h. let e = next.ended (subst P (sym h) tt) in let limit = ap (λ (x : Part). x.stop) e.1 in absurd (cc);
         limited = λ h. let e = next.ended h in inr (ap (λ (x : Part). x.after.machine.time) e.1 ∙ e.0);
         unchanged = next.unchanged;
-        interrupts = next.interrupts;
-        released = next.released;
         held = next.held;
       })
     ]
@@ -234,8 +214,6 @@ takes-none step first s = record {
   stepped = λ h. omega arith;
   limited = λ h. inl (omega arith);
   unchanged = unchanged-same s.machine;
-  interrupts = interrupts-same s.machine;
-  released = λ h. absurd (omega arith);
   held = λ _. refl;
 }
 

@@ -1,20 +1,30 @@
 -- What every instruction and every turn keeps, and how time grows over a turn.
-use Rattle.std.proofs.Common.{◌≡◌, ℕ, ◌+◌, ◌<◌, ◌≤◌, ◌==◌, ◌&&◌, ◌||◌, Bool, true, false, List, Option, Some, None, refl, ap, ◌∙◌, if◌then◌else◌, arith}
+use Rattle.std.proofs.Common.{◌≡◌, ℕ, ◌+◌, ◌<◌, ◌≤◌, ◌==◌, ◌&&◌, ◌||◌, Bool, true, false, not, List, [], ◌∷◌, Option, Some, None, is_some, slice_index, refl, ap, sym, ◌∙◌, if◌then◌else◌, arith}
 use Rattle.std.proofs.lemmas.Bool.Decides.{nat_tests}
 use Rattle.nova_word.specs.Bits.{bits}
 use Rattle.nova_memory.specs.Memory.{MemoryState, get, put}
 use Rattle.nova_memory.specs.Address.{Reference, address, indexed}
 use Rattle.nova_memory.proofs.Chains.{chain-size}
+use Rattle.unit_trait.specs.declared.kind.UnitName.{UnitName}
+use Rattle.unit_trait.specs.declared.calls.UnitStop.{UnitStop}
+use Rattle.unit_trait.specs.declared.calls.UnitStop.TheVariants as unit_stop
+use Rattle.event_queue.specs.EventList.{dues}
+use Rattle.nova_interrupts.specs.Interrupts.{enabled, disabled}
+use Rattle.nova_interrupts.specs.Requests.{acknowledged}
 use Rattle.nova_machine.specs.declared.machine.Stop.{Stop}
-use Rattle.nova_machine.specs.declared.machine.Stop.TheVariants.{ChainLimit, NotBuilt}
-use Rattle.nova_machine.specs.declared.interrupts.Ints.{Ints}
+use Rattle.nova_machine.specs.declared.machine.Stop.TheVariants.{Halt, ChainLimit, UnknownDevice}
 use Rattle.nova_machine.specs.Processor.{ProcessorState}
-use Rattle.nova_machine.specs.Machine.{MachineState}
+use Rattle.nova_machine.specs.Machine.{MachineState, on_processor, reset_devices}
+use Rattle.nova_machine.specs.Seen.{Seen}
+use Rattle.nova_machine.specs.Parts.{Part, silent, followed, then_part}
+use Rattle.nova_machine.specs.Turned.{Turned, begun, ticked, executed, goes_on, stops, still}
 use Rattle.nova_machine.specs.Instruction.{advanced, jump, jump_to_subroutine, store_and_skip, load, store, without_accumulator, memory_reference, arithmetic}
-use Rattle.nova_machine.specs.InputOutput.{skips_at_zero, multiply, divide, input_zero, unanswered, multiply_divide}
-use Rattle.nova_machine.specs.Turn.{Turned, begun, ticked, executed, goes_on, stops, refer_to, refer, halt, transfer, execute, fetch}
+use Rattle.nova_machine.specs.InputOutput.{multiply, divide, input, is_input, past, passed, tested, unanswered, multiply_divide}
+use Rattle.nova_machine.specs.Transfer.{asked_unit, flags_in, to_unit, to_device, mask_set, central_function, central_pulse, central, to_processor, transfer}
+use Rattle.nova_machine.specs.Wants.{stop_by}
+use Rattle.nova_machine.specs.Service.{asked, answered, service, taken, services, serving}
+use Rattle.nova_machine.specs.Turn.{with_memory, refer_to, refer, execute, fetch, is_interrupted, jump_to, interrupt_reference, enter, interrupt, prepared, turn}
 use Rattle.nova_machine.specs.Laws.{IsLimit, Unchanged}
-use Rattle.nova_machine.specs.LawsWithoutUnits.{SameInterrupts}
 
 -- an instruction leaves the size of memory
 pub record SameSize (before after : ProcessorState) : Type 0 where
@@ -60,11 +70,25 @@ size-arithmetic : (w : ℕ) (p : ProcessorState) → SameSize p (arithmetic w p)
 unfolding arithmetic
 size-arithmetic w p = record { size = refl }
 
-size-unanswered : (f t k : ℕ) (p : ProcessorState) → SameSize p (unanswered f t k p)
-unfolding unanswered input_zero
-size-unanswered f t k p =
-    let passed = record p { cpu = advanced ((f == 7) && skips_at_zero t) p.cpu } in
-    size-if ((f == 1) || (f == 3) || (f == 5)) p (input_zero k p) passed (record { size = refl }) (record { size = refl })
+size-input : (k w : ℕ) (p : ProcessorState) → SameSize p (input k w p)
+unfolding input
+size-input k w p = record { size = refl }
+
+size-past : (p : ProcessorState) → SameSize p (past p)
+unfolding past
+size-past p = record { size = refl }
+
+size-passed : (f k w : ℕ) (p : ProcessorState) → SameSize p (passed f k w p)
+unfolding passed
+size-passed f k w p = size-if (is_input f) p _ _ (size-input k w p) (size-past p)
+
+size-tested : (t : ℕ) (busy done : Bool) (p : ProcessorState) → SameSize p (tested t busy done p)
+unfolding tested
+size-tested t busy done p = record { size = refl }
+
+size-unanswered : (w : ℕ) (p : ProcessorState) → SameSize p (unanswered w p)
+unfolding unanswered
+size-unanswered w p = size-if _ p _ _ (size-tested (bits 8 9 w) false false p) (size-passed (bits 5 7 w) (bits 3 4 w) 0 p)
 
 size-multiply : (p : ProcessorState) → SameSize p (multiply p)
 unfolding multiply
@@ -76,7 +100,12 @@ size-divide p = record { size = refl }
 
 size-multiply_divide : (w : ℕ) (p : ProcessorState) → SameSize p (multiply_divide w p)
 unfolding multiply_divide
-size-multiply_divide w p = size-if _ p _ _ (size-multiply p) (size-if _ p _ _ (size-divide p) (size-unanswered (bits 5 7 w) (bits 8 9 w) (bits 3 4 w) p))
+size-multiply_divide w p = size-if _ p _ _ (size-multiply p) (size-if _ p _ _ (size-divide p) (size-unanswered w p))
+
+-- what takes no time, and leaves what no run changes
+pub record Acts (before after : MachineState) : Type 0 where
+  pub time : after.time ≡ before.time
+  pub unchanged : Unchanged before after
 
 pub unchanged-same : (m : MachineState) → Unchanged m m
 unchanged-same m = record { size = refl; sr = refl; stop_dev = refl }
@@ -84,52 +113,109 @@ unchanged-same m = record { size = refl; sr = refl; stop_dev = refl }
 pub unchanged-then : (first second third : MachineState) → Unchanged first second → Unchanged second third → Unchanged first third
 unchanged-then first second third a b = record { size = b.size ∙ a.size; sr = b.sr ∙ a.sr; stop_dev = b.stop_dev ∙ a.stop_dev }
 
-pub interrupts-same : (m : MachineState) → SameInterrupts m m
-interrupts-same m = record { mask = refl; on = refl }
+acts-same : (m : MachineState) → Acts m m
+acts-same m = record { time = refl; unchanged = unchanged-same m }
 
-pub interrupts-then : (first second third : MachineState) → SameInterrupts first second → SameInterrupts second third → SameInterrupts first third
-interrupts-then first second third a b = record { mask = b.mask ∙ a.mask; on = b.on ∙ a.on }
+acts-then : (first second third : MachineState) → Acts first second → Acts second third → Acts first third
+acts-then first second third a b = record { time = b.time ∙ a.time; unchanged = unchanged-then first second third a.unchanged b.unchanged }
 
--- How time grows over a turn: by one where it goes on, and by one at the most where it stops, and then not for a limit.
+acts-if : (b : Bool) (m x y : MachineState) → Acts m x → Acts m y → Acts m (if b then x else y)
+acts-if true m x y first second = first
+acts-if false m x y first second = second
+
+acts-on : (f : ProcessorState → ProcessorState) (m : MachineState) → SameSize m.processor (f m.processor) → Acts m (on_processor f m)
+acts-on f m size = record { time = refl; unchanged = record { size = size.size; sr = refl; stop_dev = refl } }
+
+acts-begun : (m : MachineState) → Acts m (begun m)
+unfolding begun
+acts-begun m = record { time = refl; unchanged = record { size = refl; sr = refl; stop_dev = refl } }
+
+acts-asked_unit : (code w : ℕ) (m : MachineState) → Acts m (asked_unit code w m)
+unfolding asked_unit
+acts-asked_unit code w m = record { time = refl; unchanged = record { size = (size-passed (bits 5 7 w) (bits 3 4 w) _ m.processor).size; sr = refl; stop_dev = refl } }
+
+acts-to_unit : (code w : ℕ) (m : MachineState) → Acts m (to_unit code w m)
+unfolding to_unit
+acts-to_unit code w m =
+    let test = tested (bits 8 9 w) (flags_in code m).busy (flags_in code m).done in
+    acts-if (bits 5 7 w == 7) m (on_processor test m) (asked_unit code w m)
+    (acts-on test m (size-tested (bits 8 9 w) (flags_in code m).busy (flags_in code m).done m.processor)) (acts-asked_unit code w m)
+
+acts-reset_devices : (m : MachineState) → Acts m (reset_devices m)
+unfolding reset_devices
+acts-reset_devices m = record { time = refl; unchanged = record { size = refl; sr = refl; stop_dev = refl } }
+
+acts-mask_set : (w : ℕ) (m : MachineState) → Acts m (mask_set w m)
+acts-mask_set w m = record { time = refl; unchanged = record { size = refl; sr = refl; stop_dev = refl } }
+
+acts-past : (m x : MachineState) → Acts m x → Acts m (on_processor past x)
+acts-past m x a = acts-then m x (on_processor past x) a (acts-on past x (size-past x.processor))
+
+acts-central_function : (f k : ℕ) (m : MachineState) → Acts m (central_function f k m)
+unfolding central_function
+acts-central_function f k m =
+    let code = acknowledged m.ints.mask m.units in
+    let mask = slice_index m.processor.cpu.accumulators k in
+    acts-if (f == 1) m _ _ (acts-on (input k m.sr) m (size-input k m.sr m.processor))
+    (acts-if (f == 3) m _ _ (acts-on (input k code) m (size-input k code m.processor))
+    (acts-if (f == 4) m _ _ (acts-past m (mask_set mask m) (acts-mask_set mask m))
+    (acts-if (f == 5) m _ _ (acts-past m (reset_devices m) (acts-reset_devices m)) (acts-past m m (acts-same m)))))
+
+acts-central_pulse : (bits : ℕ) (m : MachineState) → Acts m (central_pulse bits m)
+unfolding central_pulse
+acts-central_pulse bits m =
+    let on = record m { ints = enabled m.ints } in
+    let off = record m { ints = disabled m.ints } in
+    acts-if (bits == 1) m on (if bits == 2 then off else m) (record { time = refl; unchanged = record { size = refl; sr = refl; stop_dev = refl } })
+    (acts-if (bits == 2) m off m (record { time = refl; unchanged = record { size = refl; sr = refl; stop_dev = refl } }) (acts-same m))
+
+acts-central : (w : ℕ) (m : MachineState) → Acts m (central w m)
+unfolding central
+acts-central w m =
+    acts-then m (central_function (bits 5 7 w) (bits 3 4 w) m) (central_pulse (bits 8 9 w) (central_function (bits 5 7 w) (bits 3 4 w) m))
+    (acts-central_function (bits 5 7 w) (bits 3 4 w) m) (acts-central_pulse (bits 8 9 w) (central_function (bits 5 7 w) (bits 3 4 w) m))
+
+-- How time grows over an instruction: by one where it goes on, and by one at the most where it stops, and then not for a
+-- limit.
 pub record Turns (before : MachineState) (t : Turned) : Type 0 where
   pub goes : t.stop ≡ None → t.machine.time ≡ before.time + 1
   pub least : before.time ≤ t.machine.time
   pub most : t.machine.time ≤ before.time + 1
   pub other : ¬ IsLimit t.stop
   pub unchanged : Unchanged before t.machine
-  pub interrupts : SameInterrupts before t.machine
-  pub released : before.time < t.machine.time → t.machine.ints.hold ≡ false
   pub held : t.machine.time ≡ before.time → t.machine.ints.hold ≡ before.ints.hold
 
 turns-if : (b : Bool) (m : MachineState) (x y : Turned) → Turns m x → Turns m y → Turns m (if b then x else y)
 turns-if true m x y first second = first
 turns-if false m x y first second = second
 
--- an instruction that goes on
-turns-on : (m : MachineState) (f : ProcessorState → ProcessorState) → SameSize m.processor (f m.processor) → Turns m (goes_on (executed f m))
-unfolding begun ticked
-turns-on m f size = record {
-  goes = λ _. refl;
-  least = omega arith;
-  most = omega arith;
-  other = λ limit. limit;
-  unchanged = record { size = size.size; sr = refl; stop_dev = refl };
-  interrupts = record { mask = refl; on = refl };
-  released = λ _. refl;
-  held = λ h. absurd (omega arith);
+-- an instruction that was executed, and may stop behind itself
+turns-ticked : (m x : MachineState) (stop : Option Stop) → ¬ IsLimit stop → Acts m x → Turns m (record { machine = ticked x; stop = stop })
+unfolding ticked
+turns-ticked m x stop other a = record {
+  goes = λ _. ap (λ (n : ℕ). n + 1) a.time;
+  least = omega (arith, a.time);
+  most = omega (arith, a.time);
+  other = other;
+  unchanged = record { size = a.unchanged.size; sr = a.unchanged.sr; stop_dev = a.unchanged.stop_dev };
+  held = λ h. absurd (omega (arith, a.time, h));
 }
 
--- a stop that leaves all but memory, whose size it leaves too
-turns-stopped : (m after : MachineState) (stop : Stop) → ¬ IsLimit (Some stop) → after.time ≡ m.time → Unchanged m after → after.ints ≡ m.ints → Turns m (stops stop after)
-turns-stopped m after stop other time unchanged ints = record {
+begun-then : (m x : MachineState) → Acts (begun m) x → Acts m x
+begun-then m x a = acts-then m (begun m) x (acts-begun m) a
+
+turns-on : (m : MachineState) (f : ProcessorState → ProcessorState) → ((p : ProcessorState) → SameSize p (f p)) → Turns m (goes_on (executed f m))
+turns-on m f size = turns-ticked m (on_processor f (begun m)) None (λ limit. limit) (begun-then m _ (acts-on f (begun m) (size (begun m).processor)))
+
+-- a stop that takes no time
+turns-stopped : (m after : MachineState) (stop : Stop) → ¬ IsLimit (Some stop) → Acts m after → after.ints.hold ≡ m.ints.hold → Turns m (stops stop after)
+turns-stopped m after stop other a hold = record {
   goes = λ h. absurd (cc);
-  least = omega (arith, time);
-  most = omega (arith, time);
+  least = omega (arith, a.time);
+  most = omega (arith, a.time);
   other = other;
-  unchanged = unchanged;
-  interrupts = record { mask = ap (λ (i : Ints). i.mask) ints; on = ap (λ (i : Ints). i.on) ints };
-  released = λ h. absurd (omega (arith, time, h));
-  held = λ _. ap (λ (i : Ints). i.hold) ints;
+  unchanged = a.unchanged;
+  held = λ _. hold;
 }
 
 reference-if : (b : Bool) (m : MemoryState) (x y : Reference) → x.memory.size ≡ m.size → y.memory.size ≡ m.size → (if b then x else y).memory.size ≡ m.size
@@ -140,25 +226,16 @@ address-size : (m : MemoryState) (w pc : ℕ) (acs : List ℕ) → (address m w 
 unfolding address
 address-size m w pc acs = reference-if (bits 5 5 w == 1) m _ _ (chain-size 16 m (indexed w pc acs)) refl
 
+acts-with_memory : (m : MachineState) (memory : MemoryState) → memory.size ≡ m.processor.memory.size → Acts m (with_memory m memory)
+acts-with_memory m memory size = record { time = refl; unchanged = record { size = size; sr = refl; stop_dev = refl } }
+
 -- a memory reference from a machine whose chain has changed memory
-turns-refer_to : (w : ℕ) (a : Option ℕ) (m : MachineState) (memory : MemoryState) → memory.size ≡ m.processor.memory.size
-    → Turns m (refer_to w a (record m { processor = record m.processor { memory = memory } }))
-turns-refer_to w None m memory size =
-    turns-stopped m (record m { processor = record m.processor { memory = memory } }) ChainLimit (λ limit. limit) refl
-    (record { size = size; sr = refl; stop_dev = refl }) refl
+turns-refer_to : (w : ℕ) (a : Option ℕ) (m : MachineState) (memory : MemoryState) → memory.size ≡ m.processor.memory.size → Turns m (refer_to w a (with_memory m memory))
+turns-refer_to w None m memory size = turns-stopped m (with_memory m memory) ChainLimit (λ limit. limit) (acts-with_memory m memory size) refl
 turns-refer_to w (Some a) m memory size =
-    let changed = record m { processor = record m.processor { memory = memory } } in
-    let t = turns-on changed (memory_reference w a) (size-memory_reference w a changed.processor) in
-    record {
-      goes = t.goes;
-      least = t.least;
-      most = t.most;
-      other = t.other;
-      unchanged = record { size = t.unchanged.size ∙ size; sr = t.unchanged.sr; stop_dev = t.unchanged.stop_dev };
-      interrupts = record { mask = t.interrupts.mask; on = t.interrupts.on };
-      released = t.released;
-      held = t.held;
-    }
+    let now = with_memory m memory in
+    turns-ticked m (on_processor (memory_reference w a) (begun now)) None (λ limit. limit)
+    (acts-then m now _ (acts-with_memory m memory size) (begun-then now _ (acts-on (memory_reference w a) (begun now) (size-memory_reference w a (begun now).processor))))
 
 turns-refer : (w : ℕ) (m : MachineState) → Turns m (refer w m)
 unfolding refer
@@ -166,30 +243,147 @@ turns-refer w m =
     let reference = address m.processor.memory w m.processor.cpu.pc m.processor.cpu.accumulators in
     turns-refer_to w reference.address m reference.memory (address-size m.processor.memory w m.processor.cpu.pc m.processor.cpu.accumulators)
 
-turns-halt : (m : MachineState) → Turns m (halt m)
-unfolding halt begun ticked
-turns-halt m = record {
-  goes = λ h. absurd (cc);
-  least = omega arith;
-  most = omega arith;
-  other = λ limit. limit;
-  unchanged = record { size = refl; sr = refl; stop_dev = refl };
-  interrupts = record { mask = refl; on = refl };
-  released = λ _. refl;
-  held = λ h. absurd (omega arith);
-}
+turns-to_device : (code w : ℕ) (m : MachineState) → Turns m (to_device code w m)
+unfolding to_device
+turns-to_device code w m =
+    turns-if _ m _ _ (turns-ticked m (to_unit code w (begun m)) None (λ limit. limit) (begun-then m _ (acts-to_unit code w (begun m))))
+    (turns-if _ m _ _ (turns-stopped m m UnknownDevice (λ limit. limit) (acts-same m) refl) (turns-on m (unanswered w) (size-unanswered w)))
+
+turns-to_processor : (w : ℕ) (m : MachineState) → Turns m (to_processor w m)
+unfolding to_processor
+turns-to_processor w m =
+    let behind = begun-then m (central w (begun m)) (acts-central w (begun m)) in
+    turns-if _ m _ _ (turns-on m (tested (bits 8 9 w) m.ints.on false) (size-tested (bits 8 9 w) m.ints.on false))
+    (turns-if _ m _ _ (turns-ticked m (central w (begun m)) (Some Halt) (λ limit. limit) behind) (turns-ticked m (central w (begun m)) None (λ limit. limit) behind))
 
 turns-transfer : (w : ℕ) (m : MachineState) → Turns m (transfer w m)
 unfolding transfer
 turns-transfer w m =
-    turns-if _ m _ _ (turns-on m (multiply_divide w) (size-multiply_divide w m.processor))
-    (turns-if _ m _ _ (turns-halt m) (turns-stopped m m NotBuilt (λ limit. limit) refl (unchanged-same m) refl))
+    turns-if _ m _ _ (turns-on m (multiply_divide w) (size-multiply_divide w))
+    (turns-if _ m _ _ (turns-to_processor w m) (turns-to_device (bits 10 15 w) w m))
 
 turns-execute : (w : ℕ) (m : MachineState) → Turns m (execute w m)
 unfolding execute
 turns-execute w m =
-    turns-if _ m _ _ (turns-refer w m) (turns-if _ m _ _ (turns-transfer w m) (turns-on m (arithmetic w) (size-arithmetic w m.processor)))
+    turns-if _ m _ _ (turns-refer w m) (turns-if _ m _ _ (turns-transfer w m) (turns-on m (arithmetic w) (size-arithmetic w)))
 
 pub turns-fetch : (m : MachineState) → Turns m (fetch m)
 unfolding fetch
 turns-fetch m = turns-execute (get m.processor.memory m.processor.cpu.pc) m
+
+-- What comes before the instruction takes no time, leaves HOLD, and stops for no limit.
+pub record Stays (before after : MachineState) : Type 0 where
+  pub acts : Acts before after
+  pub hold : after.ints.hold ≡ before.ints.hold
+
+stays-then : (first second third : MachineState) → Stays first second → Stays second third → Stays first third
+stays-then first second third a b = record { acts = acts-then first second third a.acts b.acts; hold = b.hold ∙ a.hold }
+
+pub record Prepares (before : Seen) (p : Part) : Type 0 where
+  pub stays : Stays before.machine p.after.machine
+  pub other : ¬ IsLimit p.stop
+
+followed-prepares : (s : Seen) (made : List _) (stop : Option Stop) (next : Seen) (goes_on : Seen → Part) → Stays s.machine next.machine → ¬ IsLimit stop
+    → Prepares next (goes_on next) → Prepares s (followed made stop next goes_on)
+followed-prepares s made (Some stop) next goes_on stays other more = record { stays = stays; other = other }
+followed-prepares s made None next goes_on stays other more =
+    record { stays = stays-then s.machine next.machine (goes_on next).after.machine stays more.stays; other = more.other }
+
+then-prepares : (s : Seen) (p : Part) (goes_on : Seen → Part) → Prepares s p → ((next : Seen) → Prepares next (goes_on next)) → Prepares s (then_part p goes_on)
+then-prepares s p goes_on first more = followed-prepares s p.made p.stop p.after goes_on first.stays first.other (more p.after)
+
+stop_by-other : (u : UnitName) (stop : UnitStop) → ¬ IsLimit (stop_by u stop)
+stop_by-other u unit_stop.Go limit = limit
+stop_by-other u unit_stop.End limit = limit
+stop_by-other u unit_stop.NoFile limit = limit
+
+service-prepares : (u : UnitName) (s : Seen) → Prepares s (service u (taken s))
+unfolding service asked answered
+service-prepares u s = record {
+  stays = record { acts = record { time = refl; unchanged = record { size = refl; sr = refl; stop_dev = refl } }; hold = refl };
+  other = stop_by-other u _;
+}
+
+services-prepare : (us : List UnitName) (s : Seen) → Prepares s (services us s)
+unfolding services
+services-prepare [] s = record { stays = record { acts = acts-same s.machine; hold = refl }; other = λ limit. limit }
+services-prepare (u ∷ us) s = then-prepares s (service u (taken s)) (λ next. services us next) (service-prepares u s) (λ next. services-prepare us next)
+
+pub serving-prepares : (s : Seen) → Prepares s (serving s)
+unfolding serving
+serving-prepares s = services-prepare (dues s.machine.events) s
+
+-- the interrupt, as a piece
+pub record Enters (before : MachineState) (t : Turned) : Type 0 where
+  pub stays : Stays before t.machine
+  pub other : ¬ IsLimit t.stop
+
+enters-jump_to : (a : Option ℕ) (m now : MachineState) → Stays m now → Enters m (jump_to a now)
+enters-jump_to None m now stays = record { stays = stays; other = λ limit. limit }
+enters-jump_to (Some a) m now stays = record {
+  stays = record {
+    acts = record { time = stays.acts.time; unchanged = record { size = stays.acts.unchanged.size; sr = stays.acts.unchanged.sr; stop_dev = stays.acts.unchanged.stop_dev } };
+    hold = stays.hold;
+  };
+  other = λ limit. limit;
+}
+
+reference-size : (m : MachineState) → (interrupt_reference m).memory.size ≡ m.processor.memory.size
+reference-size m =
+    address-size (put m.processor.memory 0 m.processor.cpu.pc) 0o2001 m.processor.cpu.pc m.processor.cpu.accumulators ∙ put-size m.processor.memory 0 m.processor.cpu.pc
+
+enters-enter : (m : MachineState) → Enters m (enter m)
+unfolding enter
+enters-enter m =
+    enters-jump_to (interrupt_reference m).address m _
+    (record { acts = record { time = refl; unchanged = record { size = reference-size m; sr = refl; stop_dev = refl } }; hold = refl })
+
+enters-if : (b : Bool) (m : MachineState) (x y : Turned) → Enters m x → Enters m y → Enters m (if b then x else y)
+enters-if true m x y first second = first
+enters-if false m x y first second = second
+
+enters-interrupt : (m : MachineState) → Enters m (interrupt m)
+unfolding interrupt
+enters-interrupt m = enters-if (is_interrupted m) m _ _ (enters-enter m) (record { stays = record { acts = acts-same m; hold = refl }; other = λ limit. limit })
+
+pub prepared-prepares : (s : Seen) → Prepares s (prepared s)
+unfolding prepared
+prepared-prepares s =
+    then-prepares s (serving s) (λ served. still served (interrupt served.machine)) (serving-prepares s)
+    (λ next. record { stays = (enters-interrupt next.machine).stays; other = (enters-interrupt next.machine).other })
+
+-- a whole turn
+pub record TurnsPart (before : Seen) (p : Part) : Type 0 where
+  pub goes : p.stop ≡ None → p.after.machine.time ≡ before.machine.time + 1
+  pub least : before.machine.time ≤ p.after.machine.time
+  pub most : p.after.machine.time ≤ before.machine.time + 1
+  pub other : ¬ IsLimit p.stop
+  pub unchanged : Unchanged before.machine p.after.machine
+  pub held : p.after.machine.time ≡ before.machine.time → p.after.machine.ints.hold ≡ before.machine.ints.hold
+
+turns-followed : (s : Seen) (made : List _) (stop : Option Stop) (ready : Seen) → Stays s.machine ready.machine → ¬ IsLimit stop
+    → TurnsPart s (followed made stop ready (λ r. still r (fetch r.machine)))
+turns-followed s made (Some stop) ready stays other = record {
+  goes = λ h. absurd (cc);
+  least = omega (arith, stays.acts.time);
+  most = omega (arith, stays.acts.time);
+  other = other;
+  unchanged = stays.acts.unchanged;
+  held = λ _. stays.hold;
+}
+turns-followed s made None ready stays other =
+    let t = turns-fetch ready.machine in
+    let now = stays.acts.time in
+    record {
+      goes = λ h. t.goes h ∙ ap (λ (n : ℕ). n + 1) now;
+      least = omega (arith, t.least, now);
+      most = omega (arith, t.most, now);
+      other = t.other;
+      unchanged = unchanged-then s.machine ready.machine (fetch ready.machine).machine stays.acts.unchanged t.unchanged;
+      held = λ h. t.held (omega (arith, now, h)) ∙ stays.hold;
+    }
+
+pub turns-turn : (first : Bool) (s : Seen) → TurnsPart s (turn first s)
+unfolding turn
+turns-turn first s =
+    let p = prepared-prepares s in turns-followed s (prepared s).made (prepared s).stop (prepared s).after p.stays p.other

@@ -1,6 +1,6 @@
--- The words of input and output to device 1, the multiply and divide unit (How to Use the Nova Computers, "Input-Output
--- Instructions" and "Multiply/Divide").
-use Rattle.std.specs.Prelude.{ℕ, ◌==◌, ◌&&◌, ◌||◌, Bool, false, slice_set, if◌then◌else◌}
+-- The words of input and output on the processor (How to Use the Nova Computers, "Input-Output Instructions"), and those
+-- to device 1, the multiply and divide unit ("Multiply/Divide").
+use Rattle.std.specs.Prelude.{ℕ, ◌==◌, ◌||◌, Bool, false, not, slice_set, if◌then◌else◌}
 use Rattle.nova_word.specs.Bits.{bits}
 use Rattle.nova_alu.specs.MultiplyDivide.{multiplied, divided, divide_overflows}
 use Rattle.nova_machine.specs.Processor.{ProcessorState}
@@ -14,24 +14,35 @@ multiply p = record p { cpu = advanced false (record p.cpu { accumulators = mult
 unfoldable pub divide : ProcessorState → ProcessorState
 divide p = record p { cpu = advanced false (record p.cpu { accumulators = divided p.cpu.accumulators; carry = divide_overflows p.cpu.accumulators }) }
 
--- DIA, DIB and DIC where nothing answers: the accumulator becomes 0
-unfoldable pub input_zero : ℕ → ProcessorState → ProcessorState
-input_zero accumulator p = record p { cpu = advanced false (record p.cpu { accumulators = slice_set p.cpu.accumulators accumulator 0 }) }
+-- DIA, DIB and DIC: that word goes into the accumulator
+unfoldable pub input : ℕ → ℕ → ProcessorState → ProcessorState
+input accumulator word p = record p { cpu = advanced false (record p.cpu { accumulators = slice_set p.cpu.accumulators accumulator word }) }
 
--- whether a skip is taken on BUSY 0 and DONE 0, by bits 8 and 9: SKPBN, SKPBZ, SKPDN, SKPDZ
-abbrev pub skips_at_zero : ℕ → Bool
-skips_at_zero test = (test == 1) || (test == 3)
+-- the functions in bits 5 to 7 that are inputs
+abbrev pub is_input : ℕ → Bool
+is_input function = (function == 1) || (function == 3) || (function == 5)
 
--- a word to a device where nothing answers, by its function in bits 5 to 7: 1, 3 and 5 are DIA, DIB and DIC, 7 is a skip,
--- and NIO, DOA, DOB and DOC do nothing. Nor does any pulse.
-unfoldable pub unanswered : ℕ → ℕ → ℕ → ProcessorState → ProcessorState
-unanswered function test accumulator p =
-    if (function == 1) || (function == 3) || (function == 5) then input_zero accumulator p
-    else record p { cpu = advanced ((function == 7) && skips_at_zero test) p.cpu }
+-- a word that does nothing to the processor
+unfoldable pub past : ProcessorState → ProcessorState
+past p = record p { cpu = advanced false p.cpu }
+
+-- the processor behind a word that is no skip, with the word that an input answers
+unfoldable pub passed : ℕ → ℕ → ℕ → ProcessorState → ProcessorState
+passed function accumulator word p = if is_input function then input accumulator word p else past p
+
+-- whether a skip is taken, by bits 8 and 9: on BUSY, on no BUSY, on DONE, on no DONE
+abbrev pub flag_skips : ℕ → Bool → Bool → Bool
+flag_skips test busy done = if test == 0 then busy else if test == 1 then not busy else if test == 2 then done else not done
+
+-- the processor behind a skip on those flags
+unfoldable pub tested : ℕ → Bool → Bool → ProcessorState → ProcessorState
+tested test busy done p = record p { cpu = advanced (flag_skips test busy done) p.cpu }
+
+-- a word that nothing answers: inputs are 0, and BUSY and DONE are clear. No pulse does anything.
+unfoldable pub unanswered : ℕ → ProcessorState → ProcessorState
+unanswered word p =
+    if bits 5 7 word == 7 then tested (bits 8 9 word) false false p else passed (bits 5 7 word) (bits 3 4 word) 0 p
 
 -- a word to device 1: two words are MUL and DIV, and no other is answered
 unfoldable pub multiply_divide : ℕ → ProcessorState → ProcessorState
-multiply_divide word p =
-    if word == 0o73301 then multiply p
-    else if word == 0o73101 then divide p
-    else unanswered (bits 5 7 word) (bits 8 9 word) (bits 3 4 word) p
+multiply_divide word p = if word == 0o73301 then multiply p else if word == 0o73101 then divide p else unanswered word p

@@ -1,14 +1,10 @@
 -- What holds of every run, in a reader's words. A law is proved where a public function's contract is that law.
 use Rattle.std.specs.Prelude.{◌≡◌, ◌↔◌, ℕ, ◌+◌, ◌<◌, ◌≤◌, ◌⊎◌, Bool, true, false, Option, Some, None}
-use Rattle.nova_memory.specs.Memory.{get}
-use Rattle.nova_memory.specs.Address.{address}
 use Rattle.nova_machine.specs.declared.machine.Stop.{Stop}
-use Rattle.nova_machine.specs.declared.machine.Stop.TheVariants.{Halt, ChainLimit, Stepped, Limit}
+use Rattle.nova_machine.specs.declared.machine.Stop.TheVariants.{Stepped, Limit}
 use Rattle.nova_machine.specs.Machine.{MachineState}
 use Rattle.nova_machine.specs.Seen.{Seen}
 use Rattle.nova_machine.specs.Parts.{behind_made}
-use Rattle.nova_machine.specs.Instruction.{following}
-use Rattle.nova_machine.specs.Turn.{turn}
 use Rattle.nova_machine.specs.Run.{run, next_turn, expired, last_time}
 
 -- the stops of a run that only its count or the end of time has ended
@@ -49,34 +45,3 @@ pub record RunTakesTime : Type 0 where
   -- where no instruction was executed, interrupts wait as before
   pub held : (step : Bool) (n : ℕ) (s : Seen) → (run step n s).after.machine.time ≡ s.machine.time → (run step n s).after.machine.ints.hold ≡ s.machine.ints.hold
   pub unchanged : (step : Bool) (n : ℕ) (s : Seen) → Unchanged s.machine (run step n s).after.machine
-
--- the word that the next turn fetches
-abbrev pub fetched : MachineState → ℕ
-fetched m = get m.processor.memory m.processor.cpu.pc
-
--- a memory reference whose indirect chain does not end
-pub record IsEndless (word : ℕ) (m : MachineState) : Type 0 where
-  pub memory_reference : word < 0o60000
-  pub chain : (address m.processor.memory word m.processor.cpu.pc m.processor.cpu.accumulators).address ≡ None
-
--- the machine behind a HALT, which has taken its time and cleared HOLD as every instruction does
-abbrev pub behind_halt : MachineState → MachineState
-behind_halt m = record m {
-  processor = record m.processor { cpu = record m.processor.cpu { pc = following m.processor.cpu.pc } };
-  ints = record m.ints { hold = false };
-  time = m.time + 1;
-}
-
--- the machine at a chain without an end, which has changed words of memory and nothing else
-abbrev pub behind_chain : MachineState → MachineState
-behind_chain m = record m {
-  processor = record m.processor { memory = (address m.processor.memory (fetched m) m.processor.cpu.pc m.processor.cpu.accumulators).memory };
-}
-
--- Stops of a turn have their causes, and come wherever these are given. What stands after them: HALT has taken its time,
--- and a chain without an end has changed no register and taken no time.
-pub record TurnStops : Type 0 where
-  pub halt : (first : Bool) (s : Seen) → ((turn first s).stop ≡ Some Halt) ↔ (fetched s.machine ≡ 0o63077)
-  pub chain_limit : (first : Bool) (s : Seen) → ((turn first s).stop ≡ Some ChainLimit) ↔ IsEndless (fetched s.machine) s.machine
-  pub halted : (first : Bool) (s : Seen) → (turn first s).stop ≡ Some Halt → (turn first s).after ≡ record s { machine = behind_halt s.machine }
-  pub unended : (first : Bool) (s : Seen) → (turn first s).stop ≡ Some ChainLimit → (turn first s).after ≡ record s { machine = behind_chain s.machine }

@@ -1,26 +1,41 @@
 -- The state of a machine, on which all that it does depends.
-use Rattle.std.specs.Prelude.{ℕ, Bool, false}
-use Rattle.nova_machine.specs.declared.interrupts.Ints.{Ints}
-use Rattle.nova_machine.specs.Interrupts.{no_interrupts}
+use Rattle.std.specs.Prelude.{ℕ, Bool, false, List, []}
+use Rattle.unit_trait.specs.Calls.{UnitState}
+use Rattle.event_queue.specs.EventList.{Event}
+use Rattle.unit_list.specs.Reset.{reset_units, reset_events}
+use Rattle.nova_interrupts.specs.declared.interrupts.Ints.{Ints}
+use Rattle.nova_interrupts.specs.Interrupts.{no_interrupts}
 use Rattle.nova_machine.specs.Processor.{ProcessorState, new_processor}
 
 -- the processor with its memory, the interrupts, the switch register, whether a word to a device that is not there stops
--- the machine, and the time: how many instructions were executed since the session began
+-- the machine, the units in bus order, their events that wait, and the time: how many instructions were executed since
+-- the session began
 pub record MachineState : Type 0 where
   pub processor : ProcessorState
   pub ints : Ints
   pub sr : ℕ
   pub stop_dev : Bool
+  pub units : List UnitState
+  pub events : List Event
   pub time : ℕ
 
--- a new machine: every register 0, memory of 0, no instruction executed
-unfoldable pub new_machine : MachineState
-new_machine = record { processor = new_processor; ints = no_interrupts; sr = 0; stop_dev = false; time = 0 }
+-- All devices are reset: the mask is cleared, no event waits, and each unit is reset, in bus order, which may bring an
+-- event of it.
+unfoldable pub reset_devices : MachineState → MachineState
+reset_devices m = record m {
+  ints = record m.ints { mask = 0 };
+  units = reset_units m.units;
+  events = reset_events m.units [];
+}
 
--- A reset: interrupts go off and none waits, and the mask is cleared. PC, the accumulators, carry, the switch register,
+-- A reset: interrupts go off and none waits, and all devices are reset. PC, the accumulators, carry, the switch register,
 -- STOP_DEV, memory and time stay.
 unfoldable pub reset_machine : MachineState → MachineState
-reset_machine m = record m { ints = no_interrupts }
+reset_machine m = record (reset_devices m) { ints = no_interrupts }
+
+-- a new machine with those units: every register 0, memory of 0, no instruction executed, and as a reset leaves it
+unfoldable pub new_machine : List UnitState → MachineState
+new_machine units = reset_machine (record { processor = new_processor; ints = no_interrupts; sr = 0; stop_dev = false; units = units; events = []; time = 0 })
 
 -- the machine with its processor changed so
 abbrev pub on_processor : (ProcessorState → ProcessorState) → MachineState → MachineState

@@ -1,44 +1,21 @@
--- One step of the machine: the word at PC is fetched and executed.
-use Rattle.std.specs.Prelude.{ℕ, ◌+◌, ◌==◌, Bool, false, Option, Some, None, nat_lt, if◌then◌else◌}
-use Rattle.nova_word.specs.Bits.{bits}
-use Rattle.nova_memory.specs.Memory.{get}
-use Rattle.nova_memory.specs.Address.{address}
-use Rattle.nova_machine.specs.declared.machine.Stop.{Stop}
-use Rattle.nova_machine.specs.declared.machine.Stop.TheVariants.{Halt, ChainLimit, NotBuilt}
-use Rattle.nova_machine.specs.Interrupts.{released}
-use Rattle.nova_machine.specs.Processor.{ProcessorState}
-use Rattle.nova_machine.specs.Machine.{MachineState, on_processor}
-use Rattle.nova_machine.specs.Seen.{Seen, with_machine}
-use Rattle.nova_machine.specs.Parts.{Part, silent}
-use Rattle.nova_machine.specs.Instruction.{advanced, memory_reference, arithmetic}
-use Rattle.nova_machine.specs.InputOutput.{multiply_divide}
+-- One step of the machine: the units whose events are due are served, an interrupt may be entered, and the word at PC is
+-- fetched and executed.
+use Rattle.std.specs.Prelude.{ℕ, ◌&&◌, ◌==◌, Bool, false, not, Option, Some, None, nat_lt, if◌then◌else◌}
+use Rattle.nova_memory.specs.Memory.{MemoryState, get, put}
+use Rattle.nova_memory.specs.Address.{Reference, address}
+use Rattle.nova_interrupts.specs.Requests.{requested}
+use Rattle.nova_machine.specs.declared.machine.Stop.TheVariants.{ChainLimit}
+use Rattle.nova_machine.specs.Machine.{MachineState}
+use Rattle.nova_machine.specs.Seen.{Seen}
+use Rattle.nova_machine.specs.Parts.{Part, then_part}
+use Rattle.nova_machine.specs.Turned.{Turned, goes_on, stops, still, executed}
+use Rattle.nova_machine.specs.Instruction.{memory_reference, arithmetic}
+use Rattle.nova_machine.specs.Transfer.{transfer}
+use Rattle.nova_machine.specs.Service.{serving}
 
--- the machine after a piece of a turn that makes nothing, and its stop, if it stopped
-pub record Turned : Type 0 where
-  pub machine : MachineState
-  pub stop : Option Stop
-
-abbrev pub goes_on : MachineState → Turned
-goes_on m = record { machine = m; stop = None }
-
-abbrev pub stops : Stop → MachineState → Turned
-stops stop m = record { machine = m; stop = Some stop }
-
--- such a piece as a part of a run
-abbrev pub still : Seen → Turned → Part
-still s t = silent t.stop (with_machine s t.machine)
-
--- An instruction is known to be executed: interrupts that waited for one wait no longer.
-unfoldable pub begun : MachineState → MachineState
-begun m = record m { ints = released m.ints }
-
--- an instruction was executed: time has passed
-unfoldable pub ticked : MachineState → MachineState
-ticked m = record m { time = m.time + 1 }
-
--- an instruction is executed: HOLD is cleared before it does its own work, and time passes behind it
-abbrev pub executed : (ProcessorState → ProcessorState) → MachineState → MachineState
-executed f m = ticked (on_processor f (begun m))
+-- the machine with that memory
+abbrev pub with_memory : MachineState → MemoryState → MachineState
+with_memory m memory = record m { processor = record m.processor { memory = memory } }
 
 -- a memory reference at its effective address, if its chain ends. Where it does not, the machine is as it was, but for
 -- the words that the chain changed.
@@ -50,23 +27,7 @@ refer_to word (Some address) m = goes_on (executed (memory_reference word addres
 unfoldable pub refer : ℕ → MachineState → Turned
 refer word m =
     let reference = address m.processor.memory word m.processor.cpu.pc m.processor.cpu.accumulators in
-    refer_to word reference.address (record m { processor = record m.processor { memory = reference.memory } })
-
--- the processor behind a HALT
-abbrev pub halted : ProcessorState → ProcessorState
-halted p = record p { cpu = advanced false p.cpu }
-
--- HALT, which stops behind itself
-unfoldable pub halt : MachineState → Turned
-halt m = stops Halt (executed halted m)
-
--- a word of input and output, by its device in bits 10 to 15: those to device 1 and HALT are executed, and every other
--- one stops with the machine as it was
-unfoldable pub transfer : ℕ → MachineState → Turned
-transfer word m =
-    if bits 10 15 word == 1 then goes_on (executed (multiply_divide word) m)
-    else if word == 0o63077 then halt m
-    else stops NotBuilt m
+    refer_to word reference.address (with_memory m reference.memory)
 
 -- the instruction of a word
 unfoldable pub execute : ℕ → MachineState → Turned
@@ -79,6 +40,34 @@ execute word m =
 unfoldable pub fetch : MachineState → Turned
 fetch m = execute (get m.processor.memory m.processor.cpu.pc) m
 
--- A turn, which may be a run's first: the word at PC is executed.
+-- an interrupt comes where interrupts are on and wait for no instruction, and a unit asks for one
+abbrev pub is_interrupted : MachineState → Bool
+is_interrupted m = (m.ints.on && not m.ints.hold) && requested m.ints.mask m.units
+
+-- PC becomes the address of a JMP, if its chain ends
+abbrev pub jump_to : Option ℕ → MachineState → Turned
+jump_to None m = stops ChainLimit m
+jump_to (Some address) m = goes_on (record m { processor = record m.processor { cpu = record m.processor.cpu { pc = address } } })
+
+-- the words that an interrupt needs: the reference of JMP @1, with PC in location 0
+abbrev pub interrupt_reference : MachineState → Reference
+interrupt_reference m = address (put m.processor.memory 0 m.processor.cpu.pc) 0o2001 m.processor.cpu.pc m.processor.cpu.accumulators
+
+-- An interrupt is entered (How to Use the Nova Computers, "Program Interrupt"): interrupts go off, PC goes to location 0,
+-- and the program goes on as by JMP @1. Where that chain has no end the machine stops with the PC that it had.
+unfoldable pub enter : MachineState → Turned
+enter m =
+    let reference = interrupt_reference m in
+    jump_to reference.address (with_memory (record m { ints = record m.ints { on = false } }) reference.memory)
+
+unfoldable pub interrupt : MachineState → Turned
+interrupt m = if is_interrupted m then enter m else goes_on m
+
+-- what comes before the instruction: the services, and the interrupt
+unfoldable pub prepared : Seen → Part
+prepared s = then_part (serving s) (λ served. still served (interrupt served.machine))
+
+-- A turn, which may be a run's first: what comes before the instruction, and the instruction. Where a service or the
+-- interrupt stops, the turn ends there.
 unfoldable pub turn : Bool → Seen → Part
-turn first s = still s (fetch s.machine)
+turn first s = then_part (prepared s) (λ ready. still ready (fetch ready.machine))

@@ -106,6 +106,7 @@ impl Processor {
     }
 
     /// Executes a memory reference at its effective address.
+    #[inline(always)]
     #[tactic(auto, unfolding(crate::specs::Instruction::memory_reference))]
     pub(crate) fn memory_reference(&mut self, word: u16, address: Addr)
         ensures { self.new ≡ memory_reference word address self.old }
@@ -119,6 +120,7 @@ impl Processor {
     }
 
     /// Executes an arithmetic or logical instruction.
+    #[inline(always)]
     #[tactic(auto, unfolding(crate::specs::Instruction::arithmetic))]
     pub(crate) fn arithmetic(&mut self, word: Word)
         ensures { self.new ≡ arithmetic word self.old }

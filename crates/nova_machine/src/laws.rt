@@ -1,5 +1,6 @@
-ghost use Rattle.nova_machine.specs.Laws.{RunSplits, RunTakesTime, TurnStops};
-ghost use Rattle.nova_machine.specs.LawsWithoutUnits.{WithoutUnits};
+ghost use Rattle.nova_machine.specs.Laws.{RunSplits, RunTakesTime};
+ghost use Rattle.nova_machine.specs.ServiceLaws.{ServesWhileDue};
+ghost use Rattle.nova_machine.specs.StopLaws.{TurnStops};
 
 /// The law that a run of n + k is a run of n and then a run of k, with what the first made in front, where only the
 /// count or the end of time ended the first. Another stop within the first n ends the whole run.
@@ -13,15 +14,13 @@ pub fn runs_take_time()
     ensures { RunTakesTime }
 {}
 
-/// The law that a turn stops as `Halt` and as `ChainLimit` exactly where these have their cause, and what stands after
-/// each.
+/// The law that each stop of a turn comes exactly where its cause is given, and what stands after it.
 pub fn turns_stop()
     ensures { TurnStops }
 {}
 
-/// The law of what holds as long as there are no units: a run makes nothing; its first turn is like every other; the
-/// interrupt mask stays, and interrupts stay on or off; HOLD is clear where an instruction was executed; and a word that
-/// is not built stops a turn and changes nothing.
-pub fn nothing_comes_from_units()
-    ensures { WithoutUnits }
+/// The law that a turn serves while an event is due, the first one first, and that this ends: a service brings no event
+/// that is due in the same turn.
+pub fn units_are_served_while_due()
+    ensures { ServesWhileDue }
 {}

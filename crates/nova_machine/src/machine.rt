@@ -1,28 +1,41 @@
-ghost use Rattle.std.specs.Prelude.{◌≡◌, ◌≤◌, ◌<◌, ◌^◌, ◌↔◌, IfOk, IsOk, OnOk, OnErr};
+ghost use Rattle.std.specs.Prelude.{◌≡◌, ◌≤◌, ◌<◌, ◌^◌, ◌↔◌, [], map, None, IfOk, IsOk, OnOk, OnErr};
+ghost use Rattle.event_queue.specs.EventList.{due};
+ghost use Rattle.unit_list.specs.Bus.{AllFit, kinds_of};
+ghost use Rattle.unit_list.specs.Reset.{reset_units, reset_events};
+ghost use Rattle.nova_machine.specs.Core.{AreListed};
 ghost use Rattle.nova_machine.specs.Run.{last_time};
 
-use crate::interrupts::Ints;
 use crate::processor::Processor;
+use event_queue::Events;
+use nova_interrupts::Ints;
 use nova_memory::Memory;
 use nova_word::{Addr, Word};
 use std::alloc::{AllocError, Global};
 use std::marker::Model;
-use unit_trait::{CpuReg, RegFault};
+use unit_list::{all_fit, reset_all};
+use unit_trait::{CpuReg, RegFault, Unit, UnitName};
 
 /// Why a run ended.
 #[derive(Clone, Copy, Debug, PartialEq, Eq)]
 pub enum Stop {
-    /// HALT was executed.
+    /// HALT, or another output to register C of device 77, was executed.
     Halt,
-    /// The 16th word of an indirect chain still had bit 0 set. The instruction was not executed, and the words that the
-    /// chain changed stay so.
+    /// The 16th word of an indirect chain still had bit 0 set. The instruction was not executed, or the interrupt not
+    /// entered, and the words that the chain changed stay so.
     ChainLimit,
+    /// The word at PC is for a device that is not there, and STOP_DEV is 1. It was not executed.
+    UnknownDevice,
     /// The count of a STEP was reached.
     Stepped,
     /// The limit of instructions was reached, or the end of time.
     Limit,
-    /// The word at PC is not executed by this version of the program. The machine is as it was before that turn.
-    NotBuilt,
+    /// The file of that unit is at its end, and its STOP_IOE is 1.
+    UnitEnd(UnitName),
+    /// That unit has no file, and its STOP_IOE is 1.
+    UnitNone(UnitName),
+    /// The console refused a byte that a unit printed. The unit is as it was when the byte was to be printed, and its
+    /// event is gone.
+    ConsoleFault,
 }
 
 /// What a turn came to.
@@ -39,10 +52,10 @@ pub struct RunLimit {
     pub step: bool,
 }
 
-/// A Nova: its processor with the memory, its switches, and its time in instructions since the session began, at most
-/// 2^60.
+/// A Nova: its processor with the memory, its switches, its units with their events, and its time in instructions since
+/// the session began, at most 2^60. It is the same machine over whichever units are handed in: they may be boxes.
 #[derive(Drop)]
-pub struct Machine {
+pub struct Machine<U: Unit> {
     pub(crate) processor: Processor,
     pub(crate) ints: Ints,
     /// The switch register.
@@ -50,11 +63,19 @@ pub struct Machine {
     /// Whether a word to a device that is not there stops the machine.
     pub(crate) stop_dev: bool,
     pub(crate) time: u64,
+    /// In bus order.
+    pub(crate) units: Vec<U>,
+    pub(crate) events: Events,
+    /// Where it is true, no interrupt can come.
+    pub(crate) quiet: bool,
 }
 
-impl Model for Machine {
-    ghost use Rattle.std.specs.Prelude.{◌≤◌};
+impl<U: Unit> Model for Machine<U> {
+    ghost use Rattle.std.specs.Prelude.{◌≤◌, map};
+    ghost use Rattle.unit_list.specs.Bus.{AllFit, kinds_of};
+    ghost use Rattle.nova_machine.specs.Core.{AreListed};
     ghost use Rattle.nova_machine.specs.Machine.{MachineState};
+    ghost use Rattle.nova_machine.specs.Quiet.{IsQuiet};
     ghost use Rattle.nova_machine.specs.Run.{last_time};
 
     ghost Value = { MachineState };
@@ -64,38 +85,59 @@ impl Model for Machine {
       ints = m.ints;
       sr = m.sr;
       stop_dev = m.stop_dev;
+      units = map U.unit_state m.units.items;
+      events = m.events;
       time = m.time;
     } };
 
-    ghost invariant = { λ m. m.time ≤ last_time };
+    ghost invariant = { λ m. (m.time ≤ last_time) × IsQuiet m.quiet m.ints (map U.unit_state m.units.items)
+        × AllFit (map U.unit_state m.units.items) × AreListed (kinds_of (map U.unit_state m.units.items)) m.events };
 }
 
-impl Machine {
-    ghost use Rattle.nova_machine.specs.Machine.{new_machine, reset_machine};
-    ghost use Rattle.std.specs.Borrow.{sem};
-    ghost use Rattle.nova_machine.specs.Lending.{LendsMemory};
+impl<U: Unit> Machine<U> {
+    ghost use Rattle.nova_machine.specs.Machine.{new_machine, reset_devices, reset_machine};
+    ghost use Rattle.nova_machine.specs.BusOrder.{IsBusOrder};
+    ghost use Rattle.nova_machine.specs.Core.{IsCore};
     ghost use Rattle.unit_trait.specs.Processor.{largest_of, CanHold};
     ghost use Rattle.nova_machine.specs.Registers.{register_of, with_register};
 
-    /// A machine of 32768 words, at time 0. Memory is 0, and so is every register but `Size`.
+    /// A machine of 32768 words with those units, at time 0, as a reset leaves it. Memory is 0, and so is every register
+    /// of the processor but `Size`.
     #[tactic(auto, unfolding(crate::specs::Machine::new_machine))]
-    pub fn new(alloc: Global) -> Result<Machine, AllocError>
-        ensures { IfOk result (λ m. m ≡ new_machine) }
+    pub fn new(alloc: Global, units: Vec<U>) -> Result<Machine<U>, AllocError>
+        requires { IsBusOrder (map U.unit_state units.items) }
+        ensures { IfOk result (λ m. m ≡ new_machine (map U.unit_state units.items)) }
     {
-        Ok(Machine {
+        all_fit(units.as_slice());
+        let mut machine = Machine {
             processor: Processor::new(alloc)?,
             ints: Ints::new(),
             sr: Word(0),
             stop_dev: false,
             time: 0,
-        })
+            units,
+            events: Events::new(alloc)?,
+            quiet: false,
+        };
+        machine.reset();
+        Ok(machine)
     }
 
     /// How many instructions were executed since the session began.
     pub fn time(&self) -> u64
-        ensures { result ≡ self.now.time }
+        ensures time { result ≡ self.now.time }
+        ensures last { result ≤ last_time }
     {
         self.time
+    }
+
+    /// What holds of every machine: its units' registers are within their limits, and its events are those of units that
+    /// it has, one a unit, in the order of their times, none of which has passed.
+    #[tactic(auto, using(crate::proofs::Listed::times_later))]
+    pub fn core(&self)
+        ensures { IsCore self.now }
+    {
+        self.events.sound();
     }
 
     /// The machine's memory.
@@ -105,19 +147,18 @@ impl Machine {
         &self.processor.memory
     }
 
-    /// The machine's memory, to be changed as a person at the console or a loader does. It takes no time.
-    pub fn memory_mut(&mut self) -> &mut Memory
-        ensures* writes_back { sem 𝓛 (LendsMemory self.entry result) }
-        ensures value { result.now ≡ self.old.processor.memory }
-    {
-        &mut self.processor.memory
-    }
-
     /// The address of the next instruction.
     pub fn pc(&self) -> Addr
         ensures { result ≡ self.now.processor.cpu.pc }
     {
         self.processor.cpu.pc
+    }
+
+    /// The events of its units that wait.
+    pub fn events(&self) -> &Events
+        ensures { result.now ≡ self.now.events }
+    {
+        &self.events
     }
 
     /// The value of a register.
@@ -142,14 +183,40 @@ impl Machine {
         Ok(())
     }
 
-    /// Resets the machine: interrupts go off and wait for no instruction, and the interrupt mask is cleared. PC, the
-    /// accumulators, carry, the switch register, STOP_DEV, memory and time stay.
+    /// Resets the machine: interrupts go off and wait for no instruction, the interrupt mask is cleared, no event waits,
+    /// and each unit is reset, in bus order, which brings the events that a reset wishes. PC, the accumulators, carry,
+    /// the switch register, STOP_DEV, memory and time stay.
     #[tactic(auto, unfolding(crate::specs::Machine::reset_machine))]
     pub fn reset(&mut self)
         ensures { self.new ≡ reset_machine self.old }
     {
+        self.reset_devices();
         self.ints.reset();
     }
+
+    /// Clears the mask and all events, and resets each unit.
+    #[tactic(auto, unfolding(crate::specs::Machine::reset_devices))]
+    pub(crate) fn reset_devices(&mut self)
+        ensures machine { self.new ≡ reset_devices self.old }
+        ensures none { due self.new.events ≡ None }
+        ensures time { self.new.time ≡ self.old.time }
+    {
+        self.quiet = false;
+        self.ints.mask_out(0);
+        restart(self.units.as_mut_slice(), &mut self.events);
+    }
+}
+
+/// No event waits, and each unit is reset, in bus order, which may bring an event of it.
+fn restart<U: Unit>(units: &mut [U], events: &mut Events)
+    ensures units { map U.unit_state units.new ≡ reset_units (map U.unit_state units.old) }
+    ensures events { events.new ≡ reset_events (map U.unit_state units.old) [] }
+    ensures none { due events.new ≡ None }
+    ensures fits { AllFit (map U.unit_state units.old) → AllFit (map U.unit_state units.new) }
+    ensures listed { AreListed (kinds_of (map U.unit_state units.new)) events.new }
+{
+    events.clear();
+    reset_all(units, events);
 }
 
 #[cfg(test)]

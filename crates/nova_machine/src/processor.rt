@@ -1,8 +1,11 @@
 ghost use Rattle.std.specs.Prelude.{◌≡◌, IfOk};
+ghost use Rattle.std.specs.Result.{result_ok};
+ghost use Rattle.nova_memory.specs.Memory.{put};
+ghost use Rattle.nova_memory.specs.Address.{address};
 ghost use Rattle.nova_machine.specs.Processor.{new_processor};
 
 use crate::cpu::Cpu;
-use nova_memory::Memory;
+use nova_memory::{ChainLimit, Memory};
 use nova_word::{Addr, Word};
 use std::alloc::{AllocError, Global};
 use std::marker::Model;
@@ -43,6 +46,19 @@ impl Processor {
         ensures { result ≡ self.now.cpu }
     {
         self.cpu
+    }
+
+    /// Stores PC in location 0, and follows the reference of a word that stands at PC.
+    pub(crate) fn follow_interrupt(&mut self, word: Word) -> Result<Addr, ChainLimit>
+        ensures memory { self.new ≡ record self.old {
+          memory = (address (put self.old.memory 0 self.old.cpu.pc) word self.old.cpu.pc self.old.cpu.accumulators).memory;
+        } }
+        ensures address { result_ok result
+            ≡ (address (put self.old.memory 0 self.old.cpu.pc) word self.old.cpu.pc self.old.cpu.accumulators).address }
+    {
+        let pc = self.cpu.pc;
+        self.memory.write(Addr::of_word(Word(0)), Word(pc.number()));
+        self.memory.address(word, pc, self.cpu.accumulators)
     }
 
     /// The memory.

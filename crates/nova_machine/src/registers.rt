@@ -3,9 +3,9 @@ ghost use Rattle.unit_trait.specs.Processor.{largest_of, CanHold};
 
 use crate::machine::Machine;
 use nova_word::{Addr, Word};
-use unit_trait::CpuReg;
+use unit_trait::{CpuReg, Unit};
 
-impl Machine {
+impl<U: Unit> Machine<U> {
     ghost use Rattle.nova_machine.specs.Registers.{register_of, with_register};
 
     /// The value of a register.
@@ -39,6 +39,7 @@ impl Machine {
         requires { CanHold register value }
         ensures { self.new ≡ with_register self.old register value }
     {
+        self.quiet = false;
         match register {
             CpuReg::Ac0 => self.processor.cpu.accumulators[0] = Word(value),
             CpuReg::Ac1 => self.processor.cpu.accumulators[1] = Word(value),

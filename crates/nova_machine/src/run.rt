@@ -1,16 +1,23 @@
-ghost use Rattle.std.specs.Prelude.{◌≡◌};
+ghost use Rattle.std.specs.Prelude.{◌≡◌, ◌≢◌, Some};
+ghost use Rattle.nova_machine.specs.declared.machine.Stop.TheVariants.{ConsoleFault};
+ghost use Rattle.nova_machine.specs.Wants.{HasUnit};
 
+use crate::burst::Step;
 use crate::machine::{Machine, RunLimit, Stop, Turn};
+use host_files::Sink;
+use unit_trait::Unit;
 
 /// The end of time, in instructions.
-const LAST_TIME: u64 = 1 << 60;
+pub(crate) const LAST_TIME: u64 = 1 << 60;
 
 impl RunLimit {
     ghost use Rattle.nova_machine.specs.Run.{expired};
 
     /// The stop of a run that has reached its count.
     fn expired(self) -> Stop
-        ensures { result ≡ expired self.step }
+        ensures stop { result ≡ expired self.step }
+        ensures other { result ≢ ConsoleFault }
+        ensures unit { HasUnit result }
     {
         if self.step {
             Stop::Stepped
@@ -20,40 +27,37 @@ impl RunLimit {
     }
 }
 
-impl Machine {
-    ghost use Rattle.std.specs.Prelude.{Some, []};
+impl<U: Unit> Machine<U> {
     ghost use Rattle.nova_machine.specs.Seen.{seen};
-    ghost use Rattle.nova_machine.specs.Parts.{stop_of};
-    ghost use Rattle.nova_machine.specs.Run.{next_turn, run};
+    ghost use Rattle.nova_machine.specs.Comes.{Comes, StopCounts};
+    ghost use Rattle.nova_machine.specs.Run.{run};
 
     /// Makes turns until one stops, the count of the limit is reached, or time ends, and answers which. The instruction
-    /// of a HALT counts; one that stopped as `ChainLimit` or `NotBuilt` does not, and PC stays there.
-    pub fn run(&mut self, limit: RunLimit) -> Stop
-        ensures after { seen self.new ≡ (run limit.step limit.count (seen self.old)).after }
-        ensures stop { Some result ≡ (run limit.step limit.count (seen self.old)).stop }
-        ensures silent { (run limit.step limit.count (seen self.old)).made ≡ [] }
+    /// of a HALT counts; one that stopped as `ChainLimit` or `UnknownDevice` does not, and PC stays there.
+    pub fn run<S: Sink>(&mut self, limit: RunLimit, out: &mut S) -> Stop
+        ensures told { Comes (run limit.step limit.count (seen self.old)) (Some result) (seen self.new) S.tells
+            (S.written out.old) (S.written out.new) }
+        ensures counts { StopCounts (Some result) (S.fault_count out.old) (S.fault_count out.new) }
+        ensures unit { HasUnit result }
     {
-        for turn in 0..limit.count {
-            match self.next_turn(turn == 0) {
-                Turn::Executed => (),
+        let mut first = true;
+        let mut left = limit.count;
+        'turns: while left > 0 {
+            if self.time == LAST_TIME {
+                return Stop::Limit;
+            }
+            match self.turn(first, out) {
                 Turn::Stopped(stop) => return stop,
+                Turn::Executed => (),
+            }
+            first = false;
+            let burst = self.burst(left - 1);
+            match burst.end {
+                Step::ChainLimit => return Stop::ChainLimit,
+                Step::Executed | Step::Transfer => left -= 1 + burst.done,
             }
         }
         limit.expired()
-    }
-
-    /// A turn, where time has not ended.
-    #[tactic(auto, unfolding(crate::specs::Run::next_turn))]
-    fn next_turn(&mut self, first: bool) -> Turn
-        ensures after { seen self.new ≡ (next_turn first (seen self.old)).after }
-        ensures answer { stop_of result ≡ (next_turn first (seen self.old)).stop }
-        ensures silent { (next_turn first (seen self.old)).made ≡ [] }
-    {
-        if self.time == LAST_TIME {
-            Turn::Stopped(Stop::Limit)
-        } else {
-            self.turn(first)
-        }
     }
 }
 

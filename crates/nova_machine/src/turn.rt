@@ -1,38 +1,158 @@
-ghost use Rattle.std.specs.Prelude.{◌≡◌, ◌<◌, ◌≤◌, ◌^◌, []};
+ghost use Rattle.std.specs.Prelude.{◌≡◌, ◌≢◌, ◌<◌, ◌≤◌, ◌+◌, ◌^◌, true, None, Some, IfSome};
+ghost use Rattle.event_queue.specs.EventList.{due};
+ghost use Rattle.nova_machine.specs.declared.machine.Stop.TheVariants.{ConsoleFault};
 ghost use Rattle.nova_machine.specs.Run.{last_time};
+ghost use Rattle.nova_machine.specs.Wants.{HasUnit};
 
+use crate::instruction_end::InstructionEnd;
 use crate::machine::{Machine, Stop, Turn};
+use host_files::Sink;
 use nova_memory::ChainLimit;
 use nova_word::{Addr, Word};
+use unit_trait::Unit;
 
-impl Machine {
+/// JMP @1, by which an interrupt is entered.
+const JMP_THROUGH_1: Word = Word(0o2001);
+
+impl<U: Unit> Machine<U> {
     ghost use Rattle.nova_machine.specs.Seen.{seen};
     ghost use Rattle.nova_machine.specs.Parts.{stop_of};
+    ghost use Rattle.nova_machine.specs.Ends.{end_stop};
+    ghost use Rattle.nova_machine.specs.Comes.{Comes, StopCounts};
+    ghost use Rattle.nova_machine.specs.Quiet.{IsPlain};
     ghost use Rattle.nova_machine.specs.Machine.{on_processor};
     ghost use Rattle.nova_machine.specs.Instruction.{arithmetic, memory_reference};
-    ghost use Rattle.nova_machine.specs.Turn.{begun, ticked, refer, halt, transfer, execute, fetch, turn};
+    ghost use Rattle.nova_machine.specs.Turned.{begun, ticked};
+    ghost use Rattle.nova_machine.specs.Turn.{refer, execute, fetch, enter, interrupt, prepared, turn, is_interrupted};
 
-    /// Fetches the word at PC and executes it, which takes one instruction of time and clears `Hold`. After a stop as
-    /// `ChainLimit` or `NotBuilt` the registers, `Hold` among them, and the time are as they were.
+    /// A turn. First the units are served whose events are due, in the order of their events. Then, where interrupts
+    /// are on and do not wait and a unit asks for one, it is entered: interrupts go off, PC goes to location 0, and the
+    /// program goes on as by JMP @1. Then the word at PC is executed, which takes one instruction of time and clears
+    /// `Hold`.
+    ///
+    /// Where a service stops, the turn ends there. After a stop as `ChainLimit` or `UnknownDevice` the registers of the
+    /// processor, `Hold` among them, and the time are as they were before the instruction, or the interrupt.
     ///
     /// `first` says whether this is the first turn of a run. Nothing depends on it yet: it is for breakpoints, which
     /// the first turn passes.
+    #[inline]
     #[tactic(auto, unfolding(crate::specs::Turn::turn))]
-    pub fn turn(&mut self, first: bool) -> Turn
+    pub fn turn<S: Sink>(&mut self, first: bool, out: &mut S) -> Turn
         requires { self.old.time < last_time }
-        ensures after { seen self.new ≡ (turn first (seen self.old)).after }
-        ensures answer { stop_of result ≡ (turn first (seen self.old)).stop }
-        ensures silent { (turn first (seen self.old)).made ≡ [] }
+        ensures told { Comes (turn first (seen self.old)) (stop_of result) (seen self.new) S.tells (S.written out.old)
+            (S.written out.new) }
+        ensures time { stop_of result ≡ None → self.new.time ≡ self.old.time + 1 }
+        ensures counts { StopCounts (stop_of result) (S.fault_count out.old) (S.fault_count out.new) }
+        ensures unit { IfSome (stop_of result) HasUnit }
     {
-        self.fetch()
+        match self.prepare(out) {
+            Some(stop) => Turn::Stopped(stop),
+            None => self.fetch().turn(),
+        }
+    }
+
+    /// What comes before the instruction: nothing, where the turn is plain.
+    #[inline]
+    fn prepare<S: Sink>(&mut self, out: &mut S) -> Option<Stop>
+        ensures told { Comes (prepared (seen self.old)) result (seen self.new) S.tells (S.written out.old)
+            (S.written out.new) }
+        ensures rest { result ≡ None → due self.new.events ≡ None }
+        ensures time { self.new.time ≡ self.old.time }
+        ensures counts { StopCounts result (S.fault_count out.old) (S.fault_count out.new) }
+        ensures unit { IfSome result HasUnit }
+    {
+        if self.is_plain() {
+            None
+        } else {
+            self.attend(out)
+        }
+    }
+
+    /// Whether the turn is an instruction alone.
+    #[inline]
+    fn is_plain(&self) -> bool
+        ensures { result ≡ true → IsPlain self.now }
+    {
+        !self.events.may_be_due() && self.quiet
+    }
+
+    /// What comes before the instruction.
+    #[inline(never)]
+    #[tactic(auto, unfolding(crate::specs::Turn::prepared))]
+    fn attend<S: Sink>(&mut self, out: &mut S) -> Option<Stop>
+        ensures told { Comes (prepared (seen self.old)) result (seen self.new) S.tells (S.written out.old)
+            (S.written out.new) }
+        ensures rest { result ≡ None → due self.new.events ≡ None }
+        ensures time { self.new.time ≡ self.old.time }
+        ensures counts { StopCounts result (S.fault_count out.old) (S.fault_count out.new) }
+        ensures unit { IfSome result HasUnit }
+    {
+        match self.serve(out) {
+            Some(stop) => Some(stop),
+            None => self.interrupt(),
+        }
+    }
+
+    /// Enters an interrupt, where one comes, and notes whether one can come later.
+    #[tactic(auto, unfolding(crate::specs::Turn::interrupt))]
+    fn interrupt(&mut self) -> Option<Stop>
+        ensures machine { self.new ≡ (interrupt self.old).machine }
+        ensures stop { result ≡ (interrupt self.old).stop }
+        ensures other { result ≢ Some ConsoleFault }
+        ensures unit { IfSome result HasUnit }
+        ensures events { self.new.events ≡ self.old.events }
+        ensures time { self.new.time ≡ self.old.time }
+    {
+        if self.is_interrupted() {
+            self.enter()
+        } else {
+            self.settle();
+            None
+        }
+    }
+
+    fn is_interrupted(&self) -> bool
+        ensures { result ≡ is_interrupted self.now }
+    {
+        self.ints.on && !self.ints.hold && self.ints.requested(self.units.as_slice())
+    }
+
+    /// Notes whether an interrupt can come.
+    fn settle(&mut self)
+        ensures { self.new ≡ self.old }
+    {
+        let asked = self.ints.on && self.ints.requested(self.units.as_slice());
+        self.quiet = !asked;
+    }
+
+    /// Enters an interrupt.
+    #[tactic(auto, unfolding(crate::specs::Turn::enter))]
+    fn enter(&mut self) -> Option<Stop>
+        ensures machine { self.new ≡ (enter self.old).machine }
+        ensures stop { result ≡ (enter self.old).stop }
+        ensures other { result ≢ Some ConsoleFault }
+        ensures unit { IfSome result HasUnit }
+        ensures events { self.new.events ≡ self.old.events }
+        ensures time { self.new.time ≡ self.old.time }
+    {
+        self.ints.on = false;
+        match self.processor.follow_interrupt(JMP_THROUGH_1) {
+            Err(ChainLimit) => Some(Stop::ChainLimit),
+            Ok(address) => {
+                self.processor.cpu.pc = address;
+                None
+            }
+        }
     }
 
     #[inline]
     #[tactic(auto, unfolding(crate::specs::Turn::fetch))]
-    fn fetch(&mut self) -> Turn
-        requires { self.old.time < last_time }
+    fn fetch(&mut self) -> InstructionEnd
+        requires time { self.old.time < last_time }
+        requires none { due self.old.events ≡ None }
         ensures machine { self.new ≡ (fetch self.old).machine }
-        ensures answer { stop_of result ≡ (fetch self.old).stop }
+        ensures answer { end_stop result ≡ (fetch self.old).stop }
+        ensures time { end_stop result ≡ None → self.new.time ≡ self.old.time + 1 }
     {
         let word = self.processor.memory.read(self.processor.cpu.pc);
         self.execute(word)
@@ -41,9 +161,10 @@ impl Machine {
     /// Notes that an instruction is executed, before it does its own work: interrupts that waited for one wait no
     /// longer.
     #[inline]
-    #[tactic(auto, unfolding(crate::specs::Turn::begun))]
-    fn begin(&mut self)
+    #[tactic(auto, unfolding(crate::specs::Turned::begun))]
+    pub(crate) fn begin(&mut self)
         ensures machine { self.new ≡ begun self.old }
+        ensures events { self.new.events ≡ self.old.events }
         ensures time { self.new.time ≡ self.old.time }
     {
         self.ints.release();
@@ -52,18 +173,22 @@ impl Machine {
     /// Lets time pass, behind an instruction. Arithmetic and memory references, which don't see the time, let it pass
     /// before their own work: that is the same, and up to a tenth faster.
     #[inline]
-    #[tactic(auto, unfolding(crate::specs::Turn::ticked))]
-    fn tick(&mut self)
-        requires { self.old.time < last_time }
-        ensures { self.new ≡ ticked self.old }
+    #[tactic(auto, using(crate::proofs::Listed::listings), unfolding(crate::specs::Turned::ticked))]
+    pub(crate) fn tick(&mut self)
+        requires time { self.old.time < last_time }
+        requires none { due self.old.events ≡ None }
+        ensures machine { self.new ≡ ticked self.old }
+        ensures time { self.new.time ≡ self.old.time + 1 }
     {
         self.time += 1;
+        self.events.tick();
     }
 
     /// Does the own work of an arithmetic or logical instruction.
     #[inline]
     fn arithmetic(&mut self, word: Word)
-        ensures { self.new ≡ on_processor (arithmetic word) self.old }
+        ensures machine { self.new ≡ on_processor (arithmetic word) self.old }
+        ensures time { self.new.time ≡ self.old.time }
     {
         self.processor.arithmetic(word);
     }
@@ -71,16 +196,19 @@ impl Machine {
     /// Does the own work of a memory reference at its effective address.
     #[inline]
     fn memory_reference(&mut self, word: u16, address: Addr)
-        ensures { self.new ≡ on_processor (memory_reference word address) self.old }
+        ensures machine { self.new ≡ on_processor (memory_reference word address) self.old }
+        ensures time { self.new.time ≡ self.old.time }
     {
         self.processor.memory_reference(word, address);
     }
 
-    #[tactic(auto, unfolding(crate::specs::Turn::execute, crate::specs::Turn::begun, crate::specs::Turn::ticked))]
-    fn execute(&mut self, word: Word) -> Turn
-        requires { self.old.time < last_time }
+    #[tactic(auto, unfolding(crate::specs::Turn::execute, crate::specs::Turned::begun, crate::specs::Turned::ticked))]
+    fn execute(&mut self, word: Word) -> InstructionEnd
+        requires time { self.old.time < last_time }
+        requires none { due self.old.events ≡ None }
         ensures machine { self.new ≡ (execute word self.old).machine }
-        ensures answer { stop_of result ≡ (execute word self.old).stop }
+        ensures answer { end_stop result ≡ (execute word self.old).stop }
+        ensures time { end_stop result ≡ None → self.new.time ≡ self.old.time + 1 }
     {
         if word.0 < 0o60000 {
             self.refer(word)
@@ -90,16 +218,18 @@ impl Machine {
             self.begin();
             self.tick();
             self.arithmetic(word);
-            Turn::Executed
+            InstructionEnd::Executed
         }
     }
 
     /// Executes a memory reference.
-    #[tactic(auto, unfolding(crate::specs::Turn::refer, crate::specs::Turn::begun, crate::specs::Turn::ticked))]
-    fn refer(&mut self, word: Word) -> Turn
-        requires { self.old.time < last_time }
+    #[tactic(auto, unfolding(crate::specs::Turn::refer, crate::specs::Turned::begun, crate::specs::Turned::ticked))]
+    fn refer(&mut self, word: Word) -> InstructionEnd
+        requires time { self.old.time < last_time }
+        requires none { due self.old.events ≡ None }
         ensures machine { self.new ≡ (refer word self.old).machine }
-        ensures answer { stop_of result ≡ (refer word self.old).stop }
+        ensures answer { end_stop result ≡ (refer word self.old).stop }
+        ensures time { end_stop result ≡ None → self.new.time ≡ self.old.time + 1 }
     {
         let acs = self.processor.cpu.accumulators;
         match self
@@ -107,45 +237,14 @@ impl Machine {
             .memory
             .address(word, self.processor.cpu.pc, acs)
         {
-            Err(ChainLimit) => Turn::Stopped(Stop::ChainLimit),
+            Err(ChainLimit) => InstructionEnd::ChainLimit,
             Ok(address) => {
                 self.begin();
                 self.tick();
                 self.memory_reference(word.0, address);
-                Turn::Executed
+                InstructionEnd::Executed
             }
         }
-    }
-
-    /// Executes a word of input and output.
-    #[tactic(auto, unfolding(crate::specs::Turn::transfer))]
-    fn transfer(&mut self, word: Word) -> Turn
-        requires { self.old.time < last_time }
-        ensures machine { self.new ≡ (transfer word self.old).machine }
-        ensures answer { stop_of result ≡ (transfer word self.old).stop }
-    {
-        if word.0 % 64 == 1 {
-            self.begin();
-            self.processor.multiply_divide(word.0);
-            self.tick();
-            Turn::Executed
-        } else if word.0 == 0o63077 {
-            self.halt()
-        } else {
-            Turn::Stopped(Stop::NotBuilt)
-        }
-    }
-
-    #[tactic(auto, unfolding(crate::specs::Turn::halt))]
-    fn halt(&mut self) -> Turn
-        requires { self.old.time < last_time }
-        ensures machine { self.new ≡ (halt self.old).machine }
-        ensures answer { stop_of result ≡ (halt self.old).stop }
-    {
-        self.begin();
-        self.processor.cpu.advance(false);
-        self.tick();
-        Turn::Stopped(Stop::Halt)
     }
 }
 

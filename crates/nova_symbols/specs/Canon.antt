@@ -4,7 +4,7 @@ use Rattle.nova_word.specs.Bits.{bits}
 use Rattle.nova_word.specs.Numbers.{octal_digits}
 use Rattle.nova_symbols.specs.Names.{entry, memory_names, load_names, indirect_marks, arithmetic_names, carry_letters, shift_letters, no_load_marks, skip_names, transfer_names, pulse_letters, test_names, device_names, device_codes, lone_words, lone_names, processor_words, processor_names}
 
--- a number below 1000 in octal, without leading zeros
+-- a number below 0o1000, in octal digits without leading zeros
 unfoldable pub short_octal : ℕ → List ℕ
 short_octal n = if nat_lt n 8 then octal_digits 1 n else (if nat_lt n 64 then octal_digits 2 n else octal_digits 3 n)
 
@@ -57,8 +57,8 @@ transfer_text w =
     if bits 5 7 w == 7 then entry test_names (bits 8 9 w) ++ 32 ∷ device_alone_text w else (if bits 5 7 w == 0 then entry transfer_names 0 ++ entry pulse_letters (bits 8 9 w) ++ 32 ∷ device_alone_text w else entry transfer_names (bits 5 7 w) ++ entry pulse_letters (bits 8 9 w) ++ 32 ∷ accumulator_device_text w)
 
 -- the word with accumulator 0
-abbrev pub without_accumulator : ℕ → ℕ
-without_accumulator w = w - 2048 * bits 3 4 w
+abbrev pub with_accumulator_0 : ℕ → ℕ
+with_accumulator_0 w = w - 2048 * bits 3 4 w
 
 abbrev pub processor_text : Option ℕ → ℕ → List ℕ
 processor_text (Some k) w = entry processor_names k ++ 32 ∷ octal_digits 1 (bits 3 4 w)
@@ -66,7 +66,7 @@ processor_text None w = transfer_text w
 
 abbrev pub lone_text : Option ℕ → ℕ → List ℕ
 lone_text (Some k) w = entry lone_names k
-lone_text None w = processor_text (position (λ x. x == without_accumulator w) processor_words) w
+lone_text None w = processor_text (position (λ x. x == with_accumulator_0 w) processor_words) w
 
 unfoldable pub input_output_text : ℕ → List ℕ
 input_output_text w = lone_text (position (λ x. x == w) lone_words) w

@@ -1,2 +1,3 @@
 pub mod OutsideLemmas
 pub mod WordsLemmas
+pub mod StandardLemmas

@@ -4,6 +4,7 @@ use Rattle.fault_counts.specs.Faults.{raised, Rose}
 use Rattle.observations.specs.Observations.{text_of}
 use Rattle.observations.specs.Cut.{ends, cut_trace, map_outcome}
 use Rattle.observations.proofs.CutLemmas.{cut-printed, cut-refused, cut-map, more-room, first-part, whole}
+use Rattle.unit_trait.specs.Calls.{UnitState}
 use Rattle.nova_machine.specs.Machine.{MachineState, new_machine}
 use Rattle.scp_script.specs.declared.progress.Finish.{Finish}
 use Rattle.scp_script.specs.declared.progress.Finish.TheVariants.{Exit, EndOfInput, Commands, Console, Input}
@@ -14,6 +15,7 @@ use Rattle.scp_script.specs.Session.{trace}
 use Rattle.scp_script.specs.Loop.{IsExitStatus, LetsThrough, FinishCause, status_of}
 use Rattle.scp_script.specs.Perform.{beginning, IsSession}
 use Rattle.nova_top.specs.Outside.{Outside, usage, options_of, session_with, opening, trace_for, whole_trace, outcome}
+use Rattle.nova_top.specs.Standard.{IsStandard}
 use Rattle.nova_top.specs.Ends.{IsOutcome, IsComplete, machine_in}
 use Rattle.nova_top.specs.Program.{IsUsage, UsageCause}
 use Rattle.nova_top.specs.Laws.{IsWholeOutcome}
@@ -150,11 +152,11 @@ pub usage-answer : (words : List (List ℕ)) (answer : Option Options) (input be
     → machine ≡ None → IsUsage status before after → IsOutcome words input input before after status machine
 usage-answer words answer input before after status machine e none m u = usage-outcome words input before after status machine (sym e ∙ none) m u
 
-pub session-answer : (words : List (List ℕ)) (answer : Option Options) (options : Options) (new : MachineState) (input left before after : List ℕ) (status : ℕ) (machine : Option MachineState) (finish : Finish) (now : MachineState)
-    → answer ≡ options_of words → answer ≡ Some options → new ≡ new_machine → IsExitStatus finish → status ≡ status_of finish → machine ≡ Some now
+pub session-answer : (words : List (List ℕ)) (answer : Option Options) (options : Options) (units : List UnitState) (new : MachineState) (input left before after : List ℕ) (status : ℕ) (machine : Option MachineState) (finish : Finish) (now : MachineState)
+    → answer ≡ options_of words → answer ≡ Some options → IsStandard units → new ≡ new_machine units → IsExitStatus finish → status ≡ status_of finish → machine ≡ Some now
     → IsSession (session_with new options input) finish (live_of now) left before after → IsOutcome words input left before after status machine
-session-answer words answer options new input left before after status machine finish now e some is small s m session =
-    let begun = subst (λ n. IsSession (session_with n options input) finish (live_of now) left before after) is session in
+session-answer words answer options units new input left before after status machine finish now e some standard is small s m session =
+    let begun = subst (λ n. IsSession (session_with n options input) finish (live_of now) left before after) (is ∙ ap new_machine standard) session in
     let outcome = session-outcome words options input left before after finish now (sym e ∙ some) small begun in
     subst (λ m. IsOutcome words input left before after status m) (sym m) (subst (λ n. IsOutcome words input left before after n (Some now)) (sym s) outcome)
 

@@ -1,4 +1,5 @@
 pub mod Counts
+pub mod Standard
 pub mod Outside
 pub mod Ends
 pub mod Laws

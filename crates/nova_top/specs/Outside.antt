@@ -11,6 +11,7 @@ use Rattle.scp_script.specs.Perform.{beginning}
 use Rattle.nova_top.specs.declared.options.Options.{Options}
 use Rattle.nova_top.specs.declared.options.Choices.{Choices}
 use Rattle.nova_top.specs.Counts.{count_of}
+use Rattle.nova_top.specs.Standard.{standard_units}
 
 -- The words and the input; how many bytes the console takes; and how many reads the input lets through before one
 -- fails, where to find its end counts as one.
@@ -64,9 +65,9 @@ state_with m limit = record { live = live_of m; limit = limit }
 unfoldable pub session_with : MachineState → Options → List ℕ → Session
 session_with m options input = beginning (state_with m options.limit) (record { prompt = options.prompt; budget = whole_budget }) input
 
--- a new session
+-- a new session, with a new machine of the standard units
 abbrev pub opening : Options → List ℕ → Session
-opening options input = session_with new_machine options input
+opening options input = session_with (new_machine standard_units) options input
 
 -- Before there is a session the state is none. Words outside their grammar are answered by the usage text.
 unfoldable pub trace_for : Option Options → List ℕ → Trace (Option Live)

@@ -1,5 +1,5 @@
 -- The two halves of the program: the usage text, and a session.
-use Rattle.std.specs.Prelude.{◌≡◌, ◌⊎◌, ℕ, ◌≤◌, List, ◌++◌, Option, Some}
+use Rattle.std.specs.Prelude.{◌≡◌, ◌⊎◌, ℕ, List, ◌++◌, Option, Some}
 use Rattle.fault_counts.specs.Faults.{raised}
 use Rattle.host_files.specs.Streams.{AddsPart}
 use Rattle.nova_machine.specs.Machine.{MachineState}

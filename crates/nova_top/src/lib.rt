@@ -5,7 +5,9 @@ mod counts;
 pub mod laws;
 mod options;
 pub mod program;
+pub mod standard;
 mod words;
 
 pub use laws::{console_takes_first_part, more_room_same_end, whole_without_faults};
 pub use program::{Ending, simulate};
+pub use standard::is_standard;

@@ -1,8 +1,9 @@
-ghost use Rattle.std.specs.Prelude.{◌≡◌, ◌≢◌, None, IsTrue};
+ghost use Rattle.std.specs.Prelude.{◌≡◌, ◌≢◌, map, None, IsTrue};
 ghost use Rattle.fault_counts.specs.Faults.{Rose};
 ghost use Rattle.scp_commands.specs.Live.{live_of};
 ghost use Rattle.scp_script.specs.Loop.{FinishCause};
 ghost use Rattle.scp_script.specs.Perform.{IsSession};
+ghost use Rattle.nova_top.specs.Standard.{IsStandard};
 ghost use Rattle.nova_top.specs.Outside.{options_of, session_with, texts_of};
 ghost use Rattle.nova_top.specs.Ends.{IsOutcome, IsCutShort, StatusCause, MachineThere, IsComplete};
 ghost use Rattle.nova_top.specs.Program.{IsUsage, UsageCause, SessionEnds};
@@ -14,6 +15,7 @@ use nova_machine::Machine;
 use scp_commands::Session;
 use scp_script::{Opening, perform};
 use std::alloc::Global;
+use unit_trait::Unit;
 
 /// How many units a session has to pay for its lines.
 const WHOLE_BUDGET: u64 = 1 << 32;
@@ -24,20 +26,23 @@ const USAGE: &[u8] =
 
 /// How the program ended.
 #[derive(Drop)]
-pub struct Ending {
+pub struct Ending<U: Unit> {
     /// The exit status of the process: 0 to 99, 100, 102, 103, 104 or 106.
     pub status: u8,
     /// The machine as it was left, where there was one.
-    pub machine: Option<Machine>,
+    pub machine: Option<Machine<U>>,
 }
 
-/// The whole program, over the words, the input and the console that are handed in.
-pub fn simulate<C: Source, S: Sink>(
+/// The whole program, over the words, the units, the input and the console that are handed in. The units are the standard
+/// ones (`is_standard`); the program is the same over whichever types they have, so they may be boxes.
+pub fn simulate<U: Unit, C: Source, S: Sink>(
     alloc: Global,
     words: &[String],
+    units: Vec<U>,
     input: &mut C,
     output: &mut S,
-) -> Ending
+) -> Ending<U>
+    requires { IsStandard (map U.unit_state units.items) }
     ensures outcome { IsTrue C.tells → IsTrue S.tells → result.status ≢ 103
         → IsOutcome (texts_of words.now) (C.left input.old) (C.left input.new) (S.written output.old)
         (S.written output.new) result.status result.machine }
@@ -57,7 +62,7 @@ pub fn simulate<C: Source, S: Sink>(
     let Some(options) = options_of(words) else {
         return usage(output);
     };
-    let Ok(machine) = Machine::new(alloc) else {
+    let Ok(machine) = Machine::new(alloc, units) else {
         return Ending {
             status: 103,
             machine: None,
@@ -67,7 +72,7 @@ pub fn simulate<C: Source, S: Sink>(
 }
 
 /// Answers words outside their grammar.
-fn usage<S: Sink>(output: &mut S) -> Ending
+fn usage<U: Unit, S: Sink>(output: &mut S) -> Ending<U>
     ensures told { IsTrue S.tells → IsUsage result.status (S.written output.old) (S.written output.new) }
     ensures cause { UsageCause result.status (S.fault_count output.old) (S.fault_count output.new) }
     ensures machine { result.machine ≡ None }
@@ -84,12 +89,12 @@ fn usage<S: Sink>(output: &mut S) -> Ending
 
 /// A session with a new machine.
 #[tactic(auto, unfolding(crate::specs::Outside::session_with))]
-fn session<C: Source, S: Sink>(
-    machine: Machine,
+fn session<U: Unit, C: Source, S: Sink>(
+    machine: Machine<U>,
     options: Options,
     input: &mut C,
     output: &mut S,
-) -> Ending
+) -> Ending<U>
     ensures ended { SessionEnds result.status result.machine
         (λ finish now. IsTrue C.tells → IsTrue S.tells → IsSession
         (session_with machine options (C.left input.old)) finish (live_of now)

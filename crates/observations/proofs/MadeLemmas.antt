@@ -38,3 +38,10 @@ pub stands-behind : {S : Type 0} (state : S) (first second : List (Observation S
 stands-behind state [] second h = h
 stands-behind state (Prints text at ∷ more) second h = inr (stands-behind state more second h)
 stands-behind state (Reads count at ∷ more) second h = inr (stands-behind state more second h)
+
+pub stands-map : {S T : Type 0} (f : S → T) (state : S) (made : List (Observation S)) → StandsAt state made → StandsAt (f state) (map_made f made)
+stands-map f state [] h = absurd h
+stands-map f state (Prints text at ∷ more) (inl h) = inl (ap f h)
+stands-map f state (Prints text at ∷ more) (inr h) = inr (stands-map f state more h)
+stands-map f state (Reads count at ∷ more) (inl h) = inl (ap f h)
+stands-map f state (Reads count at ∷ more) (inr h) = inr (stands-map f state more h)

@@ -1,13 +1,13 @@
 -- What holds of every command: it reads nothing, the status of an exit is small, and one that is refused has changed
 -- nothing.
-use Rattle.std.proofs.Common.{◌≡◌, ℕ, ◌+◌, Bool, true, false, cond, List, [], ◌∷◌, ◌++◌, refl, ap, sym, subst, ◌∙◌, Option, Some, None, Result, Ok, Err, if◌then◌else◌, nat_le, ◌&&◌, ◌^◌, min, unwrap_or}
+use Rattle.std.proofs.Common.{◌≡◌, ℕ, Bool, true, false, List, [], ◌∷◌, refl, sym, subst, ◌∙◌, Option, Some, None, Ok, Err, if◌then◌else◌, nat_le, ◌&&◌, ◌^◌, min, unwrap_or, arith}
 use Rattle.std.proofs.lemmas.Bool.{leb-true}
-use Rattle.observations.specs.Observations.{Observation, Prints, reads_of, map_made}
+use Rattle.observations.specs.Observations.{Prints, reads_of, map_made}
+use Rattle.observations.proofs.MadeLemmas.{reads_of-append, reads_of-map}
 use Rattle.nova_machine.specs.Seen.{seen}
-use Rattle.nova_machine.specs.Parts.{Part}
 use Rattle.nova_machine.specs.Run.{run}
+use Rattle.nova_machine.proofs.NoReads.{run-reads}
 use Rattle.nova_machine.specs.declared.machine.Stop.{Stop}
-use Rattle.scp_parser.specs.declared.fault.ParseFault.{ParseFault}
 use Rattle.scp_parser.specs.declared.command.Shown.{Shown}
 use Rattle.scp_parser.specs.declared.command.Shown.TheVariants as shown
 use Rattle.scp_parser.specs.declared.listing.Listing.{Listing}
@@ -21,14 +21,12 @@ use Rattle.scp_commands.specs.declared.fault.CommandFault.TheVariants.{OutOfRang
 use Rattle.scp_commands.specs.Live.{Live, with_seen}
 use Rattle.scp_commands.specs.Reply.{Answer, Reply, goes, says, refused}
 use Rattle.scp_commands.specs.Doing.{Does, IsExitAnswer}
-use Rattle.scp_commands.specs.RunEffects.{stop_line, run_answer, ran, running, address_fits, started, run_from, stepped, step_of}
-use Rattle.scp_commands.specs.ListEffects.{names_device, examine_after, examine_reply, handed, deposit_after, deposit_reply}
+use Rattle.scp_commands.specs.RunEffects.{stop_line, run_answer, ran, address_fits, started, run_from, stepped, step_of, reset_reply}
+use Rattle.scp_commands.specs.ListEffects.{lacks_device, examine_after, examine_reply, handed, deposit_after, deposit_reply}
 use Rattle.scp_commands.specs.ShowEffects.{show_reply}
 use Rattle.scp_commands.specs.ExitEffects.{exit_reply}
 use Rattle.scp_commands.specs.Effect.{effect, Asked, does}
-use Rattle.scp_commands.specs.Laws.{LeavesTraces, IsUntouched, RefusalsChangeNothing}
-use Rattle.scp_commands.proofs.ReplyLemmas.{ran-silent}
-use Rattle.nova_machine.proofs.Silent.{nothing-made}
+use Rattle.scp_commands.specs.Laws.{IsUntouched, RefusalsChangeNothing}
 
 -- what holds of a reply to a command that was given in that state
 pub record Fair (live : Live) (reply : Reply) : Type 0 where
@@ -61,8 +59,12 @@ fair-ran : (step : Bool) (count : ℕ) (before live : Live) → Fair before (ran
 unfolding ran
 fair-ran step count before live =
     let p = run step count (seen live.machine) in
+    let made = map_made (with_seen live) p.made in
     record {
-      reads = ap (λ l. reads_of l) (ran-silent live p (nothing-made step count (seen live.machine)));
+      reads =
+          let same = reads_of-map (with_seen live) p.made in
+          let none = run-reads step count (seen live.machine) in
+          reads_of-append made (Prints (stop_line p.stop p.after.machine) (with_seen live p.after) ∷ []) ∙ omega (arith, same, none);
       exit = run_answer-exit p.stop;
       refused = λ fault h. absurd (run_answer-ok p.stop fault h);
     }
@@ -83,7 +85,7 @@ fair-examine_after None live l = fair-says _ live live
 
 fair-examine : (live : Live) (l : Listing) → Fair live (examine_reply live l)
 unfolding examine_reply
-fair-examine live l = fair-if (names_device l.device) live _ _ (fair-refused _ live) (fair-examine_after (examine_fault live.machine l) live l)
+fair-examine live l = fair-if (lacks_device live.machine l.device) live _ _ (fair-refused _ live) (fair-examine_after (examine_fault live.machine l) live l)
 
 fair-deposit_after : (fault : Option ExamineFault) (live : Live) (l : Listing) (value : ℕ) → Fair live (deposit_after fault live l value)
 fair-deposit_after (Some fault) live l value = fair-refused _ live
@@ -92,11 +94,12 @@ fair-deposit_after None live l value = fair-goes live _
 fair-deposit : (live : Live) (l : Listing) (value : ℕ) → Fair live (deposit_reply live l value)
 unfolding deposit_reply
 fair-deposit live l value =
-    fair-if (names_device l.device) live _ _ (fair-refused _ live) (fair-deposit_after (fault_of_deposit live.machine l (handed value)) live l (handed value))
+    fair-if (lacks_device live.machine l.device) live _ _ (fair-refused _ live) (fair-deposit_after (fault_of_deposit live.machine l (handed value)) live l (handed value))
 
 fair-show : (live : Live) (subject : Shown) → Fair live (show_reply live subject)
 unfolding show_reply
 fair-show live shown.Time = fair-says _ live live
+fair-show live shown.Queue = fair-says _ live live
 fair-show live subject = fair-refused _ live
 
 fair-exit : (live : Live) (status : Option ℕ) → Fair live (exit_reply live status)
@@ -108,6 +111,10 @@ fair-exit live status = exit-if (nat_le (unwrap_or status 0) 99) refl
     exit-if true is = record { reads = refl; exit = leb-true (unwrap_or status 0) 99 is; refused = λ fault h. absurd (cc) }
     exit-if false is = fair-refused OutOfRange live
 
+fair-reset : (live : Live) → Fair live (reset_reply live)
+unfolding reset_reply
+fair-reset live = fair-goes live _
+
 pub fair-effect : (limit : ℕ) (live : Live) (r : Request) → Fair live (effect limit live r)
 unfolding effect
 fair-effect limit live request.Nothing = fair-goes live live
@@ -117,6 +124,7 @@ fair-effect limit live (request.Run address) = fair-run_from limit true address 
 fair-effect limit live (request.Go address) = fair-run_from limit false address live
 fair-effect limit live request.Cont = fair-ran false limit live live
 fair-effect limit live (request.Step count) = fair-step_of limit (unwrap_or count 1) live
+fair-effect limit live request.Reset = fair-reset live
 fair-effect limit live (request.Show subject) = fair-show live subject
 fair-effect limit live (request.Exit status) = fair-exit live status
 fair-effect limit live r = fair-refused _ live

@@ -1,6 +1,5 @@
 -- DEPOSIT never answers for the console.
-use Rattle.std.proofs.Common.{◌≡◌, ℕ, Bool, true, false, List, [], ◌∷◌, refl, Option, Some, None, Ok, Err, if◌then◌else◌, nat_le, unwrap_or}
-use Rattle.unit_trait.specs.declared.processor.CpuReg.{CpuReg}
+use Rattle.std.proofs.Common.{ℕ, Bool, true, false, List, [], ◌∷◌, Option, Some, None, if◌then◌else◌}
 use Rattle.unit_trait.specs.declared.processor.CpuReg.TheVariants.{Size}
 use Rattle.scp_parser.specs.declared.listing.Name.{Name}
 use Rattle.scp_parser.specs.declared.listing.Name.TheVariants as whose
@@ -9,12 +8,13 @@ use Rattle.scp_parser.specs.declared.listing.Item.TheVariants.{At, Range, Count,
 use Rattle.scp_parser.specs.declared.listing.Listing.{Listing}
 use Rattle.scp_examine.specs.declared.fault.ExamineFault.{ExamineFault}
 use Rattle.scp_examine.specs.declared.fault.ExamineFault.TheVariants as list
-use Rattle.scp_examine.specs.Places.{Place, Cell, Register, named_register, places_of}
-use Rattle.scp_examine.specs.Checks.{or_fault, out_of_range_unless, memory_fault, register_fault, state_fault, item_fault, items_fault, value_fault, values_fault, deposit_fault}
+use Rattle.scp_examine.specs.Shape.{Shape, shape_of}
+use Rattle.scp_examine.specs.Places.{Place, Cell, Register, UnitRegister, places_of}
+use Rattle.scp_examine.specs.Checks.{or_fault, out_of_range_unless, memory_fault, no_such_name_unless, item_fault, items_fault, value_fault, values_fault, deposit_fault}
 use Rattle.scp_examine.specs.Effect.{fault_of_deposit}
 use Rattle.scp_commands.specs.Live.{Live}
 use Rattle.scp_commands.specs.Reply.{Reply}
-use Rattle.scp_commands.specs.ListEffects.{names_device, handed, deposit_after, deposit_reply}
+use Rattle.scp_commands.specs.ListEffects.{lacks_device, handed, deposit_after, deposit_reply}
 use Rattle.scp_commands.proofs.ReplyLemmas.{IsOwn}
 
 -- a fault that is not the console's, or none
@@ -34,38 +34,35 @@ own-memory : (device : Name) (fits : Bool) → IsListsOwn (memory_fault device f
 own-memory whose.Cpu fits = own-range fits
 own-memory (whose.Device kind) fits = tt
 
-own-register : (r : Option CpuReg) → IsListsOwn (register_fault r)
-own-register None = tt
-own-register (Some r) = tt
+own-name : (there : Bool) → IsListsOwn (no_such_name_unless there)
+own-name true = tt
+own-name false = tt
 
-own-state : (device : Name) → IsListsOwn (state_fault device)
-own-state whose.Cpu = tt
-own-state (whose.Device kind) = tt
-
-own-item : (size : ℕ) (device : Name) (item : Item) → IsListsOwn (item_fault size device item)
+own-item : (shape : Shape) (device : Name) (item : Item) → IsListsOwn (item_fault shape device item)
 unfolding item_fault
-own-item size device (At a) = own-memory device _
-own-item size device (Range a b) = own-memory device _
-own-item size device (Count a n) = own-memory device _
-own-item size device All = own-memory device _
-own-item size device (Reg i) = own-register (named_register device i)
-own-item size device State = own-state device
-own-item size device Unknown = tt
+own-item shape device (At a) = own-memory device _
+own-item shape device (Range a b) = own-memory device _
+own-item shape device (Count a n) = own-memory device _
+own-item shape device All = own-memory device _
+own-item shape device (Reg i) = own-name _
+own-item shape device State = own-name _
+own-item shape device Unknown = tt
 
 own-value : (value : ℕ) (place : Place) → IsListsOwn (value_fault value place)
 own-value value (Cell a) = own-range _
 own-value value (Register Size) = tt
 own-value value (Register r) = own-range _
+own-value value (UnitRegister kind i) = own-range _
 
 own-values : (value : ℕ) (places : List Place) → IsListsOwn (values_fault value places)
 unfolding values_fault
 own-values value [] = tt
 own-values value (place ∷ more) = own-or (value_fault value place) (values_fault value more) (own-value value place) (own-values value more)
 
-own-deposit : (size : ℕ) (device : Name) (value : ℕ) (item : Item) → IsListsOwn (deposit_fault size device value item)
+own-deposit : (shape : Shape) (device : Name) (value : ℕ) (item : Item) → IsListsOwn (deposit_fault shape device value item)
 unfolding deposit_fault
-own-deposit size device value item =
-    own-or (item_fault size device item) (values_fault value (places_of size device item)) (own-item size device item) (own-values value (places_of size device item))
+own-deposit shape device value item =
+    own-or (item_fault shape device item) (values_fault value (places_of shape device item)) (own-item shape device item) (own-values value (places_of shape device item))
 
 own-items : (fault_of : Item → Option ExamineFault) → ((item : Item) → IsListsOwn (fault_of item)) → (items : List Item) → IsListsOwn (items_fault fault_of items)
 unfolding items_fault
@@ -86,6 +83,6 @@ own-if false x y a b = b
 pub deposit-own : (live : Live) (l : Listing) (value : ℕ) → IsOwn (deposit_reply live l value).answer
 unfolding deposit_reply fault_of_deposit
 deposit-own live l value =
-    own-if (names_device l.device) _ _ tt
+    own-if (lacks_device live.machine l.device) _ _ tt
     (own-after (fault_of_deposit live.machine l (handed value)) live l (handed value)
-    (own-items (deposit_fault live.machine.processor.memory.size l.device (handed value)) (own-deposit live.machine.processor.memory.size l.device (handed value)) l.items))
+    (own-items (deposit_fault (shape_of live.machine) l.device (handed value)) (own-deposit (shape_of live.machine) l.device (handed value)) l.items))

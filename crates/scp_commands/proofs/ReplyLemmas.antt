@@ -1,20 +1,23 @@
 -- What a call comes to that does a command: what it printed, and what it left.
-use Rattle.std.proofs.Common.{◌≡◌, inl, ℕ, ◌+◌, ◌<◌, Bool, IsTrue, List, [], ◌∷◌, ◌++◌, length, take, refl, ap, sym, ◌∙◌, subst, append-nil, Option, Some, None, Result, Ok, Err}
+use Rattle.std.proofs.Common.{◌≡◌, ◌≢◌, inl, ⊎_elim, ℕ, Bool, IsTrue, List, [], ◌∷◌, ◌++◌, take, refl, ap, sym, ◌∙◌, subst, append_assoc, append-nil, Option, Some, Result, Ok, Err}
 use Rattle.host_files.specs.Streams.{AddsPart, Puts}
 use Rattle.observations.specs.Observations.{Observation, Prints, text_of, map_made}
-use Rattle.observations.proofs.CutLemmas.{breaks-here}
+use Rattle.observations.proofs.MadeLemmas.{text_of-append, text_of-map, stands-before, stands-behind, stands-map}
+use Rattle.observations.proofs.CutLemmas.{breaks-before, breaks-behind, breaks-here, breaks-map}
 use Rattle.nova_machine.specs.declared.machine.Stop.{Stop}
+use Rattle.nova_machine.specs.declared.machine.Stop.TheVariants.{ConsoleFault}
 use Rattle.nova_machine.specs.Machine.{MachineState}
 use Rattle.nova_machine.specs.Seen.{Seen, seen}
 use Rattle.nova_machine.specs.Parts.{Part}
-use Rattle.scp_commands.specs.declared.next.Next.{Next}
+use Rattle.nova_machine.specs.Comes.{Comes}
+use Rattle.nova_machine.specs.Comes as run
+use Rattle.nova_machine.proofs.Parts.{split-comes}
 use Rattle.scp_commands.specs.declared.next.Next.TheVariants.{Ran}
-use Rattle.scp_commands.specs.declared.fault.CommandFault.{CommandFault}
 use Rattle.scp_commands.specs.declared.fault.CommandFault.TheVariants.{Console}
 use Rattle.scp_commands.specs.Live.{Live, live_of, with_seen}
 use Rattle.scp_commands.specs.Reply.{Answer, Reply}
 use Rattle.scp_commands.specs.RunEffects.{ran, stop_line, stop_text, run_answer}
-use Rattle.scp_commands.specs.Doing.{IsSaid, BrokenOff, IsBrokenOff, Does, ConsoleCounts, told_or_console}
+use Rattle.scp_commands.specs.Doing.{IsSaid, IsBrokenOff, Does, ConsoleCounts, told_or_console}
 
 -- one text was printed, with the state that is left
 pub text-said : (text : List ℕ) (answer : Answer) (live : Live) (tells : Bool) (before after : List ℕ) → (IsTrue tells → after ≡ before ++ text)
@@ -34,29 +37,83 @@ text-refused text answer live tells before after part = record {
       record { taken = take n text; written = added; breaks = breaks-here text live [] n short };
 }
 
--- a run in which nothing was made prints its stop
-pub ran-silent : (live : Live) (p : Part) → p.made ≡ [] → (ran live p).made ≡ Prints (stop_line p.stop p.after.machine) (with_seen live p.after) ∷ []
+-- the text of a stop comes behind what a run has printed
+ran-is : (live : Live) (p : Part) (stop : Stop) (m : MachineState) → Some stop ≡ p.stop → seen m ≡ p.after
+    → ran live p ≡ record { made = map_made (with_seen live) p.made ++ Prints (stop_text stop m) (live_of m) ∷ []; answer = Ok (Ran stop); after = live_of m }
 unfolding ran
-ran-silent live p none = ap (λ l. map_made (with_seen live) l ++ Prints (stop_line p.stop p.after.machine) (with_seen live p.after) ∷ []) none
+ran-is live p stop m stops after =
+    ap (λ (o : Option Stop). record { made = map_made (with_seen live) p.made ++ Prints (stop_line o p.after.machine) (with_seen live p.after) ∷ []; answer = run_answer o; after = with_seen live p.after }) (sym stops)
+    ∙ ap (λ (x : Seen). record { made = map_made (with_seen live) p.made ++ Prints (stop_text stop x.machine) (with_seen live x) ∷ []; answer = Ok (Ran stop); after = with_seen live x }) (sym after)
 
-ran-is : (live : Live) (p : Part) (stop : Stop) (m : MachineState) → p.made ≡ [] → Some stop ≡ p.stop → seen m ≡ p.after
-    → ran live p ≡ record { made = Prints (stop_text stop m) (live_of m) ∷ []; answer = Ok (Ran stop); after = live_of m }
+-- a byte that a run prints was refused
+pub ran-cut : (live : Live) (p : Part) (stop : Stop) (m : MachineState) (tells : Bool) (before after : List ℕ) → stop ≡ ConsoleFault
+    → Comes p (Some stop) (seen m) tells before after → IsBrokenOff (ran live p) (live_of m) tells before after
 unfolding ran
-ran-is live p stop m none stops after =
-    ap (λ l. record { made = map_made (with_seen live) l ++ Prints (stop_line p.stop p.after.machine) (with_seen live p.after) ∷ []; answer = run_answer p.stop; after = with_seen live p.after }) none
-    ∙ ap (λ o. record { made = Prints (stop_line o p.after.machine) (with_seen live p.after) ∷ []; answer = run_answer o; after = with_seen live p.after }) (sym stops)
-    ∙ ap (λ (x : Seen). record { made = Prints (stop_text stop x.machine) (with_seen live x) ∷ []; answer = Ok (Ran stop); after = with_seen live x }) (sym after)
+ran-cut live p stop m tells before after is comes =
+    let broken : run.IsBrokenOff p (seen m) tells before after = subst (λ (x : Stop). Comes p (Some x) (seen m) tells before after) is comes in
+    let made = map_made (with_seen live) p.made in
+    let last = Prints (stop_line p.stop p.after.machine) (with_seen live p.after) ∷ [] in
+    record {
+      stands = stands-before (live_of m) made last (stands-map (with_seen live) (seen m) p.made broken.stands);
+      told = λ told.
+          let o = broken.told told in
+          record {
+            taken = o.taken;
+            written = o.written;
+            breaks = breaks-before made last o.taken (live_of m) (breaks-map (with_seen live) p.made o.taken (seen m) o.breaks);
+          };
+    }
 
--- what a run comes to whose stop was printed, or a byte of it refused
-pub ran-does : {T E : Type 0} (live : Live) (p : Part) (stop : Stop) (m : MachineState) (printed : Result T E) (tells : Bool) (before after : List ℕ)
-    → p.made ≡ [] → Some stop ≡ p.stop → seen m ≡ p.after → (IsTrue tells → Puts before (stop_text stop m) printed after)
+-- the stop of a run was printed behind what the run has printed
+run-said : (made : List (Observation Live)) (text : List ℕ) (answer : Answer) (live : Live) (tells : Bool) (before mid after : List ℕ)
+    → (IsTrue tells → mid ≡ before ++ text_of made) → (IsTrue tells → after ≡ mid ++ text)
+    → IsSaid (record { made = made ++ Prints text live ∷ []; answer = answer; after = live }) live tells before after
+run-said made text answer live tells before mid after first second = record {
+  after_is = refl;
+  written = λ told.
+      second told ∙ ap (λ (t : List ℕ). t ++ text) (first told) ∙ append_assoc before (text_of made) text
+      ∙ ap (λ (t : List ℕ). before ++ (text_of made ++ t)) (sym (append-nil text)) ∙ ap (λ (t : List ℕ). before ++ t) (sym (text_of-append made (Prints text live ∷ [])));
+}
+
+-- a byte of its stop was refused
+run-refused : (made : List (Observation Live)) (text : List ℕ) (answer : Answer) (live : Live) (tells : Bool) (before mid after : List ℕ)
+    → (IsTrue tells → mid ≡ before ++ text_of made) → (IsTrue tells → AddsPart mid text after)
+    → IsBrokenOff (record { made = made ++ Prints text live ∷ []; answer = answer; after = live }) live tells before after
+run-refused made text answer live tells before mid after first part = record {
+  stands = stands-behind live made (Prints text live ∷ []) (inl refl);
+  told = λ told.
+      let (n, short, added) = part told in
+      record {
+        taken = text_of made ++ take n text;
+        written = added ∙ ap (λ (t : List ℕ). t ++ take n text) (first told) ∙ append_assoc before (text_of made) (take n text);
+        breaks = breaks-behind made (Prints text live ∷ []) (take n text) live (breaks-here text live [] n short);
+      };
+}
+
+-- a run that ended by itself, whose stop was printed, or a byte of it refused
+ran-told : {T E : Type 0} (live : Live) (p : Part) (stop : Stop) (m : MachineState) (printed : Result T E) (tells : Bool) (before mid after : List ℕ) → stop ≢ ConsoleFault
+    → Comes p (Some stop) (seen m) tells before mid → (IsTrue tells → Puts mid (stop_text stop m) printed after)
     → Does (ran live p) (told_or_console printed (Ran stop)) (live_of m) tells before after
-ran-does live p stop m (Ok x) tells before after none stops is puts =
-    subst (λ (r : Reply). Does r (Ok (Ran stop)) (live_of m) tells before after) (sym (ran-is live p stop m none stops is))
-    (refl, text-said (stop_text stop m) (Ok (Ran stop)) (live_of m) tells before after puts)
-ran-does live p stop m (Err e) tells before after none stops is puts =
-    subst (λ (r : Reply). Does r (Err Console) (live_of m) tells before after) (sym (ran-is live p stop m none stops is))
-    (text-refused (stop_text stop m) (Ok (Ran stop)) (live_of m) tells before after puts)
+ran-told {T} {E} live p stop m printed tells before mid after other comes puts =
+    ⊎_elim (λ cut. absurd (let e = cut.0 in other (cc))) (λ whole. by-printed whole.1 printed puts) (split-comes p (Some stop) (seen m) tells before mid comes)
+  where
+    written : run.IsWhole p (Some stop) (seen m) tells before mid → IsTrue tells → mid ≡ before ++ text_of (map_made (with_seen live) p.made)
+    written whole told = whole.written told ∙ ap (λ (t : List ℕ). before ++ t) (sym (text_of-map (with_seen live) p.made))
+
+    by-printed : run.IsWhole p (Some stop) (seen m) tells before mid → (printed : Result T E) → (IsTrue tells → Puts mid (stop_text stop m) printed after)
+        → Does (ran live p) (told_or_console printed (Ran stop)) (live_of m) tells before after
+    by-printed whole (Ok x) puts =
+        subst (λ (r : Reply). Does r (Ok (Ran stop)) (live_of m) tells before after) (sym (ran-is live p stop m whole.stop_is whole.after_is))
+        (refl, run-said (map_made (with_seen live) p.made) (stop_text stop m) (Ok (Ran stop)) (live_of m) tells before mid after (written whole) puts)
+    by-printed whole (Err e) puts =
+        subst (λ (r : Reply). Does r (Err Console) (live_of m) tells before after) (sym (ran-is live p stop m whole.stop_is whole.after_is))
+        (run-refused (map_made (with_seen live) p.made) (stop_text stop m) (Ok (Ran stop)) (live_of m) tells before mid after (written whole) puts)
+
+pub ran-does : {T E : Type 0} (live : Live) (p : Part) (stop : Stop) (m : MachineState) (printed : Result T E) (answer : Answer) (tells : Bool) (before mid after : List ℕ) → stop ≢ ConsoleFault
+    → Comes p (Some stop) (seen m) tells before mid → (IsTrue tells → Puts mid (stop_text stop m) printed after) → answer ≡ told_or_console printed (Ran stop)
+    → Does (ran live p) answer (live_of m) tells before after
+ran-does live p stop m printed answer tells before mid after other comes puts is =
+    subst (λ (a : Answer). Does (ran live p) a (live_of m) tells before after) (sym is) (ran-told live p stop m printed tells before mid after other comes puts)
 
 -- a command that prints nothing and does not answer for the console
 

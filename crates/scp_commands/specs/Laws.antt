@@ -1,9 +1,17 @@
 -- What holds of every command, in a reader's words.
-use Rattle.std.specs.Prelude.{◌≡◌, ℕ, [], Err}
-use Rattle.scp_parser.specs.Command.{Request}
+use Rattle.std.specs.Prelude.{◌≡◌, ℕ, true, IsTrue, [], Option, is_some, Err}
+use Rattle.unit_trait.specs.declared.kind.Kind.TheVariants.{Tti}
+use Rattle.unit_trait.specs.Kinds.{code_of}
+use Rattle.event_queue.specs.EventList.{waits}
+use Rattle.unit_list.specs.Bus.{unit_at}
+use Rattle.unit_list.specs.Reset.{first_unit, reset_units, reset_events}
+use Rattle.nova_interrupts.specs.Interrupts.{no_interrupts}
+use Rattle.nova_machine.specs.Machine.{MachineState}
+use Rattle.scp_parser.specs.Command.{Request, Reset, Run}
 use Rattle.scp_commands.specs.declared.fault.CommandFault.{CommandFault}
 use Rattle.scp_commands.specs.Live.{Live}
 use Rattle.scp_commands.specs.Reply.{Reply}
+use Rattle.scp_commands.specs.RunEffects.{address_fits, starting_at, running}
 use Rattle.scp_commands.specs.Effect.{effect}
 
 -- the commands that may leave something behind where they are refused with that fault: none does yet
@@ -20,3 +28,23 @@ abbrev pub RefusalsChangeNothing : Type 0
 RefusalsChangeNothing =
     (limit : ℕ) (live : Live) (request : Request) (fault : CommandFault) → (effect limit live request).answer ≡ Err fault
     → (LeavesTraces request fault → ⊥) → IsUntouched live (effect limit live request)
+
+-- A machine behind a reset: interrupts are off, none waits for an instruction, and none is masked out; each unit is reset,
+-- and the events are those that the units' resets wish, in bus order, and no others. The processor with its memory, the
+-- switch register, STOP_DEV and the time are as they were.
+pub record IsReset (before after : MachineState) : Type 0 where
+  pub processor : after.processor ≡ before.processor
+  pub sr : after.sr ≡ before.sr
+  pub stop_dev : after.stop_dev ≡ before.stop_dev
+  pub time : after.time ≡ before.time
+  pub ints : after.ints ≡ no_interrupts
+  pub units : after.units ≡ reset_units before.units
+  pub events : after.events ≡ reset_events before.units []
+  -- so a keyboard looks for keys again
+  pub keyboard : is_some (unit_at (code_of Tti) before.units) ≡ true → waits (first_unit Tti) after.events ≡ true
+
+-- RESET leaves a machine that is reset, and RUN begins with one, in which PC is its address where one is given.
+pub record ResetsLeaveTheProgram : Type 0 where
+  pub reset : (limit : ℕ) (live : Live) → IsReset live.machine (effect limit live Reset).after.machine
+  pub run : (limit : ℕ) (live : Live) (address : Option ℕ) → IsTrue (address_fits address)
+      → (m : MachineState) × IsReset live.machine m × (effect limit live (Run address) ≡ running limit (record live { machine = starting_at address m }))

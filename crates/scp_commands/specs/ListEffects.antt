@@ -1,5 +1,8 @@
 -- EXAMINE and DEPOSIT (SIMH Users' Guide, "Examining and Changing State").
-use Rattle.std.specs.Prelude.{ℕ, ◌^◌, ◌-◌, min, Bool, true, false, Option, Some, None, if◌then◌else◌}
+use Rattle.std.specs.Prelude.{ℕ, ◌^◌, ◌-◌, min, Bool, false, Option, Some, None, is_none, if◌then◌else◌}
+use Rattle.unit_trait.specs.Kinds.{code_of}
+use Rattle.unit_list.specs.Bus.{unit_at}
+use Rattle.nova_machine.specs.Machine.{MachineState}
 use Rattle.scp_parser.specs.declared.listing.Name.{Name}
 use Rattle.scp_parser.specs.declared.listing.Name.TheVariants as whose
 use Rattle.scp_parser.specs.declared.listing.Listing.{Listing}
@@ -10,10 +13,10 @@ use Rattle.scp_commands.specs.Live.{Live}
 use Rattle.scp_commands.specs.Reply.{Reply, goes, says, refused}
 use Rattle.scp_commands.specs.FaultText.{list_fault}
 
--- the registers of devices are not built
-abbrev pub names_device : Name → Bool
-names_device whose.Cpu = false
-names_device (whose.Device kind) = true
+-- a list is of the registers of a device that the machine has no unit of
+abbrev pub lacks_device : MachineState → Name → Bool
+lacks_device m whose.Cpu = false
+lacks_device m (whose.Device kind) = is_none (unit_at (code_of kind) m.units)
 
 abbrev pub examine_after : Option ExamineFault → Live → Listing → Reply
 examine_after (Some fault) live l = refused (list_fault fault) live
@@ -22,7 +25,7 @@ examine_after None live l = says (examined live.machine l) live
 -- EXAMINE prints its list
 unfoldable pub examine_reply : Live → Listing → Reply
 examine_reply live l =
-    if names_device l.device then refused NotBuilt live else examine_after (examine_fault live.machine l) live l
+    if lacks_device live.machine l.device then refused NotBuilt live else examine_after (examine_fault live.machine l) live l
 
 -- a value that is too large for its reader is handed on as the largest of 32 bits
 abbrev pub handed : ℕ → ℕ
@@ -35,4 +38,4 @@ deposit_after None live l value = goes (record live { machine = deposited live.m
 -- DEPOSIT puts its value into its list
 unfoldable pub deposit_reply : Live → Listing → ℕ → Reply
 deposit_reply live l value =
-    if names_device l.device then refused NotBuilt live else deposit_after (fault_of_deposit live.machine l (handed value)) live l (handed value)
+    if lacks_device live.machine l.device then refused NotBuilt live else deposit_after (fault_of_deposit live.machine l (handed value)) live l (handed value)

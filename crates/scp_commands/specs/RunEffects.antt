@@ -1,11 +1,13 @@
--- RUN, GO, CONT and STEP (SIMH Users' Guide, "Running A Simulated Program"), and what a stop prints.
+-- RUN, GO, CONT, STEP and RESET (SIMH Users' Guide, "Running A Simulated Program" and "Resetting Devices"), and what a stop
+-- prints.
 use Rattle.std.specs.Prelude.{ℕ, ◌^◌, ◌-◌, min, nat_le, ◌&&◌, List, [], ◌∷◌, ◌++◌, codes, Bool, true, false, Option, Some, None, Ok, if◌then◌else◌}
 use Rattle.observations.specs.Observations.{Prints, map_made}
 use Rattle.nova_word.specs.Numbers.{octal_digits}
 use Rattle.nova_memory.specs.Memory.{get}
 use Rattle.unit_trait.specs.declared.processor.CpuReg.TheVariants.{Pc}
+use Rattle.unit_trait.specs.Kinds.{unit_name}
 use Rattle.nova_machine.specs.declared.machine.Stop.{Stop}
-use Rattle.nova_machine.specs.declared.machine.Stop.TheVariants.{Halt, ChainLimit, Stepped, Limit, NotBuilt}
+use Rattle.nova_machine.specs.declared.machine.Stop.TheVariants.{Halt, ChainLimit, UnknownDevice, Stepped, Limit, UnitEnd, UnitNone, ConsoleFault}
 use Rattle.nova_machine.specs.Machine.{MachineState, reset_machine}
 use Rattle.nova_machine.specs.Registers.{with_register}
 use Rattle.nova_machine.specs.Seen.{seen}
@@ -14,15 +16,18 @@ use Rattle.nova_machine.specs.Run.{run}
 use Rattle.scp_commands.specs.declared.next.Next.TheVariants.{Go, Ran}
 use Rattle.scp_commands.specs.declared.fault.CommandFault.TheVariants.{OutOfRange}
 use Rattle.scp_commands.specs.Live.{Live, with_seen}
-use Rattle.scp_commands.specs.Reply.{Answer, Reply, refused}
+use Rattle.scp_commands.specs.Reply.{Answer, Reply, goes, refused}
 
--- the name of a stop
+-- the name of a stop; that of a refused byte has none, as there is nothing left to print it on
 abbrev pub stop_name : Stop → List ℕ
 stop_name Halt = codes "HALT instruction"
 stop_name ChainLimit = codes "Indirect chain limit"
+stop_name UnknownDevice = codes "Unknown device"
 stop_name Stepped = codes "Step expired"
 stop_name Limit = codes "Instruction limit"
-stop_name NotBuilt = codes "Not built"
+stop_name (UnitEnd unit) = codes "End of file on " ++ unit_name unit
+stop_name (UnitNone unit) = codes "No file attached to " ++ unit_name unit
+stop_name ConsoleFault = []
 
 -- what a stop prints: a newline, its name, PC, the word there, and a newline
 unfoldable pub stop_text : Stop → MachineState → List ℕ
@@ -80,3 +85,7 @@ stepped limit count live = ran live (run (nat_le count limit) (min count limit) 
 -- a STEP is one of 1 to 2 ^ 48 instructions
 unfoldable pub step_of : ℕ → ℕ → Live → Reply
 step_of limit count live = if nat_le 1 count && nat_le count (2 ^ 48) then stepped limit count live else refused OutOfRange live
+
+-- RESET resets the machine and prints nothing
+unfoldable pub reset_reply : Live → Reply
+reset_reply live = goes (record live { machine = reset_machine live.machine })

@@ -1,8 +1,10 @@
 -- SHOW.
 use Rattle.std.specs.Prelude.{ℕ, List, [], ◌∷◌, ◌++◌, codes, decimal}
+use Rattle.unit_trait.specs.Kinds.{unit_name}
+use Rattle.event_queue.specs.EventList.{Event}
 use Rattle.nova_machine.specs.Machine.{MachineState}
 use Rattle.scp_parser.specs.declared.command.Shown.{Shown}
-use Rattle.scp_parser.specs.declared.command.Shown.TheVariants.{Time}
+use Rattle.scp_parser.specs.declared.command.Shown.TheVariants.{Time, Queue}
 use Rattle.scp_commands.specs.declared.fault.CommandFault.TheVariants.{NotBuilt}
 use Rattle.scp_commands.specs.Live.{Live}
 use Rattle.scp_commands.specs.Reply.{Reply, says, refused}
@@ -11,7 +13,17 @@ use Rattle.scp_commands.specs.Reply.{Reply, says, refused}
 abbrev pub time_text : MachineState → List ℕ
 time_text m = codes "Time: " ++ decimal m.time ++ 10 ∷ []
 
--- SHOW of anything but the time is not built
+-- the line of an event: its unit, and in how many instructions it is due
+abbrev pub event_line : Event → List ℕ
+event_line e = unit_name e.unit ++ 32 ∷ [] ++ decimal e.remaining ++ 10 ∷ []
+
+-- what SHOW QUEUE prints: a line for each event that waits, in the order in which they are due
+unfoldable pub queue_text : List Event → List ℕ
+queue_text [] = []
+queue_text (e ∷ events) = event_line e ++ queue_text events
+
+-- SHOW of anything but the time and the queue is not built
 unfoldable pub show_reply : Live → Shown → Reply
 show_reply live Time = says (time_text live.machine) live
+show_reply live Queue = says (queue_text live.machine.events) live
 show_reply live subject = refused NotBuilt live

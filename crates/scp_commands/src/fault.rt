@@ -22,7 +22,7 @@ pub enum CommandFault {
     ReadOnlyName,
     /// The console refused a byte, which ends the session. It has no text.
     Console,
-    /// This version of the program does not have the command, the device or the subject.
+    /// This version of the program does not have the command or the subject, or its machine no unit of the device.
     NotBuilt,
 }
 

@@ -10,7 +10,7 @@ use nova_machine::Stop;
 pub enum Next {
     /// The next line.
     Go,
-    /// The next line, behind a run that ended so.
+    /// The next line, behind a run that ended so. It is never `ConsoleFault`: that is the answer `Console`.
     Ran(Stop),
     /// The end of the session, with that status, from 0 to 99.
     Exit(u8),

@@ -1,28 +1,29 @@
-// RUN, GO, CONT and STEP.
-ghost use Rattle.std.specs.Prelude.{◌≡◌, ◌≤◌, ◌<◌, ◌^◌, length, nat_le, min, unwrap_or, IsTrue};
-ghost use Rattle.fault_counts.specs.Faults.{CountsFault};
-ghost use Rattle.host_files.specs.Streams.{Puts};
-ghost use Rattle.scp_commands.specs.RunEffects.{stop_name, stop_text, running, address_fits, starting_at, reset_where};
+// RUN, GO, CONT, STEP and RESET.
+ghost use Rattle.std.specs.Prelude.{◌≡◌, ◌≢◌, ◌≤◌, ◌^◌, ℕ, Bool, List, [], nat_le, min, true, false, IsTrue, Ok};
 ghost use Rattle.nova_machine.specs.Seen.{seen};
 ghost use Rattle.nova_machine.specs.Run.{run};
-ghost use Rattle.scp_commands.specs.RunEffects.{started, run_from, stepped, step_of, ran};
+ghost use Rattle.nova_machine.specs.declared.machine.Stop.TheVariants.{ConsoleFault};
+ghost use Rattle.scp_commands.specs.RunEffects.{address_fits, starting_at, reset_where, started, running, run_from};
+ghost use Rattle.scp_commands.specs.RunEffects.{stepped, step_of, ran, reset_reply};
 ghost use Rattle.scp_commands.specs.Doing.{Does, ConsoleCounts};
+ghost use Rattle.scp_commands.specs.declared.next.Next.TheVariants.{Ran};
 
 use crate::counts::is_count;
 use crate::fault::CommandFault;
 use crate::next::{Next, told_or_console};
 use crate::session::Session;
-use host_files::{Failed, Sink, put_pieces};
-use line_text::Text;
+use crate::stop_line::put_stop;
+use host_files::Sink;
 use nova_machine::{CpuReg, Machine, RunLimit, Stop};
+use unit_trait::Unit;
 
 /// The largest address.
 const LAST_ADDRESS: u64 = 0o77777;
 
 /// Runs up to the limit of the session, from that address where one is given. RUN resets the machine first.
 #[tactic(auto, unfolding(crate::specs::RunEffects::run_from))]
-pub fn run_from<S: Sink>(
-    session: &mut Session,
+pub fn run_from<U: Unit, S: Sink>(
+    session: &mut Session<U>,
     resets: bool,
     address: Option<u64>,
     out: &mut S,
@@ -31,6 +32,7 @@ pub fn run_from<S: Sink>(
         (S.written out.old) (S.written out.new) }
     ensures limit { session.new.limit ≡ session.old.limit }
     ensures counts { ConsoleCounts result (S.fault_count out.old) (S.fault_count out.new) }
+    ensures stop { result ≢ Ok (Ran ConsoleFault) }
 {
     if !address_fits(address) {
         return Err(CommandFault::OutOfRange);
@@ -50,7 +52,7 @@ fn address_fits(address: Option<u64>) -> bool
 }
 
 // Readies a session for a run.
-fn start(session: &mut Session, resets: bool, address: Option<u64>)
+fn start<U: Unit>(session: &mut Session<U>, resets: bool, address: Option<u64>)
     requires { IsTrue (address_fits address) }
     ensures live { session.new.live ≡ started resets address session.old.live }
     ensures limit { session.new.limit ≡ session.old.limit }
@@ -59,7 +61,7 @@ fn start(session: &mut Session, resets: bool, address: Option<u64>)
 }
 
 // Readies a machine for a run: resets it, and sets PC, where that is asked for.
-fn start_machine(machine: &mut Machine, resets: bool, address: Option<u64>)
+fn start_machine<U: Unit>(machine: &mut Machine<U>, resets: bool, address: Option<u64>)
     requires { IsTrue (address_fits address) }
     ensures { machine.new ≡ starting_at address (reset_where resets machine.old) }
 {
@@ -72,7 +74,7 @@ fn start_machine(machine: &mut Machine, resets: bool, address: Option<u64>)
     }
 }
 
-fn reset_where(machine: &mut Machine, resets: bool)
+fn reset_where<U: Unit>(machine: &mut Machine<U>, resets: bool)
     ensures { machine.new ≡ reset_where resets machine.old }
 {
     if resets {
@@ -80,12 +82,13 @@ fn reset_where(machine: &mut Machine, resets: bool)
     }
 }
 
-/// Runs from PC up to the limit of the session, and prints the stop.
-pub fn run<S: Sink>(session: &mut Session, out: &mut S) -> Result<Next, CommandFault>
+/// Runs from PC up to the limit of the session, and prints the stop behind what the run has printed.
+pub fn run<U: Unit, S: Sink>(session: &mut Session<U>, out: &mut S) -> Result<Next, CommandFault>
     ensures told { Does (running session.old.limit session.old.live) result session.new.live S.tells
         (S.written out.old) (S.written out.new) }
     ensures limit { session.new.limit ≡ session.old.limit }
     ensures counts { ConsoleCounts result (S.fault_count out.old) (S.fault_count out.new) }
+    ensures stop { result ≢ Ok (Ran ConsoleFault) }
 {
     let limit = RunLimit {
         count: session.limit,
@@ -96,11 +99,16 @@ pub fn run<S: Sink>(session: &mut Session, out: &mut S) -> Result<Next, CommandF
 
 /// Runs that many instructions, from 1 to 2^48, and prints the stop.
 #[tactic(auto, unfolding(crate::specs::RunEffects::step_of))]
-pub fn step<S: Sink>(session: &mut Session, count: u64, out: &mut S) -> Result<Next, CommandFault>
+pub fn step<U: Unit, S: Sink>(
+    session: &mut Session<U>,
+    count: u64,
+    out: &mut S,
+) -> Result<Next, CommandFault>
     ensures told { Does (step_of session.old.limit count session.old.live) result session.new.live S.tells
         (S.written out.old) (S.written out.new) }
     ensures limit { session.new.limit ≡ session.old.limit }
     ensures counts { ConsoleCounts result (S.fault_count out.old) (S.fault_count out.new) }
+    ensures stop { result ≢ Ok (Ran ConsoleFault) }
 {
     if is_count(count) {
         step_by(session, count, out)
@@ -110,11 +118,16 @@ pub fn step<S: Sink>(session: &mut Session, count: u64, out: &mut S) -> Result<N
 }
 
 #[tactic(auto, unfolding(crate::specs::RunEffects::stepped))]
-fn step_by<S: Sink>(session: &mut Session, count: u64, out: &mut S) -> Result<Next, CommandFault>
+fn step_by<U: Unit, S: Sink>(
+    session: &mut Session<U>,
+    count: u64,
+    out: &mut S,
+) -> Result<Next, CommandFault>
     ensures told { Does (stepped session.old.limit count session.old.live) result session.new.live S.tells
         (S.written out.old) (S.written out.new) }
     ensures limit { session.new.limit ≡ session.old.limit }
     ensures counts { ConsoleCounts result (S.fault_count out.old) (S.fault_count out.new) }
+    ensures stop { result ≢ Ok (Ran ConsoleFault) }
 {
     let limit = RunLimit {
         count: count.min(session.limit),
@@ -123,9 +136,9 @@ fn step_by<S: Sink>(session: &mut Session, count: u64, out: &mut S) -> Result<Ne
     run_up_to(session, limit, out)
 }
 
-// Runs up to that limit, and prints the stop.
-fn run_up_to<S: Sink>(
-    session: &mut Session,
+// Runs up to that limit, and prints the stop behind what the run has printed.
+fn run_up_to<U: Unit, S: Sink>(
+    session: &mut Session<U>,
     limit: RunLimit,
     out: &mut S,
 ) -> Result<Next, CommandFault>
@@ -133,46 +146,33 @@ fn run_up_to<S: Sink>(
         session.new.live S.tells (S.written out.old) (S.written out.new) }
     ensures limit { session.new.limit ≡ session.old.limit }
     ensures counts { ConsoleCounts result (S.fault_count out.old) (S.fault_count out.new) }
+    ensures stop { result ≢ Ok (Ran ConsoleFault) }
 {
-    let stop = session.machine.run(limit);
+    let stop = session.machine.run(limit, out);
+    if is_console_fault(stop) {
+        return Err(CommandFault::Console);
+    }
     let printed = put_stop(stop, &session.machine, out);
     told_or_console(printed, Next::Ran(stop))
 }
 
-// Prints that a machine has stopped: the name of the stop, PC in five octal digits, and the word there in six.
-#[tactic(auto, unfolding(crate::specs::RunEffects::stop_text))]
-fn put_stop<S: Sink>(stop: Stop, machine: &Machine, out: &mut S) -> Result<(), Failed>
-    ensures told { IsTrue S.tells → Puts (S.written out.old) (stop_text stop machine.now) result (S.written out.new) }
-    ensures counts { CountsFault (S.fault_count out.old) (S.fault_count out.new) result }
+// Whether a run ended since the console refused a byte.
+fn is_console_fault(stop: Stop) -> bool
+    ensures yes { result ≡ true → stop ≡ ConsoleFault }
+    ensures no { result ≡ false → stop ≢ ConsoleFault }
 {
-    let at = machine.pc();
-    let word = machine.memory().read(at);
-    let mut pc = Text::<12>::new();
-    pc.push_octal(u32::from(at.number()), 5);
-    let mut contents = Text::<12>::new();
-    contents.push_octal(u32::from(word.0), 6);
-    put_pieces(
-        out,
-        &[
-            b"\n",
-            stop_name(stop),
-            b", PC: ",
-            pc.as_slice(),
-            b" (",
-            contents.as_slice(),
-            b")\n",
-        ],
-    )
+    matches!(stop, Stop::ConsoleFault)
 }
 
-fn stop_name(stop: Stop) -> &'static [u8]
-    ensures { result.now ≡ stop_name stop }
+/// RESET resets the machine. It prints nothing.
+#[tactic(auto, unfolding(crate::specs::RunEffects::reset_reply))]
+pub fn reset<U: Unit>(session: &mut Session<U>) -> Result<Next, CommandFault>
+    ensures told { (tells : Bool) (text : List ℕ)
+        → Does (reset_reply session.old.live) result session.new.live tells text text }
+    ensures limit { session.new.limit ≡ session.old.limit }
+    ensures counts { (count : ℕ) → ConsoleCounts result count count }
+    ensures stop { result ≢ Ok (Ran ConsoleFault) }
 {
-    match stop {
-        Stop::Halt => b"HALT instruction",
-        Stop::ChainLimit => b"Indirect chain limit",
-        Stop::Stepped => b"Step expired",
-        Stop::Limit => b"Instruction limit",
-        Stop::NotBuilt => b"Not built",
-    }
+    session.machine.reset();
+    Ok(Next::Go)
 }

@@ -1,15 +1,16 @@
 use nova_machine::Machine;
 use std::marker::Model;
+use unit_trait::Unit;
 
 /// What commands work on.
 #[derive(Drop)]
-pub struct Session {
-    pub machine: Machine,
+pub struct Session<U: Unit> {
+    pub machine: Machine<U>,
     /// How many instructions a run may execute, from 1 to 2^48.
     pub limit: u64,
 }
 
-impl Model for Session {
+impl<U: Unit> Model for Session<U> {
     ghost use Rattle.scp_commands.specs.Live.{CommandState, live_of};
 
     ghost Value = { CommandState };

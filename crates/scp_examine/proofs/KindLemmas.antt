@@ -1,7 +1,6 @@
 -- Which faults an EXAMINE has: never that a register is read only, or that the console refused a byte.
 use Rattle.std.proofs.Common.{◌≡◌, ℕ, ◌∷◌, [], Bool, true, false, List, Option, Some, None, Err, sym, subst, refl}
 use Rattle.nova_machine.specs.Machine.{MachineState}
-use Rattle.unit_trait.specs.declared.processor.CpuReg.{CpuReg}
 use Rattle.scp_parser.specs.declared.listing.Name.{Name}
 use Rattle.scp_parser.specs.declared.listing.Name.TheVariants as whose
 use Rattle.scp_parser.specs.declared.listing.Condition.{Condition}
@@ -10,8 +9,8 @@ use Rattle.scp_parser.specs.declared.listing.Item.TheVariants.{At, Range, Count,
 use Rattle.scp_parser.specs.declared.listing.Listing.{Listing}
 use Rattle.scp_examine.specs.declared.fault.ExamineFault.{ExamineFault}
 use Rattle.scp_examine.specs.declared.fault.ExamineFault.TheVariants.{NoSuchName, OutOfRange, ReadOnlyName, Console}
-use Rattle.scp_examine.specs.Places.{named_register}
-use Rattle.scp_examine.specs.Checks.{condition_fault, item_fault, items_fault, memory_fault, or_fault, out_of_range_unless, register_fault, state_fault}
+use Rattle.scp_examine.specs.Shape.{Shape, shape_of}
+use Rattle.scp_examine.specs.Checks.{condition_fault, item_fault, items_fault, memory_fault, or_fault, no_such_name_unless, out_of_range_unless}
 use Rattle.scp_examine.specs.Effect.{ConsoleCause, Examines, FaultIs, examine_fault}
 
 -- the faults of lists that are not changed
@@ -30,33 +29,29 @@ pub memory_fault-kind : (device : Name) (fits : Bool) → IsListFault (memory_fa
 memory_fault-kind whose.Cpu fits = out_of_range-kind fits
 memory_fault-kind (whose.Device kind) fits = tt
 
-pub register_fault-kind : (r : Option CpuReg) → IsListFault (register_fault r)
-register_fault-kind None = tt
-register_fault-kind (Some r) = tt
+pub no_such_name-kind : (there : Bool) → IsListFault (no_such_name_unless there)
+no_such_name-kind true = tt
+no_such_name-kind false = tt
 
-pub state_fault-kind : (device : Name) → IsListFault (state_fault device)
-state_fault-kind whose.Cpu = tt
-state_fault-kind (whose.Device kind) = tt
-
-pub item_fault-kind : (size : ℕ) (device : Name) (item : Item) → IsListFault (item_fault size device item)
+pub item_fault-kind : (shape : Shape) (device : Name) (item : Item) → IsListFault (item_fault shape device item)
 unfolding item_fault
-item_fault-kind size device (At a) = memory_fault-kind device _
-item_fault-kind size device (Range a b) = memory_fault-kind device _
-item_fault-kind size device (Count a n) = memory_fault-kind device _
-item_fault-kind size device All = memory_fault-kind device _
-item_fault-kind size device (Reg i) = register_fault-kind (named_register device i)
-item_fault-kind size device State = state_fault-kind device
-item_fault-kind size device Unknown = tt
+item_fault-kind shape device (At a) = memory_fault-kind device _
+item_fault-kind shape device (Range a b) = memory_fault-kind device _
+item_fault-kind shape device (Count a n) = memory_fault-kind device _
+item_fault-kind shape device All = memory_fault-kind device _
+item_fault-kind shape device (Reg i) = no_such_name-kind _
+item_fault-kind shape device State = no_such_name-kind _
+item_fault-kind shape device Unknown = tt
 
 pub or_fault-kind : (a b : Option ExamineFault) → IsListFault a → IsListFault b → IsListFault (or_fault a b)
 or_fault-kind None b first second = second
 or_fault-kind (Some fault) b first second = first
 
-pub items_fault-kind : (size : ℕ) (device : Name) (items : List Item) → IsListFault (items_fault (item_fault size device) items)
+pub items_fault-kind : (shape : Shape) (device : Name) (items : List Item) → IsListFault (items_fault (item_fault shape device) items)
 unfolding items_fault
-items_fault-kind size device [] = tt
-items_fault-kind size device (item ∷ more) =
-    or_fault-kind (item_fault size device item) (items_fault (item_fault size device) more) (item_fault-kind size device item) (items_fault-kind size device more)
+items_fault-kind shape device [] = tt
+items_fault-kind shape device (item ∷ more) =
+    or_fault-kind (item_fault shape device item) (items_fault (item_fault shape device) more) (item_fault-kind shape device item) (items_fault-kind shape device more)
 
 pub condition_fault-kind : (c : Option Condition) → IsListFault (condition_fault c)
 condition_fault-kind None = tt
@@ -65,7 +60,7 @@ condition_fault-kind (Some c) = out_of_range-kind _
 pub examine_fault-kind : (m : MachineState) (l : Listing) → IsListFault (examine_fault m l)
 unfolding examine_fault
 examine_fault-kind m l =
-    or_fault-kind (condition_fault l.condition) (items_fault (item_fault m.processor.memory.size l.device) l.items) (condition_fault-kind l.condition) (items_fault-kind m.processor.memory.size l.device l.items)
+    or_fault-kind (condition_fault l.condition) (items_fault (item_fault (shape_of m) l.device) l.items) (condition_fault-kind l.condition) (items_fault-kind (shape_of m) l.device l.items)
 
 pub fault-kind : (m : MachineState) (l : Listing) (fault : ExamineFault) → Some fault ≡ examine_fault m l → IsListFault (Some fault)
 fault-kind m l fault e = subst IsListFault (sym e) (examine_fault-kind m l)

@@ -1,12 +1,14 @@
 -- What was put into a place is what it holds.
-use Rattle.std.proofs.Common.{◌≡◌, ℕ, ◌==◌, ◌<◌, ◌≤◌, zero, suc, length, None, refl, arith, nat_le, if◌then◌else◌}
+use Rattle.std.proofs.Common.{◌≡◌, ℕ, ◌==◌, ◌<◌, ◌≤◌, zero, suc, length, None, refl, arith, nat_le, if◌then◌else◌, ap, unwrap_or}
 use Rattle.std.proofs.lemmas.List.{get_or-set_same}
 use Rattle.std.proofs.lemmas.Bool.{lt-ltb, leb-true}
 use Rattle.nova_memory.specs.Memory.{MemoryState, IsMemory, get, put}
 use Rattle.unit_trait.specs.declared.processor.CpuReg.TheVariants.{Ac0, Ac1, Ac2, Ac3, C, Pc, Ion, Hold, Mask, Sr, StopDev, Size}
-use Rattle.scp_examine.specs.Places.{Cell, Register}
+use Rattle.unit_list.specs.Bus.{kinds_of}
+use Rattle.scp_examine.specs.Places.{Cell, Register, UnitRegister}
 use Rattle.scp_examine.specs.Checks.{out_of_range_unless}
 use Rattle.scp_examine.specs.Laws.{DepositReadsBack}
+use Rattle.scp_examine.proofs.UnitLemmas.{has_kind-listed, register_in-set}
 use Rattle.scp_examine.proofs.FillLemmas.{fits_from_none}
 
 pub get_put : (mem : MemoryState) (a v : ℕ) → IsMemory mem → a < mem.size → get (put mem a v) a ≡ v
@@ -37,3 +39,5 @@ reads_back m (Register Mask) v is h none = refl
 reads_back m (Register Sr) v is h none = refl
 reads_back m (Register StopDev) v is h none = flag_fits v none
 reads_back m (Register Size) v is h none = cc
+reads_back m (UnitRegister kind i) v is h none =
+    ap (λ o. unwrap_or o 0) (register_in-set kind i v m.units is.units (has_kind-listed kind (kinds_of m.units) h.0) h.1)

@@ -1,7 +1,10 @@
-pub mod FaultLemmas
+pub mod UnitLemmas
+pub mod KeepLemmas
 pub mod ShowLemmas
+pub mod FaultLemmas
 pub mod KindLemmas
 pub mod FillLemmas
 pub mod LawLemmas
 pub mod RegisterLemmas
 pub mod DepositLemmas
+pub mod BoxLemmas

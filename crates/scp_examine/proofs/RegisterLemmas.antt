@@ -1,8 +1,7 @@
 -- The registers of the processor as a list of values, in order: to set one changes no other.
 use Rattle.std.proofs.Common.{◌≡◌, ◌⊎◌, inl, inr, ℕ, ◌<◌, zero, suc, List, [], ◌∷◌, ◌++◌, map, length, get_or, set, None, refl, sym, ap, ◌∙◌, arith, slice_index, slice_set}
-use Rattle.std.proofs.lemmas.List.{get_or-set_other, length-set}
+use Rattle.std.proofs.lemmas.List.{get_or-set_other}
 use Rattle.std.proofs.lemmas.Bool.{cases_eq}
-use Rattle.nova_memory.specs.Memory.{MemoryState}
 use Rattle.unit_trait.specs.declared.processor.CpuReg.{CpuReg}
 use Rattle.unit_trait.specs.declared.processor.CpuReg.TheVariants.{Ac0, Ac1, Ac2, Ac3, C, Pc, Ion, Hold, Mask, Sr, StopDev, Size}
 use Rattle.unit_trait.specs.Processor.{all_registers}
@@ -108,39 +107,3 @@ pub register_of-other : (m : MachineState) (r q : CpuReg) (v : ℕ) → length m
 register_of-other m r q v is none apart =
     sym (value_of_register (with_register m r v) q) ∙ ap (λ (xs : List ℕ). get_or xs (number_of q) 0) (values-set m r v is none)
     ∙ get_or-set_other (values m) (number_of r) (number_of q) v 0 (λ e. apart (same_number q r e)) ∙ value_of_register m q
-
--- what a register leaves as it is
-pub record KeepsRest (before after : MachineState) : Type 0 where
-  pub memory : after.processor.memory ≡ before.processor.memory
-  pub time : after.time ≡ before.time
-  pub accumulators : length after.processor.cpu.accumulators ≡ length before.processor.cpu.accumulators
-
-pub register_keeps : (m : MachineState) (r : CpuReg) (v : ℕ) → KeepsRest m (with_register m r v)
-register_keeps m Ac0 v = record { memory = refl; time = refl; accumulators = length-set m.processor.cpu.accumulators 0 v }
-register_keeps m Ac1 v = record { memory = refl; time = refl; accumulators = length-set m.processor.cpu.accumulators 1 v }
-register_keeps m Ac2 v = record { memory = refl; time = refl; accumulators = length-set m.processor.cpu.accumulators 2 v }
-register_keeps m Ac3 v = record { memory = refl; time = refl; accumulators = length-set m.processor.cpu.accumulators 3 v }
-register_keeps m C v = record { memory = refl; time = refl; accumulators = refl }
-register_keeps m Pc v = record { memory = refl; time = refl; accumulators = refl }
-register_keeps m Ion v = record { memory = refl; time = refl; accumulators = refl }
-register_keeps m Hold v = record { memory = refl; time = refl; accumulators = refl }
-register_keeps m Mask v = record { memory = refl; time = refl; accumulators = refl }
-register_keeps m Sr v = record { memory = refl; time = refl; accumulators = refl }
-register_keeps m StopDev v = record { memory = refl; time = refl; accumulators = refl }
-register_keeps m Size v = record { memory = refl; time = refl; accumulators = refl }
-
--- the machine with another memory of the same size holds the same in its registers
-pub register_of-memory : (m : MachineState) (memory : MemoryState) (r : CpuReg) → memory.size ≡ m.processor.memory.size
-    → register_of (record m { processor = record m.processor { memory = memory } }) r ≡ register_of m r
-register_of-memory m memory Ac0 same = refl
-register_of-memory m memory Ac1 same = refl
-register_of-memory m memory Ac2 same = refl
-register_of-memory m memory Ac3 same = refl
-register_of-memory m memory C same = refl
-register_of-memory m memory Pc same = refl
-register_of-memory m memory Ion same = refl
-register_of-memory m memory Hold same = refl
-register_of-memory m memory Mask same = refl
-register_of-memory m memory Sr same = refl
-register_of-memory m memory StopDev same = refl
-register_of-memory m memory Size same = same

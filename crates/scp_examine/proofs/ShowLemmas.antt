@@ -9,7 +9,8 @@ use Rattle.scp_parser.specs.declared.listing.Name.{Name}
 use Rattle.scp_parser.specs.declared.listing.Condition.{Condition}
 use Rattle.scp_parser.specs.declared.listing.Item.{Item}
 use Rattle.scp_examine.specs.declared.fault.ExamineFault.{ExamineFault}
-use Rattle.scp_examine.specs.Places.{Place, Cell, Register, cells, registers_of, places_of}
+use Rattle.scp_examine.specs.Shape.{Shape}
+use Rattle.scp_examine.specs.Places.{Place, Register, numbered, registers_of, places_of}
 use Rattle.scp_examine.specs.Checks.{items_fault, or_fault}
 use Rattle.scp_examine.specs.Effect.{all_places, listed}
 
@@ -23,32 +24,32 @@ pub registers_of-append : (xs ys : List CpuReg) → registers_of (xs ++ ys) ≡ 
 registers_of-append [] ys = refl
 registers_of-append (r ∷ xs) ys = ap (λ ps. Register r ∷ ps) (registers_of-append xs ys)
 
-pub all_places-append : (size : ℕ) (device : Name) (xs ys : List Item)
-    → all_places size device (xs ++ ys) ≡ all_places size device xs ++ all_places size device ys
+pub all_places-append : (shape : Shape) (device : Name) (xs ys : List Item)
+    → all_places shape device (xs ++ ys) ≡ all_places shape device xs ++ all_places shape device ys
 unfolding all_places
-all_places-append size device [] ys = refl
-all_places-append size device (item ∷ xs) ys = rw (all_places-append size device xs ys, append_assoc)
+all_places-append shape device [] ys = refl
+all_places-append shape device (item ∷ xs) ys = rw (all_places-append shape device xs ys, append_assoc)
 
--- one word more
-pub cells-more : (from n : ℕ) → cells from (n + 1) ≡ cells from n ++ Cell (from + n) ∷ []
-unfolding cells
-cells-more from zero = let e : from + 0 ≡ from = omega arith in ap (λ a. Cell a ∷ []) (sym e)
-cells-more from (suc n) =
-    let e : from + 1 + n ≡ from + suc n = omega arith in
+-- one place more
+pub numbered-more : (place : ℕ → Place) (from n at : ℕ) → at ≡ from + n → numbered place from (n + 1) ≡ numbered place from n ++ place at ∷ []
+unfolding numbered
+numbered-more place from zero at e = let f : from ≡ at = omega (arith, e) in ap (λ a. place a ∷ []) f
+numbered-more place from (suc n) at e =
     let f : suc n + 1 ≡ suc (n + 1) = omega arith in
-    ap (λ k. cells from k) f ∙ ap (λ ps. Cell from ∷ ps) (cells-more (from + 1) n) ∙ ap (λ a. Cell from ∷ (cells (from + 1) n ++ Cell a ∷ [])) e
+    let g : at ≡ from + 1 + n = omega (arith, e) in
+    ap (λ k. numbered place from k) f ∙ ap (λ ps. place from ∷ ps) (numbered-more place (from + 1) n at g)
 
--- the words behind one of them
-pub cells_rest : (from count i : ℕ) → i < count → (rest : List Place) × (cells from count ≡ (cells from i ++ Cell (from + i) ∷ []) ++ rest)
-unfolding cells
-cells_rest from zero i h = absurd (omega arith)
-cells_rest from (suc n) zero h =
-    let e : from + 0 ≡ from = omega arith in
-    (cells (from + 1) n, ap (λ a. Cell a ∷ cells (from + 1) n) (sym e))
-cells_rest from (suc n) (suc i) h =
-    let r = cells_rest (from + 1) n i (omega arith) in
-    let e : from + 1 + i ≡ from + suc i = omega arith in
-    (r.0, ap (λ ps. Cell from ∷ ps) r.1 ∙ ap (λ a. Cell from ∷ ((cells (from + 1) i ++ Cell a ∷ []) ++ r.0)) e)
+-- the places behind one of them
+pub numbered_rest : (place : ℕ → Place) (from count i at : ℕ) → i < count → at ≡ from + i
+    → (rest : List Place) × (numbered place from count ≡ (numbered place from i ++ place at ∷ []) ++ rest)
+unfolding numbered
+numbered_rest place from zero i at h e = absurd (omega arith)
+numbered_rest place from (suc n) zero at h e =
+    let f : from ≡ at = omega (arith, e) in
+    (numbered place (from + 1) n, ap (λ a. place a ∷ numbered place (from + 1) n) f)
+numbered_rest place from (suc n) (suc i) at h e =
+    let r = numbered_rest place (from + 1) n i at (omega arith) (omega (arith, e)) in
+    (r.0, ap (λ ps. place from ∷ ps) r.1)
 
 pub registers-more : (xs : List CpuReg) (i : ℕ) (d : CpuReg) → i < length xs
     → registers_of (take (i + 1) xs) ≡ registers_of (take i xs) ++ Register (get_or xs i d) ∷ []
@@ -62,18 +63,18 @@ registers_rest xs i d h = (
       ∙ ap (λ ps. ps ++ registers_of (drop (i + 1) xs)) (registers-more xs i d h),
 )
 
-pub all_places-more : (size : ℕ) (device : Name) (xs : List Item) (i : ℕ) (d : Item) → i < length xs
-    → all_places size device (take (i + 1) xs) ≡ all_places size device (take i xs) ++ places_of size device (get_or xs i d)
+pub all_places-more : (shape : Shape) (device : Name) (xs : List Item) (i : ℕ) (d : Item) → i < length xs
+    → all_places shape device (take (i + 1) xs) ≡ all_places shape device (take i xs) ++ places_of shape device (get_or xs i d)
 unfolding all_places
-all_places-more size device xs i d h =
-    rw (add-one, take-suc xs i d, all_places-append size device (take i xs) (get_or xs i d ∷ [])) (simp append-nil)
+all_places-more shape device xs i d h =
+    rw (add-one, take-suc xs i d, all_places-append shape device (take i xs) (get_or xs i d ∷ [])) (simp append-nil)
 
-pub all_places_rest : (size : ℕ) (device : Name) (xs : List Item) (i : ℕ) (d : Item) → i < length xs
-    → (rest : List Place) × (all_places size device xs ≡ (all_places size device (take i xs) ++ places_of size device (get_or xs i d)) ++ rest)
-all_places_rest size device xs i d h = (
-  all_places size device (drop (i + 1) xs),
-  ap (λ ys. all_places size device ys) (sym (take-append-drop (i + 1) xs)) ∙ all_places-append size device (take (i + 1) xs) (drop (i + 1) xs)
-      ∙ ap (λ ps. ps ++ all_places size device (drop (i + 1) xs)) (all_places-more size device xs i d h),
+pub all_places_rest : (shape : Shape) (device : Name) (xs : List Item) (i : ℕ) (d : Item) → i < length xs
+    → (rest : List Place) × (all_places shape device xs ≡ (all_places shape device (take i xs) ++ places_of shape device (get_or xs i d)) ++ rest)
+all_places_rest shape device xs i d h = (
+  all_places shape device (drop (i + 1) xs),
+  ap (λ ys. all_places shape device ys) (sym (take-append-drop (i + 1) xs)) ∙ all_places-append shape device (take (i + 1) xs) (drop (i + 1) xs)
+      ∙ ap (λ ps. ps ++ all_places shape device (drop (i + 1) xs)) (all_places-more shape device xs i d h),
 )
 
 pub first_none : (a b : Option ExamineFault) → or_fault a b ≡ None → a ≡ None
@@ -99,13 +100,13 @@ pub listed-none : (m : MachineState) (s : Bool) (c : Option Condition) → liste
 unfolding listed
 listed-none m s c = refl
 
-pub cells-none : (from : ℕ) → cells from 0 ≡ []
-unfolding cells
-cells-none from = refl
+pub numbered-none : (place : ℕ → Place) (from : ℕ) → numbered place from 0 ≡ []
+unfolding numbered
+numbered-none place from = refl
 
-pub all_places-none : (size : ℕ) (device : Name) → all_places size device [] ≡ []
+pub all_places-none : (shape : Shape) (device : Name) → all_places shape device [] ≡ []
 unfolding all_places
-all_places-none size device = refl
+all_places-none shape device = refl
 
 -- the text of more places was printed behind that of the ones before
 pub listed_more : (m : MachineState) (s : Bool) (c : Option Condition) (before at after : List ℕ) (xs ys both : List Place)

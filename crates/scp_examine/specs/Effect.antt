@@ -3,9 +3,9 @@ use Rattle.std.specs.Prelude.{◌≡◌, ℕ, Bool, List, [], ◌∷◌, ◌++�
 use Rattle.nova_memory.specs.Memory.{put}
 use Rattle.fault_counts.specs.Faults.{raised}
 use Rattle.host_files.specs.Streams.{AddsPart}
+use Rattle.unit_list.specs.Bus.{with_register_in}
 use Rattle.nova_machine.specs.Machine.{MachineState}
-use Rattle.nova_machine.specs.Registers.{register_of, with_register}
-use Rattle.nova_memory.specs.Memory.{get}
+use Rattle.nova_machine.specs.Registers.{with_register}
 use Rattle.scp_parser.specs.declared.listing.Name.{Name}
 use Rattle.scp_parser.specs.declared.listing.Condition.{Condition}
 use Rattle.scp_parser.specs.declared.listing.Item.{Item}
@@ -13,13 +13,14 @@ use Rattle.scp_parser.specs.declared.listing.Listing.{Listing}
 use Rattle.scp_parser.specs.declared.listing.Test.{Test}
 use Rattle.scp_examine.specs.declared.fault.ExamineFault.{ExamineFault}
 use Rattle.scp_examine.specs.declared.fault.ExamineFault.TheVariants.{NoSuchName, OutOfRange, ReadOnlyName, Console}
-use Rattle.scp_examine.specs.Places.{Place, Cell, Register, places_of, place_text, is_chosen, meets, largest_at}
+use Rattle.scp_examine.specs.Shape.{Shape, shape_of}
+use Rattle.scp_examine.specs.Places.{Place, Cell, Register, UnitRegister, places_of, place_text, value_at, is_chosen, meets, largest_at}
 use Rattle.scp_examine.specs.Checks.{or_fault, item_fault, items_fault, condition_fault, condition_fits, deposit_fault}
 
 -- the places of a list of items, in order
-unfoldable pub all_places : ℕ → Name → List Item → List Place
-all_places size device [] = []
-all_places size device (item ∷ more) = places_of size device item ++ all_places size device more
+unfoldable pub all_places : Shape → Name → List Item → List Place
+all_places shape device [] = []
+all_places shape device (item ∷ more) = places_of shape device item ++ all_places shape device more
 
 -- what EXAMINE prints of places: each that is chosen, in order
 unfoldable pub listed : MachineState → Bool → Option Condition → List Place → List ℕ
@@ -28,11 +29,11 @@ listed m symbolic condition (place ∷ more) = (if is_chosen m condition place t
 
 -- the fault of an EXAMINE: of its condition, and then of its items from the left
 unfoldable pub examine_fault : MachineState → Listing → Option ExamineFault
-examine_fault m l = or_fault (condition_fault l.condition) (items_fault (item_fault m.processor.memory.size l.device) l.items)
+examine_fault m l = or_fault (condition_fault l.condition) (items_fault (item_fault (shape_of m) l.device) l.items)
 
 -- what an EXAMINE without a fault prints
 unfoldable pub examined : MachineState → Listing → List ℕ
-examined m l = listed m l.symbolic l.condition (all_places m.processor.memory.size l.device l.items)
+examined m l = listed m l.symbolic l.condition (all_places (shape_of m) l.device l.items)
 
 -- A call of `examine`: it prints the whole text; or a byte of it was refused, and what comes before was printed; or a
 -- fault stood before all printing.
@@ -43,8 +44,8 @@ Examines m l (Err NoSuchName) before after = (examine_fault m l ≡ Some NoSuchN
 Examines m l (Err OutOfRange) before after = (examine_fault m l ≡ Some OutOfRange) × (after ≡ before)
 Examines m l (Err ReadOnlyName) before after = ⊥
 
--- The faults of an EXAMINE, where the first one by the rules is given: that one is answered, or where there is none, that
--- the console refused a byte.
+-- The faults of an EXAMINE, where the first one by the rules is given: that one is answered, or where there is none,
+-- that the console refused a byte.
 abbrev pub FaultIs : {T : Type 0} → Option ExamineFault → Result T ExamineFault → Type 0
 FaultIs first (Ok _) = first ≡ None
 FaultIs first (Err Console) = first ≡ None
@@ -61,6 +62,7 @@ ConsoleCause before now result = now ≡ before
 abbrev pub with_value : ℕ → MachineState → Place → MachineState
 with_value value m (Cell a) = record m { processor = record m.processor { memory = put m.processor.memory a value } }
 with_value value m (Register r) = with_register m r value
+with_value value m (UnitRegister kind i) = record m { units = with_register_in kind i value m.units }
 
 -- the machine with a value in each of the places
 unfoldable pub filled : ℕ → MachineState → List Place → MachineState
@@ -69,26 +71,26 @@ filled value m (place ∷ more) = filled value (with_value value m place) more
 
 -- the fault of a DEPOSIT: of its items from the left
 unfoldable pub fault_of_deposit : MachineState → Listing → ℕ → Option ExamineFault
-fault_of_deposit m l value = items_fault (deposit_fault m.processor.memory.size l.device value) l.items
+fault_of_deposit m l value = items_fault (deposit_fault (shape_of m) l.device value) l.items
 
 -- the machine after a DEPOSIT without a fault
 unfoldable pub deposited : MachineState → Listing → ℕ → MachineState
-deposited m l value = filled value m (all_places m.processor.memory.size l.device l.items)
+deposited m l value = filled value m (all_places (shape_of m) l.device l.items)
 
--- what a place holds
-abbrev pub value_at : MachineState → Place → ℕ
-value_at m (Cell a) = get m.processor.memory a
-value_at m (Register r) = register_of m r
+-- a value compared by a condition, whose numbers are at most the largest value of the place that holds it
+abbrev pub compared : ℕ → ℕ → Condition → Result Bool ExamineFault
+compared value largest c = if condition_fits largest c then Ok (meets c value) else Err OutOfRange
 
 -- a test of the one place of its item
 abbrev pub test_of : MachineState → Condition → List Place → Result Bool ExamineFault
 test_of m c [] = Err NoSuchName
-test_of m c (place ∷ more) = if condition_fits (largest_at place) c then Ok (meets c (value_at m place)) else Err OutOfRange
+test_of m c (place ∷ more) = compared (value_at m place) (largest_at place) c
 
 abbrev pub test_after : Option ExamineFault → MachineState → Test → Result Bool ExamineFault
 test_after (Some fault) m t = Err fault
-test_after None m t = test_of m t.condition (places_of m.processor.memory.size t.device t.item)
+test_after None m t = test_of m t.condition (places_of (shape_of m) t.device t.item)
 
--- what ASSERT tests: its item is checked first, and then its condition, up to the largest value of the item
+-- What ASSERT tests: its item is checked first, and then its condition, up to the largest value of the item. A value
+-- below the least one of a register is no fault.
 unfoldable pub tested : MachineState → Test → Result Bool ExamineFault
-tested m t = test_after (item_fault m.processor.memory.size t.device t.item) m t
+tested m t = test_after (item_fault (shape_of m) t.device t.item) m t

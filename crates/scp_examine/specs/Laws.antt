@@ -1,4 +1,4 @@
--- What ties DEPOSIT to EXAMINE, and the names of devices in symbolic text to those in commands.
+-- What ties DEPOSIT to EXAMINE, and the names of registers and devices that are printed to those in commands.
 use Rattle.std.specs.Prelude.{◌≡◌, ℕ, ◌<◌, List, [], ◌∷◌, ◌++◌, codes, map, length, None, Contains}
 use Rattle.nova_memory.specs.Memory.{IsMemory}
 use Rattle.nova_symbols.specs.Names.{device_names}
@@ -6,20 +6,27 @@ use Rattle.nova_machine.specs.Machine.{MachineState}
 use Rattle.unit_trait.specs.declared.kind.Kind.{Kind}
 use Rattle.unit_trait.specs.declared.kind.Kind.TheVariants.{Dsk, Mta, Lpt, Ptr, Ptp, Clk, Tti, Tto, Tti1, Tto1, Qty}
 use Rattle.unit_trait.specs.Kinds.{kind_name}
+use Rattle.unit_trait.specs.Registers.{registers}
+use Rattle.unit_list.specs.Bus.{kinds_of, AllFit}
+use Rattle.scp_parser.specs.declared.listing.Name.{Name}
 use Rattle.scp_parser.specs.declared.listing.Listing.{Listing}
-use Rattle.scp_examine.specs.Places.{Place, Cell, Register}
+use Rattle.scp_parser.specs.Names.{register_names}
+use Rattle.scp_examine.specs.Shape.{shape_of}
+use Rattle.scp_examine.specs.Places.{Place, Cell, Register, UnitRegister, all_of, place_name, value_at}
 use Rattle.scp_examine.specs.Checks.{value_fault}
-use Rattle.scp_examine.specs.Effect.{value_at, with_value, all_places, fault_of_deposit, deposited}
+use Rattle.scp_examine.specs.Effect.{with_value, all_places, fault_of_deposit, deposited}
 
--- the machines that there are: four accumulators, and a memory
+-- the machines that there are: four accumulators, a memory, and units whose registers hold what they can
 pub record IsMachine (m : MachineState) : Type 0 where
   pub accumulators : length m.processor.cpu.accumulators ≡ 4
   pub memory : IsMemory m.processor.memory
+  pub units : AllFit m.units
 
--- a place of the machine: a word below the size, or a register
+-- a place of the machine: a word below the size, a register of the processor, or one of a device that is there
 abbrev pub IsPlace : MachineState → Place → Type 0
 IsPlace m (Cell a) = a < m.processor.memory.size
 IsPlace m (Register r) = Unit {0}
+IsPlace m (UnitRegister kind i) = Contains (kinds_of m.units) kind × (i < length (registers kind))
 
 -- a value that has no fault for a place is what the place holds after it was put there
 abbrev pub DepositReadsBack : Type 0
@@ -28,19 +35,25 @@ DepositReadsBack =
     → value_at (with_value value m place) place ≡ value
 
 -- A value was put into some places of a machine: each of them holds it, every other place holds what it held, and the
--- machine is still one, of the same size, at the same time.
+-- machine is still one, of the same size and with units of the same kinds, at the same time, with the same events.
 pub record PutsInto (places : List Place) (value : ℕ) (before after : MachineState) : Type 0 where
   pub listed : (place : Place) → Contains places place → value_at after place ≡ value
   pub others : (place : Place) → IsPlace before place → (Contains places place → ⊥) → value_at after place ≡ value_at before place
   pub size : after.processor.memory.size ≡ before.processor.memory.size
+  pub kinds : kinds_of after.units ≡ kinds_of before.units
   pub time : after.time ≡ before.time
+  pub events : after.events ≡ before.events
   pub machine : IsMachine after
 
 -- a DEPOSIT without a fault puts its value into the listed places
 abbrev pub DepositPuts : Type 0
 DepositPuts =
     (m : MachineState) (l : Listing) (value : ℕ) → IsMachine m → fault_of_deposit m l value ≡ None
-    → PutsInto (all_places m.processor.memory.size l.device l.items) value m (deposited m l value)
+    → PutsInto (all_places (shape_of m) l.device l.items) value m (deposited m l value)
+
+-- the registers of the processor, and of each device, are printed by the names that a command names them by
+abbrev pub RegistersHaveNames : Type 0
+RegistersHaveNames = (device : Name) → map place_name (all_of device) ≡ register_names device
 
 -- the kinds of units, in the order of their device codes
 abbrev pub kinds_by_code : List Kind

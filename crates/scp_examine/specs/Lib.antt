@@ -1,3 +1,4 @@
+pub mod Shape
 pub mod Places
 pub mod Checks
 pub mod Named

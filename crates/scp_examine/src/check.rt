@@ -1,17 +1,22 @@
 // The faults of items, values and conditions.
-ghost use Rattle.std.specs.Prelude.{◌≡◌, ℕ, ◌+◌, ◌≤◌, ◌^◌, ◌&&◌, nat_le, nat_lt};
+ghost use Rattle.std.specs.Prelude.{◌≡◌, ℕ, ◌+◌, ◌≤◌, ◌^◌, ◌&&◌, nat_le, nat_lt, length};
 ghost use Rattle.unit_trait.specs.Processor.{all_registers, largest_of};
-ghost use Rattle.scp_examine.specs.Places.{Register, cells, named_register, places_of, registers_of};
+ghost use Rattle.unit_trait.specs.Registers.{registers, register_at};
+ghost use Rattle.unit_trait.specs.Row.{takes_value};
+ghost use Rattle.scp_examine.specs.Shape.{has_named, shape_of};
+ghost use Rattle.scp_examine.specs.Places.{Register, UnitRegister, cells, named_register, places_of};
+ghost use Rattle.scp_examine.specs.Places.{registers_of, unit_registers};
 ghost use Rattle.scp_examine.specs.Checks.{condition_fault, condition_fits, deposit_fault, item_fault, items_fault};
-ghost use Rattle.scp_examine.specs.Checks.{mask_fits, memory_fault, out_of_range_unless, register_fault, state_fault};
+ghost use Rattle.scp_examine.specs.Checks.{mask_fits, memory_fault, no_such_name_unless, out_of_range_unless};
 ghost use Rattle.scp_examine.specs.Checks.{value_fault, values_fault};
 ghost use Rattle.scp_examine.specs.Named.{places_in, IsWithin};
 
 use crate::fault::ExamineFault;
 use crate::item::{Named, named_by};
-use crate::place::named_register;
+use crate::registers::{has_named, has_register, register_count, takes_value};
+use nova_machine::Machine;
 use scp_parser::{Condition, Item, Name};
-use unit_trait::CpuReg;
+use unit_trait::{CpuReg, Kind, Unit};
 
 /// The largest value of a word.
 pub const LARGEST_WORD: u32 = 0o177777;
@@ -36,21 +41,13 @@ fn memory_fault(device: Name, fits: bool) -> Option<ExamineFault>
     }
 }
 
-fn register_fault(register: Option<CpuReg>) -> Option<ExamineFault>
-    ensures { result ≡ register_fault register }
+fn no_such_name_unless(there: bool) -> Option<ExamineFault>
+    ensures { result ≡ no_such_name_unless there }
 {
-    match register {
-        Some(_) => None,
-        None => Some(ExamineFault::NoSuchName),
-    }
-}
-
-fn state_fault(device: Name) -> Option<ExamineFault>
-    ensures { result ≡ state_fault device }
-{
-    match device {
-        Name::Cpu => None,
-        Name::Device(_) => Some(ExamineFault::NoSuchName),
+    if there {
+        None
+    } else {
+        Some(ExamineFault::NoSuchName)
     }
 }
 
@@ -69,27 +66,33 @@ fn count_fits(size: u64, from: u64, count: u64) -> bool
 
 /// The fault of an item by what it names.
 #[tactic(auto, unfolding(crate::specs::Checks::item_fault))]
-pub fn item_fault(size: u16, device: Name, item: Item) -> Option<ExamineFault>
-    ensures { result ≡ item_fault size device item }
+pub fn item_fault<U: Unit>(machine: &Machine<U>, device: Name, item: Item) -> Option<ExamineFault>
+    ensures { result ≡ item_fault (shape_of machine.now) device item }
 {
-    let size = u64::from(size);
+    let size = u64::from(machine.memory().size());
     match item {
         Item::At(at) => memory_fault(device, at < size),
         Item::Range(from, to) => memory_fault(device, range_fits(size, from, to)),
         Item::Count(from, count) => memory_fault(device, count_fits(size, from, count)),
         Item::All => memory_fault(device, true),
-        Item::Reg(number) => register_fault(named_register(device, number)),
-        Item::State => state_fault(device),
+        Item::Reg(number) => {
+            no_such_name_unless(has_named(machine, device) && has_register(device, number))
+        }
+        Item::State => no_such_name_unless(has_named(machine, device)),
         Item::Unknown => Some(ExamineFault::NoSuchName),
     }
 }
 
 /// The first fault of the items of an EXAMINE.
-pub fn items_fault(size: u16, device: Name, items: &[Item]) -> Option<ExamineFault>
-    ensures { result ≡ items_fault (item_fault size device) items.now }
+pub fn items_fault<U: Unit>(
+    machine: &Machine<U>,
+    device: Name,
+    items: &[Item],
+) -> Option<ExamineFault>
+    ensures { result ≡ items_fault (item_fault (shape_of machine.now) device) items.now }
 {
     for item in items {
-        match item_fault(size, device, *item) {
+        match item_fault(machine, device, *item) {
             Some(fault) => return Some(fault),
             None => (),
         }
@@ -157,6 +160,26 @@ fn registers_value_fault(value: u32, registers: &[CpuReg]) -> Option<ExamineFaul
     None
 }
 
+// The fault of a value for a register of a device.
+fn unit_register_value_fault(value: u32, kind: Kind, number: u8) -> Option<ExamineFault>
+    ensures { result ≡ value_fault value (UnitRegister kind number) }
+{
+    out_of_range_unless(takes_value(kind, number, value))
+}
+
+// The first fault of a value for the first registers of a device.
+fn unit_registers_value_fault(value: u32, kind: Kind, count: u8) -> Option<ExamineFault>
+    ensures { result ≡ values_fault value (unit_registers kind count) }
+{
+    for number in 0..count {
+        match unit_register_value_fault(value, kind, number) {
+            Some(fault) => return Some(fault),
+            None => (),
+        }
+    }
+    None
+}
+
 // The first fault of a value for what an item names.
 fn value_fault(value: u32, named: Named) -> Option<ExamineFault>
     ensures { result ≡ values_fault value (places_in named) }
@@ -165,28 +188,38 @@ fn value_fault(value: u32, named: Named) -> Option<ExamineFault>
         Named::Words(_, count) => words_value_fault(value, count),
         Named::Register(register) => registers_value_fault(value, &[register]),
         Named::State => registers_value_fault(value, &CpuReg::ALL),
+        Named::UnitRegister(kind, number) => unit_register_value_fault(value, kind, number),
+        Named::UnitRegisters(kind) => unit_registers_value_fault(value, kind, register_count(kind)),
     }
 }
 
 // The fault of an item of a DEPOSIT.
 #[tactic(auto, unfolding(crate::specs::Checks::deposit_fault))]
-fn deposit_fault(size: u16, device: Name, value: u32, item: Item) -> Option<ExamineFault>
-    requires { size ≤ 2 ^ 15 }
-    ensures { result ≡ deposit_fault size device value item }
+fn deposit_fault<U: Unit>(
+    machine: &Machine<U>,
+    device: Name,
+    value: u32,
+    item: Item,
+) -> Option<ExamineFault>
+    ensures { result ≡ deposit_fault (shape_of machine.now) device value item }
 {
-    match item_fault(size, device, item) {
+    match item_fault(machine, device, item) {
         Some(fault) => Some(fault),
-        None => value_fault(value, named_by(size, device, item)),
+        None => value_fault(value, named_by(machine, device, item)),
     }
 }
 
 /// The first fault of the items of a DEPOSIT.
-pub fn deposits_fault(size: u16, device: Name, value: u32, items: &[Item]) -> Option<ExamineFault>
-    requires { size ≤ 2 ^ 15 }
-    ensures { result ≡ items_fault (deposit_fault size device value) items.now }
+pub fn deposits_fault<U: Unit>(
+    machine: &Machine<U>,
+    device: Name,
+    value: u32,
+    items: &[Item],
+) -> Option<ExamineFault>
+    ensures { result ≡ items_fault (deposit_fault (shape_of machine.now) device value) items.now }
 {
     for item in items {
-        match deposit_fault(size, device, value, *item) {
+        match deposit_fault(machine, device, value, *item) {
             Some(fault) => return Some(fault),
             None => (),
         }

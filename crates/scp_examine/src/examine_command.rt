@@ -9,17 +9,23 @@ use crate::show::show_items;
 use host_files::{Failed, Sink};
 use nova_machine::Machine;
 use scp_parser::Listing;
+use unit_trait::Unit;
 
 /// EXAMINE: prints a line for each place of a list, in order (SIMH Users' Guide, "Examining and Changing State").
 ///
 /// The line of a word of memory is its address in five octal digits, a colon, a tab, and the word in six octal digits
-/// or as symbolic text; that of a register is its name, a colon, a tab, and its value with as many octal digits as its
-/// largest value has. A condition leaves out the words of memory that do not meet it, and no register.
+/// or as symbolic text; that of a register, of the processor or of a device, is its name, a colon, a tab, and its value
+/// with as many octal digits as its largest value has. A condition leaves out the words of memory that do not meet it,
+/// and no register.
 ///
 /// A list with a fault prints nothing: the first one is answered, that of the condition first and then those of the
 /// items from the left. `Console` means that the console refused a byte: what comes before it was printed, and nothing
 /// else. The machine is only read, and no memory is taken.
-pub fn examine<S: Sink>(machine: &Machine, what: &Listing, out: &mut S) -> Result<(), ExamineFault>
+pub fn examine<U: Unit, S: Sink>(
+    machine: &Machine<U>,
+    what: &Listing,
+    out: &mut S,
+) -> Result<(), ExamineFault>
     ensures told { IsTrue S.tells → Examines machine.now what.now result (S.written out.old) (S.written out.new) }
     ensures faults { FaultIs (examine_fault machine.now what.now) result }
     ensures cause { ConsoleCause (S.fault_count out.old) (S.fault_count out.new) result }
@@ -32,18 +38,22 @@ pub fn examine<S: Sink>(machine: &Machine, what: &Listing, out: &mut S) -> Resul
 
 // The first fault of a list: that of its condition, and then those of its items.
 #[tactic(auto, unfolding(crate::specs::Effect::examine_fault))]
-fn first_fault(machine: &Machine, what: &Listing) -> Option<ExamineFault>
+fn first_fault<U: Unit>(machine: &Machine<U>, what: &Listing) -> Option<ExamineFault>
     ensures { result ≡ examine_fault machine.now what.now }
 {
     match condition_fault(what.condition) {
         Some(fault) => Some(fault),
-        None => items_fault(machine.memory().size(), what.device, what.items.as_slice()),
+        None => items_fault(machine, what.device, what.items.as_slice()),
     }
 }
 
 // Puts the lines of a list that has no fault.
 #[tactic(auto, unfolding(crate::specs::Effect::examined, crate::specs::Effect::examine_fault))]
-fn show_listing<S: Sink>(machine: &Machine, what: &Listing, out: &mut S) -> Result<(), ExamineFault>
+fn show_listing<U: Unit, S: Sink>(
+    machine: &Machine<U>,
+    what: &Listing,
+    out: &mut S,
+) -> Result<(), ExamineFault>
     requires { examine_fault machine.now what.now ≡ None }
     ensures told { IsTrue S.tells → Puts
         (S.written out.old)

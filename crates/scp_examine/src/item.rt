@@ -1,12 +1,14 @@
 // What an item names, once it is known to have no fault.
-ghost use Rattle.std.specs.Prelude.{◌≡◌, ◌≤◌, ◌^◌};
-ghost use Rattle.scp_examine.specs.Places.{all_of, named_register, one_register, places_of};
+ghost use Rattle.std.specs.Prelude.{◌≡◌, ◌≤◌, ◌^◌, true, option_to_list};
+ghost use Rattle.scp_examine.specs.Shape.{Shape, has_named, shape_of};
+ghost use Rattle.scp_examine.specs.Places.{all_of, named_register, places_of};
 ghost use Rattle.scp_examine.specs.Checks.{item_fault};
-ghost use Rattle.scp_examine.specs.Named.{places_in, IsWithin};
+ghost use Rattle.scp_examine.specs.Named.{places_in, IsWithin, IsThere};
 
-use crate::place::named_register;
+use crate::registers::{has_unit_register, processor_register};
+use nova_machine::Machine;
 use scp_parser::{Item, Name};
-use unit_trait::CpuReg;
+use unit_trait::{CpuReg, Kind, Unit};
 
 /// What an item names.
 #[derive(Clone, Copy)]
@@ -16,6 +18,10 @@ pub enum Named {
     Register(CpuReg),
     /// All registers of the processor.
     State,
+    /// A register of a device, by its number from 0.
+    UnitRegister(Kind, u8),
+    /// All registers of a device.
+    UnitRegisters(Kind),
 }
 
 impl Named {
@@ -25,12 +31,13 @@ impl Named {
 
 /// The places that an item names.
 #[tactic(auto, unfolding(crate::specs::Places::places_of, crate::specs::Checks::item_fault))]
-pub fn named_by(size: u16, device: Name, item: Item) -> Named
-    requires size { size ≤ 2 ^ 15 }
-    requires item { item_fault size device item ≡ None }
-    ensures places { places_in result ≡ places_of size device item }
-    ensures within { IsWithin size result }
+pub fn named_by<U: Unit>(machine: &Machine<U>, device: Name, item: Item) -> Named
+    requires { item_fault (shape_of machine.now) device item ≡ None }
+    ensures places { places_in result ≡ places_of (shape_of machine.now) device item }
+    ensures within { IsWithin (2 ^ 15) result }
+    ensures there { IsThere (shape_of machine.now) result }
 {
+    let size = machine.memory().size();
     match item {
         Item::At(at) => Named::Words(at as u16, 1),
         Item::Range(from, to) => Named::Words(from as u16, (to + 1 - from) as u16),
@@ -42,24 +49,34 @@ pub fn named_by(size: u16, device: Name, item: Item) -> Named
     }
 }
 
-#[tactic(auto, unfolding(crate::specs::Places::cells))]
+#[tactic(auto, unfolding(crate::specs::Places::numbered, crate::specs::Places::named_register))]
 fn one_register(device: Name, number: u8) -> Named
-    ensures places { places_in result ≡ one_register (named_register device number) }
+    ensures places { places_in result ≡ option_to_list (named_register device number) }
     ensures within { IsWithin 0 result }
+    ensures there { (shape : Shape) → has_named shape device ≡ true → IsThere shape result }
 {
-    match named_register(device, number) {
-        Some(register) => Named::Register(register),
-        None => Named::NOTHING,
+    match device {
+        Name::Cpu => match processor_register(number) {
+            Some(register) => Named::Register(register),
+            None => Named::NOTHING,
+        },
+        Name::Device(kind) => {
+            if has_unit_register(kind, number) {
+                Named::UnitRegister(kind, number)
+            } else {
+                Named::NOTHING
+            }
+        }
     }
 }
 
-#[tactic(auto, unfolding(crate::specs::Places::cells))]
 fn all_of(device: Name) -> Named
     ensures places { places_in result ≡ all_of device }
     ensures within { IsWithin 0 result }
+    ensures there { (shape : Shape) → has_named shape device ≡ true → IsThere shape result }
 {
     match device {
         Name::Cpu => Named::State,
-        Name::Device(_) => Named::NOTHING,
+        Name::Device(kind) => Named::UnitRegisters(kind),
     }
 }

@@ -10,6 +10,7 @@ mod fill;
 mod item;
 pub mod laws;
 mod place;
+mod registers;
 mod show;
 #[cfg(test)]
 mod test_lists;

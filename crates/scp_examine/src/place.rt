@@ -1,37 +1,23 @@
 // The places that an item names, and what is printed of one.
-ghost use Rattle.std.specs.Prelude.{◌≡◌, ◌+◌, ◌≤◌, ◌<◌, ◌^◌, ◌++◌, length, slice_get};
+ghost use Rattle.std.specs.Prelude.{◌≡◌, ◌+◌, ◌≤◌, ◌<◌, ◌^◌, ◌++◌, Bool, length};
 ghost use Rattle.nova_memory.specs.Memory.{get};
-ghost use Rattle.unit_trait.specs.Processor.{all_registers};
+ghost use Rattle.unit_trait.specs.Registers.{register_at, name_at};
 ghost use Rattle.nova_symbols.specs.Canon.{canon};
-ghost use Rattle.scp_examine.specs.Places.{Cell, chosen_word, compares, masked, meets, named_register, place_text};
-ghost use Rattle.scp_examine.specs.Places.{register_text, word_text};
+ghost use Rattle.scp_examine.specs.Places.{Cell, Register, UnitRegister, place_text, value_at, word_text};
+ghost use Rattle.scp_examine.specs.Places.{chosen_word, compares, masked, meets, largest_or_0};
 
+use crate::registers::largest_value;
 use line_text::Text;
 use nova_machine::Machine;
 use nova_symbols::print;
-use nova_word::{Addr, Word};
-use scp_parser::{Condition, Name, Rel};
-use unit_trait::CpuReg;
+use nova_word::{Addr, Word, octal_width};
+use scp_parser::{Condition, Rel};
+use unit_trait::{CpuReg, Kind, Unit, reg_text};
 
-/// The register with that number, in the order of the processor or of a device. A machine has no devices yet.
-pub fn named_register(device: Name, number: u8) -> Option<CpuReg>
-    ensures { result ≡ named_register device number }
-{
-    match device {
-        Name::Cpu => processor_register(number),
-        Name::Device(_) => None,
-    }
-}
-
-fn processor_register(number: u8) -> Option<CpuReg>
-    ensures { result ≡ slice_get all_registers number }
-{
-    CpuReg::ALL.get(usize::from(number)).copied()
-}
-
-/// What EXAMINE prints of a register.
-pub fn register_line(machine: &Machine, register: CpuReg) -> Text<80>
-    ensures { result ≡ register_text machine.now register }
+/// What EXAMINE prints of a register of the processor, whether symbolic text is wanted or not.
+#[tactic(auto, unfolding(crate::specs::Places::place_text))]
+pub fn register_line<U: Unit>(machine: &Machine<U>, register: CpuReg) -> Text<80>
+    ensures { (symbolic : Bool) → result ≡ place_text machine.now symbolic (Register register) }
 {
     let mut text = Text::new();
     text.push_all(register.name().as_bytes());
@@ -41,9 +27,46 @@ pub fn register_line(machine: &Machine, register: CpuReg) -> Text<80>
     text
 }
 
+/// What EXAMINE prints of a register of a device, whether symbolic text is wanted or not.
+#[tactic(auto, unfolding(crate::specs::Places::place_text))]
+pub fn unit_register_line<U: Unit>(machine: &Machine<U>, kind: Kind, number: u8) -> Text<80>
+    ensures { (symbolic : Bool) → result ≡ place_text machine.now symbolic (UnitRegister kind number) }
+{
+    let mut text = Text::new();
+    push_name(&mut text, kind, number);
+    text.push_all(b":\t");
+    let digits = octal_width(largest_value(kind, number));
+    text.push_octal(unit_value(machine, kind, number), digits);
+    text.push(b'\n');
+    text
+}
+
+fn push_name(text: &mut Text<80>, kind: Kind, number: u8)
+    requires { length text.old ≤ 40 }
+    ensures text { text.new ≡ text.old ++ name_at kind number }
+    ensures bound { length text.new ≤ length text.old + 8 }
+{
+    let mut name = [0; 8];
+    let count = reg_text(kind, number, &mut name);
+    text.push_all(&name[..count]);
+}
+
+/// What a register of a device holds; 0 where there is none.
+pub fn unit_value<U: Unit>(machine: &Machine<U>, kind: Kind, number: u8) -> u32
+    ensures value { result ≡ value_at machine.now (UnitRegister kind number) }
+    ensures range { result ≤ largest_or_0 (register_at kind number) }
+{
+    // What it holds is within its limits.
+    machine.core();
+    match machine.unit_reg(kind, number) {
+        Some(value) => value,
+        None => 0,
+    }
+}
+
 /// What EXAMINE prints of a word of memory.
 #[tactic(auto, unfolding(crate::specs::Places::place_text))]
-pub fn cell_line(machine: &Machine, symbolic: bool, at: u16) -> Text<80>
+pub fn cell_line<U: Unit>(machine: &Machine<U>, symbolic: bool, at: u16) -> Text<80>
     requires { at < 2 ^ 15 }
     ensures { result ≡ place_text machine.now symbolic (Cell at) }
 {
@@ -56,7 +79,7 @@ pub fn cell_line(machine: &Machine, symbolic: bool, at: u16) -> Text<80>
 }
 
 /// The word at an address.
-pub fn word_at(machine: &Machine, at: u16) -> Word
+pub fn word_at<U: Unit>(machine: &Machine<U>, at: u16) -> Word
     requires { at < 2 ^ 15 }
     ensures word { result ≡ get machine.now.processor.memory at }
     ensures range { result < 2 ^ 16 }

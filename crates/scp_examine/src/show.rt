@@ -2,22 +2,25 @@
 ghost use Rattle.std.specs.Prelude.{◌≡◌, ◌+◌, ◌≤◌, ◌<◌, ◌^◌, ◌∷◌, [], None, IsTrue};
 ghost use Rattle.fault_counts.specs.Faults.{CountsFault};
 ghost use Rattle.host_files.specs.Streams.{Puts};
-ghost use Rattle.scp_examine.specs.Places.{Cell, Register, cells, places_of, registers_of};
+ghost use Rattle.scp_examine.specs.Shape.{shape_of};
+ghost use Rattle.scp_examine.specs.Places.{Cell, Register, UnitRegister, cells, places_of};
+ghost use Rattle.scp_examine.specs.Places.{registers_of, unit_registers};
 ghost use Rattle.scp_examine.specs.Checks.{item_fault, items_fault};
 ghost use Rattle.scp_examine.specs.Named.{places_in, IsWithin};
 ghost use Rattle.scp_examine.specs.Effect.{all_places, listed};
 
 use crate::item::{Named, named_by};
-use crate::place::{cell_line, is_chosen, register_line, word_at};
+use crate::place::{cell_line, is_chosen, register_line, unit_register_line, word_at};
+use crate::registers::register_count;
 use host_files::{Failed, Sink, put_all};
 use nova_machine::Machine;
 use scp_parser::{Condition, Item, Name};
-use unit_trait::CpuReg;
+use unit_trait::{CpuReg, Kind, Unit};
 
 // The line of a word of memory, where the condition chooses it.
 #[tactic(auto, unfolding(crate::specs::Effect::listed))]
-fn show_cell<S: Sink>(
-    machine: &Machine,
+fn show_cell<U: Unit, S: Sink>(
+    machine: &Machine<U>,
     symbolic: bool,
     condition: Option<Condition>,
     at: u16,
@@ -41,9 +44,9 @@ fn show_cell<S: Sink>(
 }
 
 // The line of a register, whatever the condition is.
-#[tactic(auto, unfolding(crate::specs::Effect::listed, crate::specs::Places::place_text))]
-fn show_register<S: Sink>(
-    machine: &Machine,
+#[tactic(auto, unfolding(crate::specs::Effect::listed))]
+fn show_register<U: Unit, S: Sink>(
+    machine: &Machine<U>,
     symbolic: bool,
     condition: Option<Condition>,
     register: CpuReg,
@@ -60,8 +63,29 @@ fn show_register<S: Sink>(
     put_all(out, line.as_slice())
 }
 
-fn show_cells<S: Sink>(
-    machine: &Machine,
+// The line of a register of a device, whatever the condition is.
+#[tactic(auto, unfolding(crate::specs::Effect::listed))]
+fn show_unit_register<U: Unit, S: Sink>(
+    machine: &Machine<U>,
+    symbolic: bool,
+    condition: Option<Condition>,
+    kind: Kind,
+    number: u8,
+    out: &mut S,
+) -> Result<(), Failed>
+    ensures told { IsTrue S.tells → Puts
+        (S.written out.old)
+        (listed machine.now symbolic condition (UnitRegister kind number ∷ []))
+        result
+        (S.written out.new) }
+    ensures counts { CountsFault (S.fault_count out.old) (S.fault_count out.new) result }
+{
+    let line = unit_register_line(machine, kind, number);
+    put_all(out, line.as_slice())
+}
+
+fn show_cells<U: Unit, S: Sink>(
+    machine: &Machine<U>,
     symbolic: bool,
     condition: Option<Condition>,
     from: u16,
@@ -82,8 +106,8 @@ fn show_cells<S: Sink>(
     Ok(())
 }
 
-fn show_registers<S: Sink>(
-    machine: &Machine,
+fn show_registers<U: Unit, S: Sink>(
+    machine: &Machine<U>,
     symbolic: bool,
     condition: Option<Condition>,
     registers: &[CpuReg],
@@ -102,8 +126,29 @@ fn show_registers<S: Sink>(
     Ok(())
 }
 
-fn show_named<S: Sink>(
-    machine: &Machine,
+fn show_unit_registers<U: Unit, S: Sink>(
+    machine: &Machine<U>,
+    symbolic: bool,
+    condition: Option<Condition>,
+    kind: Kind,
+    count: u8,
+    out: &mut S,
+) -> Result<(), Failed>
+    ensures told { IsTrue S.tells → Puts
+        (S.written out.old)
+        (listed machine.now symbolic condition (unit_registers kind count))
+        result
+        (S.written out.new) }
+    ensures counts { CountsFault (S.fault_count out.old) (S.fault_count out.new) result }
+{
+    for number in 0..count {
+        show_unit_register(machine, symbolic, condition, kind, number, out)?;
+    }
+    Ok(())
+}
+
+fn show_named<U: Unit, S: Sink>(
+    machine: &Machine<U>,
     symbolic: bool,
     condition: Option<Condition>,
     named: Named,
@@ -121,43 +166,55 @@ fn show_named<S: Sink>(
         Named::Words(from, count) => show_cells(machine, symbolic, condition, from, count, out),
         Named::Register(register) => show_register(machine, symbolic, condition, register, out),
         Named::State => show_registers(machine, symbolic, condition, &CpuReg::ALL, out),
+        Named::UnitRegister(kind, number) => {
+            show_unit_register(machine, symbolic, condition, kind, number, out)
+        }
+        Named::UnitRegisters(kind) => {
+            show_unit_registers(
+                machine,
+                symbolic,
+                condition,
+                kind,
+                register_count(kind),
+                out,
+            )
+        }
     }
 }
 
-fn show_item<S: Sink>(
-    machine: &Machine,
+fn show_item<U: Unit, S: Sink>(
+    machine: &Machine<U>,
     symbolic: bool,
     condition: Option<Condition>,
     device: Name,
     item: Item,
     out: &mut S,
 ) -> Result<(), Failed>
-    requires { item_fault machine.now.processor.memory.size device item ≡ None }
+    requires { item_fault (shape_of machine.now) device item ≡ None }
     ensures told { IsTrue S.tells → Puts
         (S.written out.old)
-        (listed machine.now symbolic condition (places_of machine.now.processor.memory.size device item))
+        (listed machine.now symbolic condition (places_of (shape_of machine.now) device item))
         result
         (S.written out.new) }
     ensures counts { CountsFault (S.fault_count out.old) (S.fault_count out.new) result }
 {
-    let size = machine.memory().size();
-    let named = named_by(size, device, item);
+    let named = named_by(machine, device, item);
     show_named(machine, symbolic, condition, named, out)
 }
 
 /// Puts the lines of items that have no fault. Where the console refuses a byte, what comes before it was printed.
-pub fn show_items<S: Sink>(
-    machine: &Machine,
+pub fn show_items<U: Unit, S: Sink>(
+    machine: &Machine<U>,
     symbolic: bool,
     condition: Option<Condition>,
     device: Name,
     items: &[Item],
     out: &mut S,
 ) -> Result<(), Failed>
-    requires { items_fault (item_fault machine.now.processor.memory.size device) items.now ≡ None }
+    requires { items_fault (item_fault (shape_of machine.now) device) items.now ≡ None }
     ensures told { IsTrue S.tells → Puts
         (S.written out.old)
-        (listed machine.now symbolic condition (all_places machine.now.processor.memory.size device items.now))
+        (listed machine.now symbolic condition (all_places (shape_of machine.now) device items.now))
         result
         (S.written out.new) }
     ensures counts { CountsFault (S.fault_count out.old) (S.fault_count out.new) result }

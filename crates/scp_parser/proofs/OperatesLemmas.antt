@@ -6,7 +6,7 @@ use Rattle.scp_parser.specs.declared.command.Verb.TheVariants as verb
 use Rattle.scp_parser.specs.declared.fault.ParseFault.{ParseFault}
 use Rattle.scp_parser.specs.declared.fault.ParseFault.TheVariants.{NotBuilt}
 use Rattle.scp_parser.specs.declared.names.CommandName.{CommandName}
-use Rattle.scp_parser.specs.declared.names.CommandName.TheVariants.{Examine, Deposit, Run, Go, Cont, Step, Show, Exit}
+use Rattle.scp_parser.specs.declared.names.CommandName.TheVariants.{Examine, Deposit, Run, Go, Cont, Step, Reset, Show, Exit}
 use Rattle.scp_parser.specs.Command.{Request, request_of}
 use Rattle.scp_parser.specs.Command as request
 use Rattle.scp_parser.specs.Forms.{IsOctal, IsDecimal, IsSubject}
@@ -91,6 +91,7 @@ module _ (d : Forms_decided) (line : List ℕ) where
   operands_settle Go text = octal_settles (λ n. verb.Go n) text
   operands_settle Cont text = ended_seen see verb.Cont text
   operands_settle Step text = decimal_settles (λ n. verb.Step n) text
+  operands_settle Reset text = ended_seen see verb.Reset text
   operands_settle Show text = show_settles text
   operands_settle Exit text = decimal_settles (λ n. verb.Exit n) text
   operands_settle name text = no_request

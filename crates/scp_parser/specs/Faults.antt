@@ -9,7 +9,7 @@ use Rattle.scp_parser.specs.declared.listing.Condition.{Condition}
 use Rattle.scp_parser.specs.declared.fault.ParseFault.{ParseFault}
 use Rattle.scp_parser.specs.declared.fault.ParseFault.TheVariants.{Unknown, Missing, BadNumber, BadName, BadSymbol, Extra, TooLong, NotBuilt}
 use Rattle.scp_parser.specs.declared.names.CommandName.{CommandName}
-use Rattle.scp_parser.specs.declared.names.CommandName.TheVariants.{Examine, Deposit, Run, Go, Cont, Step, Show, Exit}
+use Rattle.scp_parser.specs.declared.names.CommandName.TheVariants.{Examine, Deposit, Run, Go, Cont, Step, Reset, Show, Exit}
 use Rattle.scp_parser.specs.Names.{IsCommandName}
 use Rattle.scp_parser.specs.Forms.{IsOctal, IsDecimal, IsList, IsSubject}
 use Rattle.scp_parser.specs.Grammar.{longest_line, Chooses, IsListing, Takes, IsInside, AsksNothing}
@@ -63,6 +63,7 @@ OperandFaults Run text fault = LastNumberFaults IsOctal text fault
 OperandFaults Go text fault = LastNumberFaults IsOctal text fault
 OperandFaults Cont text fault = EndFaults text fault
 OperandFaults Step text fault = LastNumberFaults IsDecimal text fault
+OperandFaults Reset text fault = EndFaults text fault
 OperandFaults Show text fault = FaultThen (WordFaults IsSubject false text) (Takes IsSubject text) (λ s. EndFaults s.1) fault
 OperandFaults Exit text fault = LastNumberFaults IsDecimal text fault
 OperandFaults name text fault = fault ≡ NotBuilt

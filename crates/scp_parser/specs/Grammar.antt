@@ -8,7 +8,7 @@ use Rattle.scp_parser.specs.declared.listing.Name.TheVariants as whose
 use Rattle.scp_parser.specs.declared.listing.Condition.{Condition}
 use Rattle.scp_parser.specs.declared.listing.Listing.{Listing}
 use Rattle.scp_parser.specs.declared.names.CommandName.{CommandName}
-use Rattle.scp_parser.specs.declared.names.CommandName.TheVariants.{Examine, Deposit, Run, Go, Cont, Step, Show, Exit}
+use Rattle.scp_parser.specs.declared.names.CommandName.TheVariants.{Examine, Deposit, Run, Go, Cont, Step, Reset, Show, Exit}
 use Rattle.scp_parser.specs.Command.{Request}
 use Rattle.scp_parser.specs.Command as request
 use Rattle.scp_parser.specs.Names.{IsCommandName}
@@ -86,7 +86,7 @@ pub data IsLastNumber (Form : List ℕ → ℕ → Type 0) (text : List ℕ) : O
 abbrev pub Then : {A B : Type 0} → (A → Type 0) → (A → B → Type 0) → B → Type 0
 Then {A} R Q y = (x : A) × R x × Q x y
 
--- a word that the next operand has, with its value and what follows it
+-- the next word has that form and that value, which is x.0; the rest, x.1, is what follows it
 abbrev pub Takes : {V : Type 0} → (List ℕ → V → Type 0) → List ℕ → V × List ℕ → Type 0
 Takes Form text x = (word : List ℕ) × Begins text word x.1 × Form word x.0
 
@@ -116,6 +116,7 @@ Operates Run text asked = HasNumber IsOctal text (λ n. request.Run n) asked
 Operates Go text asked = HasNumber IsOctal text (λ n. request.Go n) asked
 Operates Cont text asked = Ends request.Cont text asked
 Operates Step text asked = HasNumber IsDecimal text (λ n. request.Step n) asked
+Operates Reset text asked = Ends request.Reset text asked
 Operates Show text asked = Then (Takes IsSubject text) (λ s. Ends (request.Show s.0) s.1) asked
 Operates Exit text asked = HasNumber IsDecimal text (λ n. request.Exit n) asked
 Operates name text asked = ⊥
@@ -128,7 +129,8 @@ abbrev pub BeginsWithMark : List ℕ → Type 0
 BeginsWithMark [] = ⊥
 BeginsWithMark (b ∷ more) = IsMark b
 
--- a line that asks for nothing: one of blanks alone, a comment, or a label
+-- a line that asks for nothing: one of blanks alone, a comment, or a label. The mark of a comment or a label must be
+-- the very first byte of the line, with no blank before it
 abbrev pub AsksNothing : List ℕ → Type 0
 AsksNothing line = IsBlanks line ⊎ BeginsWithMark line
 

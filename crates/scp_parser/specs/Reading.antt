@@ -13,7 +13,7 @@ use Rattle.scp_parser.specs.declared.command.Verb.TheVariants as verb
 use Rattle.scp_parser.specs.declared.fault.ParseFault.{ParseFault}
 use Rattle.scp_parser.specs.declared.fault.ParseFault.TheVariants.{Unknown, Missing, BadSymbol, Extra, TooLong, NotBuilt}
 use Rattle.scp_parser.specs.declared.names.CommandName.{CommandName}
-use Rattle.scp_parser.specs.declared.names.CommandName.TheVariants.{Examine, Deposit, Run, Go, Cont, Step, Show, Exit}
+use Rattle.scp_parser.specs.declared.names.CommandName.TheVariants.{Examine, Deposit, Run, Go, Cont, Step, Reset, Show, Exit}
 use Rattle.scp_parser.specs.Command.{Request, request_of}
 use Rattle.scp_parser.specs.Names.{command_named}
 use Rattle.scp_parser.specs.Operands.{octal, decimal, items_of, condition_of, device_of, subject_of, symbolic_of}
@@ -128,6 +128,7 @@ operands Run text = numbered (λ n. verb.Run n) (last_number octal text)
 operands Go text = numbered (λ n. verb.Go n) (last_number octal text)
 operands Cont text = ended verb.Cont text
 operands Step text = numbered (λ n. verb.Step n) (last_number decimal text)
+operands Reset text = ended verb.Reset text
 operands Show text = show text
 operands Exit text = numbered (λ n. verb.Exit n) (last_number decimal text)
 operands name text = Err NotBuilt

@@ -109,6 +109,7 @@ fn operands(name: CommandName, text: &[u8]) -> Result<Verb, ParseFault>
         CommandName::Go => go(text),
         CommandName::Cont => ended(Verb::Cont, text),
         CommandName::Step => step(text),
+        CommandName::Reset => ended(Verb::Reset, text),
         CommandName::Show => show(text),
         CommandName::Exit => exit(text),
         _ => Err(ParseFault::NotBuilt),

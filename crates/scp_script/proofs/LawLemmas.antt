@@ -1,16 +1,15 @@
 -- What is consumed behind texts that only go on.
-use Rattle.std.proofs.Common.{◌≡◌, ℕ, zero, suc, ◌+◌, ◌-◌, ◌<◌, ◌≤◌, List, [], ◌++◌, length, drop, refl, ap, sym, ◌∙◌, subst, arith, Ok, Err}
+use Rattle.std.proofs.Common.{◌≡◌, ℕ, zero, suc, ◌+◌, ◌-◌, List, length, drop, refl, ap, sym, ◌∙◌, arith, Ok, Err}
 use Rattle.std.proofs.lemmas.List.{drop-drop}
-use Rattle.observations.specs.Observations.{Observation, reads_of}
+use Rattle.observations.specs.Observations.{reads_of}
 use Rattle.observations.proofs.MadeLemmas.{reads_of-append}
 use Rattle.scp_parser.specs.Reading.{reading}
 use Rattle.scp_commands.specs.declared.next.Next.TheVariants.{Go, Ran, Exit}
-use Rattle.scp_commands.specs.Live.{Live}
 use Rattle.scp_commands.specs.Reply.{Answer}
 use Rattle.scp_commands.specs.Effect.{Asked}
-use Rattle.scp_script.specs.Lines.{Arrival, InputEnds, Unpaid, LineComes, arrival, line_reads, first_line, line_cost}
-use Rattle.scp_script.specs.Session.{Session, Going, asking, behind_line, upcoming_of, upcoming, text_reply, following, text_step, step_upcoming, step, ComesTo}
-use Rattle.scp_script.specs.Laws.{lines_size, lines_cost, IsBehindLines, LinesAreConsumed}
+use Rattle.scp_script.specs.Lines.{Arrival, InputEnds, Unpaid, LineComes, arrival, first_line, line_cost}
+use Rattle.scp_script.specs.Session.{Session, Going, asking, behind_line, upcoming_of, upcoming, text_reply, following, text_step, step_upcoming, step}
+use Rattle.scp_script.specs.Laws.{lines_size, lines_cost, LinesAreConsumed}
 use Rattle.scp_script.proofs.SessionLemmas.{going-equal, arrival-paid, step-line}
 use Rattle.scp_script.proofs.LineLemmas.{line-made, line-reads, comes-reads}
 

@@ -1,14 +1,13 @@
 -- One line of the command loop, by what it came to.
-use Rattle.std.proofs.Common.{◌≡◌, ℕ, ◌+◌, ◌-◌, ◌<◌, ◌≤◌, Bool, true, false, IsTrue, List, [], ◌∷◌, ◌++◌, length, take, drop, refl, ap, sym, ◌∙◌, subst, arith, append_assoc, append-nil, zero-add, add-zero, length-take-le, Option, Some, None, Ok, Err}
-use Rattle.std.proofs.lemmas.Bool.{le-leb, lt-leb}
+use Rattle.std.proofs.Common.{◌≡◌, ℕ, ◌+◌, ◌-◌, ◌<◌, ◌≤◌, Bool, true, false, IsTrue, List, [], ◌∷◌, ◌++◌, length, take, drop, refl, ap, sym, ◌∙◌, subst, arith, append_assoc, append-nil, zero-add, add-zero, length-take-le, Some, None, Ok, Err}
+use Rattle.std.proofs.lemmas.Bool.{le-leb}
 use Rattle.fault_counts.specs.Faults.{raised}
 use Rattle.host_files.specs.Streams.{AddsPart}
-use Rattle.observations.specs.Observations.{Observation, Prints, Reads, Trace, text_of, reads_of}
+use Rattle.observations.specs.Observations.{Prints, Reads, text_of, reads_of}
 use Rattle.observations.specs.Cut.{ends, cut, cut_trace, BreaksOff}
 use Rattle.observations.proofs.CutLemmas.{cut-refused, cut-failed-after, cut-whole, breaks-before, breaks-behind, before-reads, behind-reads, breaks-reads}
 use Rattle.observations.proofs.MadeLemmas.{text_of-append, reads_of-append}
-use Rattle.scp_parser.specs.declared.fault.ParseFault.TheVariants.{TooLong}
-use Rattle.scp_parser.specs.Reading.{verb_of, reading}
+use Rattle.scp_parser.specs.Reading.{reading}
 use Rattle.scp_commands.specs.declared.next.Next.TheVariants.{Go, Ran, Exit as ExitNext}
 use Rattle.scp_commands.specs.Live.{Live}
 use Rattle.scp_commands.specs.Reply.{Answer, Reply}
@@ -19,10 +18,10 @@ use Rattle.scp_script.specs.declared.progress.Progress.TheVariants.{GoesOn, IsOv
 use Rattle.scp_script.specs.declared.progress.Finish.TheVariants.{Exit, EndOfInput, Commands, Console, Input}
 use Rattle.scp_script.specs.Lines.{InputEnds, Unpaid, LineComes, arrival, line_reads, reads_left, line_cost, first_line, has_lf}
 use Rattle.scp_script.specs.Reading.{AreRead}
-use Rattle.scp_script.specs.Session.{Session, Following, Going, Over, prompt_text, asking, behind_line, text_reply, following, text_step, step, trace}
-use Rattle.scp_script.specs.Loop.{exit_of, IsAnswer, AnswerCounts, HasExitStatus, Finishes, Progresses, ProgressCause}
+use Rattle.scp_script.specs.Session.{Session, SessionEnd, ExitDone, InputEnded, BudgetSpent, end_status, Going, Over, prompt_text, asking, behind_line, text_reply, following, text_step, step, over_by, course, trace}
+use Rattle.scp_script.specs.Loop.{exit_of, IsAnswer, AnswerCounts, HasExitStatus, finish_of, Finishes, Progresses, ProgressCause}
 use Rattle.scp_script.proofs.TextLemmas.{text-reads}
-use Rattle.scp_script.proofs.SessionLemmas.{arrival-paid, trace-asks, trace-begins, trace-over, step-line, step-ends, step-unpaid}
+use Rattle.scp_script.proofs.SessionLemmas.{arrival-paid, trace-is, trace-asks, trace-begins, course-over, step-line, step-ends, step-unpaid}
 
 none-read : (open_ : Bool) (input : List ℕ) → AreRead 0 open_ input open_ input
 none-read open_ input = record { rest = refl; count = sym (zero-add (reads_left open_ input)) }
@@ -53,14 +52,16 @@ prompt-refused old before after (n, short, written) = record {
   lets_through = refl;
   reads = none-read old.open_ old.input;
   end = record { taken = take n (prompt_text old.prompt); written = written; outcome = refused-cut old n (reads_left old.open_ old.input) short };
+  named = λ console _. absurd (console refl);
 }
 
 -- all of it went through: the prompt and the reads of the next line
-asked-cut : (s : Session) (status gives : ℕ) (live : Live) → trace s ≡ record { made = asking s; ended = record { status = status; state = live } } → line_reads s.budget s.open_ s.input ≤ gives
-    → cut_trace (length (prompt_text s.prompt)) gives (trace s) ≡ ends status (prompt_text s.prompt) (line_reads s.budget s.open_ s.input) live
-asked-cut s status gives live is enough =
+asked-cut : (s : Session) (end : SessionEnd) (gives : ℕ) (live : Live) → course s ≡ over_by (asking s) end live → line_reads s.budget s.open_ s.input ≤ gives
+    → cut_trace (length (prompt_text s.prompt)) gives (trace s) ≡ ends (end_status end) (prompt_text s.prompt) (line_reads s.budget s.open_ s.input) live
+asked-cut s end gives live is enough =
+    let status = end_status end in
     let more : gives ≡ reads_of (asking s) + (gives - line_reads s.budget s.open_ s.input) = omega (arith, asking-reads s, enough) in
-    ap (cut_trace (length (prompt_text s.prompt)) gives) is
+    ap (cut_trace (length (prompt_text s.prompt)) gives) (trace-is s _ is)
     ∙ ap (λ t. cut (length t) gives (asking s) (record { status = status; state = live })) (sym (asking-text s))
     ∙ ap (λ n. cut (length (text_of (asking s))) n (asking s) (record { status = status; state = live })) more
     ∙ cut-whole (asking s) (record { status = status; state = live }) (gives - line_reads s.budget s.open_ s.input)
@@ -75,28 +76,30 @@ pub input-ended : (old new : Session) (before after : List ℕ) → arrival old.
     → AreRead (line_reads old.budget old.open_ old.input) old.open_ old.input new.open_ new.input → after ≡ before ++ prompt_text old.prompt → Finishes old EndOfInput new before after
 input-ended old new before after e live reads written =
     let step = step-ends old e in
-    let is = trace-over old 0 old.live (ap (λ s. s.next) step) ∙ ap (λ s. record { made = s.made; ended = record { status = 0; state = old.live } }) step in
-    let all = asked-cut old 0 (reads_left old.open_ old.input) old.live is (read-within _ old.open_ old.input new.open_ new.input reads) in
+    let is = course-over old InputEnded old.live (ap (λ s. s.next) step) ∙ ap (λ s. over_by s.made InputEnded old.live) step in
+    let all = asked-cut old InputEnded (reads_left old.open_ old.input) old.live is (read-within _ old.open_ old.input new.open_ new.input reads) in
     record {
       gives = reads_left old.open_ old.input;
       made = line_reads old.budget old.open_ old.input;
       lets_through = refl;
       reads = reads;
       end = record { taken = prompt_text old.prompt; written = written; outcome = all ∙ ap (ends 0 (prompt_text old.prompt) (line_reads old.budget old.open_ old.input)) (sym live) };
+      named = λ _ _. ap (λ c. finish_of c.end) (sym is);
     }
 
 pub budget-spent : (old new : Session) (before after : List ℕ) → arrival old.budget old.open_ old.input ≡ Unpaid → new.live ≡ old.live
     → AreRead (line_reads old.budget old.open_ old.input) old.open_ old.input new.open_ new.input → after ≡ before ++ prompt_text old.prompt → Finishes old Commands new before after
 budget-spent old new before after e live reads written =
     let step = step-unpaid old e in
-    let is = trace-over old 104 old.live (ap (λ s. s.next) step) ∙ ap (λ s. record { made = s.made; ended = record { status = 104; state = old.live } }) step in
-    let all = asked-cut old 104 (reads_left old.open_ old.input) old.live is (read-within _ old.open_ old.input new.open_ new.input reads) in
+    let is = course-over old BudgetSpent old.live (ap (λ s. s.next) step) ∙ ap (λ s. over_by s.made BudgetSpent old.live) step in
+    let all = asked-cut old BudgetSpent (reads_left old.open_ old.input) old.live is (read-within _ old.open_ old.input new.open_ new.input reads) in
     record {
       gives = reads_left old.open_ old.input;
       made = line_reads old.budget old.open_ old.input;
       lets_through = refl;
       reads = reads;
       end = record { taken = prompt_text old.prompt; written = written; outcome = all ∙ ap (ends 104 (prompt_text old.prompt) (line_reads old.budget old.open_ old.input)) (sym live) };
+      named = λ _ _. ap (λ c. finish_of c.end) (sym is);
     }
 
 -- a read fails behind the prompt
@@ -119,6 +122,7 @@ input-failed old new before after made short live reads written = record {
   lets_through = refl;
   reads = reads;
   end = record { taken = prompt_text old.prompt; written = written; outcome = failed-cut old made short ∙ ap (ends 106 (prompt_text old.prompt) made) (sym live) };
+  named = λ _ input. absurd (input refl);
 }
 
 -- what a line comes to: the asking, and then what its text does
@@ -184,8 +188,8 @@ following-none (Ok Go) s e = refl
 following-none (Ok (Ran stop)) s e = refl
 following-none (Err fault) s e = refl
 
-following-some : (answer : Answer) (s : Session) (status : ℕ) → exit_of answer ≡ Some status → following answer s ≡ Over status s.live
-following-some (Ok (ExitNext n)) s status e = let same : n ≡ status = cc in ap (λ k. Over k s.live) same
+following-some : (answer : Answer) (s : Session) (status : ℕ) → exit_of answer ≡ Some status → following answer s ≡ Over (ExitDone status) s.live
+following-some (Ok (ExitNext n)) s status e = let same : n ≡ status = cc in ap (λ k. Over (ExitDone k) s.live) same
 following-some (Ok Go) s status e = absurd (cc)
 following-some (Ok (Ran stop)) s status e = absurd (cc)
 following-some (Err fault) s status e = absurd (cc)
@@ -216,14 +220,14 @@ line-refused-cut s line asked taken live gives e c breaks enough =
     ∙ ap (λ n. ends 102 shown n live) reads
 
 -- the session is over behind its line
-line-whole-cut : (s : Session) (status gives : ℕ) (live : Live) (asked : Asked) → trace s ≡ record { made = asking s ++ (reply_to s asked).made; ended = record { status = status; state = live } }
+line-whole-cut : (s : Session) (status gives : ℕ) (live : Live) (asked : Asked) → course s ≡ over_by (asking s ++ (reply_to s asked).made) (ExitDone status) live
     → line_reads s.budget s.open_ s.input ≤ gives
     → cut_trace (length (prompt_text s.prompt ++ text_of (reply_to s asked).made)) gives (trace s) ≡ ends status (prompt_text s.prompt ++ text_of (reply_to s asked).made) (line_reads s.budget s.open_ s.input) live
 line-whole-cut s status gives live asked is enough =
     let made = asking s ++ (reply_to s asked).made in
     let shown = prompt_text s.prompt ++ text_of (reply_to s asked).made in
     let more : gives ≡ reads_of made + (gives - line_reads s.budget s.open_ s.input) = omega (arith, line-reads s asked, enough) in
-    ap (cut_trace (length shown) gives) is
+    ap (cut_trace (length shown) gives) (trace-is s _ is)
     ∙ ap (λ t. cut (length t) gives made (record { status = status; state = live })) (sym (line-text s asked))
     ∙ ap (λ n. cut (length (text_of made)) n made (record { status = status; state = live })) more
     ∙ cut-whole made (record { status = status; state = live }) (gives - line_reads s.budget s.open_ s.input)
@@ -250,8 +254,8 @@ answered old new line asked (IsOver (Exit status)) tells before mid after told e
     let reply = reply_to old asked in
     let said : IsSaid reply new.live tells mid after = a.1 in
     let next = ap (λ s. s.next) is ∙ line-next old asked ∙ following-some reply.answer (record (behind_line old) { live = reply.after }) status a.0 in
-    let over = trace-over old status reply.after next
-    ∙ ap (λ l. record { made = l; ended = record { status = status; state = reply.after } }) (ap (λ s. s.made) is ∙ line-made old asked) in
+    let over = course-over old (ExitDone status) reply.after next
+    ∙ ap (λ l. over_by l (ExitDone status) reply.after) (ap (λ s. s.made) is ∙ line-made old asked) in
     let whole = line-whole-cut old status (reads_left old.open_ old.input) reply.after asked over (read-within _ old.open_ old.input new.open_ new.input b.reads) in
     record {
       gives = reads_left old.open_ old.input;
@@ -263,6 +267,7 @@ answered old new line asked (IsOver (Exit status)) tells before mid after told e
         written = said.written told ∙ ap (λ t. t ++ text_of reply.made) prompted ∙ append_assoc before (prompt_text old.prompt) (text_of reply.made);
         outcome = whole ∙ ap (ends status (prompt_text old.prompt ++ text_of reply.made) (line_reads old.budget old.open_ old.input)) (sym said.after_is);
       };
+      named = λ _ _. ap (λ c. finish_of c.end) (sym over);
     }
 answered old new line asked (IsOver Console) tells before mid after told e c b prompted a =
     let off = a.told told in
@@ -277,6 +282,7 @@ answered old new line asked (IsOver Console) tells before mid after told e c b p
         written = off.written ∙ ap (λ t. t ++ off.taken) prompted ∙ append_assoc before (prompt_text old.prompt) off.taken;
         outcome = refused;
       };
+      named = λ console _. absurd (console refl);
     }
 answered old new line asked (IsOver EndOfInput) tells before mid after told e c b prompted a = absurd a
 answered old new line asked (IsOver Commands) tells before mid after told e c b prompted a = absurd a

@@ -1,14 +1,14 @@
 -- The trace of a session, one text further.
-use Rattle.std.proofs.Common.{◌≡◌, ℕ, zero, suc, ◌+◌, ◌-◌, ◌<◌, ◌≤◌, Bool, not, ◌||◌, nat_le, nat_eq, List, [], ◌++◌, length, refl, ap, sym, ◌∙◌, arith, if◌then◌else◌, append_assoc, append-nil, Ok, Err}
+use Rattle.std.proofs.Common.{◌≡◌, ℕ, zero, suc, ◌-◌, ◌<◌, ◌≤◌, Bool, not, ◌||◌, nat_le, nat_eq, List, [], ◌++◌, length, refl, ap, sym, ◌∙◌, arith, if◌then◌else◌, append_assoc, append-nil, Ok, Err}
 use Rattle.std.proofs.lemmas.Bool.{leb-true, cond_both}
-use Rattle.observations.specs.Observations.{Observation, Ended, Trace, after_made}
+use Rattle.observations.specs.Observations.{Observation, Ended, after_made}
 use Rattle.scp_parser.specs.Reading.{reading}
 use Rattle.scp_commands.specs.declared.next.Next.TheVariants.{Go, Ran, Exit}
 use Rattle.scp_commands.specs.Live.{Live}
-use Rattle.scp_commands.specs.Reply.{Answer, Reply}
+use Rattle.scp_commands.specs.Reply.{Answer}
 use Rattle.scp_commands.specs.Effect.{Asked}
 use Rattle.scp_script.specs.Lines.{Arrival, InputEnds, Unpaid, LineComes, arrival, line_cost, first_line, command_line}
-use Rattle.scp_script.specs.Session.{Session, Following, Going, Over, Upcoming, Ends, Comes, asking, behind_line, upcoming_of, upcoming, text_reply, following, text_step, step_upcoming, step, after_step, texts, trace}
+use Rattle.scp_script.specs.Session.{Session, SessionEnd, InputEnded, BudgetSpent, end_status, Following, Going, Over, Upcoming, Ends, Comes, asking, behind_line, upcoming_of, upcoming, text_reply, following, text_step, step_upcoming, step, Course, over_by, after_step, texts, course, trace}
 
 pub going-equal : {s t : Session} → Going s ≡ Going t → s ≡ t
 going-equal h = cc
@@ -54,9 +54,9 @@ pub going-pays : (s t : Session) → (step s).next ≡ Going t → t.budget < s.
 unfolding step upcoming
 going-pays s t h = arrival-pays s t (arrival s.budget s.open_ s.input) refl h
 
-after-step-same : (made : List (Observation Live)) (next : Following) (f g : Session → Trace Live) → ((t : Session) → next ≡ Going t → f t ≡ g t) → after_step made next f ≡ after_step made next g
-after-step-same made (Going t) f g same = ap (after_made made) (same t refl)
-after-step-same made (Over status live) f g same = refl
+after-step-same : (made : List (Observation Live)) (next : Following) (f g : Session → Course) → ((t : Session) → next ≡ Going t → f t ≡ g t) → after_step made next f ≡ after_step made next g
+after-step-same made (Going t) f g same = ap (λ c. record { trace = after_made made c.trace; end = c.end }) (same t refl)
+after-step-same made (Over end live) f g same = refl
 
 -- more fuel than budget changes nothing
 texts-same : (n m : ℕ) (s : Session) → s.budget < n → s.budget < m → texts n s ≡ texts m s
@@ -68,23 +68,22 @@ texts-same (suc n) (suc m) s a b =
     (λ t e. texts-same n m t (omega (arith, going-pays s t e, a)) (omega (arith, going-pays s t e, b)))
 
 -- the session goes on
-pub trace-going : (s t : Session) → (step s).next ≡ Going t → trace s ≡ after_made (step s).made (trace t)
-unfolding texts trace
-trace-going s t e =
+pub course-going : (s t : Session) → (step s).next ≡ Going t → course s ≡ after_step (step s).made (Going t) course
+unfolding texts course
+course-going s t e =
     ap (λ next. after_step (step s).made next (λ t. texts s.budget t)) e
-    ∙ ap (after_made (step s).made) (texts-same s.budget (suc t.budget) t (going-pays s t e) (omega arith))
+    ∙ ap (λ c. after_step (step s).made (Going t) (λ _. c)) (texts-same s.budget (suc t.budget) t (going-pays s t e) (omega arith))
 
-pub trace-over : (s : Session) (status : ℕ) (live : Live) → (step s).next ≡ Over status live
-    → trace s ≡ record { made = (step s).made; ended = record { status = status; state = live } }
-unfolding texts trace
-trace-over s status live e = ap (λ next. after_step (step s).made next (λ t. texts s.budget t)) e
+pub course-over : (s : Session) (end : SessionEnd) (live : Live) → (step s).next ≡ Over end live → course s ≡ over_by (step s).made end live
+unfolding texts course
+course-over s end live e = ap (λ next. after_step (step s).made next (λ t. texts s.budget t)) e
 
-by-next : (s : Session) (next : Following) → (step s).next ≡ next → trace s ≡ after_step (step s).made next trace
-by-next s (Going t) e = trace-going s t e
-by-next s (Over status live) e = trace-over s status live e
+by-next : (s : Session) (next : Following) → (step s).next ≡ next → course s ≡ after_step (step s).made next course
+by-next s (Going t) e = course-going s t e
+by-next s (Over end live) e = course-over s end live e
 
 -- a session goes line by line
-pub line-by-line : (s : Session) → trace s ≡ after_step (step s).made (step s).next trace
+pub line-by-line : (s : Session) → course s ≡ after_step (step s).made (step s).next course
 line-by-line s = by-next s (step s).next refl
 
 -- a trace begins with these observations
@@ -93,13 +92,23 @@ pub record Begins (s : Session) (made : List (Observation Live)) : Type 0 where
   pub ended : Ended Live
   pub is : trace s ≡ record { made = made ++ more; ended = ended }
 
+-- what is known of a course is known of the trace
+pub trace-is : (s : Session) (c : Course) → course s ≡ c → trace s ≡ c.trace
+unfolding trace
+trace-is s c e = ap (λ c. c.trace) e
+
 -- it begins with those of its first text
 next-begins : (s : Session) (next : Following) → (step s).next ≡ next → Begins s (step s).made
-next-begins s (Going t) e = record { more = (trace t).made; ended = (trace t).ended; is = trace-going s t e }
-next-begins s (Over status live) e = record {
+next-begins s (Going t) e = let c = course t in record {
+  more = c.trace.made;
+  ended = c.trace.ended;
+  is = trace-is s _ (course-going s t e);
+}
+next-begins s (Over end live) e = record {
   more = [];
-  ended = record { status = status; state = live };
-  is = trace-over s status live e ∙ ap (λ made. record { made = made; ended = record { status = status; state = live } }) (sym (append-nil (step s).made));
+  ended = record { status = end_status end; state = live };
+  is = trace-is s _ (course-over s end live e)
+      ∙ ap (λ made. record { made = made; ended = record { status = end_status end; state = live } }) (sym (append-nil (step s).made));
 }
 
 pub trace-begins : (s : Session) → Begins s (step s).made
@@ -108,7 +117,7 @@ trace-begins s = next-begins s (step s).next refl
 -- every text begins with asking
 upcoming-asks : (s : Session) (u : Upcoming) → (more : List (Observation Live)) × ((step_upcoming s u).made ≡ asking s ++ more)
 unfolding text_step
-upcoming-asks s (Ends status) = ([], sym (append-nil (asking s)))
+upcoming-asks s (Ends end) = ([], sym (append-nil (asking s)))
 upcoming-asks s (Comes text behind) = (_, refl)
 
 begins-shorter : (s : Session) (made front more : List (Observation Live)) → Begins s made → made ≡ front ++ more → Begins s front
@@ -128,10 +137,10 @@ pub step-line : (s : Session) (line : List ℕ) (asked : Asked) → arrival s.bu
 unfolding step upcoming
 step-line s line asked e c = ap (λ a. step_upcoming s (upcoming_of s a)) e ∙ ap (text_step (asking s) (behind_line s)) c
 
-pub step-ends : (s : Session) → arrival s.budget s.open_ s.input ≡ InputEnds → step s ≡ record { made = asking s; next = Over 0 s.live }
+pub step-ends : (s : Session) → arrival s.budget s.open_ s.input ≡ InputEnds → step s ≡ record { made = asking s; next = Over InputEnded s.live }
 unfolding step upcoming
 step-ends s e = ap (λ a. step_upcoming s (upcoming_of s a)) e
 
-pub step-unpaid : (s : Session) → arrival s.budget s.open_ s.input ≡ Unpaid → step s ≡ record { made = asking s; next = Over 104 s.live }
+pub step-unpaid : (s : Session) → arrival s.budget s.open_ s.input ≡ Unpaid → step s ≡ record { made = asking s; next = Over BudgetSpent s.live }
 unfolding step upcoming
 step-unpaid s e = ap (λ a. step_upcoming s (upcoming_of s a)) e

@@ -1,11 +1,9 @@
 -- What the text of a line makes: the command's own, and the text of its fault.
-use Rattle.std.proofs.Common.{◌≡◌, inl, inr, ℕ, ◌+◌, Bool, IsTrue, List, [], ◌∷◌, ◌++◌, take, refl, ap, sym, ◌∙◌, append_assoc, append-nil, subst, Option, Some, None, Ok, Err}
-use Rattle.host_files.specs.Streams.{AddsPart}
+use Rattle.std.proofs.Common.{◌≡◌, inl, ℕ, ◌+◌, Bool, List, [], ◌∷◌, ◌++◌, take, refl, ap, sym, ◌∙◌, append_assoc, append-nil, subst, None, Ok, Err}
 use Rattle.observations.specs.Observations.{Observation, Prints, text_of, reads_of}
 use Rattle.observations.proofs.CutLemmas.{breaks-here, breaks-before, breaks-behind}
 use Rattle.observations.proofs.MadeLemmas.{text_of-append, reads_of-append, stands-before, stands-behind}
 use Rattle.scp_commands.specs.declared.next.Next.{Next}
-use Rattle.scp_commands.specs.declared.next.Next.TheVariants.{Go, Ran, Exit as ExitNext}
 use Rattle.scp_commands.specs.declared.fault.CommandFault.{CommandFault}
 use Rattle.scp_commands.specs.declared.fault.CommandFault.TheVariants as fault
 use Rattle.scp_commands.specs.Live.{Live}

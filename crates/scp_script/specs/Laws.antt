@@ -1,14 +1,14 @@
 -- Laws above the definition of a session, in a reader's words.
-use Rattle.std.specs.Prelude.{◌≡◌, ℕ, zero, suc, ◌+◌, ◌-◌, List, length, drop}
+use Rattle.std.specs.Prelude.{◌≡◌, ℕ, zero, suc, ◌+◌, List, length, drop}
 use Rattle.observations.specs.Observations.{Observation, reads_of}
 use Rattle.scp_commands.specs.Live.{Live}
 use Rattle.scp_script.specs.Lines.{first_line, line_cost}
-use Rattle.scp_script.specs.Session.{Session, step, after_step, trace, ComesTo}
+use Rattle.scp_script.specs.Session.{Session, step, after_step, course, ComesTo}
 
--- a session does its next text, and then what the session behind that text does: the bound in the definition of a trace
--- is never what ends it
+-- a session does its next text, and then what the session behind that text does: the bound in the definition of a
+-- course is never what ends it
 abbrev pub LineByLine : Type 0
-LineByLine = (s : Session) → trace s ≡ after_step (step s).made (step s).next trace
+LineByLine = (s : Session) → course s ≡ after_step (step s).made (step s).next course
 
 -- how many bytes the first lines of an input have, with an LF or the end behind each
 abbrev pub lines_size : ℕ → List ℕ → ℕ

@@ -19,7 +19,7 @@ use Rattle.scp_script.specs.declared.progress.Progress.{Progress}
 use Rattle.scp_script.specs.declared.progress.Progress.TheVariants.{GoesOn, IsOver}
 use Rattle.scp_script.specs.Lines.{reads_left}
 use Rattle.scp_script.specs.Reading.{AreRead}
-use Rattle.scp_script.specs.Session.{Session, Going, step, trace}
+use Rattle.scp_script.specs.Session.{Session, SessionEnd, ExitDone, InputEnded, BudgetSpent, Going, step, course, trace}
 
 -- the session that the loop stands in
 abbrev pub session_of : CommandState → CommandLoop → List ℕ → Session
@@ -81,6 +81,17 @@ status_of Commands = 104
 status_of Console = 102
 status_of Input = 106
 
+-- the finish of a session in which nothing failed
+abbrev pub finish_of : SessionEnd → Finish
+finish_of (ExitDone status) = Exit status
+finish_of InputEnded = EndOfInput
+finish_of BudgetSpent = Commands
+
+-- A finish that is no fault says by what the session is over. A fault comes before that, wherever the session would
+-- have ended.
+abbrev pub NamesEnd : Finish → SessionEnd → Type 0
+NamesEnd finish end = finish ≢ Console → finish ≢ Input → finish ≡ finish_of end
+
 -- the input let through the reads that were made, where it failed, and else all that there can be
 abbrev pub LetsThrough : Finish → ℕ → ℕ → ℕ → Type 0
 LetsThrough Input gives made all = gives ≡ made
@@ -99,6 +110,7 @@ pub record Finishes (old : Session) (finish : Finish) (new : Session) (before af
   pub lets_through : LetsThrough finish gives made (reads_left old.open_ old.input)
   pub reads : AreRead made old.open_ old.input new.open_ new.input
   pub end : EndsAs (trace old) (status_of finish) gives made before after new.live
+  pub named : NamesEnd finish (course old).end
 
 -- the session goes on behind its next text, all of whose observations were made
 pub record GoesPast (old new : Session) (before after : List ℕ) : Type 0 where

@@ -34,14 +34,27 @@ behind_line s = record s {
   open_ = has_lf s.input;
 }
 
--- what comes next in a session: its end with that status, or a text and the session behind it
+-- By what a session is over where nothing fails: EXIT with that status was done, the input has ended, or a line was due
+-- for which no unit of the budget was left.
+pub data SessionEnd : Type 0 where
+  ExitDone : ℕ → SessionEnd
+  InputEnded : SessionEnd
+  BudgetSpent : SessionEnd
+
+-- its status
+abbrev pub end_status : SessionEnd → ℕ
+end_status (ExitDone status) = status
+end_status InputEnded = 0
+end_status BudgetSpent = 104
+
+-- what comes next in a session: its end, or a text and the session behind it
 pub data Upcoming : Type 0 where
-  Ends : ℕ → Upcoming
+  Ends : SessionEnd → Upcoming
   Comes : List ℕ → Session → Upcoming
 
 abbrev pub upcoming_of : Session → Arrival → Upcoming
-upcoming_of s InputEnds = Ends 0
-upcoming_of s Unpaid = Ends 104
+upcoming_of s InputEnds = Ends InputEnded
+upcoming_of s Unpaid = Ends BudgetSpent
 upcoming_of s (LineComes line) = Comes line (behind_line s)
 
 unfoldable pub upcoming : Session → Upcoming
@@ -59,13 +72,13 @@ with_complaint reply = record reply { made = reply.made ++ complaint reply.answe
 unfoldable pub text_reply : ℕ → Live → Asked → Reply
 text_reply limit live asked = with_complaint (does limit live asked)
 
--- what comes behind a text: the session goes on, or is over with that status and state
+-- what comes behind a text: the session goes on, or is over by that, in that state
 pub data Following : Type 0 where
   Going : Session → Following
-  Over : ℕ → Live → Following
+  Over : SessionEnd → Live → Following
 
 abbrev pub following : Answer → Session → Following
-following (Ok (Exit status)) s = Over status s.live
+following (Ok (Exit status)) s = Over (ExitDone status) s.live
 following (Ok Go) s = Going s
 following (Ok (Ran stop)) s = Going s
 following (Err fault) s = Going s
@@ -83,25 +96,37 @@ text_step asked_first behind asked = let reply = text_reply behind.limit behind.
 }
 
 abbrev pub step_upcoming : Session → Upcoming → Step
-step_upcoming s (Ends status) = record { made = asking s; next = Over status s.live }
+step_upcoming s (Ends end) = record { made = asking s; next = Over end s.live }
 step_upcoming s (Comes text behind) = text_step (asking s) behind (reading text)
 
 unfoldable pub step : Session → Step
 step s = step_upcoming s (upcoming s)
 
-abbrev pub after_step : List (Observation Live) → Following → (Session → Trace Live) → Trace Live
-after_step made (Going s) goes_on = after_made made (goes_on s)
-after_step made (Over status live) goes_on = record { made = made; ended = record { status = status; state = live } }
+-- the course of a session: what it does where nothing fails, and by what it is over
+pub record Course : Type 0 where
+  pub trace : Trace Live
+  pub end : SessionEnd
+
+-- a session that made this is over by that, and so with its status
+abbrev pub over_by : List (Observation Live) → SessionEnd → Live → Course
+over_by made end live = record { trace = record { made = made; ended = record { status = end_status end; state = live } }; end = end }
+
+abbrev pub after_step : List (Observation Live) → Following → (Session → Course) → Course
+after_step made (Going s) goes_on = record { trace = after_made made (goes_on s).trace; end = (goes_on s).end }
+after_step made (Over end live) goes_on = over_by made end live
 
 -- so many texts at the most
-unfoldable pub texts : ℕ → Session → Trace Live
-texts zero s = record { made = []; ended = record { status = 104; state = s.live } }
+unfoldable pub texts : ℕ → Session → Course
+texts zero s = over_by [] BudgetSpent s.live
 texts (suc count) s = after_step (step s).made (step s).next (λ t. texts count t)
 
 -- all that a session does: each text after which it goes on has cost a unit of the budget at least, so that the bound
 -- is never reached
+unfoldable pub course : Session → Course
+course s = texts (suc s.budget) s
+
 unfoldable pub trace : Session → Trace Live
-trace s = texts (suc s.budget) s
+trace s = (course s).trace
 
 -- the session s comes to t by that many texts, with these observations
 abbrev pub ComesTo : ℕ → Session → List (Observation Live) → Session → Type 0

@@ -13,10 +13,11 @@ use crate::progress::{CommandLoop, Finish, Progress};
 use host_files::{Failed, Sink, Source, put_all};
 use scp_commands::{CommandFault, Next, Session, execute};
 use scp_parser::{Command, ParseFault, read_command};
+use unit_trait::Unit;
 
 /// Does the next line of a session: the prompt where it is on, the reading, and the command.
-pub fn next_line<C: Source, S: Sink>(
-    session: &mut Session,
+pub fn next_line<U: Unit, C: Source, S: Sink>(
+    session: &mut Session<U>,
     lines: &mut CommandLoop,
     input: &mut C,
     out: &mut S,
@@ -56,7 +57,7 @@ fn ask<S: Sink>(prompt: bool, out: &mut S) -> Result<(), Failed>
 }
 
 /// Does the command of a line, or answers its fault, and says whether the session goes on.
-fn answer<S: Sink>(session: &mut Session, line: &[u8], out: &mut S) -> Progress
+fn answer<U: Unit, S: Sink>(session: &mut Session<U>, line: &[u8], out: &mut S) -> Progress
     ensures told { IsAnswer (text_reply session.old.limit session.old.live (reading line.now)) result session.new.live
         S.tells (S.written out.old) (S.written out.new) }
     ensures limit { session.new.limit ≡ session.old.limit }
@@ -71,7 +72,7 @@ fn answer<S: Sink>(session: &mut Session, line: &[u8], out: &mut S) -> Progress
 }
 
 /// Does a command, and prints the text of its fault where it is refused.
-fn obey<S: Sink>(session: &mut Session, command: &Command, out: &mut S) -> Progress
+fn obey<U: Unit, S: Sink>(session: &mut Session<U>, command: &Command, out: &mut S) -> Progress
     ensures told { IsAnswer (with_complaint (effect session.old.limit session.old.live command.now)) result
         session.new.live S.tells (S.written out.old) (S.written out.new) }
     ensures limit { session.new.limit ≡ session.old.limit }
@@ -97,7 +98,7 @@ fn deny<S: Sink>(fault: CommandFault, out: &mut S) -> Progress
 }
 
 /// Answers the fault of a line that is no command.
-fn deny_line<S: Sink>(session: &Session, fault: ParseFault, out: &mut S) -> Progress
+fn deny_line<U: Unit, S: Sink>(session: &Session<U>, fault: ParseFault, out: &mut S) -> Progress
     ensures told { IsAnswer (text_reply session.now.limit session.now.live (Err fault)) result session.now.live S.tells
         (S.written out.old) (S.written out.new) }
     ensures counts { AnswerCounts result (S.fault_count out.old) (S.fault_count out.new) }

@@ -7,6 +7,7 @@ use crate::line_reader::LineReader;
 use crate::progress::{CommandLoop, Finish, Progress};
 use host_files::{Sink, Source};
 use scp_commands::Session;
+use unit_trait::Unit;
 
 /// How a session begins.
 #[derive(Clone, Copy, Debug, PartialEq, Eq)]
@@ -19,8 +20,8 @@ pub struct Opening {
 }
 
 /// Does all lines of the input, until the session is over.
-pub fn perform<C: Source, S: Sink>(
-    session: &mut Session,
+pub fn perform<U: Unit, C: Source, S: Sink>(
+    session: &mut Session<U>,
     opening: &Opening,
     input: &mut C,
     out: &mut S,

@@ -10,9 +10,12 @@ pub record Register : Type 0 where
   pub initial : ℕ
   pub cleared : Bool
 
--- a device: its name, how many units it has, whether a file is attached to them, and its registers in order
+-- a device: its name, its code on the bus, the bit of the interrupt mask word that masks it out (0 is the most
+-- significant of 16), how many units it has, whether a file is attached to them, and its registers in order
 pub record Device : Type 0 where
   pub name : List ℕ
+  pub code : ℕ
+  pub mask_bit : ℕ
   pub units : ℕ
   pub takes_file : Bool
   pub registers : List Register

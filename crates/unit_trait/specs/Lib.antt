@@ -1,4 +1,6 @@
 pub mod Device
+pub mod Calls
+pub mod Usual
 pub mod Disk
 pub mod Tape
 pub mod Printer
@@ -10,5 +12,7 @@ pub mod Teleprinter
 pub mod Multiplexer
 pub mod Kinds
 pub mod Registers
+pub mod Row
 pub mod Seen
 pub mod Processor
+pub mod Laws

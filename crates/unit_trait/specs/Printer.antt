@@ -5,6 +5,8 @@ use Rattle.unit_trait.specs.Device.{Device, kept_register, time_register, busy, 
 abbrev pub printer : Device
 printer = record {
   name = codes "LPT";
+  code = 0o17;
+  mask_bit = 12;
   units = 1;
   takes_file = true;
   registers = busy ∷ done ∷ stop_ioe ∷ time_register 500 ∷ kept_register (codes "BUF") 0o177 ∷ position ∷ [];

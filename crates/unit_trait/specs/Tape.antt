@@ -9,6 +9,8 @@ tape_position name = kept_register name 0o400000000
 abbrev pub tape : Device
 tape = record {
   name = codes "MTA";
+  code = 0o22;
+  mask_bit = 10;
   units = 8;
   takes_file = true;
   registers = busy ∷ done ∷ stop_ioe ∷ time_register 1000 ∷ cleared_register (codes "CMD") 7 ∷ cleared_register (codes "DRIVE") 7 ∷ kept_register (codes "MA") 0o77777

@@ -7,6 +7,8 @@ use crate::device::{Device, Register, cleared_register};
 /// The real-time clock.
 pub const CLOCK: Device = Device {
     name: "CLK",
+    code: 0o14,
+    mask: 0o4,
     units: 1,
     takes_file: false,
 };

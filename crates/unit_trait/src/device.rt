@@ -6,6 +6,10 @@ ghost use Rattle.unit_trait.specs.Seen.{seen};
 #[derive(Clone, Copy, Debug)]
 pub struct Device {
     pub name: &'static str,
+    /// Its code on the bus.
+    pub code: u8,
+    /// The interrupt mask word that masks it out, and no other bit.
+    pub mask: u16,
     /// How many units it has.
     pub units: u8,
     /// Whether a file is attached to its units.

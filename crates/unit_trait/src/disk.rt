@@ -7,6 +7,8 @@ use crate::device::{Device, Register, cleared_register, kept_register, time_regi
 /// The fixed-head disk.
 pub const DISK: Device = Device {
     name: "DSK",
+    code: 0o20,
+    mask: 0o100,
     units: 1,
     takes_file: true,
 };

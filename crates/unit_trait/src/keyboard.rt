@@ -7,6 +7,8 @@ use crate::device::{Device, Register, cleared_register, kept_register, time_regi
 /// The console's keyboard.
 pub const TTI: Device = Device {
     name: "TTI",
+    code: 0o10,
+    mask: 0o2,
     units: 1,
     takes_file: false,
 };
@@ -14,6 +16,8 @@ pub const TTI: Device = Device {
 /// The second terminal's keyboard.
 pub const TTI1: Device = Device {
     name: "TTI1",
+    code: 0o50,
+    mask: 0o2,
     units: 1,
     takes_file: false,
 };

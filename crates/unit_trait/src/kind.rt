@@ -1,5 +1,5 @@
 ghost use Rattle.std.specs.Prelude.{◌≡◌, ◌<◌, ◌≤◌, ◌++◌, ◌↔◌, IsTrue, length, drop};
-ghost use Rattle.unit_trait.specs.Kinds.{kind_name, units_of, takes_file, TakesFile, unit_name, decimal_below_100};
+ghost use Rattle.unit_trait.specs.Kinds.{kind_name, code_of, mask_of, same_unit, units_of, takes_file, TakesFile, unit_name, decimal_below_100};
 
 use crate::clock::CLOCK;
 use crate::device::Device;
@@ -47,6 +47,15 @@ pub struct UnitName {
     pub unit: u8,
 }
 
+impl UnitName {
+    /// Whether this is the name of that unit.
+    pub fn is(self, other: UnitName) -> bool
+        ensures { result ≡ same_unit self other }
+    {
+        code_of(self.kind) == code_of(other.kind) && self.unit == other.unit
+    }
+}
+
 impl Kind {
     /// The name of the kind, in capitals.
     pub fn name(self) -> &'static str
@@ -61,8 +70,12 @@ impl Kind {
 fn device(kind: Kind) -> Device
     ensures name { result.name.now ≡ kind_name kind }
     ensures short { length result.name.now ≤ 4 }
+    ensures code { result.code ≡ code_of kind }
+    ensures mask { result.mask ≡ mask_of kind }
     ensures units { result.units ≡ units_of kind }
     ensures few { result.units ≤ 64 }
+    ensures six_bits { result.code < 64 }
+    ensures bit { 0 < result.mask }
     ensures file { result.takes_file ≡ takes_file kind }
 {
     match kind {
@@ -78,6 +91,22 @@ fn device(kind: Kind) -> Device
         Kind::Tto1 => TTO1,
         Kind::Qty => MULTIPLEXER,
     }
+}
+
+/// The code of a kind on the bus.
+pub fn code_of(kind: Kind) -> u8
+    ensures code { result ≡ code_of kind }
+    ensures range { result < 64 }
+{
+    device(kind).code
+}
+
+/// The interrupt mask word that masks a kind out: one bit of 16.
+pub fn mask_of(kind: Kind) -> u16
+    ensures mask { result ≡ mask_of kind }
+    ensures some { 0 < result }
+{
+    device(kind).mask
 }
 
 /// How many units a kind has: 8 drives, 64 lines, and else one.

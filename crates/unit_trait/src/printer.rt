@@ -7,6 +7,8 @@ use crate::device::{Device, Register, cleared_register, kept_register, time_regi
 /// The line printer.
 pub const PRINTER: Device = Device {
     name: "LPT",
+    code: 0o17,
+    mask: 0o10,
     units: 1,
     takes_file: true,
 };

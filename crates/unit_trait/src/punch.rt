@@ -7,6 +7,8 @@ use crate::device::{Device, Register, cleared_register, kept_register, time_regi
 /// The paper tape punch.
 pub const PUNCH: Device = Device {
     name: "PTP",
+    code: 0o13,
+    mask: 0o4,
     units: 1,
     takes_file: true,
 };

@@ -7,6 +7,8 @@ use crate::device::{Device, Register, cleared_register, kept_register, time_regi
 /// The paper tape reader.
 pub const READER: Device = Device {
     name: "PTR",
+    code: 0o12,
+    mask: 0o20,
     units: 1,
     takes_file: true,
 };

@@ -7,6 +7,8 @@ use crate::device::{Device, Register, cleared_register, kept_register, time_regi
 /// The magnetic tape.
 pub const TAPE: Device = Device {
     name: "MTA",
+    code: 0o22,
+    mask: 0o40,
     units: 8,
     takes_file: true,
 };

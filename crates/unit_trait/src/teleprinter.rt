@@ -7,6 +7,8 @@ use crate::device::{Device, Register, cleared_register, kept_register, time_regi
 /// The console's printer.
 pub const TTO: Device = Device {
     name: "TTO",
+    code: 0o11,
+    mask: 0o1,
     units: 1,
     takes_file: false,
 };
@@ -14,6 +16,8 @@ pub const TTO: Device = Device {
 /// The second terminal's printer.
 pub const TTO1: Device = Device {
     name: "TTO1",
+    code: 0o51,
+    mask: 0o1,
     units: 1,
     takes_file: false,
 };

@@ -1,6 +1,22 @@
 use super::*;
+use clock_unit::Clk;
 use host_files::{ByteSink, ByteSource};
+use std::alloc::AllocError;
 use std::test::Fail;
+use tty_units::{Tti, Tto};
+
+/// The exit code of a session with the standard units in boxes, over those lines and a console with that room.
+fn code_of(alloc: Global, lines: &[u8], room: usize) -> Result<ExitCode, AllocError> {
+    let mut words = Vec::new(alloc);
+    words.push(String::from_str(alloc, "-q")?)?;
+    let mut units: Vec<Box<dyn Unit>> = Vec::new(alloc);
+    units.push(Box::new(alloc, Clk::new())?)?;
+    units.push(Box::new(alloc, Tti::new())?)?;
+    units.push(Box::new(alloc, Tto::new())?)?;
+    let mut input = ByteSource::new(alloc, lines)?;
+    let mut output = ByteSink::with_room(alloc, room)?;
+    Ok(session(alloc, words.as_slice(), units, &mut input, &mut output))
+}
 
 #[test]
 fn the_exit_code_is_the_status_of_the_session(rt: HostRuntime) -> Result<(), Fail> {
@@ -10,11 +26,7 @@ fn the_exit_code_is_the_status_of_the_session(rt: HostRuntime) -> Result<(), Fai
         (b"E 0\n", 3, 102),
     ];
     for (lines, room, wanted) in cases {
-        let mut words = Vec::new(rt.alloc());
-        words.push(String::from_str(rt.alloc(), "-q")?)?;
-        let mut input = ByteSource::new(rt.alloc(), lines)?;
-        let mut output = ByteSink::with_room(rt.alloc(), room)?;
-        let code = session(rt.alloc(), words.as_slice(), &mut input, &mut output);
+        let code = code_of(rt.alloc(), lines, room)?;
         assert!(rt; code == ExitCode::from(wanted));
     }
     Ok(())

@@ -1,6 +1,11 @@
 use super::Machine;
-use nova_word::{Addr, Word};
+use crate::machine::Stop;
+use crate::scenario::Place::{Cell, Cpu, Device};
+use crate::scenario::{Act, BUF, BUSY, Case, DONE, NOTHING, SEL, TIME, holds, step};
+use clock_unit::Clk as Clock;
+use std::alloc::{AllocError, Global};
 use std::test::Fail;
+use unit_trait::Kind::{Clk, Tti, Tto};
 use unit_trait::{CpuReg, RegFault};
 
 /// The registers that can be set, in their order, with the largest value of each, and one that tells it from the one
@@ -19,9 +24,14 @@ const REGISTERS: [(CpuReg, u32, u32); 11] = [
     (CpuReg::StopDev, 1, 1),
 ];
 
+/// A machine without a unit.
+fn bare_machine(alloc: Global) -> Result<Machine<Clock>, AllocError> {
+    Machine::new(alloc, Vec::new(alloc))
+}
+
 #[test]
 fn a_register_holds_its_range_and_size_is_read_only(rt: HostRuntime) -> Result<(), Fail> {
-    let mut machine = Machine::new(rt.alloc())?;
+    let mut machine = bare_machine(rt.alloc())?;
     for (register, most, _) in REGISTERS {
         assert_eq!(rt; register.largest(), most);
         assert_eq!(rt; machine.cpu_reg(register), 0, "{register:?}");
@@ -52,25 +62,95 @@ fn a_register_holds_its_range_and_size_is_read_only(rt: HostRuntime) -> Result<(
 }
 
 #[test]
-fn each_register_is_one_of_its_own_and_a_reset_clears_the_interrupts_alone(
-    rt: HostRuntime,
-) -> Result<(), Fail> {
-    let mut machine = Machine::new(rt.alloc())?;
-    let at = Addr::of_word(Word(0o200));
-    machine.memory_mut().write(at, Word(5));
+fn each_register_is_one_of_its_own(rt: HostRuntime) -> Result<(), Fail> {
+    let mut machine = bare_machine(rt.alloc())?;
     for (register, _, value) in REGISTERS {
         machine.set_cpu_reg(register, value)?;
     }
     for (register, _, value) in REGISTERS {
         assert_eq!(rt; machine.cpu_reg(register), value, "{register:?}");
     }
-    machine.reset();
-    for (register, _, value) in REGISTERS {
-        let cleared = matches!(register, CpuReg::Ion | CpuReg::Hold | CpuReg::Mask);
-        let stands = if cleared { 0 } else { value };
-        assert_eq!(rt; machine.cpu_reg(register), stands, "{register:?}");
-    }
-    assert_eq!(rt; machine.memory().read(at).0, 5);
-    assert_eq!(rt; machine.time(), 0);
     Ok(())
+}
+
+#[test]
+fn a_new_machine_is_one_that_was_reset(rt: HostRuntime) -> Result<(), Fail> {
+    let resets: [&[Act]; 2] = [&[], &[Act::Reset]];
+    for acts in resets {
+        let case = Case {
+            words: &[],
+            before: &[(Cpu(CpuReg::Pc), 0)],
+            acts,
+            after: &[
+                (Cell(0), 0),
+                (Cell(0o77777), 0),
+                (Cpu(CpuReg::Ac0), 0),
+                (Cpu(CpuReg::Ac3), 0),
+                (Cpu(CpuReg::C), 0),
+                (Cpu(CpuReg::Ion), 0),
+                (Cpu(CpuReg::Hold), 0),
+                (Cpu(CpuReg::Mask), 0),
+                (Cpu(CpuReg::Sr), 0),
+                (Cpu(CpuReg::StopDev), 0),
+                (Device(Clk, BUSY), 0),
+                (Device(Clk, DONE), 0),
+                (Device(Clk, SEL), 0),
+                (Device(Tti, DONE), 0),
+                (Device(Tti, TIME), 100),
+                (Device(Tti, BUF), 0),
+                (Device(Tto, DONE), 0),
+                (Device(Tto, TIME), 100),
+                (Device(Tto, BUF), 0),
+            ],
+            events: &[(Tti, 100)],
+            ..NOTHING
+        };
+        holds(&rt, rt.alloc(), case)?;
+    }
+    Ok(())
+}
+
+#[test]
+fn a_reset_stops_all_work_and_leaves_the_program(rt: HostRuntime) -> Result<(), Fail> {
+    // NIOS to the printer, NIOS to the clock
+    let case = Case {
+        words: &[0o060111, 0o060114],
+        before: &[
+            (Cpu(CpuReg::Ac0), 1),
+            (Cpu(CpuReg::Ac1), 2),
+            (Cpu(CpuReg::Ac2), 3),
+            (Cpu(CpuReg::Ac3), 4),
+            (Cpu(CpuReg::C), 1),
+            (Cpu(CpuReg::Ion), 1),
+            (Cpu(CpuReg::Mask), 0o123456),
+            (Cpu(CpuReg::Sr), 0o54321),
+            (Cpu(CpuReg::StopDev), 1),
+            (Cell(0o300), 5),
+            (Device(Clk, SEL), 3),
+            (Device(Tti, BUSY), 1),
+            (Device(Tti, DONE), 1),
+            (Device(Tti, TIME), 50),
+            (Device(Tti, BUF), 0o101),
+            (Device(Tto, TIME), 70),
+            (Device(Tto, BUF), 0o102),
+        ],
+        acts: &[
+            Act::Run(step(2), Stop::Stepped),
+            Act::Put(Cpu(CpuReg::Hold), 1),
+            Act::Put(Device(Tto, DONE), 1),
+            Act::Reset,
+        ],
+        after: &[
+            (Cpu(CpuReg::Pc), 0o102),
+            (Cpu(CpuReg::Ion), 0),
+            (Cpu(CpuReg::Mask), 0),
+            (Device(Clk, SEL), 0),
+            (Device(Tti, BUSY), 0),
+            (Device(Tti, DONE), 0),
+        ],
+        time: 2,
+        events: &[(Tti, 50)],
+        ..NOTHING
+    };
+    holds(&rt, rt.alloc(), case)
 }

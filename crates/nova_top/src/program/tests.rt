@@ -1,7 +1,14 @@
+ghost use Rattle.std.specs.Prelude.{map};
+ghost use Rattle.nova_top.specs.Standard.{IsStandard};
+
+mod counted;
+
 use super::*;
+use clock_unit::Clk;
 use host_files::{ByteSink, ByteSource};
 use std::alloc::AllocError;
 use std::test::Fail;
+use tty_units::{Tti, Tto};
 
 /// What a user would see: the status, and what the console has.
 #[derive(Drop)]
@@ -12,7 +19,8 @@ struct Seen {
     machine: bool,
 }
 
-/// Runs the program on memory objects: a console with that room, and an input whose named read fails.
+/// Runs the program with the standard units in boxes, on memory objects: a console with that room, and an input whose
+/// named read fails.
 fn run(
     alloc: Global,
     words: &[&str],
@@ -20,6 +28,23 @@ fn run(
     room: usize,
     failing_read: Option<u64>,
 ) -> Result<Seen, AllocError> {
+    let mut units: Vec<Box<dyn Unit>> = Vec::new(alloc);
+    units.push(Box::new(alloc, Clk::new())?)?;
+    units.push(Box::new(alloc, Tti::new())?)?;
+    units.push(Box::new(alloc, Tto::new())?)?;
+    run_with(alloc, words, units, lines, room, failing_read)
+}
+
+fn run_with<U: Unit>(
+    alloc: Global,
+    words: &[&str],
+    units: Vec<U>,
+    lines: &[u8],
+    room: usize,
+    failing_read: Option<u64>,
+) -> Result<Seen, AllocError>
+    requires { IsStandard (map U.unit_state units.items) }
+{
     let mut texts = Vec::new(alloc);
     for word in words {
         texts.push(String::from_str(alloc, word)?)?;
@@ -29,7 +54,7 @@ fn run(
         input.fail_call(number)?;
     }
     let mut output = ByteSink::with_room(alloc, room)?;
-    let ending = simulate(alloc, texts.as_slice(), &mut input, &mut output);
+    let ending = simulate(alloc, texts.as_slice(), units, &mut input, &mut output);
     let mut rest = [0; 4096];
     let left = input.read(&mut rest).unwrap_or(0);
     Ok(Seen {
@@ -45,10 +70,14 @@ const FIRST_RUN: &[u8] =
 
 const FIRST_RUN_PRINTS: &[u8] = b"\nStep expired, PC: 00101 (000000)\nAC0:\t000007\n";
 
+/// A program that prints the character in AC0 and waits until it is printed; and what stands behind it, and a reset.
+const PRINTED: &[u8] =
+    b"D AC0 101\nD 100 61111\nD 101 63611\nD 102 777\nD 103 63077\nGO 100\nSHOW TIME\nSHOW QUEUE\nE TTO DONE\nRESET\nE TTO DONE\nE PC\nSHOW QUEUE\n";
+
 #[test]
 fn sessions_print_and_end_as_the_tables_say(rt: HostRuntime) -> Result<(), Fail> {
     let quiet = ["-q"];
-    let cases: [(&[u8], &[u8], u8); 27] = [
+    let cases: [(&[u8], &[u8], u8); 29] = [
         (FIRST_RUN, FIRST_RUN_PRINTS, 0),
         (b"", b"", 0),
         (b"\n\n", b"", 0),
@@ -98,10 +127,22 @@ fn sessions_print_and_end_as_the_tables_say(rt: HostRuntime) -> Result<(), Fail>
             b"\nStep expired, PC: 00201 (000000)\nAC3:\t000101\n",
             0,
         ),
-        // a word of input and output that is not built stops, with the machine as it was
+        // a word to a device that is not there does nothing, or stops under STOP_DEV, with the machine as it was
         (
-            b"DEPOSIT 100 60000\nDEPOSIT PC 100\nSTEP\nEXAMINE PC\nSHOW TIME\n",
-            b"\nNot built, PC: 00100 (060000)\nPC:\t00100\nTime: 0\n",
+            b"DEPOSIT 100 60000\nDEPOSIT PC 100\nSTEP\nDEPOSIT STOP_DEV 1\nGO 100\nEXAMINE PC\nSHOW TIME\n",
+            b"\nStep expired, PC: 00101 (000000)\n\nUnknown device, PC: 00100 (060000)\nPC:\t00100\nTime: 1\n",
+            0,
+        ),
+        // the clock ticks after 1000 instructions, and SKPDN sees it
+        (
+            b"D AC0 3\nD 100 61114\nD 101 63614\nD 102 777\nD 103 63077\nGO 100\nSHOW TIME\nE CLK STATE\n",
+            b"\nHALT instruction, PC: 00104 (000000)\nTime: 1003\nBUSY:\t0\nDONE:\t1\nSEL:\t3\n",
+            0,
+        ),
+        // what the teletype prints comes in front of the stop, and RESET clears it
+        (
+            PRINTED,
+            b"A\nHALT instruction, PC: 00104 (000000)\nTime: 103\nTTI 97\nDONE:\t1\nDONE:\t0\nPC:\t00104\nTTI 100\n",
             0,
         ),
         // INC of all ones carries, and HALT counts as an instruction
@@ -270,6 +311,13 @@ fn a_full_console_ends_the_session_where_it_is(rt: HostRuntime) -> Result<(), Fa
     }
     let seen = run(rt.alloc(), &quiet, FIRST_RUN, FIRST_RUN_PRINTS.len(), None)?;
     assert_eq!(rt; seen.status, 0);
+    // within a run
+    for room in 0..2 {
+        let seen = run(rt.alloc(), &quiet, PRINTED, room, None)?;
+        assert_eq!(rt; seen.status, 102, "room {room}");
+        assert_eq!(rt; seen.console.as_slice(), &b"A"[..room]);
+        assert!(rt; seen.machine);
+    }
     Ok(())
 }
 

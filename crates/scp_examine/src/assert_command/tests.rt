@@ -1,18 +1,29 @@
-ghost use Rattle.std.specs.Prelude.{◌≡◌};
+ghost use Rattle.std.specs.Prelude.{◌≡◌, ◌∷◌, [], map};
+ghost use Rattle.unit_trait.specs.declared.kind.Kind.TheVariants.{Clk as clock, Tti as keyboard, Tto as printer};
+ghost use Rattle.unit_trait.specs.Row.{initial_unit};
 
 use super::holds;
 use crate::fault::ExamineFault;
-use crate::test_lists::put;
+use crate::test_lists::{bare_machine, put};
+use clock_unit::Clk;
 use nova_machine::{CpuReg, Machine};
 use scp_parser::{Condition, Item, Name, Rel, Test};
+use std::process::Abort;
 use std::test::Fail;
-use unit_trait::Kind;
+use tty_units::{Tti, Tto};
+use unit_trait::{Kind, Unit};
 
 fn test_of(item: Item, mask: Option<u64>, rel: Rel, value: u64) -> Test
     ensures { result.item ≡ item }
 {
+    device_test(Name::Cpu, item, mask, rel, value)
+}
+
+fn device_test(device: Name, item: Item, mask: Option<u64>, rel: Rel, value: u64) -> Test
+    ensures { result.item ≡ item }
+{
     Test {
-        device: Name::Cpu,
+        device,
         item,
         condition: Condition { mask, rel, value },
     }
@@ -20,7 +31,7 @@ fn test_of(item: Item, mask: Option<u64>, rel: Rel, value: u64) -> Test
 
 #[test]
 fn a_place_is_compared(rt: HostRuntime) -> Result<(), Fail> {
-    let mut machine = Machine::new(rt.alloc())?;
+    let mut machine = bare_machine(rt.alloc())?;
     put(&mut machine, 0o100, 6);
     machine.set_cpu_reg(CpuReg::Pc, 6)?;
     let cases = [
@@ -46,7 +57,7 @@ fn a_place_is_compared(rt: HostRuntime) -> Result<(), Fail> {
 fn a_bad_item_and_a_condition_above_its_largest_value_are_answered(
     rt: HostRuntime,
 ) -> Result<(), Fail> {
-    let machine = Machine::new(rt.alloc())?;
+    let machine = bare_machine(rt.alloc())?;
     let bad_name = Err(ExamineFault::NoSuchName);
     let out_of_range = Err(ExamineFault::OutOfRange);
     let cases = [
@@ -70,4 +81,51 @@ fn a_bad_item_and_a_condition_above_its_largest_value_are_answered(
     device.device = Name::Device(Kind::Tti);
     assert_eq!(rt; holds(&machine, &device), bad_name);
     Ok(())
+}
+
+fn test_devices<R: Abort + AllocGlobal, U: Unit>(rt: &R, units: Vec<U>) -> Result<(), Fail>
+    requires { map U.unit_state units.items ≡ map initial_unit (clock ∷ keyboard ∷ printer ∷ []) }
+{
+    let mut machine = Machine::new(rt.alloc(), units)?;
+    machine.set_unit_reg(Kind::Clk, 2, 3)?;
+    let bad_name = Err(ExamineFault::NoSuchName);
+    let out_of_range = Err(ExamineFault::OutOfRange);
+    // The device, the number of the register, the mask, the comparison, its value, and the answer. TIME is 100
+    // instructions at first, and is never 0.
+    let cases = [
+        (Kind::Tti, 2, None, Rel::Eq, 100, Ok(true)),
+        (Kind::Tti, 2, None, Rel::Gt, 100, Ok(false)),
+        (Kind::Tti, 2, None, Rel::Eq, 0, Ok(false)),
+        (Kind::Tti, 2, Some(3), Rel::Eq, 0, Ok(true)),
+        (Kind::Tti, 2, None, Rel::Lt, 0o177777, Ok(true)),
+        (Kind::Tti, 2, None, Rel::Lt, 0o200000, out_of_range),
+        (Kind::Tti, 2, Some(0o200000), Rel::Eq, 0, out_of_range),
+        (Kind::Clk, 2, None, Rel::Eq, 3, Ok(true)),
+        (Kind::Clk, 2, None, Rel::Ne, 4, out_of_range),
+        (Kind::Clk, 0, None, Rel::Eq, 0, Ok(true)),
+        (Kind::Clk, 3, None, Rel::Eq, u64::MAX, bad_name),
+        (Kind::Tto1, 0, None, Rel::Eq, 0, bad_name),
+    ];
+    for (kind, number, mask, rel, value, answer) in cases {
+        let test = device_test(Name::Device(kind), Item::Reg(number), mask, rel, value);
+        assert_eq!(rt;
+            holds(&machine, &test),
+            answer,
+            "{kind:?} {number} {rel:?} {value}"
+        );
+    }
+    for item in [Item::At(0), Item::Unknown] {
+        let test = device_test(Name::Device(Kind::Clk), item, None, Rel::Eq, 0);
+        assert_eq!(rt; holds(&machine, &test), bad_name);
+    }
+    Ok(())
+}
+
+#[test]
+fn a_register_of_a_device_is_compared(rt: HostRuntime) -> Result<(), Fail> {
+    let mut units: Vec<Box<dyn Unit>> = Vec::new(rt.alloc());
+    units.push(Box::new(rt.alloc(), Clk::new())?)?;
+    units.push(Box::new(rt.alloc(), Tti::new())?)?;
+    units.push(Box::new(rt.alloc(), Tto::new())?)?;
+    test_devices(&rt, units)
 }

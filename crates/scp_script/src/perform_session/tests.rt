@@ -1,4 +1,5 @@
 use super::*;
+use clock_unit::Clk;
 use host_files::{ByteSink, ByteSource};
 use nova_machine::Machine;
 use std::test::Fail;
@@ -21,7 +22,7 @@ fn sessions_finish_by_their_input_console_and_budget(rt: HostRuntime) -> Result<
     ];
     for (lines, budget, room, wanted, text) in cases {
         let mut session = Session {
-            machine: Machine::new(rt.alloc())?,
+            machine: Machine::<Clk>::new(rt.alloc(), Vec::new(rt.alloc()))?,
             limit: 1 << 48,
         };
         let opening = Opening {
@@ -39,7 +40,7 @@ fn sessions_finish_by_their_input_console_and_budget(rt: HostRuntime) -> Result<
 #[test]
 fn a_failed_read_finishes_a_session(rt: HostRuntime) -> Result<(), Fail> {
     let mut session = Session {
-        machine: Machine::new(rt.alloc())?,
+        machine: Machine::<Clk>::new(rt.alloc(), Vec::new(rt.alloc()))?,
         limit: 1 << 48,
     };
     let opening = Opening {

@@ -1,5 +1,5 @@
 use super::*;
-use crate::kind::{UnitName, takes_file, unit_text};
+use crate::kind::{UnitName, code_of, mask_of, takes_file, unit_text};
 use std::test::Fail;
 
 const KINDS: [Kind; 11] = [
@@ -74,11 +74,27 @@ fn registers_have_their_limits_and_what_they_hold_at_first(rt: HostRuntime) -> R
 }
 
 #[test]
-fn files_are_attached_to_five_kinds(rt: HostRuntime) -> Result<(), Fail> {
-    for (place, kind) in KINDS.iter().enumerate() {
-        assert!(rt; takes_file(*kind) == (place < 5));
+fn kinds_have_their_codes_their_mask_bits_and_maybe_files(rt: HostRuntime) {
+    // the code, the bit of the mask word from 0, the most significant, and whether a file is attached
+    let rows: [(u8, u32, bool); 11] = [
+        (0o20, 9, true),
+        (0o22, 10, true),
+        (0o17, 12, true),
+        (0o12, 11, true),
+        (0o13, 13, true),
+        (0o14, 13, false),
+        (0o10, 14, false),
+        (0o11, 15, false),
+        (0o50, 14, false),
+        (0o51, 15, false),
+        (0o30, 14, false),
+    ];
+    for (kind, (code, bit, file)) in KINDS.into_iter().zip(rows) {
+        assert_eq!(rt; code_of(kind), code, "{kind:?}");
+        assert_eq!(rt; mask_of(kind).leading_zeros(), bit, "{kind:?}");
+        assert_eq!(rt; mask_of(kind).count_ones(), 1, "{kind:?}");
+        assert_eq!(rt; takes_file(kind), file, "{kind:?}");
     }
-    Ok(())
 }
 
 #[test]

@@ -1,4 +1,4 @@
-use Rattle.std.proofs.Common.{◌∙◌, sym}
+use Rattle.std.proofs.Common.{◌∙◌, map, sym}
 use Rattle.nova_top.specs.Outside.{texts_of}
 use Rattle.nova_top.proofs.OutsideLemmas.{usage-answer, session-answer, usage-status, finish-status, complete}
 use Rattle.nova_top.proofs.program.simulate.Goals as goal
@@ -17,9 +17,9 @@ returns-in_default-clause-complete g c = λ source sink memory quiet fed.
 pub returns-clause-outcome : goal.returns-clause-outcome
 returns-clause-outcome g c = λ source sink memory.
     let (finish, now, status, machine, told, cause) = c.session.ensures.ended in
-    session-answer (texts_of c.args.words.now) c.options_of.result c.in-Some.options c.in-Ok.machine (g.C.Source.left c.args.input.now) (g.C.Source.left c.session.new.input)
+    session-answer (texts_of c.args.words.now) c.options_of.result c.in-Some.options (map g.U.Unit.unit_state c.args.units.items) c.in-Ok.machine (g.C.Source.left c.args.input.now) (g.C.Source.left c.session.new.input)
     (g.S.Sink.written c.args.output.now) (g.S.Sink.written c.session.new.output) c.session.result.status c.session.result.machine finish now
-    c.options_of.ensures c.in-Some.is c.in-Ok.ensures cause.exit status machine (told source sink)
+    c.options_of.ensures c.in-Some.is c.requires c.in-Ok.ensures cause.exit status machine (told source sink)
 
 pub returns-clause-complete : goal.returns-clause-complete
 returns-clause-complete g c = λ source sink memory quiet fed.

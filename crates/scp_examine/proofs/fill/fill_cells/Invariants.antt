@@ -5,4 +5,4 @@ use Rattle.scp_examine.specs.Effect.{filled}
 use Rattle.scp_examine.proofs.fill.fill_cells.Given as goal
 
 abbrev pub invariant-loop-i : goal.invariant-loop-i
-invariant-loop-i l = l.machine ≡ filled l.value l.fn.machine (cells l.from l.i)
+invariant-loop-i g l = l.machine ≡ filled l.value l.fn.machine (cells l.from l.i)

@@ -1,5 +1,4 @@
-use Rattle.std.proofs.Common.{sym, subst, Ok}
-use Rattle.scp_parser.specs.Reading.{reading}
+use Rattle.std.proofs.Common.{sym, subst}
 use Rattle.scp_commands.specs.Effect.{Asked, does}
 use Rattle.scp_script.specs.Session.{text_reply}
 use Rattle.scp_script.specs.Loop.{IsAnswer}

@@ -1,4 +1,4 @@
-use Rattle.std.proofs.Common.{refl, ap, sym, subst, append-nil, Err}
+use Rattle.std.proofs.Common.{refl, sym, subst, append-nil}
 use Rattle.scp_commands.specs.declared.fault.CommandFault.{CommandFault}
 use Rattle.scp_commands.specs.FaultText.{line_fault, fault_text}
 use Rattle.scp_commands.specs.Reply.{refused}

@@ -1,38 +1,50 @@
-use Rattle.std.proofs.Common.{◌≡◌, ◌+◌, ◌-◌, ◌==◌, Some, ap, sym, ◌∙◌}
+use Rattle.std.proofs.Common.{◌≡◌, ◌≢◌, ◌-◌, ◌+◌, ◌<◌, suc, false, Some, ap, ◌∙◌, arith, rules}
+use Rattle.nova_machine.specs.declared.burst.Step.TheVariants as step_end
+use Rattle.nova_machine.specs.declared.machine.Stop.TheVariants.{Limit, ChainLimit}
 use Rattle.nova_machine.specs.Seen.{seen}
-use Rattle.nova_machine.specs.Parts.{Part, silent}
-use Rattle.nova_machine.specs.Run.{run, turns, next_turn, expired}
-use Rattle.nova_machine.proofs.Silent.{nothing-made}
-use Rattle.nova_machine.proofs.Runs.{stops-behind, goes-behind, none-behind}
+use Rattle.nova_machine.specs.Run.{last_time, turns}
+use Rattle.nova_machine.proofs.Runs.{last-of, ended-of, expired-of, burst-of, chain-of, burst-goes, burst-ends}
 use Rattle.nova_machine.proofs.machine.Machine.run.Goals as goal
 
--- the run is the turn that stopped
-stopped : (c : goal.In-Stopped) → run c.args.limit.step c.args.limit.count (seen c.args.self.now) ≡ next_turn (c.loop-turn.turn == 0) (seen c.loop-turn.self)
-stopped c = stops-behind c.args.limit.step c.args.limit.count c.loop-turn.turn (seen c.args.self.now) (seen c.loop-turn.self) c.in-Stopped.stop c.loop-turn-test.true c.loop-turn.invariant (sym c.in-Stopped.ensures.answer)
+pub returns-then-self-eq-LAST_TIME-clause-told : goal.returns-then-self-eq-LAST_TIME-clause-told
+returns-then-self-eq-LAST_TIME-clause-told g c =
+    c.turns.invariant.told (Some Limit) (seen c.turns.self) (g.S.Sink.written c.turns.out)
+    (ended-of c.args.limit.step c.turns.first c.turns.left (seen c.turns.self) g.S.Sink.tells (g.S.Sink.written c.turns.out) (search rules) (search rules))
 
-pub returns-in-Stopped-clause-after : goal.returns-in-Stopped-clause-after
-returns-in-Stopped-clause-after c = c.in-Stopped.ensures.after ∙ ap (λ (p : Part). p.after) (sym (stopped c))
+pub returns-in-Stopped-clause-told : goal.returns-in-Stopped-clause-told
+returns-in-Stopped-clause-told g c =
+    let early : c.turns.self.time < last_time = search rules in
+    c.turns.invariant.told (Some c.in-Stopped.stop) (seen c.turn.new.self) (g.S.Sink.written c.turn.new.out)
+    (last-of c.args.limit.step c.turns.first c.turns.left (seen c.turns.self) c.in-Stopped.stop (seen c.turn.new.self) g.S.Sink.tells
+    (g.S.Sink.written c.turns.out) (g.S.Sink.written c.turn.new.out) early (search rules) c.in-Stopped.ensures.told)
 
-pub returns-in-Stopped-clause-stop : goal.returns-in-Stopped-clause-stop
-returns-in-Stopped-clause-stop c = c.in-Stopped.ensures.answer ∙ ap (λ (p : Part). p.stop) (sym (stopped c))
+pub returns-in-ChainLimit-clause-told : goal.returns-in-ChainLimit-clause-told
+returns-in-ChainLimit-clause-told g c =
+    let early : c.turns.self.time < last_time = search rules in
+    let one : c.turns.left ≡ suc (c.turns.left - 1) = search rules in
+    let ends : c.burst-burst.result.end ≡ step_end.ChainLimit = search rules in
+    c.turns.invariant.told (Some ChainLimit) (seen c.burst-burst.new.self) (g.S.Sink.written c.turn.new.out)
+    (chain-of c.args.limit.step c.turns.first c.turns.left (c.turns.left - 1) (seen c.turns.self) (seen c.turn.new.self) (seen c.burst-burst.new.self) g.S.Sink.tells
+    (g.S.Sink.written c.turns.out) (g.S.Sink.written c.turn.new.out) early one c.in-Executed.ensures.told
+    (burst-ends (c.turns.left - 1) c.burst-burst.result.done c.burst-burst.result.end c.turn.new.self c.burst-burst.new.self c.args.limit.step ends c.burst-burst.ensures.told))
 
-pub returns-in-Stopped-clause-silent : goal.returns-in-Stopped-clause-silent
-returns-in-Stopped-clause-silent c = nothing-made c.args.limit.step c.args.limit.count (seen c.args.self.now)
+pub turns-preserved : goal.turns-preserved
+turns-preserved g c =
+    let early : c.turns.self.time < last_time = search rules in
+    let one : c.turns.left ≡ suc (c.turns.left - 1) = search rules in
+    let other : c.burst-burst.result.end ≢ step_end.ChainLimit = search rules in
+    let goes = burst-goes (c.turns.left - 1) c.burst-burst.result.done c.burst-burst.result.end c.turn.new.self c.burst-burst.new.self c.args.limit.step other c.burst-burst.ensures.told in
+    let rest : c.turns.left - 1 - c.burst-burst.result.done ≡ c.turns.left - (1 + c.burst-burst.result.done) = omega arith in
+    record {
+      told = λ r s after more. c.turns.invariant.told r s after
+          (burst-of c.args.limit.step c.turns.first c.turns.left (c.turns.left - 1) (c.turns.left - (1 + c.burst-burst.result.done)) (seen c.turns.self) (seen c.turn.new.self)
+          (seen c.burst-burst.new.self) r s g.S.Sink.tells (g.S.Sink.written c.turns.out) (g.S.Sink.written c.turn.new.out) after early one c.in-Executed.ensures.told
+          (goes ∙ ap (λ n. turns c.args.limit.step false n (seen c.burst-burst.new.self)) rest) more);
+      counts = c.in-Executed.ensures.counts ∙ c.turns.invariant.counts;
+    }
 
-pub loop-turn-preserved : goal.loop-turn-preserved
-loop-turn-preserved c =
-    goes-behind c.args.limit.step c.args.limit.count c.loop-turn.turn (seen c.args.self.now) (seen c.loop-turn.self) c.loop-turn-test.true c.loop-turn.invariant (sym c.in-Executed.ensures.answer)
-    ∙ ap (λ s. turns c.args.limit.step (c.loop-turn.turn + 1 == 0) (c.args.limit.count - (c.loop-turn.turn + 1)) s) (sym c.in-Executed.ensures.after)
-
--- the run is over by its count
-over : (c : goal.After-expired) → run c.args.limit.step c.args.limit.count (seen c.args.self.now) ≡ silent (Some (expired c.args.limit.step)) (seen c.loop-turn.self)
-over c = none-behind c.args.limit.step c.args.limit.count c.loop-turn.turn (seen c.args.self.now) (seen c.loop-turn.self) c.loop-turn-test.false c.loop-turn.invariant
-
-pub returns-clause-after : goal.returns-clause-after
-returns-clause-after c = ap (λ (p : Part). p.after) (sym (over c))
-
-pub returns-clause-stop : goal.returns-clause-stop
-returns-clause-stop c = ap Some c.expired.ensures ∙ ap (λ (p : Part). p.stop) (sym (over c))
-
-pub returns-clause-silent : goal.returns-clause-silent
-returns-clause-silent c = nothing-made c.args.limit.step c.args.limit.count (seen c.args.self.now)
+pub returns-clause-told : goal.returns-clause-told
+returns-clause-told g c =
+    c.turns.invariant.told (Some c.expired.result) (seen c.turns.self) (g.S.Sink.written c.turns.out)
+    (expired-of c.args.limit.step c.turns.first c.turns.left (seen c.turns.self) c.expired.result
+    g.S.Sink.tells (g.S.Sink.written c.turns.out) (search rules) c.expired.ensures.other c.expired.ensures.stop)

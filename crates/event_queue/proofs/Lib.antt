@@ -1,0 +1,5 @@
+pub mod Dues
+pub mod SoundLists
+pub mod Ticks
+pub mod Numbers
+pub mod Schedules

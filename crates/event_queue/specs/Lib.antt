@@ -1,0 +1,3 @@
+pub mod EventList
+pub mod DueTimes
+pub mod Laws

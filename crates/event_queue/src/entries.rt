@@ -1,0 +1,177 @@
+ghost use Rattle.std.specs.Prelude.{◌≡◌, ◌<◌, ◌≤◌, [], length, insert, not, false, None, slice_get, is_some, IfOk, IfSome};
+ghost use Rattle.unit_trait.specs.Kinds.{units_of};
+ghost use Rattle.event_queue.specs.EventList.{Sound, event, waits, placed, activated, is_of_kind, cancelled, due, dues, served, lowered, IsApart, IsFirst};
+
+use crate::entry::Entry;
+use std::alloc::{AllocError, Global};
+use std::marker::Model;
+use unit_trait::{Kind, UnitName, code_of};
+
+/// 8 drives, 64 lines, and 9 kinds of one unit.
+const UNITS: usize = 81;
+
+/// The events that wait, in rising time.
+#[derive(Drop)]
+pub(crate) struct Entries {
+    list: Vec<Entry>,
+}
+
+impl Model for Entries {
+    ghost use Rattle.std.specs.Prelude.{List, ◌≤◌, vec_capacity};
+    ghost use Rattle.event_queue.specs.EventList.{Event, Sound};
+
+    ghost Value = { List Event };
+
+    ghost view = { λ e. e.list.items };
+
+    ghost invariant = { λ e. Sound e.list.items × (81 ≤ vec_capacity e.list) };
+}
+
+impl Entries {
+    /// No event, and room for one of each unit.
+    pub(crate) fn new(alloc: Global) -> Result<Entries, AllocError>
+        ensures { IfOk result (λ e. e ≡ []) }
+    {
+        Ok(Entries {
+            list: Vec::with_capacity(alloc, UNITS)?,
+        })
+    }
+
+    /// Puts an event behind all that are due no later, where its unit has none.
+    pub(crate) fn activate(&mut self, unit: UnitName, delay: u32)
+        requires { unit.unit < units_of unit.kind }
+        ensures { self.new ≡ activated unit delay self.old }
+    {
+        if !waits(self.list.as_slice(), unit) {
+            self.put(unit, delay);
+        }
+    }
+
+    /// Puts an event in. There is room, since no unit is there twice.
+    fn put(&mut self, unit: UnitName, delay: u32)
+        requires unit { unit.unit < units_of unit.kind }
+        requires absent { waits unit self.old ≡ false }
+        ensures { self.new ≡ placed unit delay self.old }
+    {
+        let at = place(self.list.as_slice(), delay);
+        let entry = Entry {
+            unit,
+            remaining: delay,
+        };
+        let _ = self.list.insert(at, entry);
+    }
+
+    /// Takes out the events of all units of a kind.
+    pub(crate) fn cancel(&mut self, kind: Kind)
+        ensures cancelled { self.new ≡ cancelled kind self.old }
+        ensures later { due self.old ≡ None → due self.new ≡ None }
+    {
+        self.list.retain(|entry| is_other(entry, kind));
+    }
+
+    /// Takes out all events.
+    pub(crate) fn clear(&mut self)
+        ensures { self.new ≡ [] }
+    {
+        self.list.clear();
+    }
+
+    /// Takes out the event that is due first, and answers its unit.
+    pub(crate) fn next_due(&mut self) -> Option<UnitName>
+        ensures unit { result ≡ due self.old }
+        ensures rest { self.new ≡ served self.old }
+        ensures low { IfSome result (λ u. u.unit < units_of u.kind) }
+        ensures alone { IfSome result (λ u. IsApart u (dues self.new)) }
+    {
+        if is_due(self.list.as_slice()) {
+            Some(self.list.remove(0).unit)
+        } else {
+            None
+        }
+    }
+
+    /// Lowers each remaining time, or to 0.
+    pub(crate) fn lower(&mut self, ticks: u32)
+        ensures { self.new ≡ lowered ticks self.old }
+    {
+        lower_all(self.list.as_mut_slice(), ticks);
+    }
+
+    /// The remaining time of the first event; 2^32 - 1 where none waits.
+    pub(crate) fn first(&self) -> u32
+        ensures { IsFirst self.now result }
+    {
+        match self.list.first() {
+            Some(entry) => entry.remaining,
+            None => u32::MAX,
+        }
+    }
+
+    /// How many events wait.
+    pub(crate) fn len(&self) -> usize
+        ensures { result ≡ length self.now }
+    {
+        self.list.len()
+    }
+
+    /// An event by its place from 0.
+    pub(crate) fn get(&self, k: usize) -> Option<Entry>
+        ensures entry { result ≡ slice_get self.now k }
+        ensures low { IfSome result (λ e. e.unit.unit < units_of e.unit.kind) }
+    {
+        self.list.get(k).copied()
+    }
+
+    /// The list is sound.
+    pub(crate) fn sound(&self)
+        ensures { Sound self.now }
+    {
+        let _ = &self.list;
+    }
+}
+
+/// Whether a unit has an event.
+fn waits(entries: &[Entry], unit: UnitName) -> bool
+    ensures { result ≡ waits unit entries.now }
+{
+    entries.iter().any(|entry| entry.unit.is(unit))
+}
+
+/// The place behind all events that are due no later.
+fn place(entries: &[Entry], delay: u32) -> usize
+    ensures within { result ≤ length entries.now }
+    ensures placed { (unit : UnitName) → insert entries.now result (event unit delay) ≡ placed unit delay entries.now }
+{
+    for (k, entry) in entries.iter().enumerate() {
+        if entry.remaining > delay {
+            return k;
+        }
+    }
+    entries.len()
+}
+
+/// Whether an event is not of a unit of that kind.
+fn is_other(entry: &Entry, kind: Kind) -> bool
+    ensures { result ≡ not (is_of_kind kind entry.now.unit) }
+{
+    code_of(entry.unit.kind) != code_of(kind)
+}
+
+/// Whether the first event is due.
+fn is_due(entries: &[Entry]) -> bool
+    ensures { result ≡ is_some (due entries.now) }
+{
+    match entries.first() {
+        Some(entry) => entry.remaining == 0,
+        None => false,
+    }
+}
+
+/// Lowers each remaining time, or to 0.
+fn lower_all(entries: &mut [Entry], ticks: u32)
+    ensures { entries.new ≡ lowered ticks entries.old }
+{
+    for entry in entries.iter_mut() {
+        entry.remaining = entry.remaining.saturating_sub(ticks);
+    }
+}

@@ -1,0 +1,11 @@
+//! The events that wait: each unit has at most one, which is due after so many instructions.
+#![tactic(auto)]
+
+mod entries;
+mod entry;
+pub mod events;
+pub mod laws;
+
+pub use events::Events;
+pub use laws::{lists_stay_sound, remaining_times_are_due_times};
+pub use std::alloc::AllocError as OutOfMemory;

@@ -1,0 +1,289 @@
+-- Turns in which nothing but an instruction can come are steps of the processor.
+use Rattle.std.proofs.Common.{◌≡◌, ◌≢◌, ℕ, zero, suc, ◌+◌, ◌-◌, ◌<◌, ◌≤◌, ◌==◌, ◌&&◌, Bool, true, false, not, nat_lt, List, [], ◌∷◌, Option, Some, None, refl, ap, sym, ◌∙◌, subst, arith, if◌then◌else◌}
+use Rattle.std.proofs.lemmas.Bool.Decides.{nat_tests}
+use Rattle.nova_word.specs.Bits.{bits}
+use Rattle.nova_memory.specs.Memory.{MemoryState, get}
+use Rattle.nova_memory.specs.Address.{address}
+use Rattle.unit_trait.specs.Calls.{UnitState}
+use Rattle.event_queue.specs.EventList.{Event, due, lowered, ticked as ticked_events, IsClear}
+use Rattle.event_queue.proofs.Ticks.{lowered-none, lowered-more}
+use Rattle.nova_interrupts.specs.declared.interrupts.Ints.{Ints}
+use Rattle.nova_interrupts.specs.Interrupts.{released}
+use Rattle.nova_interrupts.specs.Requests.{requested}
+use Rattle.nova_machine.specs.declared.burst.Step.{Step}
+use Rattle.nova_machine.specs.declared.burst.Step.TheVariants as step_end
+use Rattle.nova_machine.specs.declared.machine.Stop.TheVariants.{ChainLimit}
+use Rattle.nova_machine.specs.Processor.{ProcessorState}
+use Rattle.nova_machine.specs.Machine.{MachineState}
+use Rattle.nova_machine.specs.Seen.{Seen, seen}
+use Rattle.nova_machine.specs.Parts.{Part, silent, then_part}
+use Rattle.nova_machine.specs.Turned.{Turned, goes_on, stops, still, begun, ticked, executed}
+use Rattle.nova_machine.specs.Instruction.{memory_reference, arithmetic}
+use Rattle.nova_machine.specs.InputOutput.{multiply_divide}
+use Rattle.nova_machine.specs.Transfer.{transfer}
+use Rattle.nova_machine.specs.Turn.{with_memory, refer_to, refer, execute, fetch, is_interrupted, prepared, turn}
+use Rattle.nova_machine.specs.Run.{last_time, next_turn, turns}
+use Rattle.nova_machine.specs.Quiet.{IsPlain}
+use Rattle.nova_machine.specs.Burst.{Stepped, steps, refers_to, refers, passes, step_of, step, Reaches, IsBurst}
+use Rattle.nova_machine.specs.Bursts.{passed_by, IsCalm, Bursts}
+use Rattle.nova_machine.proofs.Plain.{plain-prepared}
+use Rattle.nova_machine.proofs.Runs.{turns-stop, turns-go, next-early}
+
+-- the machine behind an instruction of the processor alone
+behind_step : MachineState → ProcessorState → MachineState
+behind_step m p = record m { processor = p; ints = released m.ints; time = m.time + 1; events = ticked_events m.events }
+
+-- a step and what the turn's instruction comes to
+record Agrees (m : MachineState) (s : Stepped) (t : Turned) : Type 0 where
+  executed_is : (p : ProcessorState) → s ≡ steps p → t ≡ goes_on (behind_step m p)
+  endless : (p : ProcessorState) → s ≡ record { processor = p; end = step_end.ChainLimit } → t ≡ stops ChainLimit (record m { processor = p })
+
+agrees-if : (b : Bool) (m : MachineState) (s s' : Stepped) (t t' : Turned) → Agrees m s t → Agrees m s' t' → Agrees m (if b then s else s') (if b then t else t')
+agrees-if true m s s' t t' first second = first
+agrees-if false m s s' t t' first second = second
+
+agrees-executed : (m : MachineState) (q : ProcessorState) → Agrees m (steps q) (goes_on (behind_step m q))
+agrees-executed m q = record {
+  executed_is = λ p is. ap (λ (x : Stepped). goes_on (behind_step m x.processor)) is;
+  endless = λ p is. let e = ap (λ (x : Stepped). x.end) is in absurd (cc);
+}
+
+agrees-transfer : (m : MachineState) (q : ProcessorState) (t : Turned) → Agrees m (record { processor = q; end = step_end.Transfer }) t
+agrees-transfer m q t = record {
+  executed_is = λ p is. let e = ap (λ (x : Stepped). x.end) is in absurd (cc);
+  endless = λ p is. let e = ap (λ (x : Stepped). x.end) is in absurd (cc);
+}
+
+-- an instruction on the processor takes its time and clears HOLD
+executed-is : (f : ProcessorState → ProcessorState) (m : MachineState) → executed f m ≡ behind_step m (f m.processor)
+unfolding begun ticked behind_step
+executed-is f m = refl
+
+agrees-on : (f : ProcessorState → ProcessorState) (m : MachineState) → Agrees m (steps (f m.processor)) (goes_on (executed f m))
+agrees-on f m =
+    let P : MachineState → Type 0 = λ x. Agrees m (steps (f m.processor)) (goes_on x) in
+    subst P (sym (executed-is f m)) (agrees-executed m (f m.processor))
+
+behind-memory : (f : ProcessorState → ProcessorState) (m : MachineState) (memory : MemoryState) → executed f (with_memory m memory) ≡ behind_step m (f (record m.processor { memory = memory }))
+unfolding begun ticked behind_step
+behind-memory f m memory = refl
+
+agrees-refer_to : (w : ℕ) (a : Option ℕ) (m : MachineState) (memory : MemoryState) → Agrees m (refers_to w a (record m.processor { memory = memory })) (refer_to w a (with_memory m memory))
+agrees-refer_to w None m memory = record {
+  executed_is = λ p is. let e = ap (λ (x : Stepped). x.end) is in absurd (cc);
+  endless = λ p is. ap (λ (x : Stepped). stops ChainLimit (record m { processor = x.processor })) is;
+}
+agrees-refer_to w (Some a) m memory =
+    let P : MachineState → Type 0 = λ x. Agrees m (steps (memory_reference w a (record m.processor { memory = memory }))) (goes_on x) in
+    subst P (sym (behind-memory (memory_reference w a) m memory)) (agrees-executed m (memory_reference w a (record m.processor { memory = memory })))
+
+agrees-refer : (w : ℕ) (m : MachineState) → Agrees m (refers w m.processor) (refer w m)
+unfolding refers refer
+agrees-refer w m =
+    let reference = address m.processor.memory w m.processor.cpu.pc m.processor.cpu.accumulators in
+    agrees-refer_to w reference.address m reference.memory
+
+agrees-pass : (w : ℕ) (m : MachineState) → Agrees m (passes w m.processor) (transfer w m)
+unfolding passes transfer
+agrees-pass w m = agrees-if (bits 10 15 w == 1) m _ _ _ _ (agrees-on (multiply_divide w) m) (agrees-transfer m m.processor _)
+
+agrees-step_of : (w : ℕ) (m : MachineState) → Agrees m (step_of w m.processor) (execute w m)
+unfolding step_of execute
+agrees-step_of w m =
+    agrees-if (nat_lt w 0o60000) m _ _ _ _ (agrees-refer w m)
+    (agrees-if (nat_lt w 0o100000) m _ _ _ _ (agrees-pass w m) (agrees-on (arithmetic w) m))
+
+agrees-step : (m : MachineState) → Agrees m (step m.processor) (fetch m)
+unfolding step fetch
+agrees-step m = agrees-step_of (get m.processor.memory m.processor.cpu.pc) m
+
+-- ---- a plain turn
+
+turn-is : (first : Bool) (s : Seen) → turn first s ≡ then_part (prepared s) (λ ready. still ready (fetch ready.machine))
+unfolding turn
+turn-is first s = refl
+
+plain-turn : (first : Bool) (m : MachineState) → IsPlain m → turn first (seen m) ≡ still (seen m) (fetch m)
+plain-turn first m plain =
+    turn-is first (seen m) ∙ ap (λ (p : Part). then_part p (λ ready. still ready (fetch ready.machine))) (plain-prepared m plain)
+
+plain-next : (m : MachineState) (p : ProcessorState) → IsPlain m → m.time < last_time → step m.processor ≡ steps p
+    → next_turn false (seen m) ≡ silent None (seen (behind_step m p))
+plain-next m p plain early is =
+    next-early false (seen m) early ∙ plain-turn false m plain ∙ ap (λ (t : Turned). still (seen m) t) ((agrees-step m).executed_is p is)
+
+plain-chain : (m : MachineState) (p : ProcessorState) → IsPlain m → m.time < last_time → step m.processor ≡ record { processor = p; end = step_end.ChainLimit }
+    → next_turn false (seen m) ≡ silent (Some ChainLimit) (seen (record m { processor = p }))
+plain-chain m p plain early is =
+    next-early false (seen m) early ∙ plain-turn false m plain ∙ ap (λ (t : Turned). still (seen m) t) ((agrees-step m).endless p is)
+
+turns-silent : (step : Bool) (left : ℕ) (s next : Seen) → next_turn false s ≡ silent None next → turns step false (suc left) s ≡ turns step false left next
+turns-silent step left s next is =
+    turns-go step false left s (ap (λ (p : Part). p.stop) is)
+    ∙ ap (λ (p : Part). record { made = p.made; after = p.after; stop = p.stop })
+    (ap (λ (p : Part). then_part p (λ t. turns step false left t)) (ap (λ (p : Part). record { made = p.made; after = p.after; stop = None }) is))
+
+-- ---- so many of them
+
+-- the machine behind so many steps
+pub behind : ℕ → MachineState → ProcessorState → MachineState
+behind count m q = record (passed_by count m) { processor = q }
+
+behind-none : (m : MachineState) (q : ProcessorState) → q ≡ m.processor → behind 0 m q ≡ m
+unfolding behind passed_by
+behind-none m q is =
+    let time : m.time + 0 ≡ m.time = omega arith in
+    ap (λ (p : ProcessorState). record m { processor = p; time = m.time + 0; events = lowered 0 m.events }) is
+    ∙ ap (λ (n : ℕ). record m { time = n; events = lowered 0 m.events }) time
+    ∙ ap (λ (es : List Event). record m { events = es }) (lowered-none m.events)
+
+released-if : (b : Bool) (i : Ints) → released (if b then i else released i) ≡ released i
+released-if true i = refl
+released-if false i = refl
+
+never : (n : ℕ) → (suc n == 0) ≡ false
+never n = grind (arith, nat_tests)
+
+behind-more : (count : ℕ) (m : MachineState) (mid q : ProcessorState) → behind_step (behind count m mid) q ≡ behind (suc count) m q
+unfolding behind behind_step passed_by
+behind-more count m mid q =
+    let time : m.time + count + 1 ≡ m.time + suc count = omega arith in
+    let more : suc count ≡ count + 1 = omega arith in
+    let events : ticked_events (lowered count m.events) ≡ lowered (suc count) m.events = sym (lowered-more count m.events) ∙ ap (λ (n : ℕ). lowered n m.events) (sym more) in
+    let ints : released (if count == 0 then m.ints else released m.ints) ≡ (if suc count == 0 then m.ints else released m.ints) =
+    released-if (count == 0) m.ints ∙ ap (λ (b : Bool). if b then m.ints else released m.ints) (sym (never count)) in
+    ap (λ (n : ℕ). record m { processor = q; ints = released (if count == 0 then m.ints else released m.ints); time = n; events = ticked_events (lowered count m.events) }) time
+    ∙ ap (λ (i : Ints). record m { processor = q; ints = i; time = m.time + suc count; events = ticked_events (lowered count m.events) }) ints
+    ∙ ap (λ (es : List Event). record m { processor = q; ints = if suc count == 0 then m.ints else released m.ints; time = m.time + suc count; events = es }) events
+
+on-if : (b : Bool) (i : Ints) → (if b then i else released i).on ≡ i.on
+on-if true i = refl
+on-if false i = refl
+
+mask-if : (b : Bool) (i : Ints) → (if b then i else released i).mask ≡ i.mask
+mask-if true i = refl
+mask-if false i = refl
+
+calm-and : (on hold asked : Bool) → (on && asked) ≡ false → ((on && not hold) && asked) ≡ false
+calm-and true true asked h = refl
+calm-and true false asked h = h
+calm-and false hold asked h = refl
+
+calm-ints : (i now : Ints) (units : List UnitState) → now.on ≡ i.on → now.mask ≡ i.mask → (i.on && requested i.mask units) ≡ false → ((now.on && not now.hold) && requested now.mask units) ≡ false
+calm-ints i now units on mask quiet =
+    calm-and now.on now.hold (requested now.mask units)
+    (ap (λ (b : Bool). b && requested now.mask units) on ∙ ap (λ (n : ℕ). i.on && requested n units) mask ∙ quiet)
+
+behind-plain : (count most : ℕ) (m : MachineState) (q : ProcessorState) → IsCalm most m → count < most → IsPlain (behind count m q)
+unfolding behind passed_by
+behind-plain count most m q calm before = record {
+  none = calm.clear count before;
+  uninterrupted =
+      calm-ints m.ints (if count == 0 then m.ints else released m.ints) m.units (on-if (count == 0) m.ints) (mask-if (count == 0) m.ints)
+      (calm.quiet (omega (arith, before)));
+}
+
+behind-early : (count most : ℕ) (m : MachineState) (q : ProcessorState) → count < most → m.time + most ≤ last_time → (behind count m q).time < last_time
+unfolding behind passed_by
+behind-early count most m q before end = omega (arith, before, end)
+
+behind-processor : (count : ℕ) (m : MachineState) (q : ProcessorState) → (behind count m q).processor ≡ q
+unfolding behind
+behind-processor count m q = refl
+
+pub burst-turns : (one : Bool) (count most left : ℕ) (m : MachineState) (q : ProcessorState) → IsCalm most m → count ≤ most → m.time + most ≤ last_time
+    → Reaches count m.processor q → turns one false (count + left) (seen m) ≡ turns one false left (seen (behind count m q))
+burst-turns one zero most left m q calm within end reaches =
+    let none : zero + left ≡ left = omega arith in
+    ap (λ (n : ℕ). turns one false n (seen m)) none ∙ ap (λ (x : MachineState). turns one false left (seen x)) (sym (behind-none m q reaches))
+burst-turns one (suc count) most left m q calm within end reaches =
+    let (mid, before, last) = reaches in
+    let both : suc count + left ≡ count + suc left = omega arith in
+    let at = behind count m mid in
+    let plain = behind-plain count most m mid calm (omega (arith, within)) in
+    let early = behind-early count most m mid (omega (arith, within)) end in
+    let next = plain-next at q plain early (ap step (behind-processor count m mid) ∙ last) in
+    ap (λ (n : ℕ). turns one false n (seen m)) both
+    ∙ burst-turns one count most (suc left) m mid calm (omega (arith, within)) end before
+    ∙ turns-silent one left (seen at) (seen (behind_step at q)) next
+    ∙ ap (λ (x : MachineState). turns one false left (seen x)) (behind-more count m mid q)
+
+-- ---- what the calls come to
+
+behind-is : (count : ℕ) (m : MachineState) (q : ProcessorState) → passed_by count (record m { processor = q }) ≡ behind count m q
+unfolding behind passed_by
+behind-is count m q = refl
+
+behind-with : (count : ℕ) (m : MachineState) (mid q : ProcessorState) → record (behind count m mid) { processor = q } ≡ behind count m q
+unfolding behind
+behind-with count m mid q = refl
+
+went : (one : Bool) (most done budget : ℕ) (old new : MachineState) (q : ProcessorState) → IsCalm budget old → old.time + budget ≤ last_time → budget ≤ most → done ≤ budget
+    → Reaches done old.processor q → new ≡ passed_by done (record old { processor = q }) → turns one false most (seen old) ≡ turns one false (most - done) (seen new)
+went one most done budget old new q calm end few within reaches is =
+    let all : most ≡ done + (most - done) = omega (arith, few, within) in
+    ap (λ (n : ℕ). turns one false n (seen old)) all
+    ∙ burst-turns one done budget (most - done) old q calm within end reaches
+    ∙ ap (λ (x : MachineState). turns one false (most - done) (seen x)) (sym (is ∙ behind-is done old q))
+
+ended : (one : Bool) (most done budget : ℕ) (old new : MachineState) (mid q : ProcessorState) → IsCalm budget old → old.time + budget ≤ last_time → budget ≤ most → done < budget
+    → Reaches done old.processor mid → step mid ≡ record { processor = q; end = step_end.ChainLimit } → new ≡ passed_by done (record old { processor = q })
+    → turns one false most (seen old) ≡ silent (Some ChainLimit) (seen new)
+ended one most done budget old new mid q calm end few within reaches chain is =
+    let left = most - done - 1 in
+    let all : most ≡ done + suc left = omega (arith, few, within) in
+    let at = behind done old mid in
+    let plain = behind-plain done budget old mid calm within in
+    let early = behind-early done budget old mid within end in
+    let next = plain-chain at q plain early (ap step (behind-processor done old mid) ∙ chain) in
+    ap (λ (n : ℕ). turns one false n (seen old)) all
+    ∙ burst-turns one done budget (suc left) old mid calm (omega (arith, within)) end reaches
+    ∙ turns-stop one false left (seen at) ChainLimit (ap (λ (p : Part). p.stop) next)
+    ∙ next
+    ∙ ap (λ (x : MachineState). silent (Some ChainLimit) (seen x)) (behind-with done old mid q ∙ sym (is ∙ behind-is done old q))
+
+pub burst-told : (most done budget : ℕ) (end : Step) (old new : MachineState) (q : ProcessorState) → IsCalm budget old → old.time + budget ≤ last_time → budget ≤ most
+    → IsBurst old.processor budget done end q → new ≡ passed_by done (record old { processor = q }) → Bursts most done end old new
+burst-told most done budget step_end.Executed old new q calm last few burst is =
+    λ one. let all = burst.0 in went one most done budget old new q calm last few (omega (arith, all)) burst.1 is
+burst-told most done budget step_end.Transfer old new q calm last few burst is =
+    λ one. let some = burst.0 in went one most done budget old new q calm last few (omega (arith, some)) burst.1 is
+burst-told most done budget step_end.ChainLimit old new q calm last few burst is =
+    λ one. let (mid, within, reaches, chain) = burst in ended one most done budget old new mid q calm last few within reaches chain is
+
+-- a calm that is longer
+pub calm-less : (less more : ℕ) (m : MachineState) → less ≤ more → IsCalm more m → IsCalm less m
+calm-less less more m within calm = record {
+  quiet = λ some. calm.quiet (omega (arith, some, within));
+  clear = λ n before. calm.clear n (omega (arith, before, within));
+}
+
+-- ---- a word that is left as it stands
+
+-- where it is left, nothing has changed
+abbrev Leaves : ProcessorState → Stepped → Type 0
+Leaves p s = s.end ≡ step_end.Transfer → s.processor ≡ p
+
+leaves-if : (b : Bool) (p : ProcessorState) (s t : Stepped) → Leaves p s → Leaves p t → Leaves p (if b then s else t)
+leaves-if true p s t first second = first
+leaves-if false p s t first second = second
+
+leaves-refers_to : (w : ℕ) (a : Option ℕ) (p q : ProcessorState) → Leaves p (refers_to w a q)
+leaves-refers_to w None p q = λ is. absurd (cc)
+leaves-refers_to w (Some a) p q = λ is. absurd (cc)
+
+leaves-refers : (w : ℕ) (p : ProcessorState) → Leaves p (refers w p)
+unfolding refers
+leaves-refers w p = leaves-refers_to w _ p _
+
+leaves-passes : (w : ℕ) (p : ProcessorState) → Leaves p (passes w p)
+unfolding passes
+leaves-passes w p = leaves-if (bits 10 15 w == 1) p _ _ (λ is. absurd (cc)) (λ is. refl)
+
+leaves-step_of : (w : ℕ) (p : ProcessorState) → Leaves p (step_of w p)
+unfolding step_of
+leaves-step_of w p = leaves-if (nat_lt w 0o60000) p _ _ (leaves-refers w p) (leaves-if (nat_lt w 0o100000) p _ _ (leaves-passes w p) (λ is. absurd (cc)))
+
+pub step-leaves : (p : ProcessorState) → Leaves p (step p)
+unfolding step
+step-leaves p = leaves-step_of (get p.memory p.cpu.pc) p

@@ -1,0 +1,32 @@
+-- What a burst of the processor is to the machine: turns in which nothing but an instruction can come.
+use Rattle.std.specs.Prelude.{◌≡◌, ◌&&◌, ◌==◌, ℕ, ◌+◌, ◌-◌, ◌<◌, ◌≤◌, Bool, false, Some, if◌then◌else◌}
+use Rattle.event_queue.specs.EventList.{lowered, IsClear}
+use Rattle.nova_interrupts.specs.Interrupts.{released}
+use Rattle.nova_interrupts.specs.Requests.{requested}
+use Rattle.nova_machine.specs.declared.burst.Step.{Step}
+use Rattle.nova_machine.specs.declared.burst.Step.TheVariants as step
+use Rattle.nova_machine.specs.declared.machine.Stop.TheVariants.{ChainLimit}
+use Rattle.nova_machine.specs.Processor.{ProcessorState}
+use Rattle.nova_machine.specs.Machine.{MachineState}
+use Rattle.nova_machine.specs.Seen.{seen}
+use Rattle.nova_machine.specs.Parts.{silent}
+use Rattle.nova_machine.specs.Run.{turns}
+
+-- so many instructions have passed
+unfoldable pub passed_by : ℕ → MachineState → MachineState
+passed_by count m = record m {
+  ints = if count == 0 then m.ints else released m.ints;
+  time = m.time + count;
+  events = lowered count m.events;
+}
+
+-- no event is due and no interrupt can come within so many instructions
+pub record IsCalm (count : ℕ) (m : MachineState) : Type 0 where
+  pub quiet : 0 < count → (m.ints.on && requested m.ints.mask m.units) ≡ false
+  pub clear : IsClear count m.events
+
+-- Of so many turns some are done: those that are left come to what they all come to. A chain without an end has ended
+-- them.
+abbrev pub Bursts : ℕ → ℕ → Step → MachineState → MachineState → Type 0
+Bursts most done step.ChainLimit old new = (step : Bool) → turns step false most (seen old) ≡ silent (Some ChainLimit) (seen new)
+Bursts most done end old new = (step : Bool) → turns step false most (seen old) ≡ turns step false (most - done) (seen new)

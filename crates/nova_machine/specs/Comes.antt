@@ -1,0 +1,37 @@
+-- What a call has come to that does a part of a run, on a console that had and has these bytes.
+use Rattle.std.specs.Prelude.{◌≡◌, ℕ, Bool, IsTrue, List, ◌++◌, Option, Some}
+use Rattle.fault_counts.specs.Faults.{raised}
+use Rattle.observations.specs.Observations.{text_of, StandsAt}
+use Rattle.observations.specs.Cut.{BreaksOff}
+use Rattle.nova_machine.specs.declared.machine.Stop.{Stop}
+use Rattle.nova_machine.specs.declared.machine.Stop.TheVariants.{ConsoleFault}
+use Rattle.nova_machine.specs.Seen.{Seen}
+use Rattle.nova_machine.specs.Parts.{Part}
+
+-- all of it was printed, and it came to its stop and its state
+pub record IsWhole (p : Part) (stop : Option Stop) (s : Seen) (tells : Bool) (before after : List ℕ) : Type 0 where
+  pub stop_is : stop ≡ p.stop
+  pub after_is : s ≡ p.after
+  pub written : IsTrue tells → after ≡ before ++ text_of p.made
+
+-- the first bytes of what it prints were printed, and the next one was refused in that state
+pub record BrokenOff (p : Part) (s : Seen) (before after : List ℕ) : Type 0 where
+  pub taken : List ℕ
+  pub written : after ≡ before ++ taken
+  pub breaks : BreaksOff p.made taken s
+
+-- The console refused a byte. The state is that in which the byte was to be printed, and, where bytes are not told, that
+-- of one of the texts.
+pub record IsBrokenOff (p : Part) (s : Seen) (tells : Bool) (before after : List ℕ) : Type 0 where
+  pub stands : StandsAt s p.made
+  pub told : IsTrue tells → BrokenOff p s before after
+
+-- it came to its end, or the console refused a byte
+abbrev pub Comes : Part → Option Stop → Seen → Bool → List ℕ → List ℕ → Type 0
+Comes p (Some ConsoleFault) s tells before after = IsBrokenOff p s tells before after
+Comes p stop s tells before after = IsWhole p stop s tells before after
+
+-- The console's count of faults rises by one where it refused a byte, and stands still with every other stop.
+abbrev pub StopCounts : Option Stop → ℕ → ℕ → Type 0
+StopCounts (Some ConsoleFault) before now = now ≡ raised before
+StopCounts stop before now = now ≡ before

@@ -1,0 +1,84 @@
+-- The stops of a turn have their causes, and come wherever these are given.
+use Rattle.std.specs.Prelude.{◌≡◌, ◌≢◌, ◌↔◌, ◌⊎◌, ℕ, ◌+◌, ◌<◌, ◌≤◌, Bool, true, false, Option, Some, None}
+use Rattle.nova_word.specs.Bits.{bits}
+use Rattle.nova_memory.specs.Memory.{get}
+use Rattle.nova_memory.specs.Address.{address}
+use Rattle.unit_trait.specs.declared.kind.UnitName.{UnitName}
+use Rattle.unit_list.specs.Bus.{unit_at}
+use Rattle.nova_machine.specs.declared.machine.Stop.{Stop}
+use Rattle.nova_machine.specs.declared.machine.Stop.TheVariants.{Halt, ChainLimit, UnknownDevice, UnitEnd, UnitNone}
+use Rattle.nova_machine.specs.Machine.{MachineState}
+use Rattle.nova_machine.specs.Seen.{Seen}
+use Rattle.nova_machine.specs.Instruction.{following}
+use Rattle.nova_machine.specs.Service.{serving}
+use Rattle.nova_machine.specs.Turn.{with_memory, is_interrupted, interrupt_reference, prepared, turn}
+
+-- the word that an instruction of that machine has
+abbrev pub fetched : MachineState → ℕ
+fetched m = get m.processor.memory m.processor.cpu.pc
+
+-- a word of input and output
+pub record IsTransfer (word : ℕ) : Type 0 where
+  pub least : 0o60000 ≤ word
+  pub most : word < 0o100000
+
+-- DOC to device 77: HALT, with any accumulator and pulse
+pub record IsHalt (word : ℕ) : Type 0 where
+  pub transfer : IsTransfer word
+  pub device : bits 10 15 word ≡ 0o77
+  pub function : bits 5 7 word ≡ 6
+
+-- a word to a device that is not there, where STOP_DEV is on; devices 1 and 77 are always there
+pub record IsUnknown (word : ℕ) (m : MachineState) : Type 0 where
+  pub transfer : IsTransfer word
+  pub multiplier : bits 10 15 word ≢ 1
+  pub processor : bits 10 15 word ≢ 0o77
+  pub absent : unit_at (bits 10 15 word) m.units ≡ None
+  pub stops : m.stop_dev ≡ true
+
+-- a memory reference whose indirect chain does not end
+pub record IsEndless (word : ℕ) (m : MachineState) : Type 0 where
+  pub memory_reference : word < 0o60000
+  pub chain : (address m.processor.memory word m.processor.cpu.pc m.processor.cpu.accumulators).address ≡ None
+
+-- the services go on, an interrupt comes, and the chain of its JMP @1 does not end
+pub record IsEndlessEntry (s : Seen) : Type 0 where
+  pub goes : (serving s).stop ≡ None
+  pub comes : is_interrupted (serving s).after.machine ≡ true
+  pub chain : (interrupt_reference (serving s).after.machine).address ≡ None
+
+-- what comes before the instruction goes on to it
+abbrev pub IsReached : Seen → Type 0
+IsReached s = (prepared s).stop ≡ None
+
+-- the machine that executes the instruction
+abbrev pub ready : Seen → MachineState
+ready s = (prepared s).after.machine
+
+-- Halt has taken its time and gone on behind itself
+pub record IsHalted (before after : MachineState) : Type 0 where
+  pub time : after.time ≡ before.time + 1
+  pub pc : after.processor.cpu.pc ≡ following before.processor.cpu.pc
+
+-- the machine at a chain without an end, which has changed words of memory and nothing else
+abbrev pub behind_chain : MachineState → MachineState
+behind_chain m = with_memory m (address m.processor.memory (fetched m) m.processor.cpu.pc m.processor.cpu.accumulators).memory
+
+-- the machine at an interrupt whose chain does not end: interrupts are off, PC is in location 0, the words that the chain
+-- changed stay so, and PC is where it was
+abbrev pub behind_entry : MachineState → MachineState
+behind_entry m = with_memory (record m { ints = record m.ints { on = false } }) (interrupt_reference m).memory
+
+pub record TurnStops : Type 0 where
+  -- a service that stops ends the turn there, and every other turn goes on from it
+  pub service : (first : Bool) (s : Seen) (stop : Stop) → (serving s).stop ≡ Some stop → turn first s ≡ serving s
+  pub unit_end : (first : Bool) (s : Seen) (unit : UnitName) → ((turn first s).stop ≡ Some (UnitEnd unit)) ↔ ((serving s).stop ≡ Some (UnitEnd unit))
+  pub unit_none : (first : Bool) (s : Seen) (unit : UnitName) → ((turn first s).stop ≡ Some (UnitNone unit)) ↔ ((serving s).stop ≡ Some (UnitNone unit))
+  pub halt : (first : Bool) (s : Seen) → ((turn first s).stop ≡ Some Halt) ↔ (IsReached s × IsHalt (fetched (ready s)))
+  pub unknown_device : (first : Bool) (s : Seen) → ((turn first s).stop ≡ Some UnknownDevice) ↔ (IsReached s × IsUnknown (fetched (ready s)) (ready s))
+  pub chain_limit : (first : Bool) (s : Seen) → ((turn first s).stop ≡ Some ChainLimit) ↔ (IsEndlessEntry s ⊎ (IsReached s × IsEndless (fetched (ready s)) (ready s)))
+  -- what stands after them
+  pub halted : (first : Bool) (s : Seen) → (turn first s).stop ≡ Some Halt → IsHalted (ready s) (turn first s).after.machine
+  pub unknown : (first : Bool) (s : Seen) → (turn first s).stop ≡ Some UnknownDevice → (turn first s).after ≡ (prepared s).after
+  pub unended : (first : Bool) (s : Seen) → IsReached s → (turn first s).stop ≡ Some ChainLimit → (turn first s).after.machine ≡ behind_chain (ready s)
+  pub unentered : (first : Bool) (s : Seen) → IsEndlessEntry s → (turn first s).after.machine ≡ behind_entry (serving s).after.machine

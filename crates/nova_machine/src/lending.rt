@@ -1,0 +1,20 @@
+ghost use Rattle.std.specs.Prelude.{◌≡◌};
+
+use crate::machine::Machine;
+use nova_memory::Memory;
+use unit_trait::Unit;
+
+impl<U: Unit> Machine<U> {
+    ghost use Rattle.std.specs.Borrow.{sem, Lends};
+    ghost use Rattle.nova_memory.specs.contracts.memory.Memory.{the_row as memory_row};
+    ghost use Rattle.nova_machine.specs.contracts.machine.Machine.{the_row};
+    ghost use Rattle.nova_machine.specs.Turn.{with_memory};
+
+    /// The machine's memory, to be changed as a person at the console or a loader does. It takes no time.
+    pub fn memory_mut(&mut self) -> &mut Memory
+        ensures* writes_back { sem 𝓛 (Lends (the_row U.row U.Unit) memory_row self.entry result (with_memory self.old)) }
+        ensures value { result.now ≡ self.old.processor.memory }
+    {
+        &mut self.processor.memory
+    }
+}

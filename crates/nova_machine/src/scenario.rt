@@ -1,0 +1,267 @@
+// What the tests of the machine have in common: a machine with a clock, a keyboard and a printer, which is set, goes on,
+// and is looked at.
+ghost use Rattle.std.specs.Prelude.{◌≡◌, ◌∷◌, [], map};
+ghost use Rattle.unit_trait.specs.declared.kind.Kind.TheVariants.{Clk as clock, Tti as keyboard, Tto as printer};
+ghost use Rattle.unit_trait.specs.Row.{initial_unit};
+
+use crate::machine::{Machine, RunLimit, Stop, Turn};
+use clock_unit::Clk;
+use host_files::{ByteSink, Sink};
+use nova_word::{Addr, Word};
+use std::alloc::Global;
+use std::process::Abort;
+use std::test::Fail;
+use tty_units::{Tti, Tto};
+use unit_trait::{CpuReg, Kind, RegFault, Unit, UnitName};
+
+/// The numbers of registers of devices.
+pub const BUSY: u8 = 0;
+
+pub const DONE: u8 = 1;
+
+pub const SEL: u8 = 2;
+
+pub const TIME: u8 = 2;
+
+pub const BUF: u8 = 3;
+
+/// What a machine holds: a word of memory, a register of the processor, or one of a device by its number.
+#[derive(Clone, Copy, Debug, PartialEq, Eq)]
+pub enum Place {
+    Cell(u16),
+    Cpu(CpuReg),
+    Device(Kind, u8),
+}
+
+/// The registers that a machine of the tests has.
+const REGISTERS: [Place; 22] = [
+    Place::Cpu(CpuReg::Ac0),
+    Place::Cpu(CpuReg::Ac1),
+    Place::Cpu(CpuReg::Ac2),
+    Place::Cpu(CpuReg::Ac3),
+    Place::Cpu(CpuReg::C),
+    Place::Cpu(CpuReg::Pc),
+    Place::Cpu(CpuReg::Ion),
+    Place::Cpu(CpuReg::Hold),
+    Place::Cpu(CpuReg::Mask),
+    Place::Cpu(CpuReg::Sr),
+    Place::Cpu(CpuReg::StopDev),
+    Place::Device(Kind::Clk, BUSY),
+    Place::Device(Kind::Clk, DONE),
+    Place::Device(Kind::Clk, SEL),
+    Place::Device(Kind::Tti, BUSY),
+    Place::Device(Kind::Tti, DONE),
+    Place::Device(Kind::Tti, TIME),
+    Place::Device(Kind::Tti, BUF),
+    Place::Device(Kind::Tto, BUSY),
+    Place::Device(Kind::Tto, DONE),
+    Place::Device(Kind::Tto, TIME),
+    Place::Device(Kind::Tto, BUF),
+];
+
+/// Values of places.
+pub type Values<'a> = &'a [(Place, u32)];
+
+/// What is done with a machine, and how it is to end.
+#[derive(Clone, Copy)]
+pub enum Act {
+    Turn(Turn),
+    Run(RunLimit, Stop),
+    Reset,
+    Put(Place, u32),
+    /// It is that time.
+    Time(u64),
+}
+
+/// What a machine is to come to. What is not named behind it is to be as it was before: each register, and each word of
+/// memory that is named before.
+#[derive(Clone, Copy)]
+pub struct Case<'a> {
+    /// The program, from 100 on, where PC is unless it is named.
+    pub words: &'a [u16],
+    pub before: Values<'a>,
+    pub acts: &'a [Act],
+    pub after: Values<'a>,
+    pub time: u64,
+    /// The events that then wait.
+    pub events: &'a [(Kind, u64)],
+    /// How many bytes the console takes, what it then has, and how often it has refused one.
+    pub room: usize,
+    pub printed: &'a [u8],
+    pub faults: u64,
+}
+
+/// A case in which nothing is asked.
+pub const NOTHING: Case = Case {
+    words: &[],
+    before: &[],
+    acts: &[],
+    after: &[],
+    time: 0,
+    events: &[],
+    room: 0,
+    printed: b"",
+    faults: 0,
+};
+
+/// A run of that many instructions that is called a step.
+pub fn step(count: u64) -> RunLimit {
+    RunLimit { count, step: true }
+}
+
+/// Plays a case on a new machine in which no event is due: the keyboard's is the only one, and it comes at time 100.
+pub fn goes<'a>(
+    rt: &impl Abort,
+    alloc: Global,
+    words: &'a [u16],
+    before: Values<'a>,
+    acts: &'a [Act],
+    after: Values<'a>,
+    time: u64,
+) -> Result<(), Fail> {
+    let events = [(Kind::Tti, 100u64.saturating_sub(time))];
+    let case = silent(words, before, acts, after, time, &events);
+    holds(rt, alloc, case)
+}
+
+/// A case in which nothing is printed.
+fn silent<'a>(
+    words: &'a [u16],
+    before: Values<'a>,
+    acts: &'a [Act],
+    after: Values<'a>,
+    time: u64,
+    events: &'a [(Kind, u64)],
+) -> Case<'a> {
+    Case {
+        words,
+        before,
+        acts,
+        after,
+        time,
+        events,
+        ..NOTHING
+    }
+}
+
+/// Plays a case on a new machine.
+pub fn holds(rt: &impl Abort, alloc: Global, case: Case) -> Result<(), Fail> {
+    let mut units: Vec<Box<dyn Unit>> = Vec::new(alloc);
+    units.push(Box::new(alloc, Clk::new())?)?;
+    units.push(Box::new(alloc, Tti::new())?)?;
+    units.push(Box::new(alloc, Tto::new())?)?;
+    play(rt, alloc, units, case)
+}
+
+fn play<U: Unit>(rt: &impl Abort, alloc: Global, units: Vec<U>, case: Case) -> Result<(), Fail>
+    requires { map U.unit_state units.items ≡ map initial_unit (clock ∷ keyboard ∷ printer ∷ []) }
+{
+    let mut machine = Machine::new(alloc, units)?;
+    set(&mut machine, case)?;
+    let mut stood = [None; 22];
+    for (value, place) in stood.iter_mut().zip(REGISTERS.iter()) {
+        *value = held(&machine, *place);
+    }
+    let mut console = ByteSink::with_room(alloc, case.room)?;
+    for act in case.acts {
+        does(rt, &mut machine, *act, &mut console)?;
+    }
+    let word = case.words.first().copied().unwrap_or(0);
+    assert_eq!(rt; machine.time(), case.time, "{word:o}");
+    assert_eq!(rt; console.bytes(), case.printed, "{word:o}");
+    assert_eq!(rt; console.faults(), case.faults, "{word:o}");
+    for (place, value) in REGISTERS.iter().zip(stood.iter()) {
+        let wanted = named(case.after, *place).or(*value);
+        assert_eq!(rt; held(&machine, *place), wanted, "{word:o} {place:?}");
+    }
+    for (place, value) in case.before.iter() {
+        let wanted = named(case.after, *place).unwrap_or(*value);
+        assert_eq!(rt; held(&machine, *place), Some(wanted), "{word:o} {place:?}");
+    }
+    for (place, value) in case.after.iter() {
+        assert_eq!(rt; held(&machine, *place), Some(*value), "{word:o} {place:?}");
+    }
+    events_wait(rt, &machine, case.events);
+    machine.core();
+    Ok(())
+}
+
+/// Puts the program in, and what the case names before it.
+fn set<U: Unit>(machine: &mut Machine<U>, case: Case) -> Result<(), RegFault> {
+    let mut at = Addr::of_word(Word(0o100));
+    for word in case.words {
+        machine.memory_mut().write(at, Word(*word));
+        at = at.plus(1);
+    }
+    machine.set_cpu_reg(CpuReg::Pc, 0o100)?;
+    for (place, value) in case.before {
+        put(machine, *place, *value)?;
+    }
+    Ok(())
+}
+
+pub fn put<U: Unit>(machine: &mut Machine<U>, place: Place, value: u32) -> Result<(), RegFault> {
+    match place {
+        Place::Cell(at) => {
+            let word = Word((value & 0o177777) as u16);
+            machine.memory_mut().write(Addr::of_word(Word(at)), word);
+            Ok(())
+        }
+        Place::Cpu(register) => machine.set_cpu_reg(register, value),
+        Place::Device(kind, i) => machine.set_unit_reg(kind, i, value),
+    }
+}
+
+pub fn held<U: Unit>(machine: &Machine<U>, place: Place) -> Option<u32> {
+    match place {
+        Place::Cell(at) => {
+            let word = machine.memory().read(Addr::of_word(Word(at)));
+            Some(u32::from(word.0))
+        }
+        Place::Cpu(register) => Some(machine.cpu_reg(register)),
+        Place::Device(kind, i) => machine.unit_reg(kind, i),
+    }
+}
+
+fn named(values: Values, wanted: Place) -> Option<u32> {
+    for (place, value) in values {
+        if *place == wanted {
+            return Some(*value);
+        }
+    }
+    None
+}
+
+fn does<U: Unit>(
+    rt: &impl Abort,
+    machine: &mut Machine<U>,
+    act: Act,
+    console: &mut ByteSink,
+) -> Result<(), RegFault> {
+    match act {
+        Act::Turn(turn) => {
+            assert!(rt; machine.time() < 1 << 60);
+            assert_eq!(rt; machine.turn(true, console), turn);
+        }
+        Act::Run(limit, stop) => assert_eq!(rt; machine.run(limit, console), stop),
+        Act::Reset => machine.reset(),
+        Act::Put(place, value) => put(machine, place, value)?,
+        Act::Time(time) => {
+            assert!(rt; time <= 1 << 60);
+            machine.time = time;
+        }
+    }
+    Ok(())
+}
+
+/// The events of a machine are these, in their order.
+pub fn events_wait<U: Unit>(rt: &impl Abort, machine: &Machine<U>, events: &[(Kind, u64)]) {
+    for (place, event) in events.iter().enumerate() {
+        let unit = UnitName {
+            kind: event.0,
+            unit: 0,
+        };
+        assert_eq!(rt; machine.events().in_order(place), Some((unit, event.1)));
+    }
+    assert_eq!(rt; machine.events().len(), events.len());
+}

@@ -1,0 +1,54 @@
+ghost use Rattle.std.specs.Prelude.{◌≡◌, ◌↔◌, map, IsTrue};
+ghost use Rattle.unit_trait.specs.Registers.{registers};
+ghost use Rattle.unit_trait.specs.Row.{initial_unit};
+ghost use Rattle.nova_top.specs.Standard.{IsStandard};
+
+use unit_trait::{Kind, Unit, reg_initial};
+
+/// The kinds that are built, in bus order.
+const STANDARD_KINDS: [Kind; 3] = [Kind::Clk, Kind::Tti, Kind::Tto];
+
+/// Whether the units are those that a machine of this program has: one of each kind that is built, in bus order, each
+/// with what its registers hold at first.
+pub fn is_standard<U: Unit>(units: &[U]) -> bool
+    ensures { IsTrue result ↔ IsStandard (map U.unit_state units.now) }
+{
+    if units.len() != STANDARD_KINDS.len() {
+        return false;
+    }
+    for place in 0..STANDARD_KINDS.len() {
+        if !is_initial(&units[place], STANDARD_KINDS[place]) {
+            return false;
+        }
+    }
+    true
+}
+
+// Whether a unit is one of that kind before anything was asked of it.
+fn is_initial<U: Unit>(unit: &U, kind: Kind) -> bool
+    ensures { IsTrue result ↔ (U.unit_state unit.now ≡ initial_unit kind) }
+{
+    unit.kind() == kind && holds_initial(unit)
+}
+
+// Whether each register of a unit holds what it holds at first.
+fn holds_initial<U: Unit>(unit: &U) -> bool
+    ensures { IsTrue result ↔ ((U.unit_state unit.now).registers
+        ≡ map (λ r. r.initial) (registers (U.unit_state unit.now).kind)) }
+{
+    let kind = unit.kind();
+    for i in 0..u8::MAX {
+        match reg_initial(kind, i) {
+            Some(initial) => {
+                if unit.reg(i) != initial {
+                    return false;
+                }
+            }
+            None => return true,
+        }
+    }
+    true
+}
+
+#[cfg(test)]
+mod tests;

@@ -1,0 +1,4 @@
+pub mod Bus
+pub mod Places
+pub mod Reset
+pub mod Laws

@@ -1,0 +1,18 @@
+//! The units of a machine, in bus order: each is found by the code of its kind, asked, and set.
+#![tactic(auto)]
+
+pub mod bus;
+pub mod laws;
+mod places;
+pub mod registers;
+pub mod reset;
+pub mod service;
+
+pub use bus::{BusAnswer, Flags, flags_at, has_unit, io_at};
+pub use laws::calls_reach_one_unit;
+pub use registers::{all_fit, reg_at, set_reg_at};
+pub use reset::reset_all;
+pub use service::{due_at, got_at};
+
+#[cfg(test)]
+mod tests;

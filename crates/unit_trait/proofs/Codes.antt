@@ -1,0 +1,29 @@
+-- The code of a kind tells it from every other one.
+use Rattle.std.proofs.Common.{◌≡◌, ℕ, ◌==◌, refl, ap, sym, ◌∙◌, if◌then◌else◌}
+use Rattle.unit_trait.specs.declared.kind.Kind.{Kind}
+use Rattle.unit_trait.specs.declared.kind.Kind.TheVariants.{Dsk, Mta, Lpt, Ptr, Ptp, Clk, Tti, Tto, Tti1, Tto1, Qty}
+use Rattle.unit_trait.specs.Kinds.{code_of}
+
+-- the kind with a code, where there is one
+kind_with : ℕ → Kind
+kind_with code =
+    if code == 0o20 then Dsk else if code == 0o22 then Mta else if code == 0o17 then Lpt else if code == 0o12 then Ptr
+    else if code == 0o13 then Ptp else if code == 0o14 then Clk else if code == 0o10 then Tti else if code == 0o11 then Tto
+    else if code == 0o50 then Tti1 else if code == 0o51 then Tto1 else Qty
+
+with-code : (kind : Kind) → kind_with (code_of kind) ≡ kind
+unfolding kind_with
+with-code Dsk = refl
+with-code Mta = refl
+with-code Lpt = refl
+with-code Ptr = refl
+with-code Ptp = refl
+with-code Clk = refl
+with-code Tti = refl
+with-code Tto = refl
+with-code Tti1 = refl
+with-code Tto1 = refl
+with-code Qty = refl
+
+pub same-code : (a b : Kind) → code_of a ≡ code_of b → a ≡ b
+same-code a b same = sym (with-code a) ∙ ap kind_with same ∙ with-code b

@@ -1,0 +1,67 @@
+-- The device table: what a device says to each call, by its kind and what its registers hold. Devices that this version
+-- of the program does not have say nothing.
+use Rattle.std.specs.Prelude.{ℕ, ◌≤◌, ◌%◌, ◌^◌, ◌&&◌, Bool, false, nat_le, List, [], ◌∷◌, map, Option, Some, None}
+use Rattle.unit_trait.specs.declared.kind.Kind.{Kind}
+use Rattle.unit_trait.specs.declared.kind.Kind.TheVariants.{Clk, Tti, Tto, Tti1, Tto1}
+use Rattle.unit_trait.specs.declared.calls.Queue.{Queue}
+use Rattle.unit_trait.specs.declared.calls.Queue.TheVariants.{Keep, Cancel, After}
+use Rattle.unit_trait.specs.declared.calls.Want.{Want}
+use Rattle.unit_trait.specs.declared.calls.Want.TheVariants.{Key, LineKey, Console, LinePut}
+use Rattle.unit_trait.specs.Device.{Register}
+use Rattle.unit_trait.specs.Registers.{registers}
+use Rattle.unit_trait.specs.Calls.{UnitState, UnitCall, Row, holds}
+use Rattle.unit_trait.specs.Clock.{clock_row}
+use Rattle.unit_trait.specs.Keyboard.{keyboard_row}
+use Rattle.unit_trait.specs.Teleprinter.{teleprinter_row}
+
+-- the console prints the low seven bits of a character
+abbrev pub console_want : ℕ → Want
+console_want character = Console (character % 2 ^ 7)
+
+-- a line takes all eight bits
+abbrev pub line_want : ℕ → ℕ → Want
+line_want line character = LinePut line character
+
+unfoldable pub row_of : Kind → List ℕ → UnitCall → Row
+row_of Clk registers call = clock_row registers call
+row_of Tti registers call = keyboard_row Key registers call
+row_of Tto registers call = teleprinter_row console_want registers call
+row_of Tti1 registers call = keyboard_row (LineKey 0) registers call
+row_of Tto1 registers call = teleprinter_row (line_want 0) registers call
+row_of kind registers call = holds registers
+
+abbrev pub row : UnitState → UnitCall → Row
+row unit call = row_of unit.kind unit.registers call
+
+-- the device behind a call
+abbrev pub moved : UnitState → UnitCall → UnitState
+moved unit call = record unit { registers = (row unit call).registers }
+
+-- each register holds a value from its least to its largest, and there are as many values as registers
+abbrev pub InRange : List Register → List ℕ → Type 0
+InRange [] [] = Unit {0}
+InRange (r ∷ rs) (v ∷ vs) = (r.least ≤ v) × (v ≤ r.largest) × InRange rs vs
+InRange rs vs = ⊥
+
+abbrev pub Fits : UnitState → Type 0
+Fits unit = InRange (registers unit.kind) unit.registers
+
+-- whether a register, if there is one, takes a value
+abbrev pub takes_value : Option Register → ℕ → Bool
+takes_value (Some r) value = nat_le r.least value && nat_le value r.largest
+takes_value None value = false
+
+-- a device before anything was asked of it
+abbrev pub initial_unit : Kind → UnitState
+initial_unit kind = record { kind = kind; registers = map (λ r. r.initial) (registers kind) }
+
+-- an event is wished for later than now
+abbrev pub IsLater : Queue → Type 0
+IsLater (After delay) = 1 ≤ delay
+IsLater wish = Unit {0}
+
+-- nothing is wished for, or an event later than now
+abbrev pub IsAgain : Queue → Type 0
+IsAgain (After delay) = 1 ≤ delay
+IsAgain Keep = Unit {0}
+IsAgain Cancel = ⊥
