@@ -1,3 +1,4 @@
 pub mod Arithmetic
 pub mod Codes
+pub mod Numbers
 pub mod MultiplyDivide

@@ -1,18 +1,17 @@
 ghost use Rattle.std.specs.Prelude.{◌≡◌, ◌≢◌, ℕ, ◌%◌, ◌^◌, ◌<◌, All, slice_index, slice_set};
 ghost use Rattle.nova_word.specs.Bits.{bits};
-ghost use Rattle.nova_alu.specs.Arithmetic.{function_number, loaded_accumulators, loaded_carry, shifted_number};
-ghost use Rattle.nova_alu.specs.Arithmetic.{skips_next};
+ghost use Rattle.nova_alu.specs.Arithmetic.{loaded_accumulators, loaded_carry, shifted_number, skips_next};
 
 use crate::carries::CarryBase;
 use crate::functions::Function;
 use crate::outcome::Arith;
 use crate::shifts::Shift;
 use crate::skips::Skip;
+use crate::table::{number, number_of};
 use nova_word::Word;
 
 /// Executes the arithmetic and logical instruction in `word` (How to Use the Nova Computers, "Arithmetic and Logical
 /// Instructions"). It reads the fields of any word, and doesn't look at bit 0.
-#[inline]
 #[tactic(auto, unfolding(crate::specs::Arithmetic::loaded_accumulators, crate::specs::Arithmetic::loaded_carry, crate::specs::Arithmetic::skips_next))]
 pub fn arith(word: Word, acs: [Word; 4], carry: bool) -> Arith
     ensures accumulators { result.acs ≡ loaded_accumulators word acs carry }
@@ -28,50 +27,64 @@ pub fn arith(word: Word, acs: [Word; 4], carry: bool) -> Arith
     let [ac0, ac1, ac2, ac3] = acs;
     let mut acs = [ac0, ac1, ac2, ac3];
     let mut carry = carry;
-    let skip = arith_in_place(word, &mut acs, &mut carry);
+    let x = decoded_number(word, &acs, carry);
+    let skip = load(word, x, &mut acs, &mut carry);
     Arith { acs, carry, skip }
 }
 
 /// Executes the instruction as `arith` does, on accumulators and a Carry where they stand, and answers whether the next
-/// instruction is skipped. One accumulator is written at the most, and all four are never read together: a processor
-/// waits where it reads several words at once of which one was just written.
+/// instruction is skipped. It is for a loop over instructions: what it chooses, it chooses by a table, and all four
+/// accumulators are never read together, since a processor waits where it reads several words at once of which one was
+/// just written.
 #[inline(always)]
-#[tactic(auto, unfolding(crate::specs::Arithmetic::loaded_accumulators, crate::specs::Arithmetic::loaded_carry, crate::specs::Arithmetic::skips_next))]
 pub fn arith_in_place(word: Word, acs: &mut [Word; 4], carry: &mut bool) -> bool
     ensures accumulators { acs.new ≡ loaded_accumulators word acs.old carry.old }
     ensures carry { carry.new ≡ loaded_carry word acs.old carry.old }
     ensures skip { result ≡ skips_next word acs.old carry.old }
 {
     let x = shifted_number(word, acs, *carry);
-    if (word.0 >> 3) & 1 == 0 {
-        acs[usize::from((word.0 >> 11) & 3)] = Word((x % 65536) as u16);
+    load(word, x, acs, carry)
+}
+
+/// Loads the 17 bits of carry and result, where the instruction loads, and answers whether it skips at them.
+#[inline(always)]
+#[tactic(auto, unfolding(crate::specs::Arithmetic::loaded_accumulators, crate::specs::Arithmetic::loaded_carry, crate::specs::Arithmetic::skips_next))]
+fn load(word: Word, x: u32, acs: &mut [Word; 4], carry: &mut bool) -> bool
+    requires { x ≡ shifted_number word acs.old carry.old }
+    ensures accumulators { acs.new ≡ loaded_accumulators word acs.old carry.old }
+    ensures carry { carry.new ≡ loaded_carry word acs.old carry.old }
+    ensures skip { result ≡ skips_next word acs.old carry.old }
+{
+    if (word.0 >> 3) % 2 == 0 {
+        acs[usize::from((word.0 >> 11) % 4)] = Word((x % 65536) as u16);
         *carry = x >= 65536;
     }
     Skip::of_word(word).holds(x)
 }
 
-/// The 17 bits of carry and result after the shift.
-#[inline]
-#[tactic(auto, unfolding(crate::specs::Arithmetic::shifted_number))]
+/// The 17 bits of carry and result after the shift, by the table.
+#[inline(always)]
+#[tactic(auto, unfolding(crate::specs::Arithmetic::shifted_number, crate::specs::Arithmetic::function_number))]
 fn shifted_number(word: Word, acs: &[Word; 4], carry: bool) -> u32
     ensures value { result ≡ shifted_number word acs.now carry }
     ensures range { result < 2 ^ 17 }
 {
-    Shift::of_word(word).shift(function_number(word, acs, carry))
+    let s = acs[usize::from((word.0 >> 13) % 4)];
+    let d = acs[usize::from((word.0 >> 11) % 4)];
+    number_of(word, s.0, d.0, carry)
 }
 
-/// The 17 bits of carry and result before the shift.
-#[inline]
-#[tactic(auto, unfolding(crate::specs::Arithmetic::function_number))]
-fn function_number(word: Word, acs: &[Word; 4], carry: bool) -> u32
-    ensures value { result ≡ function_number word acs.now carry }
+/// The 17 bits of carry and result after the shift, by one field of the word behind another.
+#[tactic(auto, unfolding(crate::specs::Arithmetic::shifted_number, crate::specs::Arithmetic::function_number))]
+fn decoded_number(word: Word, acs: &[Word; 4], carry: bool) -> u32
+    ensures value { result ≡ shifted_number word acs.now carry }
     ensures range { result < 2 ^ 17 }
 {
-    let source = acs[usize::from((word.0 >> 13) & 3)];
-    let destination = acs[usize::from((word.0 >> 11) & 3)];
-    let sum = Function::of_word(word).sum(source.0, destination.0);
-    let base = CarryBase::of_word(word).base(carry);
-    (u32::from(base) * 65536 + sum) % 131072
+    let s = acs[usize::from((word.0 >> 13) % 4)];
+    let d = acs[usize::from((word.0 >> 11) % 4)];
+    let function = Function::of_word(word);
+    let base = CarryBase::of_word(word);
+    number(word, function, base, Shift::of_word(word), s.0, d.0, carry)
 }
 
 #[cfg(test)]

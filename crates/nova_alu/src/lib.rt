@@ -8,6 +8,7 @@ pub mod multiply_divide;
 pub mod outcome;
 mod shifts;
 mod skips;
+mod table;
 
 pub use arithmetic::{arith, arith_in_place};
 pub use multiply_divide::{Divided, divide, divide_in_place, multiply, multiply_in_place};

@@ -16,7 +16,7 @@ pub(crate) struct Skip {
 
 impl Skip {
     /// The skip in bits 13-15 of an instruction word.
-    #[inline]
+    #[inline(always)]
     pub(crate) fn of_word(word: Word) -> Skip
         ensures { skip_code result ≡ bits 13 15 word }
     {
@@ -28,11 +28,14 @@ impl Skip {
     }
 
     /// Whether it skips at these 17 bits of carry and result.
-    #[inline]
+    #[inline(always)]
     #[tactic(auto, unfolding(crate::specs::Arithmetic::skips))]
     pub(crate) fn holds(self, x: u32) -> bool
         ensures { result ≡ skips (skip_code self) x }
     {
+        if !self.tests_result && !self.tests_carry {
+            return self.inverted;
+        }
         let zero_carry = self.tests_carry && x < 65536;
         let zero_result = self.tests_result && x % 65536 == 0;
         (zero_carry || zero_result) != self.inverted

@@ -1,30 +1,30 @@
 -- Turns in which nothing but an instruction can come are steps of the processor.
-use Rattle.std.proofs.Common.{◌≡◌, ◌≢◌, ℕ, zero, suc, ◌+◌, ◌-◌, ◌<◌, ◌≤◌, ◌==◌, ◌&&◌, Bool, true, false, not, nat_lt, List, [], ◌∷◌, Option, Some, None, refl, ap, sym, ◌∙◌, subst, arith, if◌then◌else◌}
+use Rattle.std.proofs.Common.{◌≡◌, ℕ, zero, suc, ◌+◌, ◌-◌, ◌<◌, ◌≤◌, ◌==◌, ◌&&◌, Bool, true, false, not, nat_lt, List, Option, Some, None, refl, ap, sym, ◌∙◌, subst, arith, if◌then◌else◌}
 use Rattle.std.proofs.lemmas.Bool.Decides.{nat_tests}
 use Rattle.nova_word.specs.Bits.{bits}
 use Rattle.nova_memory.specs.Memory.{MemoryState, get}
 use Rattle.nova_memory.specs.Address.{address}
 use Rattle.unit_trait.specs.Calls.{UnitState}
-use Rattle.event_queue.specs.EventList.{Event, due, lowered, ticked as ticked_events, IsClear}
+use Rattle.event_queue.specs.EventList.{Event, lowered, ticked as ticked_events}
 use Rattle.event_queue.proofs.Ticks.{lowered-none, lowered-more}
 use Rattle.nova_interrupts.specs.declared.interrupts.Ints.{Ints}
 use Rattle.nova_interrupts.specs.Interrupts.{released}
 use Rattle.nova_interrupts.specs.Requests.{requested}
-use Rattle.nova_machine.specs.declared.burst.Step.{Step}
-use Rattle.nova_machine.specs.declared.burst.Step.TheVariants as step_end
+use Rattle.nova_processor.specs.declared.burst.Step.{Step}
+use Rattle.nova_processor.specs.declared.burst.Step.TheVariants as step_end
 use Rattle.nova_machine.specs.declared.machine.Stop.TheVariants.{ChainLimit}
-use Rattle.nova_machine.specs.Processor.{ProcessorState}
+use Rattle.nova_processor.specs.Processor.{ProcessorState}
 use Rattle.nova_machine.specs.Machine.{MachineState}
 use Rattle.nova_machine.specs.Seen.{Seen, seen}
 use Rattle.nova_machine.specs.Parts.{Part, silent, then_part}
 use Rattle.nova_machine.specs.Turned.{Turned, goes_on, stops, still, begun, ticked, executed}
-use Rattle.nova_machine.specs.Instruction.{memory_reference, arithmetic}
-use Rattle.nova_machine.specs.InputOutput.{multiply_divide}
+use Rattle.nova_processor.specs.Instruction.{memory_reference, arithmetic}
+use Rattle.nova_processor.specs.InputOutput.{multiply_divide}
 use Rattle.nova_machine.specs.Transfer.{transfer}
-use Rattle.nova_machine.specs.Turn.{with_memory, refer_to, refer, execute, fetch, is_interrupted, prepared, turn}
+use Rattle.nova_machine.specs.Turn.{with_memory, refer_to, refer, execute, fetch, prepared, turn}
 use Rattle.nova_machine.specs.Run.{last_time, next_turn, turns}
 use Rattle.nova_machine.specs.Quiet.{IsPlain}
-use Rattle.nova_machine.specs.Burst.{Stepped, steps, refers_to, refers, passes, step_of, step, Reaches, IsBurst}
+use Rattle.nova_processor.specs.Burst.{Stepped, steps, refers_to, refers, passes, step_of, step, Reaches, IsBurst}
 use Rattle.nova_machine.specs.Bursts.{passed_by, IsCalm, Bursts}
 use Rattle.nova_machine.proofs.Plain.{plain-prepared}
 use Rattle.nova_machine.proofs.Runs.{turns-stop, turns-go, next-early}
@@ -257,33 +257,3 @@ calm-less less more m within calm = record {
   quiet = λ some. calm.quiet (omega (arith, some, within));
   clear = λ n before. calm.clear n (omega (arith, before, within));
 }
-
--- ---- a word that is left as it stands
-
--- where it is left, nothing has changed
-abbrev Leaves : ProcessorState → Stepped → Type 0
-Leaves p s = s.end ≡ step_end.Transfer → s.processor ≡ p
-
-leaves-if : (b : Bool) (p : ProcessorState) (s t : Stepped) → Leaves p s → Leaves p t → Leaves p (if b then s else t)
-leaves-if true p s t first second = first
-leaves-if false p s t first second = second
-
-leaves-refers_to : (w : ℕ) (a : Option ℕ) (p q : ProcessorState) → Leaves p (refers_to w a q)
-leaves-refers_to w None p q = λ is. absurd (cc)
-leaves-refers_to w (Some a) p q = λ is. absurd (cc)
-
-leaves-refers : (w : ℕ) (p : ProcessorState) → Leaves p (refers w p)
-unfolding refers
-leaves-refers w p = leaves-refers_to w _ p _
-
-leaves-passes : (w : ℕ) (p : ProcessorState) → Leaves p (passes w p)
-unfolding passes
-leaves-passes w p = leaves-if (bits 10 15 w == 1) p _ _ (λ is. absurd (cc)) (λ is. refl)
-
-leaves-step_of : (w : ℕ) (p : ProcessorState) → Leaves p (step_of w p)
-unfolding step_of
-leaves-step_of w p = leaves-if (nat_lt w 0o60000) p _ _ (leaves-refers w p) (leaves-if (nat_lt w 0o100000) p _ _ (leaves-passes w p) (λ is. absurd (cc)))
-
-pub step-leaves : (p : ProcessorState) → Leaves p (step p)
-unfolding step
-step-leaves p = leaves-step_of (get p.memory p.cpu.pc) p

@@ -1,5 +1,5 @@
 -- Each event is one of a unit that is there.
-use Rattle.std.proofs.Common.{◌≡◌, ◌⊎◌, inl, inr, ℕ, ◌+◌, ◌-◌, ◌≤◌, ◌==◌, Bool, true, false, not, List, [], ◌∷◌, ◌++◌, map, filter, Option, Some, None, IfSome, option_map, refl, ap, sym, subst, ◌∙◌, arith, nat_le, if◌then◌else◌}
+use Rattle.std.proofs.Common.{◌≡◌, inl, inr, ℕ, ◌≤◌, ◌==◌, Bool, true, false, not, List, [], ◌∷◌, Option, Some, None, IfSome, option_map, refl, ap, sym, subst, ◌∙◌, arith, nat_le, if◌then◌else◌}
 use Rattle.std.specs.List.{AllByRecursion}
 use Rattle.unit_trait.specs.declared.kind.Kind.{Kind}
 use Rattle.unit_trait.specs.declared.kind.UnitName.{UnitName}
@@ -8,7 +8,7 @@ use Rattle.unit_trait.specs.declared.calls.Queue.TheVariants.{Keep, Cancel, Afte
 use Rattle.unit_trait.specs.Kinds.{code_of}
 use Rattle.unit_trait.specs.Calls.{UnitState, Reset}
 use Rattle.unit_trait.specs.Row.{row}
-use Rattle.event_queue.specs.EventList.{Event, event, waits, placed, activated, is_of_kind, cancelled, due, served, lowered, ticked, wished}
+use Rattle.event_queue.specs.EventList.{Event, event, waits, placed, is_of_kind, cancelled, due, served, lowered, ticked, wished}
 use Rattle.event_queue.specs.DueTimes.{scheduled}
 use Rattle.unit_list.specs.declared.bus.BusAnswer.{BusAnswer}
 use Rattle.unit_list.specs.Bus.{unit_at, kinds_of}

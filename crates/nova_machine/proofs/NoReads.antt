@@ -1,5 +1,5 @@
 -- A run reads nothing of the input.
-use Rattle.std.proofs.Common.{◌≡◌, ℕ, zero, suc, ◌+◌, ◌==◌, Bool, true, false, List, [], ◌∷◌, ◌++◌, Option, Some, None, refl, ap, ◌∙◌, sym, subst, arith, if◌then◌else◌}
+use Rattle.std.proofs.Common.{◌≡◌, ℕ, zero, suc, ◌+◌, ◌==◌, Bool, true, false, List, [], ◌∷◌, Option, Some, None, refl, ap, ◌∙◌, arith, if◌then◌else◌}
 use Rattle.observations.specs.Observations.{Observation, reads_of}
 use Rattle.observations.proofs.MadeLemmas.{reads_of-append}
 use Rattle.unit_trait.specs.declared.kind.UnitName.{UnitName}
@@ -8,7 +8,7 @@ use Rattle.unit_trait.specs.declared.calls.Want.TheVariants as want
 use Rattle.event_queue.specs.EventList.{dues}
 use Rattle.nova_machine.specs.declared.machine.Stop.{Stop}
 use Rattle.nova_machine.specs.Seen.{Seen, with_machine}
-use Rattle.nova_machine.specs.Parts.{Part, silent, behind_made, followed, then_part}
+use Rattle.nova_machine.specs.Parts.{Part, followed, then_part}
 use Rattle.nova_machine.specs.Wants.{prints}
 use Rattle.nova_machine.specs.Service.{want_at, asked, service, services, serving, taken}
 use Rattle.nova_machine.specs.Turn.{prepared, turn}

@@ -1,6 +1,6 @@
 -- Parts of a run, one behind another, and what a call has come to that does them.
-use Rattle.std.proofs.Common.{◌≡◌, ◌≢◌, ◌⊎◌, inl, inr, ℕ, Bool, IsTrue, List, [], ◌∷◌, ◌++◌, refl, ap, sym, ◌∙◌, subst, append_assoc, append-nil, Option, Some, None}
-use Rattle.observations.specs.Observations.{Observation, Prints, text_of, StandsAt}
+use Rattle.std.proofs.Common.{◌≡◌, ◌≢◌, ◌⊎◌, inl, inr, ℕ, Bool, IsTrue, List, [], ◌++◌, refl, ap, sym, ◌∙◌, subst, append_assoc, append-nil, Option, Some, None}
+use Rattle.observations.specs.Observations.{Observation, text_of, StandsAt}
 use Rattle.observations.specs.Cut.{BreaksOff}
 use Rattle.observations.proofs.MadeLemmas.{text_of-append, stands-before, stands-behind}
 use Rattle.observations.proofs.CutLemmas.{breaks-before, breaks-behind}
@@ -8,7 +8,7 @@ use Rattle.nova_machine.specs.declared.machine.Stop.{Stop}
 use Rattle.nova_machine.specs.declared.machine.Stop.TheVariants.{ConsoleFault}
 use Rattle.nova_machine.specs.Seen.{Seen}
 use Rattle.nova_machine.specs.Parts.{Part, silent, behind_made, followed, then_part}
-use Rattle.nova_machine.specs.Comes.{IsWhole, BrokenOff, IsBrokenOff, Comes, StopCounts}
+use Rattle.nova_machine.specs.Comes.{IsWhole, IsBrokenOff, Comes, StopCounts}
 
 pub split-comes : (p : Part) (r : Option Stop) (s : Seen) (tells : Bool) (b a : List ℕ) → Comes p r s tells b a
     → ((r ≡ Some ConsoleFault) × IsBrokenOff p s tells b a) ⊎ ((r ≢ Some ConsoleFault) × IsWhole p r s tells b a)

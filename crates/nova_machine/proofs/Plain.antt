@@ -1,5 +1,5 @@
 -- A turn in which nothing comes before the instruction.
-use Rattle.std.proofs.Common.{◌≡◌, ℕ, Bool, true, false, List, None, refl, ap, sym, subst, ◌∙◌, append-nil, if◌then◌else◌}
+use Rattle.std.proofs.Common.{◌≡◌, ℕ, Bool, false, List, None, refl, ap, sym, subst, ◌∙◌, append-nil, if◌then◌else◌}
 use Rattle.nova_machine.specs.Machine.{MachineState}
 use Rattle.nova_machine.specs.Seen.{seen}
 use Rattle.nova_machine.specs.Parts.{Part, silent, then_part}

@@ -1,15 +1,15 @@
 -- Turns, one further, and what is left of a run.
-use Rattle.std.proofs.Common.{◌≡◌, ◌≢◌, ℕ, zero, suc, ◌+◌, ◌-◌, ◌<◌, ◌≤◌, ◌==◌, Bool, true, false, List, refl, ap, sym, subst, ◌∙◌, arith, Some, None, Option, if◌then◌else◌}
+use Rattle.std.proofs.Common.{◌≡◌, ◌≢◌, ℕ, zero, suc, ◌-◌, ◌<◌, ◌==◌, Bool, true, false, List, refl, ap, sym, subst, ◌∙◌, arith, Some, None, Option, if◌then◌else◌}
 use Rattle.std.proofs.lemmas.Bool.Decides.{nat_tests}
 use Rattle.nova_machine.specs.declared.machine.Stop.{Stop}
 use Rattle.nova_machine.specs.declared.machine.Stop.TheVariants.{Limit, ChainLimit, ConsoleFault}
-use Rattle.nova_machine.specs.declared.burst.Step.{Step}
-use Rattle.nova_machine.specs.declared.burst.Step.TheVariants as step_end
+use Rattle.nova_processor.specs.declared.burst.Step.{Step}
+use Rattle.nova_processor.specs.declared.burst.Step.TheVariants as step_end
 use Rattle.nova_machine.specs.Machine.{MachineState}
 use Rattle.nova_machine.specs.Seen.{Seen, seen}
 use Rattle.nova_machine.specs.Parts.{Part, silent, behind_made, followed, then_part}
 use Rattle.nova_machine.specs.Turn.{turn}
-use Rattle.nova_machine.specs.Run.{next_turn, turns, run, expired, last_time}
+use Rattle.nova_machine.specs.Run.{next_turn, turns, expired, last_time}
 use Rattle.nova_machine.specs.Bursts.{Bursts}
 use Rattle.nova_machine.specs.Comes.{Comes}
 use Rattle.nova_machine.proofs.Parts.{silent-comes, comes-then, comes-stopped}

@@ -1,6 +1,6 @@
 -- Services, one behind another: what is left of them comes to what they all come to.
 use Rattle.std.proofs.Common.{◌≡◌, ◌≢◌, ℕ, ◌==◌, Bool, true, false, IsTrue, List, [], ◌∷◌, ◌++◌, refl, ap, sym, ◌∙◌, subst, append-nil, inl, arith, Option, Some, None, if◌then◌else◌}
-use Rattle.observations.specs.Observations.{Prints, text_of}
+use Rattle.observations.specs.Observations.{text_of}
 use Rattle.observations.proofs.CutLemmas.{breaks-here}
 use Rattle.unit_trait.specs.declared.kind.UnitName.{UnitName}
 use Rattle.unit_trait.specs.declared.calls.Want.{Want}

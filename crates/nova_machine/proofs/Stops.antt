@@ -3,7 +3,7 @@ use Rattle.std.proofs.Common.{◌≡◌, ◌≢◌, ◌↔◌, ◌⊎◌, inl, i
 use Rattle.std.proofs.lemmas.Bool.Decides.{nat_tests}
 use Rattle.observations.specs.Observations.{Observation}
 use Rattle.nova_word.specs.Bits.{bits}
-use Rattle.nova_memory.specs.Memory.{MemoryState, get}
+use Rattle.nova_memory.specs.Memory.{get}
 use Rattle.nova_memory.specs.Address.{Reference, address}
 use Rattle.unit_trait.specs.declared.kind.UnitName.{UnitName}
 use Rattle.unit_trait.specs.declared.calls.UnitStop.{UnitStop}
@@ -14,17 +14,17 @@ use Rattle.nova_interrupts.specs.Interrupts.{enabled, disabled}
 use Rattle.nova_machine.specs.declared.machine.Stop.{Stop}
 use Rattle.nova_machine.specs.declared.machine.Stop.TheVariants.{Halt, ChainLimit, UnknownDevice, UnitEnd, UnitNone}
 use Rattle.nova_machine.specs.Machine.{MachineState, on_processor}
-use Rattle.nova_machine.specs.Processor.{ProcessorState}
-use Rattle.nova_machine.specs.Seen.{Seen, seen, with_machine}
-use Rattle.nova_machine.specs.Parts.{Part, silent, behind_made, followed, then_part}
-use Rattle.nova_machine.specs.Turned.{Turned, begun, ticked, executed, goes_on, stops, still}
-use Rattle.nova_machine.specs.Instruction.{advanced, following}
-use Rattle.nova_machine.specs.InputOutput.{past}
-use Rattle.nova_machine.specs.Transfer.{central_function, central_pulse, central, to_processor, to_unit, to_device, transfer}
+use Rattle.nova_processor.specs.Processor.{ProcessorState}
+use Rattle.nova_machine.specs.Seen.{Seen, with_machine}
+use Rattle.nova_machine.specs.Parts.{Part, behind_made, followed}
+use Rattle.nova_machine.specs.Turned.{Turned, begun, ticked, goes_on, still}
+use Rattle.nova_processor.specs.Instruction.{advanced}
+use Rattle.nova_processor.specs.InputOutput.{past}
+use Rattle.nova_machine.specs.Transfer.{central_function, central_pulse, central, to_processor, to_device, transfer}
 use Rattle.nova_machine.specs.Wants.{stop_by}
-use Rattle.nova_machine.specs.Service.{asked, answered, service, taken, services, serving}
+use Rattle.nova_machine.specs.Service.{answered, service, taken, services, serving}
 use Rattle.nova_machine.specs.Turn.{with_memory, refer_to, refer, execute, fetch, is_interrupted, jump_to, interrupt_reference, enter, interrupt, prepared, turn}
-use Rattle.nova_machine.specs.StopLaws.{fetched, IsTransfer, IsHalt, IsUnknown, IsEndless, IsEndlessEntry, IsReached, ready, IsHalted, behind_chain, behind_entry, TurnStops}
+use Rattle.nova_machine.specs.StopLaws.{fetched, IsTransfer, IsHalt, IsUnknown, IsEndless, IsEndlessEntry, IsReached, ready, IsHalted, behind_entry, TurnStops}
 
 -- ---- an instruction
 

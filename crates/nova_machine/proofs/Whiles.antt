@@ -1,14 +1,13 @@
 -- Services, while an event is due.
-use Rattle.std.proofs.Common.{◌≡◌, List, Option, Some, None, refl, ap, sym, ◌∙◌, subst}
+use Rattle.std.proofs.Common.{◌≡◌, List, Option, Some, None, refl, ap, sym, ◌∙◌}
 use Rattle.observations.specs.Observations.{Observation}
 use Rattle.unit_trait.specs.declared.kind.UnitName.{UnitName}
 use Rattle.unit_trait.specs.Kinds.{code_of}
-use Rattle.event_queue.specs.EventList.{due, dues, served}
+use Rattle.event_queue.specs.EventList.{dues, served}
 use Rattle.event_queue.proofs.Dues.{wished-dues}
 use Rattle.unit_list.specs.Bus.{AllFit}
 use Rattle.unit_list.proofs.Calls.{after-fits, again-fits}
 use Rattle.nova_machine.specs.declared.machine.Stop.{Stop}
-use Rattle.nova_machine.specs.Machine.{MachineState}
 use Rattle.nova_machine.specs.Seen.{Seen}
 use Rattle.nova_machine.specs.Parts.{Part, behind_made, followed, then_part}
 use Rattle.nova_machine.specs.Wants.{answer_to}

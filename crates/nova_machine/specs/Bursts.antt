@@ -1,12 +1,11 @@
 -- What a burst of the processor is to the machine: turns in which nothing but an instruction can come.
-use Rattle.std.specs.Prelude.{◌≡◌, ◌&&◌, ◌==◌, ℕ, ◌+◌, ◌-◌, ◌<◌, ◌≤◌, Bool, false, Some, if◌then◌else◌}
+use Rattle.std.specs.Prelude.{◌≡◌, ◌&&◌, ◌==◌, ℕ, ◌+◌, ◌-◌, ◌<◌, Bool, false, Some, if◌then◌else◌}
 use Rattle.event_queue.specs.EventList.{lowered, IsClear}
 use Rattle.nova_interrupts.specs.Interrupts.{released}
 use Rattle.nova_interrupts.specs.Requests.{requested}
-use Rattle.nova_machine.specs.declared.burst.Step.{Step}
-use Rattle.nova_machine.specs.declared.burst.Step.TheVariants as step
+use Rattle.nova_processor.specs.declared.burst.Step.{Step}
+use Rattle.nova_processor.specs.declared.burst.Step.TheVariants as step
 use Rattle.nova_machine.specs.declared.machine.Stop.TheVariants.{ChainLimit}
-use Rattle.nova_machine.specs.Processor.{ProcessorState}
 use Rattle.nova_machine.specs.Machine.{MachineState}
 use Rattle.nova_machine.specs.Seen.{seen}
 use Rattle.nova_machine.specs.Parts.{silent}

@@ -1,13 +1,9 @@
-pub mod Processor
 pub mod Machine
 pub mod BusOrder
 pub mod Registers
-pub mod Instruction
-pub mod InputOutput
 pub mod Seen
 pub mod Parts
 pub mod Turned
-pub mod Burst
 pub mod Ends
 pub mod Transfer
 pub mod Wants

@@ -5,7 +5,7 @@ use Rattle.event_queue.specs.EventList.{Event}
 use Rattle.unit_list.specs.Reset.{reset_units, reset_events}
 use Rattle.nova_interrupts.specs.declared.interrupts.Ints.{Ints}
 use Rattle.nova_interrupts.specs.Interrupts.{no_interrupts}
-use Rattle.nova_machine.specs.Processor.{ProcessorState, new_processor}
+use Rattle.nova_processor.specs.Processor.{ProcessorState, new_processor}
 
 -- the processor with its memory, the interrupts, the switch register, whether a word to a device that is not there stops
 -- the machine, the units in bus order, their events that wait, and the time: how many instructions were executed since

@@ -2,7 +2,7 @@
 use Rattle.std.specs.Prelude.{ℕ, ◌==◌, slice_index, slice_set, if◌then◌else◌}
 use Rattle.unit_trait.specs.declared.processor.CpuReg.{CpuReg}
 use Rattle.unit_trait.specs.declared.processor.CpuReg.TheVariants.{Ac0, Ac1, Ac2, Ac3, C, Pc, Ion, Hold, Mask, Sr, StopDev, Size}
-use Rattle.nova_machine.specs.declared.cpu.Cpu.{Cpu}
+use Rattle.nova_processor.specs.declared.cpu.Cpu.{Cpu}
 use Rattle.nova_machine.specs.Machine.{MachineState}
 
 -- what a register holds; SIZE is the number of words of memory

@@ -4,7 +4,7 @@ use Rattle.unit_trait.specs.declared.kind.UnitName.{UnitName}
 use Rattle.unit_trait.specs.declared.calls.Want.{Want}
 use Rattle.unit_trait.specs.declared.calls.Got.{Got}
 use Rattle.unit_trait.specs.Kinds.{code_of}
-use Rattle.unit_trait.specs.Calls.{Due, Answered, Row}
+use Rattle.unit_trait.specs.Calls.{Due, Answered}
 use Rattle.event_queue.specs.EventList.{served, dues, wished}
 use Rattle.unit_list.specs.Bus.{row_at, after_at}
 use Rattle.nova_machine.specs.Machine.{MachineState}

@@ -1,5 +1,5 @@
 -- The stops of a turn have their causes, and come wherever these are given.
-use Rattle.std.specs.Prelude.{◌≡◌, ◌≢◌, ◌↔◌, ◌⊎◌, ℕ, ◌+◌, ◌<◌, ◌≤◌, Bool, true, false, Option, Some, None}
+use Rattle.std.specs.Prelude.{◌≡◌, ◌≢◌, ◌↔◌, ◌⊎◌, ℕ, ◌+◌, ◌<◌, ◌≤◌, Bool, true, false, Some, None}
 use Rattle.nova_word.specs.Bits.{bits}
 use Rattle.nova_memory.specs.Memory.{get}
 use Rattle.nova_memory.specs.Address.{address}
@@ -9,7 +9,7 @@ use Rattle.nova_machine.specs.declared.machine.Stop.{Stop}
 use Rattle.nova_machine.specs.declared.machine.Stop.TheVariants.{Halt, ChainLimit, UnknownDevice, UnitEnd, UnitNone}
 use Rattle.nova_machine.specs.Machine.{MachineState}
 use Rattle.nova_machine.specs.Seen.{Seen}
-use Rattle.nova_machine.specs.Instruction.{following}
+use Rattle.nova_processor.specs.Instruction.{following}
 use Rattle.nova_machine.specs.Service.{serving}
 use Rattle.nova_machine.specs.Turn.{with_memory, is_interrupted, interrupt_reference, prepared, turn}
 

@@ -1,6 +1,6 @@
 -- The words of input and output, by their device in bits 10 to 15 (How to Use the Nova Computers, "Input-Output
 -- Instructions" and "Program Interrupt").
-use Rattle.std.specs.Prelude.{ℕ, ◌==◌, Bool, false, List, Option, Some, None, is_some, option_map, unwrap_or, slice_index, if◌then◌else◌}
+use Rattle.std.specs.Prelude.{ℕ, ◌==◌, false, List, Option, Some, None, is_some, option_map, unwrap_or, slice_index, if◌then◌else◌}
 use Rattle.nova_word.specs.Bits.{bits}
 use Rattle.unit_trait.specs.declared.calls.IoOp.{IoOp}
 use Rattle.unit_trait.specs.declared.calls.IoOp.TheVariants.{Nio, Dia, Doa, Dib, Dob, Dic, Doc}
@@ -14,10 +14,9 @@ use Rattle.unit_list.specs.Bus.{unit_at, row_at, after_at, flags_of}
 use Rattle.nova_interrupts.specs.Interrupts.{enabled, disabled, masked_out}
 use Rattle.nova_interrupts.specs.Requests.{acknowledged}
 use Rattle.nova_machine.specs.declared.machine.Stop.TheVariants.{Halt, UnknownDevice}
-use Rattle.nova_machine.specs.Processor.{ProcessorState}
 use Rattle.nova_machine.specs.Machine.{MachineState, on_processor, reset_devices}
 use Rattle.nova_machine.specs.Turned.{Turned, goes_on, stops, begun, ticked, executed}
-use Rattle.nova_machine.specs.InputOutput.{input, past, passed, tested, unanswered, multiply_divide}
+use Rattle.nova_processor.specs.InputOutput.{input, past, passed, tested, unanswered, multiply_divide}
 
 -- the functions, by bits 5 to 7; 7 is a skip
 abbrev pub op_of : ℕ → IoOp

@@ -1,6 +1,6 @@
 -- One step of the machine: the units whose events are due are served, an interrupt may be entered, and the word at PC is
 -- fetched and executed.
-use Rattle.std.specs.Prelude.{ℕ, ◌&&◌, ◌==◌, Bool, false, not, Option, Some, None, nat_lt, if◌then◌else◌}
+use Rattle.std.specs.Prelude.{ℕ, ◌&&◌, Bool, false, not, Option, Some, None, nat_lt, if◌then◌else◌}
 use Rattle.nova_memory.specs.Memory.{MemoryState, get, put}
 use Rattle.nova_memory.specs.Address.{Reference, address}
 use Rattle.nova_interrupts.specs.Requests.{requested}
@@ -9,7 +9,7 @@ use Rattle.nova_machine.specs.Machine.{MachineState}
 use Rattle.nova_machine.specs.Seen.{Seen}
 use Rattle.nova_machine.specs.Parts.{Part, then_part}
 use Rattle.nova_machine.specs.Turned.{Turned, goes_on, stops, still, executed}
-use Rattle.nova_machine.specs.Instruction.{memory_reference, arithmetic}
+use Rattle.nova_processor.specs.Instruction.{memory_reference, arithmetic}
 use Rattle.nova_machine.specs.Transfer.{transfer}
 use Rattle.nova_machine.specs.Service.{serving}
 

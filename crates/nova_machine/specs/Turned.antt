@@ -3,7 +3,7 @@ use Rattle.std.specs.Prelude.{◌+◌, Option, Some, None}
 use Rattle.event_queue.specs.EventList.{ticked as ticked_events}
 use Rattle.nova_interrupts.specs.Interrupts.{released}
 use Rattle.nova_machine.specs.declared.machine.Stop.{Stop}
-use Rattle.nova_machine.specs.Processor.{ProcessorState}
+use Rattle.nova_processor.specs.Processor.{ProcessorState}
 use Rattle.nova_machine.specs.Machine.{MachineState, on_processor}
 use Rattle.nova_machine.specs.Seen.{Seen, with_machine}
 use Rattle.nova_machine.specs.Parts.{Part, silent}

@@ -5,10 +5,10 @@ ghost use Rattle.unit_list.specs.Reset.{reset_units, reset_events};
 ghost use Rattle.nova_machine.specs.Core.{AreListed};
 ghost use Rattle.nova_machine.specs.Run.{last_time};
 
-use crate::processor::Processor;
 use event_queue::Events;
 use nova_interrupts::Ints;
 use nova_memory::Memory;
+use nova_processor::Processor;
 use nova_word::{Addr, Word};
 use std::alloc::{AllocError, Global};
 use std::marker::Model;

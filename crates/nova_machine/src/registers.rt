@@ -13,7 +13,7 @@ impl<U: Unit> Machine<U> {
         ensures value { result ≡ register_of self.now register }
         ensures range { result ≤ largest_of register }
     {
-        let cpu = self.processor.cpu();
+        let cpu = self.processor.cpu;
         match register {
             CpuReg::Ac0 => number_of(cpu.accumulators[0]),
             CpuReg::Ac1 => number_of(cpu.accumulators[1]),
@@ -30,7 +30,7 @@ impl<U: Unit> Machine<U> {
             }
             CpuReg::Sr => number_of(self.sr),
             CpuReg::StopDev => u16::from(self.stop_dev),
-            CpuReg::Size => self.processor.memory().size(),
+            CpuReg::Size => self.processor.memory.size(),
         }
     }
 

@@ -2,9 +2,9 @@ ghost use Rattle.std.specs.Prelude.{◌≡◌, ◌≢◌, Some};
 ghost use Rattle.nova_machine.specs.declared.machine.Stop.TheVariants.{ConsoleFault};
 ghost use Rattle.nova_machine.specs.Wants.{HasUnit};
 
-use crate::burst::Step;
 use crate::machine::{Machine, RunLimit, Stop, Turn};
 use host_files::Sink;
+use nova_processor::Step;
 use unit_trait::Unit;
 
 /// The end of time, in instructions.

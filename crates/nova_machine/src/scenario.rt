@@ -34,7 +34,7 @@ pub enum Place {
 }
 
 /// The registers that a machine of the tests has.
-const REGISTERS: [Place; 22] = [
+pub const REGISTERS: [Place; 22] = [
     Place::Cpu(CpuReg::Ac0),
     Place::Cpu(CpuReg::Ac1),
     Place::Cpu(CpuReg::Ac2),

@@ -43,7 +43,7 @@ impl<U: Unit> Machine<U> {
     ghost use Rattle.nova_machine.specs.Transfer.{transfer, to_device, to_unit, flags_in, asked_unit, to_processor};
     ghost use Rattle.nova_machine.specs.Transfer.{central, central_function, central_pulse, mask_set};
     ghost use Rattle.nova_machine.specs.Machine.{on_processor};
-    ghost use Rattle.nova_machine.specs.InputOutput.{multiply_divide, unanswered, tested, past, passed};
+    ghost use Rattle.nova_processor.specs.InputOutput.{multiply_divide, unanswered, tested, past, passed};
     ghost use Rattle.nova_word.specs.Bits.{bits};
     ghost use Rattle.event_queue.specs.EventList.{wished};
     ghost use Rattle.unit_trait.specs.Kinds.{units_of};

@@ -21,7 +21,7 @@ impl<U: Unit> Machine<U> {
     ghost use Rattle.nova_machine.specs.Comes.{Comes, StopCounts};
     ghost use Rattle.nova_machine.specs.Quiet.{IsPlain};
     ghost use Rattle.nova_machine.specs.Machine.{on_processor};
-    ghost use Rattle.nova_machine.specs.Instruction.{arithmetic, memory_reference};
+    ghost use Rattle.nova_processor.specs.Instruction.{arithmetic, memory_reference};
     ghost use Rattle.nova_machine.specs.Turned.{begun, ticked};
     ghost use Rattle.nova_machine.specs.Turn.{refer, execute, fetch, enter, interrupt, prepared, turn, is_interrupted};
 

@@ -3,14 +3,14 @@ ghost use Rattle.std.specs.Result.{result_ok};
 ghost use Rattle.nova_memory.specs.Memory.{get, put};
 ghost use Rattle.nova_memory.specs.Address.{IsAutoIndex, displaced, indexed, changed, chain, address};
 
-use crate::memory::Memory;
+use crate::words::Words;
 use nova_word::{Addr, Word};
 
 /// The 16th word of an indirect chain still has bit 0 set.
 #[derive(Clone, Copy, Debug, PartialEq, Eq)]
 pub struct ChainLimit;
 
-impl Memory {
+impl Words {
     /// The effective address of the memory reference `word`, which stands at `pc`.
     ///
     /// Each level of an indirect chain that passes 20 to 27 (octal) adds one to the word there, each that passes 30 to 37
@@ -25,7 +25,7 @@ impl Memory {
         ensures elsewhere { (a : ℕ) → ¬ IsAutoIndex a → get self.new a ≡ get self.old a }
         ensures size { self.new.size ≡ self.old.size }
     {
-        let at = indexed(word, pc, acs);
+        let at = indexed(word, pc, &acs);
         if (word.0 >> 10) & 1 == 1 {
             self.chain(at)
         } else {
@@ -33,8 +33,8 @@ impl Memory {
         }
     }
 
-    /// Follows an indirect reference through up to 16 levels.
-    fn chain(&mut self, from: Addr) -> Result<Addr, ChainLimit>
+    /// Follows an indirect reference through that address, up to 16 levels.
+    pub fn chain(&mut self, from: Addr) -> Result<Addr, ChainLimit>
         ensures memory { self.new ≡ (chain 16 self.old from).memory }
         ensures address { result_ok result ≡ (chain 16 self.old from).address }
         ensures range { IfOk result (λ a. a < 2 ^ 15) }
@@ -51,49 +51,51 @@ impl Memory {
     }
 
     /// The word through which an indirect reference passes there, changed and stored.
+    #[inline(always)]
     fn follow(&mut self, at: Addr) -> Word
         ensures word { result ≡ changed at (get self.old at) }
         ensures memory { self.new ≡ put self.old at (changed at (get self.old at)) }
     {
         let word = self.read(at);
-        let next = changed(at, word);
-        if next != word {
-            self.write(at, next);
+        if at.number() / 16 != 1 {
+            return word;
         }
+        let next = changed(at, word);
+        self.write(at, next);
         next
     }
 }
 
-/// The address that a memory reference names before it is followed.
+/// The address that a memory reference, which stands at `pc`, names before it is followed. One accumulator is read at
+/// the most.
+#[inline(always)]
 #[tactic(auto, unfolding(crate::specs::Address::indexed))]
-fn indexed(word: Word, pc: Addr, acs: [Word; 4]) -> Addr
-    ensures { result ≡ indexed word pc acs }
+pub fn indexed(word: Word, pc: Addr, acs: &[Word; 4]) -> Addr
+    ensures { result ≡ indexed word pc acs.now }
 {
-    let displacement = word.0 & 0o377;
-    // Taken apart, so that no more than one of them is read.
-    let [_ac0, _ac1, ac2, ac3] = acs;
-    match (word.0 >> 8) & 3 {
-        0 => Addr::of_word(Word(displacement)),
-        1 => displaced(Word(pc.number()), displacement),
-        2 => displaced(ac2, displacement),
-        _ => displaced(ac3, displacement),
+    let displacement = word.0 % 256;
+    let index = (word.0 >> 8) % 4;
+    if index == 0 {
+        Addr::of_word(Word(displacement))
+    } else if index == 1 {
+        displaced(Word(pc.number()), displacement)
+    } else {
+        displaced(acs[usize::from(index)], displacement)
     }
 }
 
 /// A base plus a signed displacement of 8 bits, around the end of memory.
+#[inline(always)]
 fn displaced(base: Word, displacement: u16) -> Addr
     requires { displacement < 2 ^ 8 }
     ensures { result ≡ displaced base displacement }
 {
-    let base = Addr::of_word(base);
-    if displacement < 0o200 {
-        base.plus(displacement)
-    } else {
-        base.plus(32768 - (0o400 - displacement))
-    }
+    // Half of its range on both sides of 0, in place of a choice by its sign.
+    Addr::of_word(base).plus((displacement + 128) % 256 + 32640)
 }
 
 /// What an indirect reference through an address makes of the word there.
+#[inline(always)]
 fn changed(at: Addr, word: Word) -> Word
     ensures { result ≡ changed at word }
 {

@@ -3,7 +3,9 @@
 
 pub mod address;
 pub mod memory;
+pub mod words;
 
-pub use address::ChainLimit;
+pub use address::{ChainLimit, indexed};
 pub use memory::Memory;
 pub use std::alloc::AllocError as OutOfMemory;
+pub use words::Words;

@@ -1,25 +1,27 @@
-ghost use Rattle.std.specs.Prelude.{◌≡◌, ℕ, ◌<◌, ◌^◌, IfOk};
-ghost use Rattle.nova_memory.specs.Memory.{blank_words};
+ghost use Rattle.std.specs.Prelude.{◌≡◌, ℕ, ◌<◌, ◌≤◌, ◌^◌, IfOk};
+ghost use Rattle.std.specs.Result.{result_ok};
+ghost use Rattle.std.specs.Borrow.{sem};
+ghost use Rattle.nova_memory.specs.Lending.{LendsWords};
+ghost use Rattle.nova_memory.specs.Address.{IsAutoIndex, address};
 
+use crate::address::ChainLimit;
+use crate::words::Words;
 use nova_word::{Addr, Word};
 use std::alloc::{AllocError, Global};
 use std::marker::Model;
 
-/// The words of a machine's memory, and how many of them there are.
+/// The memory of a machine.
 #[derive(Drop)]
 pub struct Memory {
-    words: Box<[u16; 32768]>,
-    size: u16,
+    inside: Box<Words>,
 }
 
 impl Model for Memory {
-    ghost use Rattle.nova_memory.specs.Memory.{MemoryState, IsMemory};
+    ghost use Rattle.nova_memory.specs.Memory.{MemoryState};
 
     ghost Value = { MemoryState };
 
-    ghost view = { λ m. record { words = m.words.value; size = m.size } };
-
-    ghost invariant = { λ m. IsMemory (record { words = m.words.value; size = m.size }) };
+    ghost view = { λ m. m.inside.value };
 }
 
 impl Memory {
@@ -31,8 +33,7 @@ impl Memory {
         ensures zeros { IfOk result (λ m. (a : ℕ) → get m a ≡ 0) }
     {
         Ok(Memory {
-            words: Box::new(alloc, zeros())?,
-            size: 32768,
+            inside: Box::new(alloc, Words::new())?,
         })
     }
 
@@ -41,7 +42,7 @@ impl Memory {
         ensures size { result ≡ self.now.size }
         ensures valid { IsMemory self.now }
     {
-        self.size
+        self.inside.size()
     }
 
     /// The word at an address: 0 where the machine has no memory there.
@@ -49,27 +50,39 @@ impl Memory {
         ensures word { result ≡ get self.now at }
         ensures range { result < 2 ^ 16 }
     {
-        // The words from the size on are 0.
-        Word(self.words[usize::from(at.number())])
+        self.inside.read(at)
     }
 
     /// Puts a word at an address. It does nothing where the machine has no memory there.
     pub fn write(&mut self, at: Addr, w: Word)
         ensures { self.new ≡ put self.old at w }
     {
-        let place = at.number();
-        if place < self.size {
-            self.words[usize::from(place)] = w.0;
-        }
+        self.inside.write(at, w);
     }
-}
 
-/// 32768 words of 0.
-#[tactic(auto, unfolding(crate::specs::Memory::blank_words))]
-fn zeros() -> [u16; 32768]
-    ensures { result ≡ blank_words }
-{
-    [0; 32768]
+    /// The effective address of the memory reference `word`, which stands at `pc`.
+    ///
+    /// Each level of an indirect chain that passes 20 to 27 (octal) adds one to the word there, each that passes 30 to 37
+    /// takes one from it. Words that were changed stay so after `ChainLimit`.
+    pub fn address(&mut self, word: Word, pc: Addr, acs: [Word; 4]) -> Result<Addr, ChainLimit>
+        ensures memory { self.new ≡ (address self.old word pc acs).memory }
+        ensures address { result_ok result ≡ (address self.old word pc acs).address }
+        ensures range { IfOk result (λ a. a < 2 ^ 15) }
+
+        // No word outside 20 to 37 (octal) changes, and the size never does.
+        ensures elsewhere { (a : ℕ) → ¬ IsAutoIndex a → get self.new a ≡ get self.old a }
+        ensures size { self.new.size ≡ self.old.size }
+    {
+        self.inside.address(word, pc, acs)
+    }
+
+    /// The words where they stand.
+    pub fn words(&mut self) -> &mut Words
+        ensures* writes_back { sem 𝓛 (LendsWords self.entry result) }
+        ensures value { result.now ≡ self.old }
+    {
+        &mut self.inside
+    }
 }
 
 #[cfg(test)]

@@ -1,4 +1,5 @@
 use super::*;
+use crate::memory::Memory;
 use std::test::Fail;
 
 fn at(n: u16) -> Addr {

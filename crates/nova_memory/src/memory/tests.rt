@@ -21,7 +21,7 @@ fn a_word_stays_where_it_is_put(rt: HostRuntime) -> Result<(), Fail> {
 #[test]
 fn a_place_past_the_size_holds_0(rt: HostRuntime) -> Result<(), Fail> {
     let mut memory = Memory::new(rt.alloc())?;
-    memory.size = 4096;
+    memory.inside.size = 4096;
     for n in [0o7777, 0o10000, 0o77777] {
         memory.write(at(n), Word(5));
     }
@@ -31,5 +31,18 @@ fn a_place_past_the_size_holds_0(rt: HostRuntime) -> Result<(), Fail> {
     assert_eq!(rt; memory.read(at(0o77777)), Word(0));
     let through = memory.address(Word(0o2400), at(0o10000), [Word(0); 4]);
     assert_eq!(rt; through, Ok(at(0)), "an indirect reference through 10000");
+    Ok(())
+}
+
+#[test]
+fn words_are_lent_where_they_stand(rt: HostRuntime) -> Result<(), Fail> {
+    let mut memory = Memory::new(rt.alloc())?;
+    memory.write(at(0o24), Word(0o50));
+    let words = memory.words();
+    assert_eq!(rt; words.size(), 32768);
+    assert_eq!(rt; words.chain(at(0o24)), Ok(at(0o51)));
+    words.write(at(0o30), Word(7));
+    assert_eq!(rt; memory.read(at(0o24)), Word(0o51));
+    assert_eq!(rt; memory.read(at(0o30)), Word(7));
     Ok(())
 }

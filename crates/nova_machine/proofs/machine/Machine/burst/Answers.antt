@@ -1,6 +1,6 @@
 use Rattle.std.proofs.Common.{◌≡◌, ◌+◌, ◌≤◌, rules}
 use Rattle.nova_machine.specs.Run.{last_time}
-use Rattle.nova_machine.specs.Burst.{IsBurst}
+use Rattle.nova_processor.specs.Burst.{IsBurst}
 use Rattle.nova_machine.specs.Bursts.{IsCalm, passed_by}
 use Rattle.nova_machine.proofs.Bursts.{burst-told, calm-less}
 use Rattle.nova_machine.proofs.machine.Machine.burst.Goals as goal

@@ -1,5 +1,5 @@
 use Rattle.std.proofs.Common.{◌≡◌, ◌≢◌, ◌-◌, ◌+◌, ◌<◌, suc, false, Some, ap, ◌∙◌, arith, rules}
-use Rattle.nova_machine.specs.declared.burst.Step.TheVariants as step_end
+use Rattle.nova_processor.specs.declared.burst.Step.TheVariants as step_end
 use Rattle.nova_machine.specs.declared.machine.Stop.TheVariants.{Limit, ChainLimit}
 use Rattle.nova_machine.specs.Seen.{seen}
 use Rattle.nova_machine.specs.Run.{last_time, turns}

@@ -1,6 +1,0 @@
-use Rattle.nova_machine.specs.Burst.{Reaches}
-use Rattle.nova_machine.proofs.processor.Processor.burst.Given as goal
-
--- the steps that are done lead from the start to here
-abbrev pub invariant-loop-done : goal.invariant-loop-done
-invariant-loop-done l = Reaches l.done l.fn.self l.self

@@ -1,0 +1,75 @@
+ghost use Rattle.std.specs.Prelude.{◌≡◌, ℕ, ◌<◌, ◌^◌};
+ghost use Rattle.nova_memory.specs.Memory.{blank_words};
+
+use nova_word::{Addr, Word};
+use std::marker::Model;
+
+/// The words of a machine's memory, and how many of them there are. Who executes many instructions borrows them once, and
+/// so reads no pointer for each word.
+#[derive(Drop)]
+pub struct Words {
+    pub(crate) words: [u16; 32768],
+    pub(crate) size: u16,
+}
+
+impl Model for Words {
+    ghost use Rattle.nova_memory.specs.Memory.{MemoryState, IsMemory};
+
+    ghost Value = { MemoryState };
+
+    ghost view = { λ m. record { words = m.words; size = m.size } };
+
+    ghost invariant = { λ m. IsMemory (record { words = m.words; size = m.size }) };
+}
+
+impl Words {
+    ghost use Rattle.nova_memory.specs.Memory.{IsMemory, get, put, blank};
+
+    /// 32768 words of 0.
+    pub(crate) fn new() -> Words
+        ensures blank { result ≡ blank }
+        ensures zeros { (a : ℕ) → get result a ≡ 0 }
+    {
+        Words {
+            words: zeros(),
+            size: 32768,
+        }
+    }
+
+    /// How many words the machine has, at most 32768.
+    pub fn size(&self) -> u16
+        ensures size { result ≡ self.now.size }
+        ensures valid { IsMemory self.now }
+    {
+        self.size
+    }
+
+    /// The word at an address: 0 where the machine has no memory there.
+    #[inline(always)]
+    pub fn read(&self, at: Addr) -> Word
+        ensures word { result ≡ get self.now at }
+        ensures range { result < 2 ^ 16 }
+    {
+        // The words from the size on are 0.
+        Word(self.words[usize::from(at.number())])
+    }
+
+    /// Puts a word at an address. It does nothing where the machine has no memory there.
+    #[inline(always)]
+    pub fn write(&mut self, at: Addr, w: Word)
+        ensures { self.new ≡ put self.old at w }
+    {
+        let place = at.number();
+        if place < self.size {
+            self.words[usize::from(place)] = w.0;
+        }
+    }
+}
+
+/// 32768 words of 0.
+#[tactic(auto, unfolding(crate::specs::Memory::blank_words))]
+fn zeros() -> [u16; 32768]
+    ensures { result ≡ blank_words }
+{
+    [0; 32768]
+}

@@ -1,0 +1,6 @@
+use Rattle.nova_processor.proofs.processor.Processor.test.Goals as goal
+
+pub returns : goal.returns
+returns c =
+    let is = c.test.ensures c.self.inside.cpu.accumulators c.self.inside.cpu.carry c.self.inside.memory in
+    cc (is, c.self.view_is)

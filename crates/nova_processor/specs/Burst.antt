@@ -1,0 +1,62 @@
+-- Instructions on the processor alone, one behind another: those that no unit has a part in.
+use Rattle.std.specs.Prelude.{◌≡◌, ℕ, zero, suc, ◌==◌, ◌<◌, nat_lt, Option, Some, None, if◌then◌else◌}
+use Rattle.nova_word.specs.Bits.{bits}
+use Rattle.nova_memory.specs.Memory.{get}
+use Rattle.nova_memory.specs.Address.{address}
+use Rattle.nova_processor.specs.declared.burst.Step.{Step}
+use Rattle.nova_processor.specs.declared.burst.Step.TheVariants.{Executed, Transfer, ChainLimit}
+use Rattle.nova_processor.specs.Processor.{ProcessorState}
+use Rattle.nova_processor.specs.Instruction.{without_accumulator, load, store, memory_reference, arithmetic}
+use Rattle.nova_processor.specs.InputOutput.{multiply_divide}
+
+-- a memory reference of that kind and function at its effective address
+abbrev pub references : ℕ → ℕ → ℕ → ProcessorState → ProcessorState
+references kind function address p =
+    if kind == 0 then without_accumulator function address p
+    else if kind == 1 then load function address p
+    else store function address p
+
+-- the processor after a step, and what the step came to
+pub record Stepped : Type 0 where
+  pub processor : ProcessorState
+  pub end : Step
+
+abbrev pub steps : ProcessorState → Stepped
+steps p = record { processor = p; end = Executed }
+
+-- a memory reference at its effective address, if its chain ends
+abbrev pub refers_to : ℕ → Option ℕ → ProcessorState → Stepped
+refers_to word None p = record { processor = p; end = ChainLimit }
+refers_to word (Some address) p = steps (memory_reference word address p)
+
+unfoldable pub refers : ℕ → ProcessorState → Stepped
+refers word p =
+    let reference = address p.memory word p.cpu.pc p.cpu.accumulators in
+    refers_to word reference.address (record p { memory = reference.memory })
+
+-- a word of input and output: one to device 1 is executed, and every other one is left as it stands
+unfoldable pub passes : ℕ → ProcessorState → Stepped
+passes word p = if bits 10 15 word == 1 then steps (multiply_divide word p) else record { processor = p; end = Transfer }
+
+-- the step of a word
+unfoldable pub step_of : ℕ → ProcessorState → Stepped
+step_of word p =
+    if nat_lt word 0o60000 then refers word p
+    else if nat_lt word 0o100000 then passes word p
+    else steps (arithmetic word p)
+
+-- the step of the word at PC
+unfoldable pub step : ProcessorState → Stepped
+step p = step_of (get p.memory p.cpu.pc) p
+
+-- so many steps lead from one processor to another, each executed
+abbrev pub Reaches : ℕ → ProcessorState → ProcessorState → Type 0
+Reaches zero p q = q ≡ p
+Reaches (suc count) p q = (mid : ProcessorState) × Reaches count p mid × (step mid ≡ steps q)
+
+-- what a burst came to: all the budget was executed; or a word of input and output is next, which is left; or a chain without an end,
+-- which has changed words of memory and nothing else
+abbrev pub IsBurst : ProcessorState → ℕ → ℕ → Step → ProcessorState → Type 0
+IsBurst p budget done Executed q = (done ≡ budget) × Reaches done p q
+IsBurst p budget done Transfer q = (done < budget) × Reaches done p q × (step q ≡ record { processor = q; end = Transfer })
+IsBurst p budget done ChainLimit q = (mid : ProcessorState) × (done < budget) × Reaches done p mid × (step mid ≡ record { processor = q; end = ChainLimit })

@@ -1,0 +1,109 @@
+// Instructions on the processor alone, one behind another: the table of the instruction set.
+ghost use Rattle.std.specs.Prelude.{◌≡◌};
+ghost use Rattle.nova_processor.specs.Burst.{IsBurst};
+
+use crate::arithmetic::compute;
+use crate::cpu::Cpu;
+use crate::input_output::pass_word;
+use crate::memory_reference::refer;
+use crate::processor::Processor;
+
+/// What a step of the processor came to. It is small, since each instruction answers one.
+#[derive(Clone, Copy, Debug, PartialEq, Eq)]
+pub enum Step {
+    Executed,
+    /// A word of input and output to a device other than 1 is next. It was not executed.
+    Transfer,
+    /// An indirect chain does not end. The instruction was not executed, and the words that the chain changed stay so.
+    ChainLimit,
+}
+
+/// How many instructions a burst has executed, and what ended it: that its budget was spent, where that is `Executed`.
+#[derive(Clone, Copy, Debug, PartialEq, Eq)]
+pub struct Burst {
+    pub done: u64,
+    pub end: Step,
+}
+
+impl Processor {
+    /// Executes instructions, as many as the budget at the most, up to one that is not the processor's alone. It knows
+    /// no unit, no time and no interrupt, and takes no memory.
+    ///
+    /// Registers stand apart for so long, so that the host holds PC and Carry in registers of its own, and are written back
+    /// on the way out. Where bit 0 of a word is 1, it is an arithmetic or logical instruction, and else bits 0 to 4 choose
+    /// one (How to Use the Nova Computers, "Instruction Formats").
+    #[inline(never)]
+    pub fn burst(&mut self, budget: u64) -> Burst
+        ensures { IsBurst self.old budget result.done result.end self.new }
+    {
+        let Cpu {
+            accumulators: mut acs,
+            mut carry,
+            mut pc,
+        } = self.cpu;
+        let words = self.memory.words();
+        for done in 0..budget {
+            let word = words.read(pc);
+            let end = if word.0 >= 0o100000 {
+                compute(&mut acs, &mut carry, &mut pc, word)
+            } else {
+                match word.0 >> 11 {
+                    // JMP, JSR, ISZ and DSZ
+                    0 => refer(&mut acs, &mut pc, words, word, 0, 0),
+                    1 => refer(&mut acs, &mut pc, words, word, 0, 1),
+                    2 => refer(&mut acs, &mut pc, words, word, 0, 2),
+                    3 => refer(&mut acs, &mut pc, words, word, 0, 3),
+                    // LDA to each accumulator
+                    4 => refer(&mut acs, &mut pc, words, word, 1, 0),
+                    5 => refer(&mut acs, &mut pc, words, word, 1, 1),
+                    6 => refer(&mut acs, &mut pc, words, word, 1, 2),
+                    7 => refer(&mut acs, &mut pc, words, word, 1, 3),
+                    // STA from each accumulator
+                    8 => refer(&mut acs, &mut pc, words, word, 2, 0),
+                    9 => refer(&mut acs, &mut pc, words, word, 2, 1),
+                    10 => refer(&mut acs, &mut pc, words, word, 2, 2),
+                    11 => refer(&mut acs, &mut pc, words, word, 2, 3),
+                    // input and output
+                    _ => pass_word(&mut acs, &mut carry, &mut pc, word),
+                }
+            };
+            match end {
+                Step::Executed => (),
+                Step::Transfer => {
+                    self.cpu = Cpu {
+                        accumulators: acs,
+                        carry,
+                        pc,
+                    };
+                    return Burst {
+                        done,
+                        end: Step::Transfer,
+                    };
+                }
+                Step::ChainLimit => {
+                    self.cpu = Cpu {
+                        accumulators: acs,
+                        carry,
+                        pc,
+                    };
+                    return Burst {
+                        done,
+                        end: Step::ChainLimit,
+                    };
+                }
+            }
+        }
+        self.cpu = Cpu {
+            accumulators: acs,
+            carry,
+            pc,
+        };
+        Burst {
+            done: budget,
+            end: Step::Executed,
+        }
+    }
+}
+
+#[cfg(test)]
+mod tests;

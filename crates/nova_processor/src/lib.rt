@@ -1,0 +1,15 @@
+//! The processor: its registers and its memory, the instructions on them, and bursts of instructions. It knows no time,
+//! no interrupt and no device.
+#![tactic(auto)]
+
+mod arithmetic;
+pub mod burst;
+pub mod cpu;
+mod input_output;
+mod memory_reference;
+pub mod processor;
+
+pub use burst::{Burst, Step};
+pub use cpu::Cpu;
+pub use processor::Processor;
+pub use std::alloc::AllocError as OutOfMemory;
