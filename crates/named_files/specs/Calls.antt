@@ -1,6 +1,6 @@
 -- What the calls on files do.
-use Rattle.std.specs.Prelude.{◌≡◌, ◌≢◌, ℕ, ◌+◌, ◌-◌, ◌≤◌, Bool, true, false, List, [], ◌∷◌, length, take, drop, min, Option, None, is_some, IfSome, option_map, Result, Ok, Err, IfOk, OnErr}
-use Rattle.fault_counts.specs.Faults.{Rose}
+use Rattle.std.specs.Prelude.{if◌then◌else◌, ◌≡◌, ◌≢◌, ℕ, ◌+◌, ◌-◌, ◌≤◌, Bool, true, false, List, [], ◌∷◌, length, take, drop, min, Option, None, is_some, IfSome, option_map, Result, Ok, Err, IfOk}
+use Rattle.fault_counts.specs.Faults.{raised, CountsFault}
 use Rattle.named_files.specs.declared.files.FileId.{FileId}
 use Rattle.named_files.specs.declared.files.WriteFault.{WriteFault}
 use Rattle.named_files.specs.declared.files.OpenMode.{OpenMode}
@@ -10,10 +10,9 @@ use Rattle.named_files.specs.declared.files.OpenFault.TheVariants.{NoFile, Faile
 use Rattle.named_files.specs.Lists.{NamedBytes, find_file, with_file}
 use Rattle.named_files.specs.State.{FileState, opened_at}
 
--- a call on one id: a fault comes only where its count rose, no count falls, no other count changes, and no id is given
+-- a call on one id: its count is one more exactly where the call fails, no other count changes, and no id is given
 pub record Counted {T E : Type 0} (file : ℕ) (old new : FileState) (result : Result T E) : Type 0 where
-  pub later : old.faults file ≤ new.faults file
-  pub failed : OnErr result (Rose (old.faults file) (new.faults file))
+  pub counts : CountsFault (old.faults file) (new.faults file) result
   pub others : (other : ℕ) → other ≢ file → new.faults other ≡ old.faults other
   pub openings : new.open_faults ≡ old.open_faults
   pub ids : new.given ≡ old.given
@@ -50,14 +49,19 @@ pub record HasNotOpened (old new : FileState) : Type 0 where
   pub given : new.given ≡ old.given
   pub told : new.told ≡ old.told
 
--- what an opening does, by its answer. Where names are told, `NoFile` comes only where the name is missing, and where they
--- are not, only where the count of openings rose.
+-- what an opening does, by its answer. Where names are told, `NoFile` comes only where the name is missing.
 abbrev pub Opens : FileState → FileState → List ℕ → OpenMode → Result FileId OpenFault → Type 0
 Opens old new name mode (Ok id) = HasOpened old new name mode id.0
-Opens old new name mode (Err NoFile) =
-    HasNotOpened old new × IfSome old.told (λ files. can_open files name mode ≡ false) × (old.told ≡ None → Rose old.open_faults new.open_faults)
-Opens old new name mode (Err Failed) = HasNotOpened old new × Rose old.open_faults new.open_faults
+Opens old new name mode (Err NoFile) = HasNotOpened old new × IfSome old.told (λ files. can_open files name mode ≡ false)
+Opens old new name mode (Err Failed) = HasNotOpened old new
 Opens old new name mode (Err OutOfMemory) = HasNotOpened old new
+
+-- the count of openings behind one: one more where it failed, and where it answered `NoFile` of names that are not told
+abbrev pub opening_count : FileState → Result FileId OpenFault → ℕ
+opening_count old (Ok id) = old.open_faults
+opening_count old (Err NoFile) = if is_some old.told then old.open_faults else raised old.open_faults
+opening_count old (Err Failed) = raised old.open_faults
+opening_count old (Err OutOfMemory) = old.open_faults
 
 -- a read gave the bytes from a place on, as many as fit, where they are told
 abbrev pub Reads : {E : Type 0} → Option (List ℕ) → ℕ → Result ℕ E → List ℕ → Type 0

@@ -9,7 +9,7 @@ pub record TableState : Type 0 where
   pub counts : List ℕ
 
 -- what is open by an entry
-abbrev pub opened_of : {T : Type 0} → Entry T → Opened
+abbrev pub opened_of : Entry → Opened
 opened_of e = record { file = e.file; name = string_bytes e.name; mode = e.mode }
 
 -- each open id is one of the first so many

@@ -1,7 +1,7 @@
 ghost use Rattle.std.specs.Prelude.{◌≡◌, ℕ, ◌≤◌, take, length, option_map, IfSome, IfOk, IfErr, OnOk, OnErr};
 ghost use Rattle.named_files.specs.Lists.{changed, overwritten, resized};
 ghost use Rattle.named_files.specs.State.{FileState, IsOpen, IsWritable, IsNamed, content, name_at, without};
-ghost use Rattle.named_files.specs.Calls.{Counted, Opens, Reads, written_count};
+ghost use Rattle.named_files.specs.Calls.{Counted, Opens, Reads, opening_count, written_count};
 
 use host_files::Failed;
 use std::alloc::Global;
@@ -56,7 +56,7 @@ pub trait Files {
     fn open_file(&mut self, alloc: Global, name: &str, mode: OpenMode) -> Result<FileId, OpenFault>
         ensures opens { Opens (state self.old) (state self.new) name.now mode result }
         ensures counts { (state self.new).faults ≡ (state self.old).faults }
-        ensures later { (state self.old).open_faults ≤ (state self.new).open_faults };
+        ensures openings { (state self.new).open_faults ≡ opening_count (state self.old) result };
 
     /// How long the file is.
     fn length(&mut self, file: FileId) -> Result<u64, Failed>

@@ -2,7 +2,7 @@ ghost use Rattle.std.specs.Prelude.{ℕ, ◌≡◌, ◌≢◌, ◌<◌, ◌≤�
 ghost use Rattle.named_files.specs.declared.files.OpenMode.TheVariants.{Create};
 ghost use Rattle.named_files.specs.Lists.{find_file, with_file, changed, overwritten, resized};
 ghost use Rattle.named_files.specs.State.{IsOpen, IsWritable, content, name_at, opened_at, without};
-ghost use Rattle.named_files.specs.Calls.{Counted, Opens, Reads, written_count};
+ghost use Rattle.named_files.specs.Calls.{Counted, Opens, Reads, opening_count, written_count};
 ghost use Rattle.named_files.specs.MemFiles.{MemState, are_there, HasRoom, named_of, told_state, next_fails, begun, with_failing, opening_failed, opening_fails, has_room, write_result};
 ghost use Rattle.named_files.specs.Named.{there_named};
 
@@ -21,7 +21,7 @@ use std::alloc::{AllocError, Global};
 pub struct MemFiles {
     files: Vec<MemFile>,
     room: u64,
-    table: OpenTable<u8>,
+    table: OpenTable,
     calls: Failing,
     open_faults: u64,
     alloc: Global,
@@ -108,6 +108,7 @@ impl MemFiles {
             ≡ changed (map named_of self.old.files.items) (name_at self.old.table.opened file.0) (λ old. overwritten old place piece.now) }
         ensures same { result ≡ false → self.new.files ≡ self.old.files }
         ensures room { result ≡ has_room self.old.room place (length piece.now) }
+        ensures stays { self.new.room ≡ self.old.room }
         ensures table { self.new.table ≡ self.old.table }
         ensures calls { self.new.calls ≡ self.old.calls }
         ensures open_faults { self.new.open_faults ≡ self.old.open_faults }
@@ -136,7 +137,7 @@ impl MemFiles {
         ensures open_faults { self.new.open_faults ≡ self.old.open_faults }
     {
         let text = String::from_str(alloc, name)?;
-        self.table.add(text, mode, 0)
+        self.table.add(text, mode)
     }
 
     /// Opens a file that is to be there.
@@ -146,6 +147,8 @@ impl MemFiles {
         ensures opens { Opens (told_state (mem_of self.old)) (told_state (mem_of self.new)) name.now mode result }
         ensures counts { (told_state (mem_of self.new)).faults ≡ (told_state (mem_of self.old)).faults }
         ensures exact { opening_failed result ≡ false }
+        ensures ids { IfOk result (λ id. id.0 ≡ length self.old.table.counts) }
+        ensures stays { self.new.room ≡ self.old.room }
         ensures calls { self.new.calls ≡ self.old.calls }
         ensures open_faults { self.new.open_faults ≡ self.old.open_faults }
     {
@@ -164,6 +167,8 @@ impl MemFiles {
         ensures opens { Opens (told_state (mem_of self.old)) (told_state (mem_of self.new)) name.now Create result }
         ensures counts { (told_state (mem_of self.new)).faults ≡ (told_state (mem_of self.old)).faults }
         ensures exact { opening_failed result ≡ false }
+        ensures ids { IfOk result (λ id. id.0 ≡ length self.old.table.counts) }
+        ensures stays { self.new.room ≡ self.old.room }
         ensures calls { self.new.calls ≡ self.old.calls }
         ensures open_faults { self.new.open_faults ≡ self.old.open_faults }
     {
@@ -186,6 +191,8 @@ impl MemFiles {
         ensures opens { Opens (told_state (mem_of self.old)) (told_state (mem_of self.new)) name.now Create result }
         ensures counts { (told_state (mem_of self.new)).faults ≡ (told_state (mem_of self.old)).faults }
         ensures exact { opening_failed result ≡ false }
+        ensures ids { IfOk result (λ id. id.0 ≡ length self.old.table.counts) }
+        ensures stays { self.new.room ≡ self.old.room }
         ensures calls { self.new.calls ≡ self.old.calls }
         ensures open_faults { self.new.open_faults ≡ self.old.open_faults }
     {
@@ -216,9 +223,11 @@ impl Files for MemFiles {
     fn open_file(&mut self, alloc: Global, name: &str, mode: OpenMode) -> Result<FileId, OpenFault>
         ensures opens { Opens (told_state (mem_of self.old)) (told_state (mem_of self.new)) name.now mode result }
         ensures counts { (told_state (mem_of self.new)).faults ≡ (told_state (mem_of self.old)).faults }
-        ensures later { (told_state (mem_of self.old)).open_faults ≤ (told_state (mem_of self.new)).open_faults }
+        ensures openings { (told_state (mem_of self.new)).open_faults ≡ opening_count (told_state (mem_of self.old)) result }
+        ensures ids { IfOk result (λ id. id.0 ≡ length self.old.table.counts) }
         ensures exact { opening_failed result ≡ opening_fails (mem_of self.old) }
         ensures calls { self.new.calls ≡ begun self.old.calls }
+        ensures room { self.new.room ≡ self.old.room }
     {
         if self.calls.begin().is_some() || self.table.is_full() {
             self.open_faults = raised_count(self.open_faults);
@@ -239,6 +248,7 @@ impl Files for MemFiles {
         ensures counted { Counted file.0 (told_state (mem_of self.old)) (told_state (mem_of self.new)) result }
         ensures exact { IsErr result ↔ IsSome (next_fails self.old.calls) }
         ensures calls { self.new.calls ≡ begun self.old.calls }
+        ensures room { self.new.room ≡ self.old.room }
     {
         if self.calls.begin().is_some() {
             self.table.raise(file);
@@ -259,6 +269,7 @@ impl Files for MemFiles {
         ensures counted { Counted file.0 (told_state (mem_of self.old)) (told_state (mem_of self.new)) result }
         ensures exact { IsErr result ↔ IsSome (next_fails self.old.calls) }
         ensures calls { self.new.calls ≡ begun self.old.calls }
+        ensures room { self.new.room ≡ self.old.room }
     {
         if self.calls.begin().is_some() {
             self.table.raise(file);
@@ -277,12 +288,13 @@ impl Files for MemFiles {
         ensures counted { Counted file.0 (told_state (mem_of self.old)) (told_state (mem_of self.new)) result }
         ensures exact { IsErr result ↔ IsSome (next_fails self.old.calls) }
         ensures calls { self.new.calls ≡ begun self.old.calls }
+        ensures room { self.new.room ≡ self.old.room }
     {
         let fails = self.calls.begin().is_some();
         if fails {
             self.table.raise(file);
         }
-        let _ = self.table.remove(file);
+        self.table.remove(file);
         if fails { Err(Failed) } else { Ok(()) }
     }
 
@@ -296,6 +308,7 @@ impl Files for MemFiles {
         ensures counted { Counted file.0 (told_state (mem_of self.old)) (told_state (mem_of self.new)) result }
         ensures exact { result ≡ write_result (mem_of self.old) place (length bytes.now) }
         ensures calls { self.new.calls ≡ begun self.old.calls }
+        ensures room { self.new.room ≡ self.old.room }
     {
         match self.calls.begin() {
             None => {
@@ -326,6 +339,7 @@ impl Files for MemFiles {
         ensures counted { Counted file.0 (told_state (mem_of self.old)) (told_state (mem_of self.new)) result }
         ensures exact { IsErr result ↔ IsTrue (is_some (next_fails self.old.calls) || nat_lt self.old.room length) }
         ensures calls { self.new.calls ≡ begun self.old.calls }
+        ensures room { self.new.room ≡ self.old.room }
     {
         if self.calls.begin().is_some() || length > self.room {
             self.table.raise(file);

@@ -1,5 +1,5 @@
 ghost use Rattle.std.specs.Prelude.{◌≡◌, ◌≢◌, ℕ, ◌≤◌, ◌<◌, [], ◌∷◌, ◌++◌, length, slice_index, string_bytes, nat_le, IsSome, None, IfOk, OnOk, OnErr, map, MatchOption};
-ghost use Rattle.fault_counts.specs.Faults.{Rose};
+ghost use Rattle.fault_counts.specs.Faults.{raised};
 ghost use Rattle.named_files.specs.State.{opened_at, name_at, without};
 ghost use Rattle.named_files.specs.OpenTable.{opened_of, StandsAt};
 
@@ -8,24 +8,22 @@ use fault_counts::raised_count;
 use std::alloc::{AllocError, Global};
 use std::marker::Model;
 
-/// An open file, with what stands behind it.
+/// An open file.
 #[derive(Drop)]
-pub struct Entry<T> {
+pub struct Entry {
     file: u32,
     name: String,
     mode: OpenMode,
-    value: T,
 }
 
-/// The files that are open, with what stands behind each, and how often the calls on each id have failed. Ids count up
-/// from 0.
+/// The files that are open, and how often the calls on each id have failed. Ids count up from 0.
 #[derive(Drop)]
-pub struct OpenTable<T> {
-    entries: Vec<Entry<T>>,
+pub struct OpenTable {
+    entries: Vec<Entry>,
     counts: Vec<u64>,
 }
 
-impl<T> Model for OpenTable<T> {
+impl Model for OpenTable {
     ghost use Rattle.std.specs.Prelude.{map, length, IsTrue};
     ghost use Rattle.named_files.specs.OpenTable.{TableState, opened_of, all_given};
 
@@ -36,9 +34,9 @@ impl<T> Model for OpenTable<T> {
     ghost invariant = { λ t. IsTrue (all_given (map opened_of t.entries.items) (length t.counts.items)) };
 }
 
-impl<T: Drop> OpenTable<T> {
+impl OpenTable {
     /// Nothing is open, and no id was given.
-    pub fn new(alloc: Global) -> OpenTable<T>
+    pub fn new(alloc: Global) -> OpenTable
         ensures { result ≡ record { opened = []; counts = [] } }
     {
         OpenTable {
@@ -64,13 +62,12 @@ impl<T: Drop> OpenTable<T> {
         }
     }
 
-    /// Raises the count of an open id.
+    /// Raises the count of an open id by one.
     pub fn raise(&mut self, file: FileId)
         requires { IsSome (opened_at self.old.opened file.0) }
         ensures opened { self.new.opened ≡ self.old.opened }
         ensures given { length self.new.counts ≡ length self.old.counts }
-        ensures rose { Rose (slice_index self.old.counts file.0) (slice_index self.new.counts file.0) }
-        ensures later { slice_index self.old.counts file.0 ≤ slice_index self.new.counts file.0 }
+        ensures raised { slice_index self.new.counts file.0 ≡ raised (slice_index self.old.counts file.0) }
         ensures others { (other : ℕ) → other ≢ file.0 → slice_index self.new.counts other ≡ slice_index self.old.counts other }
     {
         let count = self.counts[file.0 as usize];
@@ -78,7 +75,7 @@ impl<T: Drop> OpenTable<T> {
     }
 
     /// Keeps a new opening, under the next id. Where there is no memory, nothing changes.
-    pub fn add(&mut self, name: String, mode: OpenMode, value: T) -> Result<FileId, AllocError>
+    pub fn add(&mut self, name: String, mode: OpenMode) -> Result<FileId, AllocError>
         requires { length self.old.counts < 4294967296 }
         ensures file { IfOk result (λ id. id.0 ≡ length self.old.counts) }
         ensures opened { IfOk result (λ id. self.new.opened
@@ -90,12 +87,7 @@ impl<T: Drop> OpenTable<T> {
         let file = self.counts.len() as u32;
         self.entries.reserve(1)?;
         self.counts.push(0)?;
-        let entry = Entry {
-            file,
-            name,
-            mode,
-            value,
-        };
+        let entry = Entry { file, name, mode };
         self.entries.insert(0, entry).unwrap();
         Ok(FileId(file))
     }
@@ -110,31 +102,19 @@ impl<T: Drop> OpenTable<T> {
         }
     }
 
-    /// Lends what stands behind an open id.
-    pub fn value(&self, file: FileId) -> Option<&T> {
-        match place_of(self.entries.as_slice(), file.0) {
-            Some(i) => Some(&self.entries[i].value),
-            None => None,
-        }
-    }
-
-    /// Takes an id out of the open ones, and gives what stood behind it.
-    pub fn remove(&mut self, file: FileId) -> Option<T>
+    /// Takes an id out of the open ones.
+    pub fn remove(&mut self, file: FileId)
         ensures opened { self.new.opened ≡ without self.old.opened file.0 }
         ensures counts { self.new.counts ≡ self.old.counts }
     {
-        match place_of(self.entries.as_slice(), file.0) {
-            None => None,
-            Some(at) => {
-                let entry = self.entries.remove(at);
-                Some(entry.value)
-            }
+        if let Some(at) = place_of(self.entries.as_slice(), file.0) {
+            let _ = self.entries.remove(at);
         }
     }
 }
 
 /// The place of an id among those that are open.
-fn place_of<T>(entries: &[Entry<T>], file: u32) -> Option<usize>
+fn place_of(entries: &[Entry], file: u32) -> Option<usize>
     ensures { MatchOption result
         (opened_at (map opened_of entries.now) file ≡ None)
         (λ i. StandsAt (map opened_of entries.now) file i) }

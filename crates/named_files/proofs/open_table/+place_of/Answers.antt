@@ -5,7 +5,7 @@ use Rattle.named_files.proofs.Tables.{stands-further}
 use Rattle.named_files.proofs.open_table.+place_of.Goals as goal
 
 pub returns-in-Some-place_of : goal.returns-in-Some-place_of
-returns-in-Some-place_of g n c =
+returns-in-Some-place_of n c =
     let other : c.in-Some.first.now.file ≢ c.args.file = search rules in
     let at : StandsAt (map opened_of c.in-Some.rest.now) c.args.file c.in-Some-place_of.i = search rules in
     let further = stands-further (opened_of c.in-Some.first.now) (map opened_of c.in-Some.rest.now) c.args.file c.in-Some-place_of.i other at in

@@ -5,7 +5,7 @@ use Rattle.named_files.proofs.Tables.{not-open, given-added}
 use Rattle.named_files.proofs.open_table.OpenTable.add.Goals as goal
 
 pub invariant_of-self-2 : goal.invariant_of-self-2
-invariant_of-self-2 g c =
+invariant_of-self-2 c =
     let given = length c.self.inside.counts.items in
     let o : Opened = record { file = given; name = string_bytes c.args.name; mode = c.args.mode } in
     let opened : map opened_of c.insert.new.self.items ≡ o ∷ map opened_of c.self.inside.entries.items = search rules in
@@ -15,6 +15,6 @@ invariant_of-self-2 g c =
     ∙ given-added o (map opened_of c.self.inside.entries.items) given (search rules) c.self.invariant
 
 pub returns-clause-fresh : goal.returns-clause-fresh
-returns-clause-fresh g c =
+returns-clause-fresh c =
     let all : all_given c.args.self.now.opened (length c.args.self.now.counts) ≡ true = subst (λ (t : TableState). all_given t.opened (length t.counts) ≡ true) c.self.view_is c.self.invariant in
     not-open c.args.self.now.opened (length c.args.self.now.counts) (length c.args.self.now.counts) all (omega arith)

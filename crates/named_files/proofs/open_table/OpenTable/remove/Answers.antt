@@ -6,23 +6,23 @@ use Rattle.named_files.proofs.Tables.{map-remove, given-without, without-missing
 use Rattle.named_files.proofs.open_table.OpenTable.remove.Goals as goal
 
 pub invariant_of-self : goal.invariant_of-self
-invariant_of-self g c =
+invariant_of-self c =
     let opened = map opened_of c.self.inside.entries.items in
     let at : StandsAt opened c.args.file.0 c.in-Some.at = search rules in
-    let items : c.remove-entry.new.self.items ≡ remove c.self.inside.entries.items c.in-Some.at = search rules in
+    let items : c.remove.new.self.items ≡ remove c.self.inside.entries.items c.in-Some.at = search rules in
     ap (λ xs. all_given (map opened_of xs) (length c.self.inside.counts.items)) items
     ∙ ap (λ (xs : List Opened). all_given xs (length c.self.inside.counts.items)) (map-remove opened_of c.self.inside.entries.items c.in-Some.at ∙ sym at.rest)
     ∙ given-without opened (length c.self.inside.counts.items) c.args.file.0 c.self.invariant
 
-pub returns-in-None-clause-opened : goal.returns-in-None-clause-opened
-returns-in-None-clause-opened g c =
+pub returns-in_default-clause-opened : goal.returns-in_default-clause-opened
+returns-in_default-clause-opened c =
     let none : opened_at (map opened_of c.self.inside.entries.items) c.args.file.0 ≡ None = search rules in
     sym (without-missing c.args.self.now.opened c.args.file.0 (subst (λ (t : TableState). opened_at t.opened c.args.file.0 ≡ None) c.self.view_is none))
 
 pub returns-in-Some-clause-opened : goal.returns-in-Some-clause-opened
-returns-in-Some-clause-opened g c =
+returns-in-Some-clause-opened c =
     let opened = map opened_of c.self.inside.entries.items in
     let at : StandsAt opened c.args.file.0 c.in-Some.at = search rules in
-    let items : c.remove-entry.new.self.items ≡ remove c.self.inside.entries.items c.in-Some.at = search rules in
+    let items : c.remove.new.self.items ≡ remove c.self.inside.entries.items c.in-Some.at = search rules in
     ap (λ xs. map opened_of xs) items ∙ map-remove opened_of c.self.inside.entries.items c.in-Some.at ∙ sym at.rest
     ∙ ap (λ (t : TableState). without t.opened c.args.file.0) c.self.view_is
