@@ -231,7 +231,7 @@ class Specs:
                 comment.append(line[2:].strip())
             elif not code:
                 comment = comment if line.strip() else []
-            elif code.startswith((" ", "\t", "}", ")")):
+            elif code.startswith((" ", "\t", "}", ")", "]")):
                 if found:
                     found[-1][2][-1] += "\n" + code
             elif re.match(r"(pub )?(use|mod) |infix", code):

@@ -1,2 +1,5 @@
 mod ReadLemmas
 pub mod PutLemmas
+pub mod Tables
+pub mod Writes
+pub mod Names

@@ -1,13 +1,21 @@
-//! What the program reads from and writes to: streams of bytes here, with versions of them in memory for tests and for
-//! whoever runs a machine inside a program of their own.
+//! What the program reads from and writes to: streams of bytes, and files by their names, with versions of both in memory
+//! for tests and for whoever runs a machine inside a program of their own.
 #![tactic(auto)]
 
 pub mod byte_sink;
 pub mod byte_source;
 mod calls;
+mod failing;
+pub mod files;
+mod mem_file;
+pub mod mem_files;
+pub mod open_table;
 pub mod streams;
 
 pub use byte_sink::ByteSink;
 pub use byte_source::ByteSource;
+pub use files::{FileCall, FileId, Files, OpenFault, OpenMode, WriteFault};
+pub use mem_files::{AddFault, MemFiles};
+pub use open_table::OpenTable;
 pub use std::alloc::AllocError as OutOfMemory;
 pub use streams::{Failed, Sink, Source, next_byte, put_all, put_pieces};

@@ -11,7 +11,8 @@ mod session;
 mod words;
 
 use clock_unit::Clk;
-use host_streams::{ReaderSource, WriterSink};
+use host_adapters::{ReaderSource, WriterSink};
+use paper_tape::{Lpt, Ptp, Ptr};
 use session::session;
 use std::alloc::AllocError as OutOfMemory;
 use std::env::Env;
@@ -50,6 +51,9 @@ fn standard_session<R: Input + Print + AllocGlobal>(
     let mut input = ReaderSource::new(rt.alloc(), rt.reader())?;
     let mut output = WriterSink::new(io::writer(rt));
     let mut units: Vec<Box<dyn Unit>> = Vec::new(rt.alloc());
+    units.push(Box::new(rt.alloc(), Lpt::new())?)?;
+    units.push(Box::new(rt.alloc(), Ptr::new())?)?;
+    units.push(Box::new(rt.alloc(), Ptp::new())?)?;
     units.push(Box::new(rt.alloc(), Clk::new())?)?;
     units.push(Box::new(rt.alloc(), Tti::new())?)?;
     units.push(Box::new(rt.alloc(), Tto::new())?)?;

@@ -15,7 +15,9 @@ use Rattle.nova_processor.specs.declared.burst.Step.TheVariants as step_end
 use Rattle.nova_machine.specs.declared.machine.Stop.TheVariants.{ChainLimit}
 use Rattle.nova_processor.specs.Processor.{ProcessorState}
 use Rattle.nova_machine.specs.Machine.{MachineState}
-use Rattle.nova_machine.specs.Seen.{Seen, seen}
+use Rattle.host_files.specs.Lists.{NamedBytes}
+use Rattle.nova_machine.specs.Notes.{UnitNote, RunNote, at_time}
+use Rattle.nova_machine.specs.Seen.{Seen, seen, erased, with_machine}
 use Rattle.nova_machine.specs.Parts.{Part, silent, then_part}
 use Rattle.nova_machine.specs.Turned.{Turned, goes_on, stops, still, begun, ticked, executed}
 use Rattle.nova_processor.specs.Instruction.{memory_reference, arithmetic}
@@ -99,29 +101,31 @@ agrees-step m = agrees-step_of (get m.processor.memory m.processor.cpu.pc) m
 
 -- ---- a plain turn
 
-turn-is : (first : Bool) (s : Seen) → turn first s ≡ then_part (prepared s) (λ ready. still ready (fetch ready.machine))
+turn-is : (note : Option UnitNote) (first : Bool) (s : Seen) → turn note first s ≡ then_part (prepared note s) (λ ready. still ready (fetch ready.machine))
 unfolding turn
-turn-is first s = refl
+turn-is note first s = refl
 
-plain-turn : (first : Bool) (m : MachineState) → IsPlain m → turn first (seen m) ≡ still (seen m) (fetch m)
-plain-turn first m plain =
-    turn-is first (seen m) ∙ ap (λ (p : Part). then_part p (λ ready. still ready (fetch ready.machine))) (plain-prepared m plain)
+plain-turn : (note : Option UnitNote) (first : Bool) (s : Seen) → IsPlain s.machine → turn note first s ≡ still s (fetch s.machine)
+plain-turn note first s plain =
+    turn-is note first s ∙ ap (λ (p : Part). then_part p (λ ready. still ready (fetch ready.machine))) (plain-prepared note s plain)
 
-plain-next : (m : MachineState) (p : ProcessorState) → IsPlain m → m.time < last_time → step m.processor ≡ steps p
-    → next_turn false (seen m) ≡ silent None (seen (behind_step m p))
-plain-next m p plain early is =
-    next-early false (seen m) early ∙ plain-turn false m plain ∙ ap (λ (t : Turned). still (seen m) t) ((agrees-step m).executed_is p is)
+plain-next : (note : Option RunNote) (s : Seen) (p : ProcessorState) → IsPlain s.machine → s.machine.time < last_time → step s.machine.processor ≡ steps p
+    → next_turn note false s ≡ silent None (with_machine s (behind_step s.machine p))
+plain-next note s p plain early is =
+    next-early note false s early ∙ plain-turn (at_time s.machine.time note) false s plain ∙ ap (λ (t : Turned). still s t) ((agrees-step s.machine).executed_is p is)
 
-plain-chain : (m : MachineState) (p : ProcessorState) → IsPlain m → m.time < last_time → step m.processor ≡ record { processor = p; end = step_end.ChainLimit }
-    → next_turn false (seen m) ≡ silent (Some ChainLimit) (seen (record m { processor = p }))
-plain-chain m p plain early is =
-    next-early false (seen m) early ∙ plain-turn false m plain ∙ ap (λ (t : Turned). still (seen m) t) ((agrees-step m).endless p is)
+plain-chain : (note : Option RunNote) (s : Seen) (p : ProcessorState) → IsPlain s.machine → s.machine.time < last_time
+    → step s.machine.processor ≡ record { processor = p; end = step_end.ChainLimit }
+    → next_turn note false s ≡ silent (Some ChainLimit) (with_machine s (record s.machine { processor = p }))
+plain-chain note s p plain early is =
+    next-early note false s early ∙ plain-turn (at_time s.machine.time note) false s plain ∙ ap (λ (t : Turned). still s t) ((agrees-step s.machine).endless p is)
 
-turns-silent : (step : Bool) (left : ℕ) (s next : Seen) → next_turn false s ≡ silent None next → turns step false (suc left) s ≡ turns step false left next
-turns-silent step left s next is =
-    turns-go step false left s (ap (λ (p : Part). p.stop) is)
+turns-silent : (note : Option RunNote) (step : Bool) (left : ℕ) (s next : Seen) → next_turn note false s ≡ silent None next
+    → turns note step false (suc left) s ≡ turns note step false left next
+turns-silent note step left s next is =
+    turns-go note step false left s (ap (λ (p : Part). p.stop) is)
     ∙ ap (λ (p : Part). record { made = p.made; after = p.after; stop = p.stop })
-    (ap (λ (p : Part). then_part p (λ t. turns step false left t)) (ap (λ (p : Part). record { made = p.made; after = p.after; stop = None }) is))
+    (ap (λ (p : Part). then_part p (λ t. turns note step false left t)) (ap (λ (p : Part). record { made = p.made; after = p.after; stop = None }) is))
 
 -- ---- so many of them
 
@@ -191,22 +195,24 @@ behind-processor : (count : ℕ) (m : MachineState) (q : ProcessorState) → (be
 unfolding behind
 behind-processor count m q = refl
 
-pub burst-turns : (one : Bool) (count most left : ℕ) (m : MachineState) (q : ProcessorState) → IsCalm most m → count ≤ most → m.time + most ≤ last_time
-    → Reaches count m.processor q → turns one false (count + left) (seen m) ≡ turns one false left (seen (behind count m q))
-burst-turns one zero most left m q calm within end reaches =
+burst-turns : (note : Option RunNote) (one : Bool) (count most left : ℕ) (s : Seen) (q : ProcessorState) → IsCalm most s.machine → count ≤ most
+    → s.machine.time + most ≤ last_time → Reaches count s.machine.processor q
+    → turns note one false (count + left) s ≡ turns note one false left (with_machine s (behind count s.machine q))
+burst-turns note one zero most left s q calm within end reaches =
     let none : zero + left ≡ left = omega arith in
-    ap (λ (n : ℕ). turns one false n (seen m)) none ∙ ap (λ (x : MachineState). turns one false left (seen x)) (sym (behind-none m q reaches))
-burst-turns one (suc count) most left m q calm within end reaches =
+    ap (λ (n : ℕ). turns note one false n s) none ∙ ap (λ (x : MachineState). turns note one false left (with_machine s x)) (sym (behind-none s.machine q reaches))
+burst-turns note one (suc count) most left s q calm within end reaches =
     let (mid, before, last) = reaches in
     let both : suc count + left ≡ count + suc left = omega arith in
-    let at = behind count m mid in
+    let m = s.machine in
+    let at = with_machine s (behind count m mid) in
     let plain = behind-plain count most m mid calm (omega (arith, within)) in
     let early = behind-early count most m mid (omega (arith, within)) end in
-    let next = plain-next at q plain early (ap step (behind-processor count m mid) ∙ last) in
-    ap (λ (n : ℕ). turns one false n (seen m)) both
-    ∙ burst-turns one count most (suc left) m mid calm (omega (arith, within)) end before
-    ∙ turns-silent one left (seen at) (seen (behind_step at q)) next
-    ∙ ap (λ (x : MachineState). turns one false left (seen x)) (behind-more count m mid q)
+    let next = plain-next note at q plain early (ap step (behind-processor count m mid) ∙ last) in
+    ap (λ (n : ℕ). turns note one false n s) both
+    ∙ burst-turns note one count most (suc left) s mid calm (omega (arith, within)) end before
+    ∙ turns-silent note one left at (with_machine s (behind_step at.machine q)) next
+    ∙ ap (λ (x : MachineState). turns note one false left (with_machine s x)) (behind-more count m mid q)
 
 -- ---- what the calls come to
 
@@ -218,38 +224,54 @@ behind-with : (count : ℕ) (m : MachineState) (mid q : ProcessorState) → reco
 unfolding behind
 behind-with count m mid q = refl
 
-went : (one : Bool) (most done budget : ℕ) (old new : MachineState) (q : ProcessorState) → IsCalm budget old → old.time + budget ≤ last_time → budget ≤ most → done ≤ budget
-    → Reaches done old.processor q → new ≡ passed_by done (record old { processor = q }) → turns one false most (seen old) ≡ turns one false (most - done) (seen new)
-went one most done budget old new q calm end few within reaches is =
-    let all : most ≡ done + (most - done) = omega (arith, few, within) in
-    ap (λ (n : ℕ). turns one false n (seen old)) all
-    ∙ burst-turns one done budget (most - done) old q calm within end reaches
-    ∙ ap (λ (x : MachineState). turns one false (most - done) (seen x)) (sym (is ∙ behind-is done old q))
+calm-erased : (count : ℕ) (m : MachineState) → IsCalm count m → IsCalm count (erased m)
+calm-erased count m calm = record { quiet = calm.quiet; clear = calm.clear }
 
-ended : (one : Bool) (most done budget : ℕ) (old new : MachineState) (mid q : ProcessorState) → IsCalm budget old → old.time + budget ≤ last_time → budget ≤ most → done < budget
+erased-behind : (count : ℕ) (m : MachineState) (q : ProcessorState) → behind count (erased m) q ≡ erased (behind count m q)
+unfolding behind passed_by
+erased-behind count m q = refl
+
+went : (note : Option RunNote) (one : Bool) (keys : List (ℕ × ℕ)) (files : List NamedBytes) (most done budget : ℕ) (old new : MachineState) (q : ProcessorState)
+    → IsCalm budget old → old.time + budget ≤ last_time → budget ≤ most → done ≤ budget
+    → Reaches done old.processor q → new ≡ passed_by done (record old { processor = q })
+    → turns note one false most (seen keys files old) ≡ turns note one false (most - done) (seen keys files new)
+went note one keys files most done budget old new q calm end few within reaches is =
+    let all : most ≡ done + (most - done) = omega (arith, few, within) in
+    let s = seen keys files old in
+    ap (λ (n : ℕ). turns note one false n s) all
+    ∙ burst-turns note one done budget (most - done) s q (calm-erased budget old calm) within end reaches
+    ∙ ap (λ (x : MachineState). turns note one false (most - done) (with_machine s x)) (erased-behind done old q)
+    ∙ ap (λ (x : MachineState). turns note one false (most - done) (seen keys files x)) (sym (is ∙ behind-is done old q))
+
+ended : (note : Option RunNote) (one : Bool) (keys : List (ℕ × ℕ)) (files : List NamedBytes) (most done budget : ℕ) (old new : MachineState) (mid q : ProcessorState)
+    → IsCalm budget old → old.time + budget ≤ last_time → budget ≤ most → done < budget
     → Reaches done old.processor mid → step mid ≡ record { processor = q; end = step_end.ChainLimit } → new ≡ passed_by done (record old { processor = q })
-    → turns one false most (seen old) ≡ silent (Some ChainLimit) (seen new)
-ended one most done budget old new mid q calm end few within reaches chain is =
+    → turns note one false most (seen keys files old) ≡ silent (Some ChainLimit) (seen keys files new)
+ended note one keys files most done budget old new mid q calm end few within reaches chain is =
     let left = most - done - 1 in
     let all : most ≡ done + suc left = omega (arith, few, within) in
-    let at = behind done old mid in
-    let plain = behind-plain done budget old mid calm within in
-    let early = behind-early done budget old mid within end in
-    let next = plain-chain at q plain early (ap step (behind-processor done old mid) ∙ chain) in
-    ap (λ (n : ℕ). turns one false n (seen old)) all
-    ∙ burst-turns one done budget (suc left) old mid calm (omega (arith, within)) end reaches
-    ∙ turns-stop one false left (seen at) ChainLimit (ap (λ (p : Part). p.stop) next)
+    let s = seen keys files old in
+    let m = s.machine in
+    let quiet = calm-erased budget old calm in
+    let at = with_machine s (behind done m mid) in
+    let plain = behind-plain done budget m mid quiet within in
+    let early = behind-early done budget m mid within end in
+    let next = plain-chain note at q plain early (ap step (behind-processor done m mid) ∙ chain) in
+    ap (λ (n : ℕ). turns note one false n s) all
+    ∙ burst-turns note one done budget (suc left) s mid quiet (omega (arith, within)) end reaches
+    ∙ turns-stop note one false left at ChainLimit (ap (λ (p : Part). p.stop) next)
     ∙ next
-    ∙ ap (λ (x : MachineState). silent (Some ChainLimit) (seen x)) (behind-with done old mid q ∙ sym (is ∙ behind-is done old q))
+    ∙ ap (λ (x : MachineState). silent (Some ChainLimit) (with_machine s x)) (behind-with done m mid q ∙ erased-behind done old q)
+    ∙ ap (λ (x : MachineState). silent (Some ChainLimit) (seen keys files x)) (sym (is ∙ behind-is done old q))
 
 pub burst-told : (most done budget : ℕ) (end : Step) (old new : MachineState) (q : ProcessorState) → IsCalm budget old → old.time + budget ≤ last_time → budget ≤ most
     → IsBurst old.processor budget done end q → new ≡ passed_by done (record old { processor = q }) → Bursts most done end old new
 burst-told most done budget step_end.Executed old new q calm last few burst is =
-    λ one. let all = burst.0 in went one most done budget old new q calm last few (omega (arith, all)) burst.1 is
+    λ note one keys files. let all = burst.0 in went note one keys files most done budget old new q calm last few (omega (arith, all)) burst.1 is
 burst-told most done budget step_end.Transfer old new q calm last few burst is =
-    λ one. let some = burst.0 in went one most done budget old new q calm last few (omega (arith, some)) burst.1 is
+    λ note one keys files. let some = burst.0 in went note one keys files most done budget old new q calm last few (omega (arith, some)) burst.1 is
 burst-told most done budget step_end.ChainLimit old new q calm last few burst is =
-    λ one. let (mid, within, reaches, chain) = burst in ended one most done budget old new mid q calm last few within reaches chain is
+    λ note one keys files. let (mid, within, reaches, chain) = burst in ended note one keys files most done budget old new mid q calm last few within reaches chain is
 
 -- a calm that is longer
 pub calm-less : (less more : ℕ) (m : MachineState) → less ≤ more → IsCalm more m → IsCalm less m
@@ -257,3 +279,12 @@ calm-less less more m within calm = record {
   quiet = λ some. calm.quiet (omega (arith, some, within));
   clear = λ n before. calm.clear n (omega (arith, before, within));
 }
+
+-- passing time leaves what is attached, and time does not go back
+pub passed-slots : (count : ℕ) (m : MachineState) → (passed_by count m).slots ≡ m.slots
+unfolding passed_by
+passed-slots count m = refl
+
+pub passed-time : (count : ℕ) (m : MachineState) → (passed_by count m).time ≡ m.time + count
+unfolding passed_by
+passed-time count m = refl

@@ -1,5 +1,5 @@
 -- A run reads nothing of the input.
-use Rattle.std.proofs.Common.{◌≡◌, ℕ, zero, suc, ◌+◌, ◌==◌, Bool, true, false, List, [], ◌∷◌, Option, Some, None, refl, ap, ◌∙◌, arith, if◌then◌else◌}
+use Rattle.std.proofs.Common.{◌≡◌, ℕ, zero, suc, ◌+◌, ◌==◌, Bool, true, false, List, [], ◌∷◌, Option, Some, None, Result, Ok, Err, refl, ap, ◌∙◌, arith, if◌then◌else◌}
 use Rattle.observations.specs.Observations.{Observation, reads_of}
 use Rattle.observations.proofs.MadeLemmas.{reads_of-append}
 use Rattle.unit_trait.specs.declared.kind.UnitName.{UnitName}
@@ -7,10 +7,14 @@ use Rattle.unit_trait.specs.declared.calls.Want.{Want}
 use Rattle.unit_trait.specs.declared.calls.Want.TheVariants as want
 use Rattle.event_queue.specs.EventList.{dues}
 use Rattle.nova_machine.specs.declared.machine.Stop.{Stop}
-use Rattle.nova_machine.specs.Seen.{Seen, with_machine}
+use Rattle.unit_trait.specs.declared.calls.Got.{Got}
+use Rattle.unit_files.specs.Attachments.{attachment_at}
+use Rattle.unit_files.specs.Acts.{Failure}
+use Rattle.nova_machine.specs.Notes.{UnitNote, RunNote, at_unit, at_time}
+use Rattle.nova_machine.specs.Seen.{Seen, with_machine, attached_in}
 use Rattle.nova_machine.specs.Parts.{Part, followed, then_part}
-use Rattle.nova_machine.specs.Wants.{prints}
-use Rattle.nova_machine.specs.Service.{want_at, asked, service, services, serving, taken}
+use Rattle.nova_machine.specs.Wants.{prints, answer_to, key_stop}
+use Rattle.nova_machine.specs.Service.{want_at, key_at, asked, replied, hosted, service, services, serving, taken}
 use Rattle.nova_machine.specs.Turn.{prepared, turn}
 use Rattle.nova_machine.specs.Run.{last_time, next_turn, turns, run}
 
@@ -27,43 +31,47 @@ prints-reads : (w : Want) (s : Seen) → reads_of (prints w s) ≡ 0
 prints-reads (want.Console byte) s = refl
 prints-reads w s = refl
 
-service-reads : (u : UnitName) (s : Seen) → reads_of (service u s).made ≡ 0
+replied-reads : (u : UnitName) (stop : Option Stop) (answer : Result Got Failure) (s : Seen) → reads_of (replied u stop answer s).made ≡ 0
+replied-reads u stop (Ok g) s = refl
+replied-reads u stop (Err f) s = refl
+
+service-reads : (fault : Option Failure) (u : UnitName) (s : Seen) → reads_of (service fault u s).made ≡ 0
 unfolding service
-service-reads u s =
-    let asking = with_machine s (asked u s.machine) in
-    let made = prints (want_at u s.machine) asking in
-    let none = prints-reads (want_at u s.machine) asking in
-    reads_of-append made [] ∙ ap (λ (n : ℕ). n + 0) none
+service-reads fault u s =
+    let w = want_at u s.machine in
+    let made = prints w (with_machine s (asked u s.machine)) in
+    let none = prints-reads (want_at u s.machine) (with_machine s (asked u s.machine)) in
+    reads_of-append made _ ∙ ap (λ (n : ℕ). reads_of made + n) (replied-reads u (key_stop (key_at s) w) (answer_to fault (attachment_at (attached_in s.machine) u) s.files (key_at s) w) (hosted fault u s)) ∙ omega (arith, none)
 
-services-reads : (us : List UnitName) (s : Seen) → reads_of (services us s).made ≡ 0
+services-reads : (note : Option UnitNote) (us : List UnitName) (s : Seen) → reads_of (services note us s).made ≡ 0
 unfolding services
-services-reads [] s = refl
-services-reads (u ∷ us) s = then-reads (service u (taken s)) (λ next. services us next) (service-reads u (taken s)) (λ next. services-reads us next)
+services-reads note [] s = refl
+services-reads note (u ∷ us) s = then-reads (service (at_unit u note) u (taken s)) (λ next. services note us next) (service-reads (at_unit u note) u (taken s)) (λ next. services-reads note us next)
 
-serving-reads : (s : Seen) → reads_of (serving s).made ≡ 0
+serving-reads : (note : Option UnitNote) (s : Seen) → reads_of (serving note s).made ≡ 0
 unfolding serving
-serving-reads s = services-reads (dues s.machine.events) s
+serving-reads note s = services-reads note (dues s.machine.events) s
 
-prepared-reads : (s : Seen) → reads_of (prepared s).made ≡ 0
+prepared-reads : (note : Option UnitNote) (s : Seen) → reads_of (prepared note s).made ≡ 0
 unfolding prepared
-prepared-reads s = then-reads (serving s) _ (serving-reads s) (λ next. refl)
+prepared-reads note s = then-reads (serving note s) _ (serving-reads note s) (λ next. refl)
 
-turn-reads : (first : Bool) (s : Seen) → reads_of (turn first s).made ≡ 0
+turn-reads : (note : Option UnitNote) (first : Bool) (s : Seen) → reads_of (turn note first s).made ≡ 0
 unfolding turn
-turn-reads first s = then-reads (prepared s) _ (prepared-reads s) (λ next. refl)
+turn-reads note first s = then-reads (prepared note s) _ (prepared-reads note s) (λ next. refl)
 
 reads-if : (b : Bool) (x y : Part) → reads_of x.made ≡ 0 → reads_of y.made ≡ 0 → reads_of (if b then x else y).made ≡ 0
 reads-if true x y first second = first
 reads-if false x y first second = second
 
-next-reads : (first : Bool) (s : Seen) → reads_of (next_turn first s).made ≡ 0
+next-reads : (note : Option RunNote) (first : Bool) (s : Seen) → reads_of (next_turn note first s).made ≡ 0
 unfolding next_turn
-next-reads first s = reads-if (s.machine.time == last_time) _ _ refl (turn-reads first s)
+next-reads note first s = reads-if (s.machine.time == last_time) _ _ refl (turn-reads (at_time s.machine.time note) first s)
 
-turns-reads : (step first : Bool) (count : ℕ) (s : Seen) → reads_of (turns step first count s).made ≡ 0
+turns-reads : (note : Option RunNote) (step first : Bool) (count : ℕ) (s : Seen) → reads_of (turns note step first count s).made ≡ 0
 unfolding turns
-turns-reads step first zero s = refl
-turns-reads step first (suc count) s = then-reads (next_turn first s) (λ next. turns step false count next) (next-reads first s) (λ next. turns-reads step false count next)
+turns-reads note step first zero s = refl
+turns-reads note step first (suc count) s = then-reads (next_turn note first s) (λ next. turns note step false count next) (next-reads note first s) (λ next. turns-reads note step false count next)
 
-pub run-reads : (step : Bool) (count : ℕ) (s : Seen) → reads_of (run step count s).made ≡ 0
-run-reads step count s = turns-reads step true count s
+pub run-reads : (note : Option RunNote) (step : Bool) (count : ℕ) (s : Seen) → reads_of (run note step count s).made ≡ 0
+run-reads note step count s = turns-reads note step true count s

@@ -1,14 +1,14 @@
 -- Parts of a run, one behind another, and what a call has come to that does them.
-use Rattle.std.proofs.Common.{◌≡◌, ◌≢◌, ◌⊎◌, inl, inr, ℕ, Bool, IsTrue, List, [], ◌++◌, refl, ap, sym, ◌∙◌, subst, append_assoc, append-nil, Option, Some, None}
+use Rattle.std.proofs.Common.{◌≡◌, ◌≢◌, ◌⊎◌, inl, inr, ℕ, Bool, IsTrue, List, [], ◌++◌, refl, ap, sym, ◌∙◌, subst, append_assoc, append-nil, Option, Some, None, IsSome}
 use Rattle.observations.specs.Observations.{Observation, text_of, StandsAt}
 use Rattle.observations.specs.Cut.{BreaksOff}
 use Rattle.observations.proofs.MadeLemmas.{text_of-append, stands-before, stands-behind}
 use Rattle.observations.proofs.CutLemmas.{breaks-before, breaks-behind}
 use Rattle.nova_machine.specs.declared.machine.Stop.{Stop}
-use Rattle.nova_machine.specs.declared.machine.Stop.TheVariants.{ConsoleFault}
+use Rattle.nova_machine.specs.declared.machine.Stop.TheVariants.{ConsoleFault, FileFault}
 use Rattle.nova_machine.specs.Seen.{Seen}
 use Rattle.nova_machine.specs.Parts.{Part, silent, behind_made, followed, then_part}
-use Rattle.nova_machine.specs.Comes.{IsWhole, IsBrokenOff, Comes, StopCounts}
+use Rattle.nova_machine.specs.Comes.{IsWhole, IsBrokenOff, Comes, StopCounts, bare, IsOwn}
 
 pub split-comes : (p : Part) (r : Option Stop) (s : Seen) (tells : Bool) (b a : List ℕ) → Comes p r s tells b a
     → ((r ≡ Some ConsoleFault) × IsBrokenOff p s tells b a) ⊎ ((r ≢ Some ConsoleFault) × IsWhole p r s tells b a)
@@ -19,9 +19,18 @@ pub whole-comes : (p : Part) (r : Option Stop) (s : Seen) (tells : Bool) (b a : 
 whole-comes p (Some ConsoleFault) s tells b a other h = absurd (other refl)
 whole-comes p r s tells b a other h = h
 
-pub silent-comes : (stop r : Option Stop) (s now : Seen) (tells : Bool) (b : List ℕ) → r ≢ Some ConsoleFault → r ≡ stop → now ≡ s → Comes (silent stop s) r now tells b b
-silent-comes stop r s now tells b other same is =
-    whole-comes (silent stop s) r now tells b b other (record { stop_is = same; after_is = is; written = λ _. sym (append-nil b) })
+-- a stop of neither the console nor a file
+pub own-other : (r : Option Stop) → IsOwn r → r ≢ Some ConsoleFault
+own-other (Some ConsoleFault) own is = own
+own-other r own is = absurd (cc)
+
+pub own-bare : (r : Option Stop) → IsOwn r → bare r ≡ r
+own-bare (Some (FileFault f)) own = absurd own
+own-bare r own = refl
+
+pub silent-comes : (stop r : Option Stop) (s now : Seen) (tells : Bool) (b : List ℕ) → IsOwn r → r ≡ stop → now ≡ s → Comes (silent stop s) r now tells b b
+silent-comes stop r s now tells b own same is =
+    whole-comes (silent stop s) r now tells b b (own-other r own) (record { stop_is = own-bare r own ∙ same; after_is = is; written = λ _. sym (append-nil b) })
 
 broken-behind : (made : List (Observation Seen)) (p : Part) (s : Seen) (tells : Bool) (b c a : List ℕ) → (IsTrue tells → c ≡ b ++ text_of made)
     → IsBrokenOff p s tells c a → IsBrokenOff (behind_made made p) s tells b a
@@ -55,9 +64,17 @@ comes-behind made p r s tells b c a printed h = whole-behind made p _ s tells b 
 then-goes : (p : Part) (goes_on : Seen → Part) → None ≡ p.stop → then_part p goes_on ≡ behind_made p.made (goes_on p.after)
 then-goes p goes_on goes = ap (λ (o : Option Stop). followed p.made o p.after goes_on) (sym goes)
 
-then-stops : (p : Part) (goes_on : Seen → Part) (stop : Stop) → Some stop ≡ p.stop → then_part p goes_on ≡ p
-then-stops p goes_on stop stops =
-    ap (λ (o : Option Stop). followed p.made o p.after goes_on) (sym stops) ∙ ap (λ (o : Option Stop). record { made = p.made; after = p.after; stop = o }) stops
+then-stops : (p : Part) (goes_on : Seen → Part) (stop : Stop) → bare (Some stop) ≡ p.stop → then_part p goes_on ≡ p
+then-stops p goes_on stop stops = by-stop (bare (Some stop)) (is-some stop) stops
+  where
+    is-some : (x : Stop) → IsSome (bare (Some x))
+    is-some (FileFault f) = refl
+    is-some x = refl
+
+    by-stop : (o : Option Stop) → IsSome o → o ≡ p.stop → then_part p goes_on ≡ p
+    by-stop None some is = absurd (cc)
+    by-stop (Some x) some is =
+        ap (λ (o : Option Stop). followed p.made o p.after goes_on) (sym is) ∙ ap (λ (o : Option Stop). record { made = p.made; after = p.after; stop = o }) is
 
 then-made : (p : Part) (goes_on : Seen → Part) → (more : List (Observation Seen)) × ((then_part p goes_on).made ≡ p.made ++ more)
 then-made p goes_on = by-stop p.made p.stop p.after

@@ -1,7 +1,9 @@
 -- A turn in which nothing comes before the instruction.
-use Rattle.std.proofs.Common.{◌≡◌, ℕ, Bool, false, List, None, refl, ap, sym, subst, ◌∙◌, append-nil, if◌then◌else◌}
+use Rattle.std.proofs.Common.{◌≡◌, ℕ, Bool, false, List, Option, None, refl, ap, sym, subst, ◌∙◌, append-nil, if◌then◌else◌}
 use Rattle.nova_machine.specs.Machine.{MachineState}
-use Rattle.nova_machine.specs.Seen.{seen}
+use Rattle.host_files.specs.Lists.{NamedBytes}
+use Rattle.nova_machine.specs.Notes.{UnitNote}
+use Rattle.nova_machine.specs.Seen.{Seen, seen, erased, with_machine}
 use Rattle.nova_machine.specs.Parts.{Part, silent, then_part}
 use Rattle.nova_machine.specs.Turned.{Turned, goes_on, still}
 use Rattle.nova_machine.specs.Turn.{is_interrupted, enter, interrupt, prepared}
@@ -14,16 +16,22 @@ interrupt-none : (m : MachineState) → is_interrupted m ≡ false → interrupt
 unfolding interrupt
 interrupt-none m quiet = ap (λ (b : Bool). if b then enter m else goes_on m) quiet
 
-prepared-is : (m : MachineState) → prepared (seen m) ≡ then_part (serving (seen m)) (λ served. still served (interrupt served.machine))
+prepared-is : (note : Option UnitNote) (s : Seen) → prepared note s ≡ then_part (serving note s) (λ served. still served (interrupt served.machine))
 unfolding prepared
-prepared-is m = refl
+prepared-is note s = refl
 
-pub plain-prepared : (m : MachineState) → IsPlain m → prepared (seen m) ≡ silent None (seen m)
-plain-prepared m plain =
-    prepared-is m ∙ ap (λ (p : Part). then_part p (λ served. still served (interrupt served.machine))) (serving-none (seen m) plain.none)
-    ∙ ap (λ (t : Turned). silent t.stop (seen t.machine)) (interrupt-none m plain.uninterrupted)
+-- no numbers of files are looked at
+plain-erased : (m : MachineState) → IsPlain m → IsPlain (erased m)
+plain-erased m plain = record { none = plain.none; uninterrupted = plain.uninterrupted }
 
-pub plain-whole : (m : MachineState) (tells : Bool) (b : List ℕ) → IsPlain m → IsWhole (prepared (seen m)) None (seen m) tells b b
-plain-whole m tells b plain =
-    let P : Part → Type 0 = λ p. IsWhole p None (seen m) tells b b in
-    subst P (sym (plain-prepared m plain)) (record { stop_is = refl; after_is = refl; written = λ _. sym (append-nil b) })
+pub plain-prepared : (note : Option UnitNote) (s : Seen) → IsPlain s.machine → prepared note s ≡ silent None s
+plain-prepared note s plain =
+    prepared-is note s ∙ ap (λ (p : Part). then_part p (λ served. still served (interrupt served.machine))) (serving-none note s plain.none)
+    ∙ ap (λ (t : Turned). silent t.stop (with_machine s t.machine)) (interrupt-none s.machine plain.uninterrupted)
+
+pub plain-whole : (note : Option UnitNote) (keys : List (ℕ × ℕ)) (files : List NamedBytes) (m : MachineState) (tells : Bool) (b : List ℕ) → IsPlain m
+    → IsWhole (prepared note (seen keys files m)) None (seen keys files m) tells b b
+plain-whole note keys files m tells b plain =
+    let s = seen keys files m in
+    let P : Part → Type 0 = λ p. IsWhole p None s tells b b in
+    subst P (sym (plain-prepared note s (plain-erased m plain))) (record { stop_is = refl; after_is = refl; written = λ _. sym (append-nil b) })

@@ -4,6 +4,7 @@ use Rattle.std.proofs.lemmas.Bool.Decides.{nat_tests}
 use Rattle.observations.specs.Observations.{Observation}
 use Rattle.nova_machine.specs.declared.machine.Stop.{Stop}
 use Rattle.nova_machine.specs.declared.machine.Stop.TheVariants.{Stepped, Limit}
+use Rattle.nova_machine.specs.Notes.{UnitNote, RunNote, at_time}
 use Rattle.nova_machine.specs.Seen.{Seen}
 use Rattle.nova_machine.specs.Parts.{Part, silent, behind_made}
 use Rattle.nova_machine.specs.Turn.{turn}
@@ -35,9 +36,9 @@ next-ended s end = record {
   held = λ _. refl;
 }
 
-next-made : (first : Bool) (s : Seen) → NextTurn s (turn first s)
-next-made first s =
-    let t = turns-turn first s in
+next-made : (note : Option UnitNote) (first : Bool) (s : Seen) → NextTurn s (turn note first s)
+next-made note first s =
+    let t = turns-turn note first s in
     record {
       goes = t.goes;
       least = t.least;
@@ -47,29 +48,29 @@ next-made first s =
       held = t.held;
     }
 
-pub next-next_turn : (first : Bool) (s : Seen) → NextTurn s (next_turn first s)
+pub next-next_turn : (note : Option RunNote) (first : Bool) (s : Seen) → NextTurn s (next_turn note first s)
 unfolding next_turn
-next-next_turn first s =
-    next-if (s.machine.time == last_time) s _ (turn first s) (λ e. next-ended s (grind (arith, nat_tests))) (next-made first s)
+next-next_turn note first s =
+    next-if (s.machine.time == last_time) s _ (turn (at_time s.machine.time note) first s) (λ e. next-ended s (grind (arith, nat_tests))) (next-made (at_time s.machine.time note) first s)
 
 limit-expired : (step : Bool) → IsLimit (Some (expired step))
 limit-expired true = tt
 limit-expired false = tt
 
 -- at the end of time every run that is not empty stops for the limit
-at-end : (first : Bool) (s : Seen) → s.machine.time ≡ last_time → next_turn first s ≡ silent (Some Limit) s
+at-end : (note : Option RunNote) (first : Bool) (s : Seen) → s.machine.time ≡ last_time → next_turn note first s ≡ silent (Some Limit) s
 unfolding next_turn
-at-end first s end = end-if (s.machine.time == last_time) (silent (Some Limit) s) (turn first s) (grind (arith, nat_tests))
+at-end note first s end = end-if (s.machine.time == last_time) (silent (Some Limit) s) (turn (at_time s.machine.time note) first s) (grind (arith, nat_tests))
   where
     end-if : (b : Bool) (x y : Part) → b ≡ true → (if b then x else y) ≡ x
     end-if true x y is = refl
     end-if false x y is = absurd (cc)
 
-turns-ended : (step first : Bool) (n : ℕ) (s : Seen) → 0 < n → s.machine.time ≡ last_time → turns step first n s ≡ silent (Some Limit) s
-turns-ended step first zero s some end = absurd (omega arith)
-turns-ended step first (suc n) s some end =
-    let is = at-end first s end in
-    turns-stop step first n s Limit (ap (λ (p : Part). p.stop) is) ∙ is
+turns-ended : (note : Option RunNote) (step first : Bool) (n : ℕ) (s : Seen) → 0 < n → s.machine.time ≡ last_time → turns note step first n s ≡ silent (Some Limit) s
+turns-ended note step first zero s some end = absurd (omega arith)
+turns-ended note step first (suc n) s some end =
+    let is = at-end note first s end in
+    turns-stop note step first n s Limit (ap (λ (p : Part). p.stop) is) ∙ is
 
 stop-cases : (o : Option Stop) → (o ≡ None) ⊎ ((s : Stop) × (o ≡ Some s))
 stop-cases None = inl refl
@@ -79,92 +80,92 @@ behind-behind : (first second : List (Observation Seen)) (p : Part) → behind_m
 behind-behind first second p = ap (λ l. record { made = l; after = p.after; stop = p.stop }) (sym (append_assoc first second p.made))
 
 -- a first turn is like every other where it tests no break
-turns-first : (step : Bool) (k : ℕ) (s : Seen) → PassesNoBreak s → turns step true k s ≡ turns step false k s
-turns-first step zero s same = turns-none step true s ∙ sym (turns-none step false s)
-turns-first step (suc k) s same =
-    elim (stop-cases (next_turn false s).stop) [
+turns-first : (note : Option RunNote) (step : Bool) (k : ℕ) (s : Seen) → PassesNoBreak note s → turns note step true k s ≡ turns note step false k s
+turns-first note step zero s same = turns-none note step true s ∙ sym (turns-none note step false s)
+turns-first note step (suc k) s same =
+    elim (stop-cases (next_turn note false s).stop) [
       | inl goes ↦
-          turns-go step true k s (ap (λ (p : Part). p.stop) same ∙ goes)
-          ∙ ap (λ (p : Part). behind_made p.made (turns step false k p.after)) same
-          ∙ sym (turns-go step false k s goes)
-      | inr w ↦ turns-stop step true k s w.0 (ap (λ (p : Part). p.stop) same ∙ w.1) ∙ same ∙ sym (turns-stop step false k s w.0 w.1)
+          turns-go note step true k s (ap (λ (p : Part). p.stop) same ∙ goes)
+          ∙ ap (λ (p : Part). behind_made p.made (turns note step false k p.after)) same
+          ∙ sym (turns-go note step false k s goes)
+      | inr w ↦ turns-stop note step true k s w.0 (ap (λ (p : Part). p.stop) same ∙ w.1) ∙ same ∙ sym (turns-stop note step false k s w.0 w.1)
     ]
 
-any-first : (step first : Bool) (k : ℕ) (s : Seen) → PassesNoBreak s → turns step first k s ≡ turns step true k s
-any-first step true k s same = refl
-any-first step false k s same = sym (turns-first step k s same)
+any-first : (note : Option RunNote) (step first : Bool) (k : ℕ) (s : Seen) → PassesNoBreak note s → turns note step first k s ≡ turns note step true k s
+any-first note step true k s same = refl
+any-first note step false k s same = sym (turns-first note step k s same)
 
 -- turns that only the count or the end of time has ended, and k more
-turns-limited : (one step first : Bool) (n k : ℕ) (s : Seen) → IsLimit (turns one first n s).stop → 0 < k → PassesNoBreak (turns one first n s).after
-    → turns step first (n + k) s ≡ behind_made (turns one first n s).made (turns step true k (turns one first n s).after)
-turns-limited one step first zero k s limit some passes =
+turns-limited : (note : Option RunNote) (one step first : Bool) (n k : ℕ) (s : Seen) → IsLimit (turns note one first n s).stop → 0 < k → PassesNoBreak note (turns note one first n s).after
+    → turns note step first (n + k) s ≡ behind_made (turns note one first n s).made (turns note step true k (turns note one first n s).after)
+turns-limited note one step first zero k s limit some passes =
     let none : zero + k ≡ k = omega arith in
-    let is = turns-none one first s in
-    let P : Seen → Type 0 = λ x. PassesNoBreak x in
-    ap (λ c. turns step first c s) none ∙ any-first step first k s (subst P (ap (λ (p : Part). p.after) is) passes)
-    ∙ sym (ap (λ (p : Part). behind_made p.made (turns step true k p.after)) is)
-turns-limited one step first (suc n) k s limit some passes =
-    let next = next_turn first s in
+    let is = turns-none note one first s in
+    let P : Seen → Type 0 = λ x. PassesNoBreak note x in
+    ap (λ c. turns note step first c s) none ∙ any-first note step first k s (subst P (ap (λ (p : Part). p.after) is) passes)
+    ∙ sym (ap (λ (p : Part). behind_made p.made (turns note step true k p.after)) is)
+turns-limited note one step first (suc n) k s limit some passes =
+    let next = next_turn note first s in
     let both : suc n + k ≡ suc (n + k) = omega arith in
     let P : Option Stop → Type 0 = λ o. IsLimit o in
-    let Q : Seen → Type 0 = λ x. PassesNoBreak x in
+    let Q : Seen → Type 0 = λ x. PassesNoBreak note x in
     elim (stop-cases next.stop) [
       | inl goes ↦
-          let from = turns-go one first n s goes in
-          let rest = turns one false n next.after in
-          let inner = turns-limited one step false n k next.after (subst P (ap (λ (p : Part). p.stop) from) limit) some
+          let from = turns-go note one first n s goes in
+          let rest = turns note one false n next.after in
+          let inner = turns-limited note one step false n k next.after (subst P (ap (λ (p : Part). p.stop) from) limit) some
           (subst Q (ap (λ (p : Part). p.after) from) passes) in
-          ap (λ c. turns step first c s) both ∙ turns-go step first (n + k) s goes
+          ap (λ c. turns note step first c s) both ∙ turns-go note step first (n + k) s goes
           ∙ ap (behind_made next.made) inner
-          ∙ behind-behind next.made rest.made (turns step true k rest.after)
-          ∙ sym (ap (λ (p : Part). behind_made p.made (turns step true k p.after)) from)
+          ∙ behind-behind next.made rest.made (turns note step true k rest.after)
+          ∙ sym (ap (λ (p : Part). behind_made p.made (turns note step true k p.after)) from)
       | inr w ↦
-          let over = turns-stop one first n s w.0 w.1 in
-          let e = (next-next_turn first s).ended (subst P (ap (λ (p : Part). p.stop) over) limit) in
+          let over = turns-stop note one first n s w.0 w.1 in
+          let e = (next-next_turn note first s).ended (subst P (ap (λ (p : Part). p.stop) over) limit) in
           let here = over ∙ e.1 in
-          turns-ended step first (suc n + k) s (omega arith) e.0
-          ∙ sym (turns-ended step true k s some e.0)
-          ∙ sym (ap (λ (p : Part). behind_made p.made (turns step true k p.after)) here)
+          turns-ended note step first (suc n + k) s (omega arith) e.0
+          ∙ sym (turns-ended note step true k s some e.0)
+          ∙ sym (ap (λ (p : Part). behind_made p.made (turns note step true k p.after)) here)
     ]
 
-pub run-limited : (one step : Bool) (n k : ℕ) (s : Seen) → IsLimit (run one n s).stop → 0 < k → PassesNoBreak (run one n s).after
-    → run step (n + k) s ≡ behind_made (run one n s).made (run step k (run one n s).after)
-run-limited one step n k s limit some passes = turns-limited one step true n k s limit some passes
+pub run-limited : (note : Option RunNote) (one step : Bool) (n k : ℕ) (s : Seen) → IsLimit (run note one n s).stop → 0 < k → PassesNoBreak note (run note one n s).after
+    → run note step (n + k) s ≡ behind_made (run note one n s).made (run note step k (run note one n s).after)
+run-limited note one step n k s limit some passes = turns-limited note one step true n k s limit some passes
 
-pub run-counted : (step : Bool) (n k : ℕ) (s : Seen) → (run step n s).stop ≡ Some (expired step) → PassesNoBreak (run step n s).after
-    → run step (n + k) s ≡ behind_made (run step n s).made (run step k (run step n s).after)
-run-counted step n zero s all passes =
+pub run-counted : (note : Option RunNote) (step : Bool) (n k : ℕ) (s : Seen) → (run note step n s).stop ≡ Some (expired step) → PassesNoBreak note (run note step n s).after
+    → run note step (n + k) s ≡ behind_made (run note step n s).made (run note step k (run note step n s).after)
+run-counted note step n zero s all passes =
     let none : n + zero ≡ n = omega arith in
-    let p = run step n s in
-    ap (λ c. run step c s) none
+    let p = run note step n s in
+    ap (λ c. run note step c s) none
     ∙ ap (λ o. record { made = p.made; after = p.after; stop = o }) all
     ∙ ap (λ l. record { made = l; after = p.after; stop = Some (expired step) }) (sym (nothing-behind p.made))
-    ∙ sym (ap (behind_made p.made) (turns-none step true p.after))
+    ∙ sym (ap (behind_made p.made) (turns-none note step true p.after))
   where
     nothing-behind : (l : List (Observation Seen)) → l ++ [] ≡ l
     nothing-behind l = append-nil l
-run-counted step n (suc k) s all passes =
+run-counted note step n (suc k) s all passes =
     let P : Option Stop → Type 0 = λ o. IsLimit o in
-    run-limited step step n (suc k) s (subst P (sym all) (limit-expired step)) (omega arith) passes
+    run-limited note step step n (suc k) s (subst P (sym all) (limit-expired step)) (omega arith) passes
 
-turns-stopped : (one step first : Bool) (n k : ℕ) (s : Seen) → ¬ IsLimit (turns one first n s).stop → turns step first (n + k) s ≡ turns one first n s
-turns-stopped one step first zero k s other =
+turns-stopped : (note : Option RunNote) (one step first : Bool) (n k : ℕ) (s : Seen) → ¬ IsLimit (turns note one first n s).stop → turns note step first (n + k) s ≡ turns note one first n s
+turns-stopped note one step first zero k s other =
     let P : Option Stop → Type 0 = λ o. IsLimit o in
-    absurd (other (subst P (sym (ap (λ (p : Part). p.stop) (turns-none one first s))) (limit-expired one)))
-turns-stopped one step first (suc n) k s other =
-    let next = next_turn first s in
+    absurd (other (subst P (sym (ap (λ (p : Part). p.stop) (turns-none note one first s))) (limit-expired one)))
+turns-stopped note one step first (suc n) k s other =
+    let next = next_turn note first s in
     let both : suc n + k ≡ suc (n + k) = omega arith in
     let P : Option Stop → Type 0 = λ o. ¬ IsLimit o in
     elim (stop-cases next.stop) [
       | inl goes ↦
-          let from = turns-go one first n s goes in
-          ap (λ c. turns step first c s) both ∙ turns-go step first (n + k) s goes
-          ∙ ap (behind_made next.made) (turns-stopped one step false n k next.after (subst P (ap (λ (p : Part). p.stop) from) other)) ∙ sym from
-      | inr w ↦ ap (λ c. turns step first c s) both ∙ turns-stop step first (n + k) s w.0 w.1 ∙ sym (turns-stop one first n s w.0 w.1)
+          let from = turns-go note one first n s goes in
+          ap (λ c. turns note step first c s) both ∙ turns-go note step first (n + k) s goes
+          ∙ ap (behind_made next.made) (turns-stopped note one step false n k next.after (subst P (ap (λ (p : Part). p.stop) from) other)) ∙ sym from
+      | inr w ↦ ap (λ c. turns note step first c s) both ∙ turns-stop note step first (n + k) s w.0 w.1 ∙ sym (turns-stop note one first n s w.0 w.1)
     ]
 
 pub runs-split : RunSplits
-runs-split = record { counted = run-counted; limited = run-limited; stopped = λ one step n k s other. turns-stopped one step true n k s other }
+runs-split = record { counted = run-counted; limited = run-limited; stopped = λ note one step n k s other. turns-stopped note one step true n k s other }
 
 -- the time that so many turns have taken, what they have done to the wait of interrupts, and what they have left
 pub record Takes (n : ℕ) (s : Seen) (p : Part) : Type 0 where
@@ -176,10 +177,10 @@ pub record Takes (n : ℕ) (s : Seen) (p : Part) : Type 0 where
   pub held : p.after.machine.time ≡ s.machine.time → p.after.machine.ints.hold ≡ s.machine.ints.hold
 
 -- turns that go on from the state of the next one
-takes-more : (first : Bool) (n : ℕ) (s : Seen) (p : Part) → (next_turn first s).stop ≡ None → Takes n (next_turn first s).after p → Takes (suc n) s (behind_made (next_turn first s).made p)
-takes-more first n s p goes t =
-    let next = next-next_turn first s in
-    let now = (next_turn first s).after.machine in
+takes-more : (note : Option RunNote) (first : Bool) (n : ℕ) (s : Seen) (p : Part) → (next_turn note first s).stop ≡ None → Takes n (next_turn note first s).after p → Takes (suc n) s (behind_made (next_turn note first s).made p)
+takes-more note first n s p goes t =
+    let next = next-next_turn note first s in
+    let now = (next_turn note first s).after.machine in
     let one : now.time ≡ s.machine.time + 1 = next.goes goes in
     record {
       least = omega (arith, one, t.least);
@@ -190,10 +191,10 @@ takes-more first n s p goes t =
       held = λ h. absurd (omega (arith, one, t.least, h));
     }
 
-takes-stop : (first : Bool) (n : ℕ) (s : Seen) → Takes (suc n) s (next_turn first s) ⊎ ((next_turn first s).stop ≡ None)
-takes-stop first n s =
-    let next = next-next_turn first s in
-    let p = next_turn first s in
+takes-stop : (note : Option RunNote) (first : Bool) (n : ℕ) (s : Seen) → Takes (suc n) s (next_turn note first s) ⊎ ((next_turn note first s).stop ≡ None)
+takes-stop note first n s =
+    let next = next-next_turn note first s in
+    let p = next_turn note first s in
     let P : Option Stop → Type 0 = λ o. IsLimit o in
     elim (stop-cases p.stop) [
       | inl goes ↦ inr goes
@@ -217,26 +218,26 @@ takes-none step first s = record {
   held = λ _. refl;
 }
 
-pub takes-turns : (step first : Bool) (n : ℕ) (s : Seen) → Takes n s (turns step first n s)
-takes-turns step first zero s =
+pub takes-turns : (note : Option RunNote) (step first : Bool) (n : ℕ) (s : Seen) → Takes n s (turns note step first n s)
+takes-turns note step first zero s =
     let P : Part → Type 0 = λ p. Takes zero s p in
-    subst P (sym (turns-none step first s)) (takes-none step first s)
-takes-turns step first (suc n) s =
+    subst P (sym (turns-none note step first s)) (takes-none step first s)
+takes-turns note step first (suc n) s =
     let P : Part → Type 0 = λ p. Takes (suc n) s p in
-    elim (stop-cases (next_turn first s).stop) [
-      | inl goes ↦ subst P (sym (turns-go step first n s goes)) (takes-more first n s _ goes (takes-turns step false n (next_turn first s).after))
-      | inr w ↦ elim (takes-stop first n s) [
-        | inl takes ↦ subst P (sym (turns-stop step first n s w.0 w.1)) takes
+    elim (stop-cases (next_turn note first s).stop) [
+      | inl goes ↦ subst P (sym (turns-go note step first n s goes)) (takes-more note first n s _ goes (takes-turns note step false n (next_turn note first s).after))
+      | inr w ↦ elim (takes-stop note first n s) [
+        | inl takes ↦ subst P (sym (turns-stop note step first n s w.0 w.1)) takes
         | inr goes ↦ let wrong = w.1 in absurd (cc)
       ]
     ]
 
 pub runs-take-time : RunTakesTime
 runs-take-time = record {
-  least = λ step n s. (takes-turns step true n s).least;
-  most = λ step n s. (takes-turns step true n s).most;
-  stepped = λ step n s. (takes-turns step true n s).stepped;
-  limited = λ step n s. (takes-turns step true n s).limited;
-  held = λ step n s. (takes-turns step true n s).held;
-  unchanged = λ step n s. (takes-turns step true n s).unchanged;
+  least = λ note step n s. (takes-turns note step true n s).least;
+  most = λ note step n s. (takes-turns note step true n s).most;
+  stepped = λ note step n s. (takes-turns note step true n s).stepped;
+  limited = λ note step n s. (takes-turns note step true n s).limited;
+  held = λ note step n s. (takes-turns note step true n s).held;
+  unchanged = λ note step n s. (takes-turns note step true n s).unchanged;
 }

@@ -1,28 +1,35 @@
 -- The stops of a turn and their causes.
-use Rattle.std.proofs.Common.{◌≡◌, ◌≢◌, ◌↔◌, ◌⊎◌, inl, inr, ℕ, ◌+◌, ◌<◌, ◌≤◌, ◌==◌, Bool, true, false, List, [], ◌∷◌, Option, Some, None, is_some, refl, ap, sym, subst, ◌∙◌, nat_lt, if◌then◌else◌, arith}
+use Rattle.std.proofs.Common.{◌≡◌, ◌≢◌, ◌↔◌, ◌⊎◌, inl, inr, ℕ, ◌+◌, ◌<◌, ◌≤◌, ◌==◌, Bool, true, false, List, [], ◌∷◌, Option, Some, None, Result, Ok, Err, is_some, refl, ap, sym, subst, ◌∙◌, nat_lt, if◌then◌else◌, arith}
 use Rattle.std.proofs.lemmas.Bool.Decides.{nat_tests}
 use Rattle.observations.specs.Observations.{Observation}
 use Rattle.nova_word.specs.Bits.{bits}
 use Rattle.nova_memory.specs.Memory.{get}
 use Rattle.nova_memory.specs.Address.{Reference, address}
 use Rattle.unit_trait.specs.declared.kind.UnitName.{UnitName}
+use Rattle.unit_trait.specs.declared.calls.Want.{Want}
+use Rattle.unit_trait.specs.declared.calls.Want.TheVariants as want
+use Rattle.unit_trait.specs.declared.calls.Got.{Got}
 use Rattle.unit_trait.specs.declared.calls.UnitStop.{UnitStop}
 use Rattle.unit_trait.specs.declared.calls.UnitStop.TheVariants as unit_stop
 use Rattle.unit_list.specs.Bus.{unit_at}
 use Rattle.event_queue.specs.EventList.{dues}
 use Rattle.nova_interrupts.specs.Interrupts.{enabled, disabled}
 use Rattle.nova_machine.specs.declared.machine.Stop.{Stop}
-use Rattle.nova_machine.specs.declared.machine.Stop.TheVariants.{Halt, ChainLimit, UnknownDevice, UnitEnd, UnitNone}
+use Rattle.nova_machine.specs.declared.machine.Stop.TheVariants.{Halt, ChainLimit, UnknownDevice, UnitEnd, UnitNone, FileFault, Wru}
 use Rattle.nova_machine.specs.Machine.{MachineState, on_processor}
 use Rattle.nova_processor.specs.Processor.{ProcessorState}
-use Rattle.nova_machine.specs.Seen.{Seen, with_machine}
+use Rattle.unit_files.specs.declared.faults.UnitFault.{UnitFault}
+use Rattle.unit_files.specs.Attachments.{attachment_at}
+use Rattle.unit_files.specs.Acts.{Failure}
+use Rattle.nova_machine.specs.Notes.{UnitNote, at_unit}
+use Rattle.nova_machine.specs.Seen.{Seen, with_machine, attached_in}
 use Rattle.nova_machine.specs.Parts.{Part, behind_made, followed}
 use Rattle.nova_machine.specs.Turned.{Turned, begun, ticked, goes_on, still}
 use Rattle.nova_processor.specs.Instruction.{advanced}
 use Rattle.nova_processor.specs.InputOutput.{past}
 use Rattle.nova_machine.specs.Transfer.{central_function, central_pulse, central, to_processor, to_device, transfer}
-use Rattle.nova_machine.specs.Wants.{stop_by}
-use Rattle.nova_machine.specs.Service.{answered, service, taken, services, serving}
+use Rattle.nova_machine.specs.Wants.{stop_by, key_stop, wru, answer_to}
+use Rattle.nova_machine.specs.Service.{answered, first_stop, replied, hosted, want_at, key_at, service, taken, services, serving}
 use Rattle.nova_machine.specs.Turn.{with_memory, refer_to, refer, execute, fetch, is_interrupted, jump_to, interrupt_reference, enter, interrupt, prepared, turn}
 use Rattle.nova_machine.specs.StopLaws.{fetched, IsTransfer, IsHalt, IsUnknown, IsEndless, IsEndlessEntry, IsReached, ready, IsHalted, behind_entry, TurnStops}
 
@@ -34,6 +41,8 @@ pub record StopsAt (w : ℕ) (m : MachineState) (t : Turned) : Type 0 where
   pub chain_limit : (t.stop ≡ Some ChainLimit) ↔ IsEndless w m
   pub unknown : (t.stop ≡ Some UnknownDevice) ↔ IsUnknown w m
   pub not_units : (u : UnitName) → (t.stop ≢ Some (UnitEnd u)) × (t.stop ≢ Some (UnitNone u))
+  pub not_files : (f : UnitFault) → t.stop ≢ Some (FileFault f)
+  pub not_key : t.stop ≢ Some Wru
   pub halted_is : t.stop ≡ Some Halt → IsHalted m t.machine
   pub unended : t.stop ≡ Some ChainLimit → t.machine ≡ with_memory m (address m.processor.memory w m.processor.cpu.pc m.processor.cpu.accumulators).memory
   pub unknown_is : t.stop ≡ Some UnknownDevice → t.machine ≡ m
@@ -45,6 +54,8 @@ stops-none w m after no_halt ends known = record {
   chain_limit = ((λ h. absurd (cc)), (λ e. absurd (ends e)));
   unknown = ((λ h. absurd (cc)), (λ e. absurd (known e)));
   not_units = λ u. ((λ h. absurd (cc)), (λ h. absurd (cc)));
+  not_files = λ f h. absurd (cc);
+  not_key = λ h. absurd (cc);
   halted_is = λ h. absurd (cc);
   unended = λ h. absurd (cc);
   unknown_is = λ h. absurd (cc);
@@ -57,6 +68,8 @@ stops-refer_to w m r None low formed endless = record {
   chain_limit = ((λ h. record { memory_reference = low; chain = sym (ap (λ (x : Reference). x.address) formed) ∙ endless }), (λ e. refl));
   unknown = ((λ h. absurd (cc)), (λ e. let least = e.transfer.least in absurd (omega (arith, least, low))));
   not_units = λ u. ((λ h. absurd (cc)), (λ h. absurd (cc)));
+  not_files = λ f h. absurd (cc);
+  not_key = λ h. absurd (cc);
   halted_is = λ h. absurd (cc);
   unended = λ h. ap (λ (x : Reference). with_memory m x.memory) formed;
   unknown_is = λ h. absurd (cc);
@@ -124,6 +137,8 @@ stops-to_processor w m transfer device =
       chain_limit = ((λ h. absurd (cc)), (λ e. absurd (ends e)));
       unknown = ((λ h. absurd (cc)), (λ e. absurd (known e)));
       not_units = λ u. ((λ h. absurd (cc)), (λ h. absurd (cc)));
+      not_files = λ f h. absurd (cc);
+      not_key = λ h. absurd (cc);
       halted_is = λ h. halted-c w m is;
       unended = λ h. absurd (cc);
       unknown_is = λ h. absurd (cc);
@@ -153,6 +168,8 @@ stops-to_device w m transfer multiplier processor =
       chain_limit = ((λ h. absurd (cc)), (λ e. absurd (ends e)));
       unknown = ((λ h. record { transfer = transfer; multiplier = multiplier; processor = processor; absent = none-none (unit_at (bits 10 15 w) m.units) gone; stops = on }), (λ e. refl));
       not_units = λ u. ((λ h. absurd (cc)), (λ h. absurd (cc)));
+      not_files = λ f h. absurd (cc);
+      not_key = λ h. absurd (cc);
       halted_is = λ h. absurd (cc);
       unended = λ h. absurd (cc);
       unknown_is = λ h. refl;
@@ -193,6 +210,8 @@ stops-fetch m = stops-execute (get m.processor.memory m.processor.cpu.pc) m
 abbrev IsUnitStop : Option Stop → Type 0
 IsUnitStop (Some (UnitEnd u)) = Unit {0}
 IsUnitStop (Some (UnitNone u)) = Unit {0}
+IsUnitStop (Some (FileFault f)) = Unit {0}
+IsUnitStop (Some Wru) = Unit {0}
 IsUnitStop None = Unit {0}
 IsUnitStop other = ⊥
 
@@ -205,18 +224,34 @@ unit-followed : (made : List (Observation Seen)) (stop : Option Stop) (s : Seen)
 unit-followed made (Some stop) s more first second = first
 unit-followed made None s more first second = second s
 
-unit-service : (u : UnitName) (s : Seen) → IsUnitStop (service u s).stop
-unfolding service answered
-unit-service u s = unit-stop_by u _
+unit-key : (key : Option ℕ) (w : Want) (stop : Option Stop) → IsUnitStop stop → IsUnitStop (first_stop (key_stop key w) stop)
+unit-key (Some key) want.Key stop is = test (key == wru)
+  where
+    test : (b : Bool) → IsUnitStop (first_stop (if b then Some Wru else None) stop)
+    test true = tt
+    test false = is
+unit-key None want.Key stop is = is
+unit-key key w stop is = is
 
-unit-services : (us : List UnitName) (s : Seen) → IsUnitStop (services us s).stop
+unit-replied : (u : UnitName) (key : Option ℕ) (w : Want) (answer : Result Got Failure) (s : Seen) → IsUnitStop (replied u (key_stop key w) answer s).stop
+unfolding answered
+unit-replied u key w (Ok g) s = unit-key key w _ (unit-stop_by u _)
+unit-replied u key w (Err f) s = tt
+
+unit-service : (fault : Option Failure) (u : UnitName) (s : Seen) → IsUnitStop (service fault u s).stop
+unfolding service
+unit-service fault u s =
+    let w = want_at u s.machine in
+    unit-replied u (key_at s) w (answer_to fault (attachment_at (attached_in s.machine) u) s.files (key_at s) w) (hosted fault u s)
+
+unit-services : (note : Option UnitNote) (us : List UnitName) (s : Seen) → IsUnitStop (services note us s).stop
 unfolding services
-unit-services [] s = tt
-unit-services (u ∷ us) s = unit-followed _ (service u (taken s)).stop (service u (taken s)).after (λ next. services us next) (unit-service u (taken s)) (λ next. unit-services us next)
+unit-services note [] s = tt
+unit-services note (u ∷ us) s = unit-followed _ (service (at_unit u note) u (taken s)).stop (service (at_unit u note) u (taken s)).after (λ next. services note us next) (unit-service (at_unit u note) u (taken s)) (λ next. unit-services note us next)
 
-pub unit-serving : (s : Seen) → IsUnitStop (serving s).stop
+pub unit-serving : (note : Option UnitNote) (s : Seen) → IsUnitStop (serving note s).stop
 unfolding serving
-unit-serving s = unit-services (dues s.machine.events) s
+unit-serving note s = unit-services note (dues s.machine.events) s
 
 -- what the interrupt comes to
 record EntersAt (m : MachineState) (t : Turned) : Type 0 where
@@ -241,13 +276,13 @@ enters-interrupt m = enters-if (is_interrupted m) m refl
 
 -- ---- the whole turn
 
-prepared-is : (s : Seen) → prepared s ≡ followed (serving s).made (serving s).stop (serving s).after (λ served. still served (interrupt served.machine))
+prepared-is : (note : Option UnitNote) (s : Seen) → prepared note s ≡ followed (serving note s).made (serving note s).stop (serving note s).after (λ served. still served (interrupt served.machine))
 unfolding prepared
-prepared-is s = refl
+prepared-is note s = refl
 
-turn-is : (first : Bool) (s : Seen) → turn first s ≡ followed (prepared s).made (prepared s).stop (prepared s).after (λ r. still r (fetch r.machine))
+turn-is : (note : Option UnitNote) (first : Bool) (s : Seen) → turn note first s ≡ followed (prepared note s).made (prepared note s).stop (prepared note s).after (λ r. still r (fetch r.machine))
 unfolding turn
-turn-is first s = refl
+turn-is note first s = refl
 
 -- a part that stops, and one that goes on
 stops-there : (made : List (Observation Seen)) (o : Option Stop) (s : Seen) (more : Seen → Part) (stop : Stop) → o ≡ Some stop → followed made o s more ≡ record { made = made; after = s; stop = o }
@@ -258,30 +293,30 @@ goes-there : (made : List (Observation Seen)) (o : Option Stop) (s : Seen) (more
 goes-there made None s more is = refl
 goes-there made (Some x) s more is = absurd (cc)
 
-prepared-stops : (s : Seen) (stop : Stop) → (serving s).stop ≡ Some stop → prepared s ≡ serving s
-prepared-stops s stop is = prepared-is s ∙ stops-there (serving s).made (serving s).stop (serving s).after _ stop is
+prepared-stops : (note : Option UnitNote) (s : Seen) (stop : Stop) → (serving note s).stop ≡ Some stop → prepared note s ≡ serving note s
+prepared-stops note s stop is = prepared-is note s ∙ stops-there (serving note s).made (serving note s).stop (serving note s).after _ stop is
 
-prepared-goes : (s : Seen) → (serving s).stop ≡ None → prepared s ≡ behind_made (serving s).made (still (serving s).after (interrupt (serving s).after.machine))
-prepared-goes s is = prepared-is s ∙ goes-there (serving s).made (serving s).stop (serving s).after _ is
+prepared-goes : (note : Option UnitNote) (s : Seen) → (serving note s).stop ≡ None → prepared note s ≡ behind_made (serving note s).made (still (serving note s).after (interrupt (serving note s).after.machine))
+prepared-goes note s is = prepared-is note s ∙ goes-there (serving note s).made (serving note s).stop (serving note s).after _ is
 
-turn-stops_early : (first : Bool) (s : Seen) (stop : Stop) → (prepared s).stop ≡ Some stop → turn first s ≡ prepared s
-turn-stops_early first s stop is = turn-is first s ∙ stops-there (prepared s).made (prepared s).stop (prepared s).after _ stop is
+turn-stops_early : (note : Option UnitNote) (first : Bool) (s : Seen) (stop : Stop) → (prepared note s).stop ≡ Some stop → turn note first s ≡ prepared note s
+turn-stops_early note first s stop is = turn-is note first s ∙ stops-there (prepared note s).made (prepared note s).stop (prepared note s).after _ stop is
 
-turn-reaches : (first : Bool) (s : Seen) → IsReached s → turn first s ≡ behind_made (prepared s).made (still (prepared s).after (fetch (ready s)))
-turn-reaches first s is = turn-is first s ∙ goes-there (prepared s).made (prepared s).stop (prepared s).after _ is
+turn-reaches : (note : Option UnitNote) (first : Bool) (s : Seen) → IsReached note s → turn note first s ≡ behind_made (prepared note s).made (still (prepared note s).after (fetch (ready note s)))
+turn-reaches note first s is = turn-is note first s ∙ goes-there (prepared note s).made (prepared note s).stop (prepared note s).after _ is
 
 stop-cases : (o : Option Stop) → (o ≡ None) ⊎ ((x : Stop) × (o ≡ Some x))
 stop-cases None = inl refl
 stop-cases (Some x) = inr (x, refl)
 
 -- where the preparation stops: in a service, or at an entry without an end
-early : (s : Seen) (x : Stop) → (prepared s).stop ≡ Some x
-    → ((serving s).stop ≡ Some x) ⊎ ((x ≡ ChainLimit) × IsEndlessEntry s)
-early s x is =
-    elim (stop-cases (serving s).stop) [
+early : (note : Option UnitNote) (s : Seen) (x : Stop) → (prepared note s).stop ≡ Some x
+    → ((serving note s).stop ≡ Some x) ⊎ ((x ≡ ChainLimit) × IsEndlessEntry note s)
+early note s x is =
+    elim (stop-cases (serving note s).stop) [
       | inl goes ↦
-          let now = prepared-goes s goes in
-          let m = (serving s).after.machine in
+          let now = prepared-goes note s goes in
+          let m = (serving note s).after.machine in
           let stop : (interrupt m).stop ≡ Some x = sym (ap (λ (p : Part). p.stop) now) ∙ is in
           elim (enters-interrupt m).cases [
             | inl on ↦ absurd (cc)
@@ -289,108 +324,110 @@ early s x is =
                 let same : Some x ≡ Some ChainLimit = sym stop ∙ w.0 in
                 inr (cc, record { goes = goes; comes = w.1; chain = w.2 })
           ]
-      | inr w ↦ inl (sym (ap (λ (p : Part). p.stop) (prepared-stops s w.0 w.1)) ∙ is)
+      | inr w ↦ inl (sym (ap (λ (p : Part). p.stop) (prepared-stops note s w.0 w.1)) ∙ is)
     ]
 
-entry-stops : (s : Seen) → IsEndlessEntry s → ((prepared s).stop ≡ Some ChainLimit) × ((prepared s).after.machine ≡ behind_entry (serving s).after.machine)
-entry-stops s e =
-    let m = (serving s).after.machine in
-    let now = prepared-goes s e.goes in
+entry-stops : (note : Option UnitNote) (s : Seen) → IsEndlessEntry note s → ((prepared note s).stop ≡ Some ChainLimit) × ((prepared note s).after.machine ≡ behind_entry (serving note s).after.machine)
+entry-stops note s e =
+    let m = (serving note s).after.machine in
+    let now = prepared-goes note s e.goes in
     let at = (enters-interrupt m).endless e.comes e.chain in
     (ap (λ (p : Part). p.stop) now ∙ at.0, ap (λ (p : Part). p.after.machine) now ∙ at.1)
 
 -- the stop of a turn, by where it comes from
-record ComesFrom (first : Bool) (s : Seen) (x : Stop) : Type 0 where
-  from : ((serving s).stop ≡ Some x) ⊎ (((x ≡ ChainLimit) × IsEndlessEntry s) ⊎ (IsReached s × ((fetch (ready s)).stop ≡ Some x)))
+record ComesFrom (note : Option UnitNote) (first : Bool) (s : Seen) (x : Stop) : Type 0 where
+  from : ((serving note s).stop ≡ Some x) ⊎ (((x ≡ ChainLimit) × IsEndlessEntry note s) ⊎ (IsReached note s × ((fetch (ready note s)).stop ≡ Some x)))
 
-comes-from : (first : Bool) (s : Seen) (x : Stop) → (turn first s).stop ≡ Some x → ComesFrom first s x
-comes-from first s x is =
-    elim (stop-cases (prepared s).stop) [
-      | inl goes ↦ record { from = inr (inr (goes, sym (ap (λ (p : Part). p.stop) (turn-reaches first s goes)) ∙ is)) }
+comes-from : (note : Option UnitNote) (first : Bool) (s : Seen) (x : Stop) → (turn note first s).stop ≡ Some x → ComesFrom note first s x
+comes-from note first s x is =
+    elim (stop-cases (prepared note s).stop) [
+      | inl goes ↦ record { from = inr (inr (goes, sym (ap (λ (p : Part). p.stop) (turn-reaches note first s goes)) ∙ is)) }
       | inr w ↦
-          let at : (prepared s).stop ≡ Some x = sym (ap (λ (p : Part). p.stop) (turn-stops_early first s w.0 w.1)) ∙ is in
-          elim (early s x at) [
+          let at : (prepared note s).stop ≡ Some x = sym (ap (λ (p : Part). p.stop) (turn-stops_early note first s w.0 w.1)) ∙ is in
+          elim (early note s x at) [
             | inl served ↦ record { from = inl served }
             | inr entered ↦ record { from = inr (inl entered) }
           ]
     ]
 
-reached-stop : (first : Bool) (s : Seen) (x : Stop) → IsReached s → (fetch (ready s)).stop ≡ Some x → (turn first s).stop ≡ Some x
-reached-stop first s x reached is = ap (λ (p : Part). p.stop) (turn-reaches first s reached) ∙ is
+reached-stop : (note : Option UnitNote) (first : Bool) (s : Seen) (x : Stop) → IsReached note s → (fetch (ready note s)).stop ≡ Some x → (turn note first s).stop ≡ Some x
+reached-stop note first s x reached is = ap (λ (p : Part). p.stop) (turn-reaches note first s reached) ∙ is
 
-served-turn : (first : Bool) (s : Seen) (stop : Stop) → (serving s).stop ≡ Some stop → turn first s ≡ serving s
-served-turn first s stop is =
-    let now = prepared-stops s stop is in
-    turn-stops_early first s stop (ap (λ (p : Part). p.stop) now ∙ is) ∙ now
+served-turn : (note : Option UnitNote) (first : Bool) (s : Seen) (stop : Stop) → (serving note s).stop ≡ Some stop → turn note first s ≡ serving note s
+served-turn note first s stop is =
+    let now = prepared-stops note s stop is in
+    turn-stops_early note first s stop (ap (λ (p : Part). p.stop) now ∙ is) ∙ now
 
 -- a stop that is no unit's does not come from a service
-not-served : (s : Seen) (x : Stop) → (IsUnitStop (Some x) → ⊥) → (serving s).stop ≢ Some x
-not-served s x other is = other (subst (λ (o : Option Stop). IsUnitStop o) is (unit-serving s))
+not-served : (note : Option UnitNote) (s : Seen) (x : Stop) → (IsUnitStop (Some x) → ⊥) → (serving note s).stop ≢ Some x
+not-served note s x other is = other (subst (λ (o : Option Stop). IsUnitStop o) is (unit-serving note s))
 
 -- an instruction's own stop
-own : (first : Bool) (s : Seen) (x : Stop) → (IsUnitStop (Some x) → ⊥) → x ≢ ChainLimit → (turn first s).stop ≡ Some x → IsReached s × ((fetch (ready s)).stop ≡ Some x)
-own first s x other different is =
-    elim (comes-from first s x is).from [
-      | inl served ↦ absurd (not-served s x other served)
+own : (note : Option UnitNote) (first : Bool) (s : Seen) (x : Stop) → (IsUnitStop (Some x) → ⊥) → x ≢ ChainLimit → (turn note first s).stop ≡ Some x → IsReached note s × ((fetch (ready note s)).stop ≡ Some x)
+own note first s x other different is =
+    elim (comes-from note first s x is).from [
+      | inl served ↦ absurd (not-served note s x other served)
       | inr more ↦ elim more [ inl entered ↦ absurd (different entered.0) | inr reached ↦ reached ]
     ]
 
-units-own : (first : Bool) (s : Seen) (x : Stop) → x ≢ ChainLimit → ((fetch (ready s)).stop ≢ Some x) → ((turn first s).stop ≡ Some x) ↔ ((serving s).stop ≡ Some x)
-units-own first s x different none = (
-  (λ is. elim (comes-from first s x is).from [
+units-own : (note : Option UnitNote) (first : Bool) (s : Seen) (x : Stop) → x ≢ ChainLimit → ((fetch (ready note s)).stop ≢ Some x) → ((turn note first s).stop ≡ Some x) ↔ ((serving note s).stop ≡ Some x)
+units-own note first s x different none = (
+  (λ is. elim (comes-from note first s x is).from [
     | inl served ↦ served
     | inr more ↦ elim more [ inl entered ↦ absurd (different entered.0) | inr reached ↦ absurd (none reached.1) ]
   ]),
-  (λ is. ap (λ (p : Part). p.stop) (served-turn first s x is) ∙ is),
+  (λ is. ap (λ (p : Part). p.stop) (served-turn note first s x is) ∙ is),
 )
 
-chain-from : (first : Bool) (s : Seen) → (turn first s).stop ≡ Some ChainLimit → IsEndlessEntry s ⊎ (IsReached s × IsEndless (fetched (ready s)) (ready s))
-chain-from first s is =
-    elim (comes-from first s ChainLimit is).from [
-      | inl served ↦ absurd (not-served s ChainLimit (λ h. h) served)
+chain-from : (note : Option UnitNote) (first : Bool) (s : Seen) → (turn note first s).stop ≡ Some ChainLimit → IsEndlessEntry note s ⊎ (IsReached note s × IsEndless (fetched (ready note s)) (ready note s))
+chain-from note first s is =
+    elim (comes-from note first s ChainLimit is).from [
+      | inl served ↦ absurd (not-served note s ChainLimit (λ h. h) served)
       | inr more ↦ elim more [
         | inl entered ↦ inl entered.1
-        | inr reached ↦ inr (reached.0, (stops-fetch (ready s)).chain_limit.0 reached.1)
+        | inr reached ↦ inr (reached.0, (stops-fetch (ready note s)).chain_limit.0 reached.1)
       ]
     ]
 
-chain-to : (first : Bool) (s : Seen) → (IsEndlessEntry s ⊎ (IsReached s × IsEndless (fetched (ready s)) (ready s))) → (turn first s).stop ≡ Some ChainLimit
-chain-to first s (inl e) =
-    let at = entry-stops s e in ap (λ (p : Part). p.stop) (turn-stops_early first s ChainLimit at.0) ∙ at.0
-chain-to first s (inr e) = reached-stop first s ChainLimit e.0 ((stops-fetch (ready s)).chain_limit.1 e.1)
+chain-to : (note : Option UnitNote) (first : Bool) (s : Seen) → (IsEndlessEntry note s ⊎ (IsReached note s × IsEndless (fetched (ready note s)) (ready note s))) → (turn note first s).stop ≡ Some ChainLimit
+chain-to note first s (inl e) =
+    let at = entry-stops note s e in ap (λ (p : Part). p.stop) (turn-stops_early note first s ChainLimit at.0) ∙ at.0
+chain-to note first s (inr e) = reached-stop note first s ChainLimit e.0 ((stops-fetch (ready note s)).chain_limit.1 e.1)
 
-after-reached : (first : Bool) (s : Seen) → IsReached s → (turn first s).after.machine ≡ (fetch (ready s)).machine
-after-reached first s reached = ap (λ (p : Part). p.after.machine) (turn-reaches first s reached)
+after-reached : (note : Option UnitNote) (first : Bool) (s : Seen) → IsReached note s → (turn note first s).after.machine ≡ (fetch (ready note s)).machine
+after-reached note first s reached = ap (λ (p : Part). p.after.machine) (turn-reaches note first s reached)
 
-after-all : (first : Bool) (s : Seen) → IsReached s → (fetch (ready s)).machine ≡ ready s → (turn first s).after ≡ (prepared s).after
-after-all first s reached is = ap (λ (p : Part). p.after) (turn-reaches first s reached) ∙ ap (λ (m : MachineState). with_machine (prepared s).after m) is
+after-all : (note : Option UnitNote) (first : Bool) (s : Seen) → IsReached note s → (fetch (ready note s)).machine ≡ ready note s → (turn note first s).after ≡ (prepared note s).after
+after-all note first s reached is = ap (λ (p : Part). p.after) (turn-reaches note first s reached) ∙ ap (λ (m : MachineState). with_machine (prepared note s).after m) is
 
-stop-of-reached : (first : Bool) (s : Seen) (x : Stop) → IsReached s → (turn first s).stop ≡ Some x → (fetch (ready s)).stop ≡ Some x
-stop-of-reached first s x reached is = sym (ap (λ (p : Part). p.stop) (turn-reaches first s reached)) ∙ is
+stop-of-reached : (note : Option UnitNote) (first : Bool) (s : Seen) (x : Stop) → IsReached note s → (turn note first s).stop ≡ Some x → (fetch (ready note s)).stop ≡ Some x
+stop-of-reached note first s x reached is = sym (ap (λ (p : Part). p.stop) (turn-reaches note first s reached)) ∙ is
 
 pub turn-stops : TurnStops
 turn-stops = record {
   service = served-turn;
-  unit_end = λ first s u. units-own first s (UnitEnd u) (λ e. absurd (cc)) ((stops-fetch (ready s)).not_units u).0;
-  unit_none = λ first s u. units-own first s (UnitNone u) (λ e. absurd (cc)) ((stops-fetch (ready s)).not_units u).1;
-  halt = λ first s. (
-    (λ is. let at = own first s Halt (λ h. h) (λ e. absurd (cc)) is in (at.0, (stops-fetch (ready s)).halt.0 at.1)),
-    (λ e. reached-stop first s Halt e.0 ((stops-fetch (ready s)).halt.1 e.1)),
+  unit_end = λ note first s u. units-own note first s (UnitEnd u) (λ e. absurd (cc)) ((stops-fetch (ready note s)).not_units u).0;
+  unit_none = λ note first s u. units-own note first s (UnitNone u) (λ e. absurd (cc)) ((stops-fetch (ready note s)).not_units u).1;
+  file_fault = λ note first s f. units-own note first s (FileFault f) (λ e. absurd (cc)) ((stops-fetch (ready note s)).not_files f);
+  wru = λ note first s. units-own note first s Wru (λ e. absurd (cc)) (stops-fetch (ready note s)).not_key;
+  halt = λ note first s. (
+    (λ is. let at = own note first s Halt (λ h. h) (λ e. absurd (cc)) is in (at.0, (stops-fetch (ready note s)).halt.0 at.1)),
+    (λ e. reached-stop note first s Halt e.0 ((stops-fetch (ready note s)).halt.1 e.1)),
   );
-  unknown_device = λ first s. (
-    (λ is. let at = own first s UnknownDevice (λ h. h) (λ e. absurd (cc)) is in (at.0, (stops-fetch (ready s)).unknown.0 at.1)),
-    (λ e. reached-stop first s UnknownDevice e.0 ((stops-fetch (ready s)).unknown.1 e.1)),
+  unknown_device = λ note first s. (
+    (λ is. let at = own note first s UnknownDevice (λ h. h) (λ e. absurd (cc)) is in (at.0, (stops-fetch (ready note s)).unknown.0 at.1)),
+    (λ e. reached-stop note first s UnknownDevice e.0 ((stops-fetch (ready note s)).unknown.1 e.1)),
   );
-  chain_limit = λ first s. (chain-from first s, chain-to first s);
-  halted = λ first s is.
-      let at = own first s Halt (λ h. h) (λ e. absurd (cc)) is in
-      let P : MachineState → Type 0 = λ m. IsHalted (ready s) m in
-      subst P (sym (after-reached first s at.0)) ((stops-fetch (ready s)).halted_is at.1);
-  unknown = λ first s is.
-      let at = own first s UnknownDevice (λ h. h) (λ e. absurd (cc)) is in
-      after-all first s at.0 ((stops-fetch (ready s)).unknown_is at.1);
-  unended = λ first s reached is.
-      after-reached first s reached ∙ (stops-fetch (ready s)).unended (stop-of-reached first s ChainLimit reached is);
-  unentered = λ first s e.
-      let at = entry-stops s e in ap (λ (p : Part). p.after.machine) (turn-stops_early first s ChainLimit at.0) ∙ at.1;
+  chain_limit = λ note first s. (chain-from note first s, chain-to note first s);
+  halted = λ note first s is.
+      let at = own note first s Halt (λ h. h) (λ e. absurd (cc)) is in
+      let P : MachineState → Type 0 = λ m. IsHalted (ready note s) m in
+      subst P (sym (after-reached note first s at.0)) ((stops-fetch (ready note s)).halted_is at.1);
+  unknown = λ note first s is.
+      let at = own note first s UnknownDevice (λ h. h) (λ e. absurd (cc)) is in
+      after-all note first s at.0 ((stops-fetch (ready note s)).unknown_is at.1);
+  unended = λ note first s reached is.
+      after-reached note first s reached ∙ (stops-fetch (ready note s)).unended (stop-of-reached note first s ChainLimit reached is);
+  unentered = λ note first s e.
+      let at = entry-stops note s e in ap (λ (p : Part). p.after.machine) (turn-stops_early note first s ChainLimit at.0) ∙ at.1;
 }

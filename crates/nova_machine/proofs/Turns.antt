@@ -1,28 +1,35 @@
 -- What every instruction and every turn keeps, and how time grows over a turn.
-use Rattle.std.proofs.Common.{◌≡◌, ℕ, ◌+◌, ◌≤◌, ◌==◌, Bool, true, false, List, [], ◌∷◌, Option, Some, None, slice_index, refl, ap, ◌∙◌, if◌then◌else◌, arith}
+use Rattle.std.proofs.Common.{◌≡◌, ℕ, ◌+◌, ◌≤◌, ◌==◌, Bool, true, false, List, [], ◌∷◌, Option, Some, None, Result, Ok, Err, slice_index, refl, ap, ◌∙◌, if◌then◌else◌, arith}
 use Rattle.std.proofs.lemmas.Bool.Decides.{nat_tests}
+use Rattle.observations.specs.Observations.{Observation}
 use Rattle.nova_word.specs.Bits.{bits}
 use Rattle.nova_memory.specs.Memory.{MemoryState, get, put}
 use Rattle.nova_memory.specs.Address.{Reference, address, indexed}
 use Rattle.nova_memory.proofs.Chains.{chain-size}
 use Rattle.unit_trait.specs.declared.kind.UnitName.{UnitName}
+use Rattle.unit_trait.specs.declared.calls.Want.{Want}
+use Rattle.unit_trait.specs.declared.calls.Want.TheVariants as want
+use Rattle.unit_trait.specs.declared.calls.Got.{Got}
 use Rattle.unit_trait.specs.declared.calls.UnitStop.{UnitStop}
 use Rattle.unit_trait.specs.declared.calls.UnitStop.TheVariants as unit_stop
 use Rattle.event_queue.specs.EventList.{dues}
 use Rattle.nova_interrupts.specs.Interrupts.{enabled, disabled}
 use Rattle.nova_interrupts.specs.Requests.{acknowledged}
 use Rattle.nova_machine.specs.declared.machine.Stop.{Stop}
-use Rattle.nova_machine.specs.declared.machine.Stop.TheVariants.{Halt, ChainLimit, UnknownDevice}
+use Rattle.nova_machine.specs.declared.machine.Stop.TheVariants.{Halt, ChainLimit, UnknownDevice, Wru}
 use Rattle.nova_processor.specs.Processor.{ProcessorState}
 use Rattle.nova_machine.specs.Machine.{MachineState, on_processor, reset_devices}
-use Rattle.nova_machine.specs.Seen.{Seen}
-use Rattle.nova_machine.specs.Parts.{Part, followed, then_part}
+use Rattle.unit_files.specs.Attachments.{attachment_at}
+use Rattle.unit_files.specs.Acts.{Failure}
+use Rattle.nova_machine.specs.Notes.{UnitNote, at_unit}
+use Rattle.nova_machine.specs.Seen.{Seen, with_machine, attached_in}
+use Rattle.nova_machine.specs.Parts.{Part, behind_made, followed, then_part}
 use Rattle.nova_machine.specs.Turned.{Turned, begun, ticked, executed, goes_on, stops, still}
 use Rattle.nova_processor.specs.Instruction.{jump, jump_to_subroutine, store_and_skip, load, store, without_accumulator, memory_reference, arithmetic}
 use Rattle.nova_processor.specs.InputOutput.{multiply, divide, input, is_input, past, passed, tested, unanswered, multiply_divide}
 use Rattle.nova_machine.specs.Transfer.{asked_unit, flags_in, to_unit, to_device, mask_set, central_function, central_pulse, central, to_processor, transfer}
-use Rattle.nova_machine.specs.Wants.{stop_by}
-use Rattle.nova_machine.specs.Service.{asked, answered, service, taken, services, serving}
+use Rattle.nova_machine.specs.Wants.{prints, stop_by, key_stop, wru, answer_to}
+use Rattle.nova_machine.specs.Service.{asked, answered, first_stop, replied, hosted, want_at, key_at, service, taken, services, serving}
 use Rattle.nova_machine.specs.Turn.{with_memory, refer_to, refer, execute, fetch, is_interrupted, jump_to, interrupt_reference, enter, interrupt, prepared, turn}
 use Rattle.nova_machine.specs.Laws.{IsLimit, Unchanged}
 
@@ -108,10 +115,10 @@ pub record Acts (before after : MachineState) : Type 0 where
   pub unchanged : Unchanged before after
 
 pub unchanged-same : (m : MachineState) → Unchanged m m
-unchanged-same m = record { size = refl; sr = refl; stop_dev = refl }
+unchanged-same m = record { size = refl; sr = refl; stop_dev = refl; slots = refl }
 
 pub unchanged-then : (first second third : MachineState) → Unchanged first second → Unchanged second third → Unchanged first third
-unchanged-then first second third a b = record { size = b.size ∙ a.size; sr = b.sr ∙ a.sr; stop_dev = b.stop_dev ∙ a.stop_dev }
+unchanged-then first second third a b = record { size = b.size ∙ a.size; sr = b.sr ∙ a.sr; stop_dev = b.stop_dev ∙ a.stop_dev; slots = b.slots ∙ a.slots }
 
 acts-same : (m : MachineState) → Acts m m
 acts-same m = record { time = refl; unchanged = unchanged-same m }
@@ -124,15 +131,15 @@ acts-if true m x y first second = first
 acts-if false m x y first second = second
 
 acts-on : (f : ProcessorState → ProcessorState) (m : MachineState) → SameSize m.processor (f m.processor) → Acts m (on_processor f m)
-acts-on f m size = record { time = refl; unchanged = record { size = size.size; sr = refl; stop_dev = refl } }
+acts-on f m size = record { time = refl; unchanged = record { size = size.size; sr = refl; stop_dev = refl; slots = refl } }
 
 acts-begun : (m : MachineState) → Acts m (begun m)
 unfolding begun
-acts-begun m = record { time = refl; unchanged = record { size = refl; sr = refl; stop_dev = refl } }
+acts-begun m = record { time = refl; unchanged = record { size = refl; sr = refl; stop_dev = refl; slots = refl } }
 
 acts-asked_unit : (code w : ℕ) (m : MachineState) → Acts m (asked_unit code w m)
 unfolding asked_unit
-acts-asked_unit code w m = record { time = refl; unchanged = record { size = (size-passed (bits 5 7 w) (bits 3 4 w) _ m.processor).size; sr = refl; stop_dev = refl } }
+acts-asked_unit code w m = record { time = refl; unchanged = record { size = (size-passed (bits 5 7 w) (bits 3 4 w) _ m.processor).size; sr = refl; stop_dev = refl; slots = refl } }
 
 acts-to_unit : (code w : ℕ) (m : MachineState) → Acts m (to_unit code w m)
 unfolding to_unit
@@ -143,10 +150,10 @@ acts-to_unit code w m =
 
 acts-reset_devices : (m : MachineState) → Acts m (reset_devices m)
 unfolding reset_devices
-acts-reset_devices m = record { time = refl; unchanged = record { size = refl; sr = refl; stop_dev = refl } }
+acts-reset_devices m = record { time = refl; unchanged = record { size = refl; sr = refl; stop_dev = refl; slots = refl } }
 
 acts-mask_set : (w : ℕ) (m : MachineState) → Acts m (mask_set w m)
-acts-mask_set w m = record { time = refl; unchanged = record { size = refl; sr = refl; stop_dev = refl } }
+acts-mask_set w m = record { time = refl; unchanged = record { size = refl; sr = refl; stop_dev = refl; slots = refl } }
 
 acts-past : (m x : MachineState) → Acts m x → Acts m (on_processor past x)
 acts-past m x a = acts-then m x (on_processor past x) a (acts-on past x (size-past x.processor))
@@ -166,8 +173,8 @@ unfolding central_pulse
 acts-central_pulse bits m =
     let on = record m { ints = enabled m.ints } in
     let off = record m { ints = disabled m.ints } in
-    acts-if (bits == 1) m on (if bits == 2 then off else m) (record { time = refl; unchanged = record { size = refl; sr = refl; stop_dev = refl } })
-    (acts-if (bits == 2) m off m (record { time = refl; unchanged = record { size = refl; sr = refl; stop_dev = refl } }) (acts-same m))
+    acts-if (bits == 1) m on (if bits == 2 then off else m) (record { time = refl; unchanged = record { size = refl; sr = refl; stop_dev = refl; slots = refl } })
+    (acts-if (bits == 2) m off m (record { time = refl; unchanged = record { size = refl; sr = refl; stop_dev = refl; slots = refl } }) (acts-same m))
 
 acts-central : (w : ℕ) (m : MachineState) → Acts m (central w m)
 unfolding central
@@ -197,7 +204,7 @@ turns-ticked m x stop other a = record {
   least = omega (arith, a.time);
   most = omega (arith, a.time);
   other = other;
-  unchanged = record { size = a.unchanged.size; sr = a.unchanged.sr; stop_dev = a.unchanged.stop_dev };
+  unchanged = record { size = a.unchanged.size; sr = a.unchanged.sr; stop_dev = a.unchanged.stop_dev; slots = a.unchanged.slots };
   held = λ h. absurd (omega (arith, a.time, h));
 }
 
@@ -227,7 +234,7 @@ unfolding address
 address-size m w pc acs = reference-if (bits 5 5 w == 1) m _ _ (chain-size 16 m (indexed w pc acs)) refl
 
 acts-with_memory : (m : MachineState) (memory : MemoryState) → memory.size ≡ m.processor.memory.size → Acts m (with_memory m memory)
-acts-with_memory m memory size = record { time = refl; unchanged = record { size = size; sr = refl; stop_dev = refl } }
+acts-with_memory m memory size = record { time = refl; unchanged = record { size = size; sr = refl; stop_dev = refl; slots = refl } }
 
 -- a memory reference from a machine whose chain has changed memory
 turns-refer_to : (w : ℕ) (a : Option ℕ) (m : MachineState) (memory : MemoryState) → memory.size ≡ m.processor.memory.size → Turns m (refer_to w a (with_memory m memory))
@@ -262,7 +269,7 @@ turns-transfer w m =
     turns-if _ m _ _ (turns-on m (multiply_divide w) (size-multiply_divide w))
     (turns-if _ m _ _ (turns-to_processor w m) (turns-to_device (bits 10 15 w) w m))
 
-turns-execute : (w : ℕ) (m : MachineState) → Turns m (execute w m)
+pub turns-execute : (w : ℕ) (m : MachineState) → Turns m (execute w m)
 unfolding execute
 turns-execute w m =
     turns-if _ m _ _ (turns-refer w m) (turns-if _ m _ _ (turns-transfer w m) (turns-on m (arithmetic w) (size-arithmetic w)))
@@ -297,21 +304,46 @@ stop_by-other u unit_stop.Go limit = limit
 stop_by-other u unit_stop.End limit = limit
 stop_by-other u unit_stop.NoFile limit = limit
 
-service-prepares : (u : UnitName) (s : Seen) → Prepares s (service u (taken s))
-unfolding service asked answered
-service-prepares u s = record {
-  stays = record { acts = record { time = refl; unchanged = record { size = refl; sr = refl; stop_dev = refl } }; hold = refl };
-  other = stop_by-other u _;
+key_stop-other : (key : Option ℕ) (w : Want) (stop : Option Stop) → ¬ IsLimit stop → ¬ IsLimit (first_stop (key_stop key w) stop)
+key_stop-other (Some key) want.Key stop other = test (key == wru)
+  where
+    test : (b : Bool) → ¬ IsLimit (first_stop (if b then Some Wru else None) stop)
+    test true limit = limit
+    test false limit = other limit
+key_stop-other None want.Key stop other = other
+key_stop-other key w stop other = other
+
+replied-prepares : (u : UnitName) (key : Option ℕ) (w : Want) (answer : Result Got Failure) (before s : Seen) → Stays before.machine s.machine
+    → Prepares before (replied u (key_stop key w) answer s)
+unfolding answered
+replied-prepares u key w (Ok g) before s stays = record {
+  stays = record {
+    acts = record { time = stays.acts.time; unchanged = record { size = stays.acts.unchanged.size; sr = stays.acts.unchanged.sr; stop_dev = stays.acts.unchanged.stop_dev; slots = stays.acts.unchanged.slots } };
+    hold = stays.hold;
+  };
+  other = key_stop-other key w _ (stop_by-other u _);
 }
+replied-prepares u key w (Err f) before s stays = record { stays = stays; other = λ limit. limit }
 
-services-prepare : (us : List UnitName) (s : Seen) → Prepares s (services us s)
+prepares-behind : (s : Seen) (made : List (Observation Seen)) (p : Part) → Prepares s p → Prepares s (behind_made made p)
+prepares-behind s made p prepares = record { stays = prepares.stays; other = prepares.other }
+
+service-prepares : (fault : Option Failure) (u : UnitName) (s : Seen) → Prepares s (service fault u (taken s))
+unfolding service hosted asked
+service-prepares fault u s =
+    let x = taken s in
+    let w = want_at u x.machine in
+    prepares-behind s (prints w (with_machine x (asked u x.machine))) _
+    (replied-prepares u (key_at x) w (answer_to fault (attachment_at (attached_in x.machine) u) x.files (key_at x) w) s (hosted fault u x) (record { acts = record { time = refl; unchanged = record { size = refl; sr = refl; stop_dev = refl; slots = refl } }; hold = refl }))
+
+services-prepare : (note : Option UnitNote) (us : List UnitName) (s : Seen) → Prepares s (services note us s)
 unfolding services
-services-prepare [] s = record { stays = record { acts = acts-same s.machine; hold = refl }; other = λ limit. limit }
-services-prepare (u ∷ us) s = then-prepares s (service u (taken s)) (λ next. services us next) (service-prepares u s) (λ next. services-prepare us next)
+services-prepare note [] s = record { stays = record { acts = acts-same s.machine; hold = refl }; other = λ limit. limit }
+services-prepare note (u ∷ us) s = then-prepares s (service (at_unit u note) u (taken s)) (λ next. services note us next) (service-prepares (at_unit u note) u s) (λ next. services-prepare note us next)
 
-pub serving-prepares : (s : Seen) → Prepares s (serving s)
+pub serving-prepares : (note : Option UnitNote) (s : Seen) → Prepares s (serving note s)
 unfolding serving
-serving-prepares s = services-prepare (dues s.machine.events) s
+serving-prepares note s = services-prepare note (dues s.machine.events) s
 
 -- the interrupt, as a piece
 pub record Enters (before : MachineState) (t : Turned) : Type 0 where
@@ -322,7 +354,7 @@ enters-jump_to : (a : Option ℕ) (m now : MachineState) → Stays m now → Ent
 enters-jump_to None m now stays = record { stays = stays; other = λ limit. limit }
 enters-jump_to (Some a) m now stays = record {
   stays = record {
-    acts = record { time = stays.acts.time; unchanged = record { size = stays.acts.unchanged.size; sr = stays.acts.unchanged.sr; stop_dev = stays.acts.unchanged.stop_dev } };
+    acts = record { time = stays.acts.time; unchanged = record { size = stays.acts.unchanged.size; sr = stays.acts.unchanged.sr; stop_dev = stays.acts.unchanged.stop_dev; slots = stays.acts.unchanged.slots } };
     hold = stays.hold;
   };
   other = λ limit. limit;
@@ -336,7 +368,7 @@ enters-enter : (m : MachineState) → Enters m (enter m)
 unfolding enter
 enters-enter m =
     enters-jump_to (interrupt_reference m).address m _
-    (record { acts = record { time = refl; unchanged = record { size = reference-size m; sr = refl; stop_dev = refl } }; hold = refl })
+    (record { acts = record { time = refl; unchanged = record { size = reference-size m; sr = refl; stop_dev = refl; slots = refl } }; hold = refl })
 
 enters-if : (b : Bool) (m : MachineState) (x y : Turned) → Enters m x → Enters m y → Enters m (if b then x else y)
 enters-if true m x y first second = first
@@ -346,10 +378,10 @@ enters-interrupt : (m : MachineState) → Enters m (interrupt m)
 unfolding interrupt
 enters-interrupt m = enters-if (is_interrupted m) m _ _ (enters-enter m) (record { stays = record { acts = acts-same m; hold = refl }; other = λ limit. limit })
 
-pub prepared-prepares : (s : Seen) → Prepares s (prepared s)
+pub prepared-prepares : (note : Option UnitNote) (s : Seen) → Prepares s (prepared note s)
 unfolding prepared
-prepared-prepares s =
-    then-prepares s (serving s) (λ served. still served (interrupt served.machine)) (serving-prepares s)
+prepared-prepares note s =
+    then-prepares s (serving note s) (λ served. still served (interrupt served.machine)) (serving-prepares note s)
     (λ next. record { stays = (enters-interrupt next.machine).stays; other = (enters-interrupt next.machine).other })
 
 -- a whole turn
@@ -383,7 +415,7 @@ turns-followed s made None ready stays other =
       held = λ h. t.held (omega (arith, now, h)) ∙ stays.hold;
     }
 
-pub turns-turn : (first : Bool) (s : Seen) → TurnsPart s (turn first s)
+pub turns-turn : (note : Option UnitNote) (first : Bool) (s : Seen) → TurnsPart s (turn note first s)
 unfolding turn
-turns-turn first s =
-    let p = prepared-prepares s in turns-followed s (prepared s).made (prepared s).stop (prepared s).after p.stays p.other
+turns-turn note first s =
+    let p = prepared-prepares note s in turns-followed s (prepared note s).made (prepared note s).stop (prepared note s).after p.stays p.other

@@ -1,5 +1,5 @@
 -- Services, while an event is due.
-use Rattle.std.proofs.Common.{◌≡◌, List, Option, Some, None, refl, ap, sym, ◌∙◌}
+use Rattle.std.proofs.Common.{◌≡◌, List, Option, Some, None, Result, Ok, Err, refl, ap, sym, ◌∙◌}
 use Rattle.observations.specs.Observations.{Observation}
 use Rattle.unit_trait.specs.declared.kind.UnitName.{UnitName}
 use Rattle.unit_trait.specs.Kinds.{code_of}
@@ -8,10 +8,14 @@ use Rattle.event_queue.proofs.Dues.{wished-dues}
 use Rattle.unit_list.specs.Bus.{AllFit}
 use Rattle.unit_list.proofs.Calls.{after-fits, again-fits}
 use Rattle.nova_machine.specs.declared.machine.Stop.{Stop}
-use Rattle.nova_machine.specs.Seen.{Seen}
+use Rattle.unit_trait.specs.declared.calls.Got.{Got}
+use Rattle.unit_files.specs.Attachments.{attachment_at}
+use Rattle.unit_files.specs.Acts.{Failure}
+use Rattle.nova_machine.specs.Wants.{answer_to, key_stop}
+use Rattle.nova_machine.specs.Notes.{UnitNote, at_unit}
+use Rattle.nova_machine.specs.Seen.{Seen, attached_in}
 use Rattle.nova_machine.specs.Parts.{Part, behind_made, followed, then_part}
-use Rattle.nova_machine.specs.Wants.{answer_to}
-use Rattle.nova_machine.specs.Service.{want_at, asked, answered, service, taken, services, serving}
+use Rattle.nova_machine.specs.Service.{asked, answered, replied, hosted, want_at, key_at, service, taken, services, serving}
 use Rattle.nova_machine.specs.ServiceLaws.{ServesWhileDue}
 use Rattle.nova_machine.proofs.Serving.{serving-none, serving-some}
 
@@ -22,22 +26,30 @@ same-then p f g same = by-stop p.made p.stop p.after same
     by-stop made (Some stop) s same = refl
     by-stop made None s same = ap (behind_made made) same
 
--- a service leaves what is due
-service-dues : (u : UnitName) (s : Seen) → AllFit s.machine.units → dues (service u s).after.machine.events ≡ dues s.machine.events
-unfolding service asked answered
-service-dues u s fit =
-    wished-dues u _ s.machine.events (again-fits (code_of u.kind) u.unit (answer_to (want_at u s.machine)) _ (after-fits (code_of u.kind) u.unit s.machine.units fit))
+-- a unit's answer leaves what is due
+replied-dues : (u : UnitName) (stop : Option Stop) (answer : Result Got Failure) (s : Seen) → AllFit s.machine.units
+    → dues (replied u stop answer s).after.machine.events ≡ dues s.machine.events
+unfolding answered
+replied-dues u stop (Ok g) s fit = wished-dues u _ s.machine.events (again-fits (code_of u.kind) u.unit g s.machine.units fit)
+replied-dues u stop (Err f) s fit = refl
 
-serving-is : (s : Seen) → serving s ≡ services (dues s.machine.events) s
+-- a service leaves what is due
+service-dues : (fault : Option Failure) (u : UnitName) (s : Seen) → AllFit s.machine.units → dues (service fault u s).after.machine.events ≡ dues s.machine.events
+unfolding service hosted asked
+service-dues fault u s fit =
+    let w = want_at u s.machine in
+    replied-dues u (key_stop (key_at s) w) (answer_to fault (attachment_at (attached_in s.machine) u) s.files (key_at s) w) (hosted fault u s) (after-fits (code_of u.kind) u.unit s.machine.units fit)
+
+serving-is : (note : Option UnitNote) (s : Seen) → serving note s ≡ services note (dues s.machine.events) s
 unfolding serving
-serving-is s = refl
+serving-is note s = refl
 
 pub serves-while-due : ServesWhileDue
 serves-while-due = record {
   none = serving-none;
-  some = λ s u fit first.
-      let p = service u (taken s) in
-      serving-some s u first
-      ∙ same-then p (λ next. services (dues (served s.machine.events)) next) serving
-      (ap (λ (us : List UnitName). services us p.after) (sym (service-dues u (taken s) fit)) ∙ sym (serving-is p.after));
+  some = λ note s u fit first.
+      let p = service (at_unit u note) u (taken s) in
+      serving-some note s u first
+      ∙ same-then p (λ next. services note (dues (served s.machine.events)) next) (serving note)
+      (ap (λ (us : List UnitName). services note us p.after) (sym (service-dues (at_unit u note) u (taken s) fit)) ∙ sym (serving-is note p.after));
 }

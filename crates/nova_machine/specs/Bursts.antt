@@ -1,5 +1,5 @@
 -- What a burst of the processor is to the machine: turns in which nothing but an instruction can come.
-use Rattle.std.specs.Prelude.{◌≡◌, ◌&&◌, ◌==◌, ℕ, ◌+◌, ◌-◌, ◌<◌, Bool, false, Some, if◌then◌else◌}
+use Rattle.std.specs.Prelude.{◌≡◌, ◌&&◌, ◌==◌, ℕ, ◌+◌, ◌-◌, ◌<◌, Bool, false, List, Option, Some, if◌then◌else◌}
 use Rattle.event_queue.specs.EventList.{lowered, IsClear}
 use Rattle.nova_interrupts.specs.Interrupts.{released}
 use Rattle.nova_interrupts.specs.Requests.{requested}
@@ -7,6 +7,8 @@ use Rattle.nova_processor.specs.declared.burst.Step.{Step}
 use Rattle.nova_processor.specs.declared.burst.Step.TheVariants as step
 use Rattle.nova_machine.specs.declared.machine.Stop.TheVariants.{ChainLimit}
 use Rattle.nova_machine.specs.Machine.{MachineState}
+use Rattle.host_files.specs.Lists.{NamedBytes}
+use Rattle.nova_machine.specs.Notes.{RunNote}
 use Rattle.nova_machine.specs.Seen.{seen}
 use Rattle.nova_machine.specs.Parts.{silent}
 use Rattle.nova_machine.specs.Run.{turns}
@@ -24,8 +26,12 @@ pub record IsCalm (count : ℕ) (m : MachineState) : Type 0 where
   pub quiet : 0 < count → (m.ints.on && requested m.ints.mask m.units) ≡ false
   pub clear : IsClear count m.events
 
--- Of so many turns some are done: those that are left come to what they all come to. A chain without an end has ended
--- them.
+-- Of so many turns some are done: those that are left come to what they all come to, whichever keys, files and failing
+-- calls there are. A chain without an end has ended them.
 abbrev pub Bursts : ℕ → ℕ → Step → MachineState → MachineState → Type 0
-Bursts most done step.ChainLimit old new = (step : Bool) → turns step false most (seen old) ≡ silent (Some ChainLimit) (seen new)
-Bursts most done end old new = (step : Bool) → turns step false most (seen old) ≡ turns step false (most - done) (seen new)
+Bursts most done step.ChainLimit old new =
+    (note : Option RunNote) (step : Bool) (keys : List (ℕ × ℕ)) (files : List NamedBytes)
+    → turns note step false most (seen keys files old) ≡ silent (Some ChainLimit) (seen keys files new)
+Bursts most done end old new =
+    (note : Option RunNote) (step : Bool) (keys : List (ℕ × ℕ)) (files : List NamedBytes)
+    → turns note step false most (seen keys files old) ≡ turns note step false (most - done) (seen keys files new)

@@ -1,16 +1,31 @@
 -- What a call has come to that does a part of a run, on a console that had and has these bytes.
-use Rattle.std.specs.Prelude.{◌≡◌, ℕ, Bool, IsTrue, List, ◌++◌, Option, Some}
+use Rattle.std.specs.Prelude.{◌≡◌, ◌⊎◌, ℕ, Bool, IsTrue, List, ◌++◌, Option, Some, None}
+use Rattle.std.specs.List.{AllByRecursion}
 use Rattle.fault_counts.specs.Faults.{raised}
 use Rattle.observations.specs.Observations.{text_of, StandsAt}
 use Rattle.observations.specs.Cut.{BreaksOff}
+use Rattle.host_files.specs.State.{FileState}
+use Rattle.unit_files.specs.Attachments.{Held}
+use Rattle.unit_files.specs.Causes.{IsQuiet, IsFaultOf}
 use Rattle.nova_machine.specs.declared.machine.Stop.{Stop}
-use Rattle.nova_machine.specs.declared.machine.Stop.TheVariants.{ConsoleFault}
+use Rattle.nova_machine.specs.declared.machine.Stop.TheVariants.{ConsoleFault, FileFault}
 use Rattle.nova_machine.specs.Seen.{Seen}
 use Rattle.nova_machine.specs.Parts.{Part}
 
+-- a stop without the number of its file
+abbrev pub bare : Option Stop → Option Stop
+bare (Some (FileFault f)) = Some (FileFault (record f { file = None }))
+bare stop = stop
+
+-- a stop that neither the console nor a file has caused
+abbrev pub IsOwn : Option Stop → Type 0
+IsOwn (Some ConsoleFault) = ⊥
+IsOwn (Some (FileFault f)) = ⊥
+IsOwn stop = Unit {0}
+
 -- all of it was printed, and it came to its stop and its state
 pub record IsWhole (p : Part) (stop : Option Stop) (s : Seen) (tells : Bool) (before after : List ℕ) : Type 0 where
-  pub stop_is : stop ≡ p.stop
+  pub stop_is : bare stop ≡ p.stop
   pub after_is : s ≡ p.after
   pub written : IsTrue tells → after ≡ before ++ text_of p.made
 
@@ -35,3 +50,17 @@ Comes p stop s tells before after = IsWhole p stop s tells before after
 abbrev pub StopCounts : Option Stop → ℕ → ℕ → Type 0
 StopCounts (Some ConsoleFault) before now = now ≡ raised before
 StopCounts stop before now = now ≡ before
+
+-- A stop for a file names a unit, the file that is attached to it, and a failing call, and the count of that file, and no
+-- other, has risen by one. With every other stop no count has changed.
+abbrev pub FileCause : Option Stop → List (Option Held) → FileState → FileState → Type 0
+FileCause (Some (FileFault f)) slots old new = IsFaultOf f f.unit slots old new
+FileCause stop slots old new = IsQuiet old new
+
+-- nothing is attached
+abbrev pub AreFree : List (Option Held) → Type 0
+AreFree slots = AllByRecursion (λ (slot : Option Held). slot ≡ None) slots
+
+-- what a run does is told where the bytes of files are told, or where none is attached
+abbrev pub AreTold : Bool → List (Option Held) → Type 0
+AreTold tells slots = IsTrue tells ⊎ AreFree slots

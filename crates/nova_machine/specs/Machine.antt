@@ -1,15 +1,16 @@
 -- The state of a machine, on which all that it does depends.
-use Rattle.std.specs.Prelude.{ℕ, Bool, false, List, []}
+use Rattle.std.specs.Prelude.{ℕ, Bool, false, List, [], Option}
 use Rattle.unit_trait.specs.Calls.{UnitState}
 use Rattle.event_queue.specs.EventList.{Event}
 use Rattle.unit_list.specs.Reset.{reset_units, reset_events}
+use Rattle.unit_files.specs.Attachments.{Held, no_files}
 use Rattle.nova_interrupts.specs.declared.interrupts.Ints.{Ints}
 use Rattle.nova_interrupts.specs.Interrupts.{no_interrupts}
 use Rattle.nova_processor.specs.Processor.{ProcessorState, new_processor}
 
 -- the processor with its memory, the interrupts, the switch register, whether a word to a device that is not there stops
--- the machine, the units in bus order, their events that wait, and the time: how many instructions were executed since
--- the session began
+-- the machine, the units in bus order, their events that wait, the time: how many instructions were executed since the
+-- session began; how many keys were taken; and what is attached to the units
 pub record MachineState : Type 0 where
   pub processor : ProcessorState
   pub ints : Ints
@@ -18,6 +19,8 @@ pub record MachineState : Type 0 where
   pub units : List UnitState
   pub events : List Event
   pub time : ℕ
+  pub taken : ℕ
+  pub slots : List (Option Held)
 
 -- All devices are reset: the mask is cleared, no event waits, and each unit is reset, in bus order, which may bring an
 -- event of it.
@@ -29,13 +32,24 @@ reset_devices m = record m {
 }
 
 -- A reset: interrupts go off and none waits, and all devices are reset. PC, the accumulators, carry, the switch register,
--- STOP_DEV, memory and time stay.
+-- STOP_DEV, memory, time, the keys taken and the files stay.
 unfoldable pub reset_machine : MachineState → MachineState
 reset_machine m = record (reset_devices m) { ints = no_interrupts }
 
--- a new machine with those units: every register 0, memory of 0, no instruction executed, and as a reset leaves it
+-- a new machine with those units: every register 0, memory of 0, no instruction executed, no key taken, no file
+-- attached, and as a reset leaves it
 unfoldable pub new_machine : List UnitState → MachineState
-new_machine units = reset_machine (record { processor = new_processor; ints = no_interrupts; sr = 0; stop_dev = false; units = units; events = []; time = 0 })
+new_machine units = reset_machine (record {
+  processor = new_processor;
+  ints = no_interrupts;
+  sr = 0;
+  stop_dev = false;
+  units = units;
+  events = [];
+  time = 0;
+  taken = 0;
+  slots = no_files;
+})
 
 -- the machine with its processor changed so
 abbrev pub on_processor : (ProcessorState → ProcessorState) → MachineState → MachineState

@@ -1,5 +1,5 @@
 -- Serving the units whose events are due (Writing a Simulator for the SIMH System, "Unit Service Routines").
-use Rattle.std.specs.Prelude.{List, [], ◌∷◌, None}
+use Rattle.std.specs.Prelude.{ℕ, List, [], ◌∷◌, Option, Some, None, Result, Ok, Err}
 use Rattle.unit_trait.specs.declared.kind.UnitName.{UnitName}
 use Rattle.unit_trait.specs.declared.calls.Want.{Want}
 use Rattle.unit_trait.specs.declared.calls.Got.{Got}
@@ -7,9 +7,14 @@ use Rattle.unit_trait.specs.Kinds.{code_of}
 use Rattle.unit_trait.specs.Calls.{Due, Answered}
 use Rattle.event_queue.specs.EventList.{served, dues, wished}
 use Rattle.unit_list.specs.Bus.{row_at, after_at}
+use Rattle.unit_files.specs.Attachments.{attachment_at}
+use Rattle.unit_files.specs.Acts.{Failure}
+use Rattle.expect_actions.specs.KeysFile.{due_key}
+use Rattle.nova_machine.specs.declared.machine.Stop.{Stop}
 use Rattle.nova_machine.specs.Machine.{MachineState}
-use Rattle.nova_machine.specs.Wants.{answer_to, prints, stop_by}
-use Rattle.nova_machine.specs.Seen.{Seen, with_machine}
+use Rattle.nova_machine.specs.Notes.{UnitNote, at_unit}
+use Rattle.nova_machine.specs.Wants.{answer_to, files_after, taken_after, key_stop, prints, stop_by, file_stop}
+use Rattle.nova_machine.specs.Seen.{Seen, with_machine, attached_in}
 use Rattle.nova_machine.specs.Parts.{Part, silent, behind_made, then_part}
 use Rattle.nova_machine.specs.Turned.{Turned, still}
 
@@ -31,23 +36,51 @@ answered unit answer m =
       stop = stop_by unit said.stop;
     }
 
--- A unit whose event was taken is served: it says what it wants, the machine does that, and the unit gets the answer. A
--- byte for the console is printed before the unit gets the answer.
-unfoldable pub service : UnitName → Seen → Part
-service unit s =
+-- a stop that the machine has for itself comes before that of a unit
+abbrev pub first_stop : Option Stop → Option Stop → Option Stop
+first_stop (Some stop) other = Some stop
+first_stop None other = other
+
+abbrev pub stopping : Option Stop → Turned → Turned
+stopping stop t = record t { stop = first_stop stop t.stop }
+
+-- the unit gets the answer; a failed call stops the run, and the unit gets none
+abbrev pub replied : UnitName → Option Stop → Result Got Failure → Seen → Part
+replied unit stop (Ok answer) s = still s (stopping stop (answered unit answer s.machine))
+replied unit stop (Err f) s = silent (Some (file_stop unit f)) s
+
+-- the key that is due
+abbrev pub key_at : Seen → Option ℕ
+key_at s = due_key s.keys s.machine.taken s.machine.time
+
+-- a unit was asked, and what it wants was done
+unfoldable pub hosted : Option Failure → UnitName → Seen → Seen
+hosted fault unit s =
     let want = want_at unit s.machine in
-    let asking = with_machine s (asked unit s.machine) in
-    behind_made (prints want asking) (still asking (answered unit (answer_to want) asking.machine))
+    let a = attachment_at (attached_in s.machine) unit in
+    record s {
+      machine = record (asked unit s.machine) { taken = taken_after s.machine.taken (key_at s) want };
+      files = files_after fault a s.files want;
+    }
+
+-- A unit whose event was taken is served: it says what it wants, the machine does that, and the unit gets the answer. A
+-- byte for the console is printed before the unit gets the answer. A call on its file fails where the outside says so.
+unfoldable pub service : Option Failure → UnitName → Seen → Part
+service fault unit s =
+    let want = want_at unit s.machine in
+    let a = attachment_at (attached_in s.machine) unit in
+    behind_made (prints want (with_machine s (asked unit s.machine)))
+    (replied unit (key_stop (key_at s) want) (answer_to fault a s.files (key_at s) want) (hosted fault unit s))
 
 -- the machine without the event that is due first
 abbrev pub taken : Seen → Seen
 taken s = with_machine s (record s.machine { events = served s.machine.events })
 
 -- those units are served, one behind another: the event of each is taken first
-unfoldable pub services : List UnitName → Seen → Part
-services [] s = silent None s
-services (unit ∷ units) s = then_part (service unit (taken s)) (λ next. services units next)
+unfoldable pub services : Option UnitNote → List UnitName → Seen → Part
+services failing [] s = silent None s
+services failing (unit ∷ units) s = then_part (service (at_unit unit failing) unit (taken s)) (λ next. services failing units next)
 
 -- all units are served whose events are due
-unfoldable pub serving : Seen → Part
-serving s = services (dues s.machine.events) s
+unfoldable pub serving : Option UnitNote → Seen → Part
+serving note s = services note (dues s.machine.events) s

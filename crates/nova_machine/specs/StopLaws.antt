@@ -1,13 +1,15 @@
 -- The stops of a turn have their causes, and come wherever these are given.
-use Rattle.std.specs.Prelude.{◌≡◌, ◌≢◌, ◌↔◌, ◌⊎◌, ℕ, ◌+◌, ◌<◌, ◌≤◌, Bool, true, false, Some, None}
+use Rattle.std.specs.Prelude.{◌≡◌, ◌≢◌, ◌↔◌, ◌⊎◌, ℕ, ◌+◌, ◌<◌, ◌≤◌, Bool, true, false, Option, Some, None}
 use Rattle.nova_word.specs.Bits.{bits}
 use Rattle.nova_memory.specs.Memory.{get}
 use Rattle.nova_memory.specs.Address.{address}
 use Rattle.unit_trait.specs.declared.kind.UnitName.{UnitName}
 use Rattle.unit_list.specs.Bus.{unit_at}
 use Rattle.nova_machine.specs.declared.machine.Stop.{Stop}
-use Rattle.nova_machine.specs.declared.machine.Stop.TheVariants.{Halt, ChainLimit, UnknownDevice, UnitEnd, UnitNone}
+use Rattle.nova_machine.specs.declared.machine.Stop.TheVariants.{Halt, ChainLimit, UnknownDevice, UnitEnd, UnitNone, FileFault, Wru}
+use Rattle.unit_files.specs.declared.faults.UnitFault.{UnitFault}
 use Rattle.nova_machine.specs.Machine.{MachineState}
+use Rattle.nova_machine.specs.Notes.{UnitNote}
 use Rattle.nova_machine.specs.Seen.{Seen}
 use Rattle.nova_processor.specs.Instruction.{following}
 use Rattle.nova_machine.specs.Service.{serving}
@@ -42,18 +44,18 @@ pub record IsEndless (word : ℕ) (m : MachineState) : Type 0 where
   pub chain : (address m.processor.memory word m.processor.cpu.pc m.processor.cpu.accumulators).address ≡ None
 
 -- the services go on, an interrupt comes, and the chain of its JMP @1 does not end
-pub record IsEndlessEntry (s : Seen) : Type 0 where
-  pub goes : (serving s).stop ≡ None
-  pub comes : is_interrupted (serving s).after.machine ≡ true
-  pub chain : (interrupt_reference (serving s).after.machine).address ≡ None
+pub record IsEndlessEntry (note : Option UnitNote) (s : Seen) : Type 0 where
+  pub goes : (serving note s).stop ≡ None
+  pub comes : is_interrupted (serving note s).after.machine ≡ true
+  pub chain : (interrupt_reference (serving note s).after.machine).address ≡ None
 
 -- what comes before the instruction goes on to it
-abbrev pub IsReached : Seen → Type 0
-IsReached s = (prepared s).stop ≡ None
+abbrev pub IsReached : Option UnitNote → Seen → Type 0
+IsReached note s = (prepared note s).stop ≡ None
 
 -- the machine that executes the instruction
-abbrev pub ready : Seen → MachineState
-ready s = (prepared s).after.machine
+abbrev pub ready : Option UnitNote → Seen → MachineState
+ready note s = (prepared note s).after.machine
 
 -- Halt has taken its time and gone on behind itself
 pub record IsHalted (before after : MachineState) : Type 0 where
@@ -71,14 +73,16 @@ behind_entry m = with_memory (record m { ints = record m.ints { on = false } }) 
 
 pub record TurnStops : Type 0 where
   -- a service that stops ends the turn there, and every other turn goes on from it
-  pub service : (first : Bool) (s : Seen) (stop : Stop) → (serving s).stop ≡ Some stop → turn first s ≡ serving s
-  pub unit_end : (first : Bool) (s : Seen) (unit : UnitName) → ((turn first s).stop ≡ Some (UnitEnd unit)) ↔ ((serving s).stop ≡ Some (UnitEnd unit))
-  pub unit_none : (first : Bool) (s : Seen) (unit : UnitName) → ((turn first s).stop ≡ Some (UnitNone unit)) ↔ ((serving s).stop ≡ Some (UnitNone unit))
-  pub halt : (first : Bool) (s : Seen) → ((turn first s).stop ≡ Some Halt) ↔ (IsReached s × IsHalt (fetched (ready s)))
-  pub unknown_device : (first : Bool) (s : Seen) → ((turn first s).stop ≡ Some UnknownDevice) ↔ (IsReached s × IsUnknown (fetched (ready s)) (ready s))
-  pub chain_limit : (first : Bool) (s : Seen) → ((turn first s).stop ≡ Some ChainLimit) ↔ (IsEndlessEntry s ⊎ (IsReached s × IsEndless (fetched (ready s)) (ready s)))
+  pub service : (note : Option UnitNote) (first : Bool) (s : Seen) (stop : Stop) → (serving note s).stop ≡ Some stop → turn note first s ≡ serving note s
+  pub unit_end : (note : Option UnitNote) (first : Bool) (s : Seen) (unit : UnitName) → ((turn note first s).stop ≡ Some (UnitEnd unit)) ↔ ((serving note s).stop ≡ Some (UnitEnd unit))
+  pub unit_none : (note : Option UnitNote) (first : Bool) (s : Seen) (unit : UnitName) → ((turn note first s).stop ≡ Some (UnitNone unit)) ↔ ((serving note s).stop ≡ Some (UnitNone unit))
+  pub file_fault : (note : Option UnitNote) (first : Bool) (s : Seen) (f : UnitFault) → ((turn note first s).stop ≡ Some (FileFault f)) ↔ ((serving note s).stop ≡ Some (FileFault f))
+  pub wru : (note : Option UnitNote) (first : Bool) (s : Seen) → ((turn note first s).stop ≡ Some Wru) ↔ ((serving note s).stop ≡ Some Wru)
+  pub halt : (note : Option UnitNote) (first : Bool) (s : Seen) → ((turn note first s).stop ≡ Some Halt) ↔ (IsReached note s × IsHalt (fetched (ready note s)))
+  pub unknown_device : (note : Option UnitNote) (first : Bool) (s : Seen) → ((turn note first s).stop ≡ Some UnknownDevice) ↔ (IsReached note s × IsUnknown (fetched (ready note s)) (ready note s))
+  pub chain_limit : (note : Option UnitNote) (first : Bool) (s : Seen) → ((turn note first s).stop ≡ Some ChainLimit) ↔ (IsEndlessEntry note s ⊎ (IsReached note s × IsEndless (fetched (ready note s)) (ready note s)))
   -- what stands after them
-  pub halted : (first : Bool) (s : Seen) → (turn first s).stop ≡ Some Halt → IsHalted (ready s) (turn first s).after.machine
-  pub unknown : (first : Bool) (s : Seen) → (turn first s).stop ≡ Some UnknownDevice → (turn first s).after ≡ (prepared s).after
-  pub unended : (first : Bool) (s : Seen) → IsReached s → (turn first s).stop ≡ Some ChainLimit → (turn first s).after.machine ≡ behind_chain (ready s)
-  pub unentered : (first : Bool) (s : Seen) → IsEndlessEntry s → (turn first s).after.machine ≡ behind_entry (serving s).after.machine
+  pub halted : (note : Option UnitNote) (first : Bool) (s : Seen) → (turn note first s).stop ≡ Some Halt → IsHalted (ready note s) (turn note first s).after.machine
+  pub unknown : (note : Option UnitNote) (first : Bool) (s : Seen) → (turn note first s).stop ≡ Some UnknownDevice → (turn note first s).after ≡ (prepared note s).after
+  pub unended : (note : Option UnitNote) (first : Bool) (s : Seen) → IsReached note s → (turn note first s).stop ≡ Some ChainLimit → (turn note first s).after.machine ≡ behind_chain (ready note s)
+  pub unentered : (note : Option UnitNote) (first : Bool) (s : Seen) → IsEndlessEntry note s → (turn note first s).after.machine ≡ behind_entry (serving note s).after.machine

@@ -11,6 +11,7 @@ use Rattle.nova_machine.specs.Parts.{Part, then_part}
 use Rattle.nova_machine.specs.Turned.{Turned, goes_on, stops, still, executed}
 use Rattle.nova_processor.specs.Instruction.{memory_reference, arithmetic}
 use Rattle.nova_machine.specs.Transfer.{transfer}
+use Rattle.nova_machine.specs.Notes.{UnitNote}
 use Rattle.nova_machine.specs.Service.{serving}
 
 -- the machine with that memory
@@ -64,10 +65,10 @@ unfoldable pub interrupt : MachineState → Turned
 interrupt m = if is_interrupted m then enter m else goes_on m
 
 -- what comes before the instruction: the services, and the interrupt
-unfoldable pub prepared : Seen → Part
-prepared s = then_part (serving s) (λ served. still served (interrupt served.machine))
+unfoldable pub prepared : Option UnitNote → Seen → Part
+prepared note s = then_part (serving note s) (λ served. still served (interrupt served.machine))
 
 -- A turn, which may be a run's first: what comes before the instruction, and the instruction. Where a service or the
--- interrupt stops, the turn ends there.
-unfoldable pub turn : Bool → Seen → Part
-turn first s = then_part (prepared s) (λ ready. still ready (fetch ready.machine))
+-- interrupt stops, the turn ends there. One call on a unit's file may fail in it.
+unfoldable pub turn : Option UnitNote → Bool → Seen → Part
+turn note first s = then_part (prepared note s) (λ ready. still ready (fetch ready.machine))

@@ -1,6 +1,7 @@
 -- What the machine does for a unit whose event is due.
-use Rattle.std.specs.Prelude.{ℕ, ◌<◌, List, [], ◌∷◌, Option, Some, None}
+use Rattle.std.specs.Prelude.{ℕ, ◌+◌, ◌<◌, ◌==◌, ◌≡◌, List, [], ◌∷◌, Option, Some, None, Result, Ok, Err, if◌then◌else◌}
 use Rattle.observations.specs.Observations.{Observation, Prints}
+use Rattle.host_files.specs.Lists.{NamedBytes}
 use Rattle.unit_trait.specs.declared.kind.UnitName.{UnitName}
 use Rattle.unit_trait.specs.Kinds.{units_of}
 use Rattle.unit_trait.specs.declared.calls.Want.{Want}
@@ -9,18 +10,55 @@ use Rattle.unit_trait.specs.declared.calls.Got.{Got}
 use Rattle.unit_trait.specs.declared.calls.Got.TheVariants as got
 use Rattle.unit_trait.specs.declared.calls.UnitStop.{UnitStop}
 use Rattle.unit_trait.specs.declared.calls.UnitStop.TheVariants as unit_stop
+use Rattle.unit_files.specs.Attachments.{Attachment}
+use Rattle.unit_files.specs.Acts.{Failure, ByteSaid, ByteIs, WasWritten, AtEnd, NothingThere, ByteFailed, read_act, write_act, write_files}
 use Rattle.nova_machine.specs.declared.machine.Stop.{Stop}
-use Rattle.nova_machine.specs.declared.machine.Stop.TheVariants.{UnitEnd, UnitNone}
+use Rattle.nova_machine.specs.declared.machine.Stop.TheVariants.{UnitEnd, UnitNone, FileFault, Wru}
 
--- The machine's answer to what a unit wants. There are no files, keys and lines yet: no file is attached, no key comes,
--- and what is sent on a line goes nowhere.
-abbrev pub answer_to : Want → Got
-answer_to want.Nothing = got.Done
-answer_to want.Key = got.NoKey
-answer_to (want.LineKey line) = got.NoKey
-answer_to (want.Console byte) = got.Done
-answer_to (want.LinePut line byte) = got.Done
-answer_to wants_file = got.NoFile
+-- the key that stops a run: control E
+abbrev pub wru : ℕ
+wru = 5
+
+-- a key for the console's keyboard; none comes where the key stops the run
+abbrev pub got_of_key : Option ℕ → Got
+got_of_key None = got.NoKey
+got_of_key (Some key) = if key == wru then got.NoKey else got.Key key
+
+-- what the answer of a byte act means for the unit, or its failure
+abbrev pub got_of_byte : ByteSaid → Result Got Failure
+got_of_byte (ByteIs byte) = Ok (got.Byte byte)
+got_of_byte WasWritten = Ok got.Done
+got_of_byte AtEnd = Ok got.End
+got_of_byte NothingThere = Ok got.NoFile
+got_of_byte (ByteFailed f) = Err f
+
+-- The machine's answer to what a unit wants that has this attachment, where this key is due, or the failure of the call on
+-- the unit's file. There are no disks, tapes and lines yet: no file is attached to those units, no key comes on a line, and
+-- what is sent on one goes nowhere.
+abbrev pub answer_to : Option Failure → Option Attachment → List NamedBytes → Option ℕ → Want → Result Got Failure
+answer_to fault a files key want.Nothing = Ok got.Done
+answer_to fault a files key want.Key = Ok (got_of_key key)
+answer_to fault a files key (want.LineKey line) = Ok got.NoKey
+answer_to fault a files key (want.Console byte) = Ok got.Done
+answer_to fault a files key (want.LinePut line byte) = Ok got.Done
+answer_to fault a files key (want.ReadByte place) = got_of_byte (read_act fault a place files)
+answer_to fault a files key (want.WriteByte place byte) = got_of_byte (write_act fault a place)
+answer_to fault a files key other = Ok got.NoFile
+
+-- the files once that was done
+abbrev pub files_after : Option Failure → Option Attachment → List NamedBytes → Want → List NamedBytes
+files_after fault a files (want.WriteByte place byte) = write_files fault a place byte files
+files_after fault a files other = files
+
+-- how many keys were taken once that was done
+abbrev pub taken_after : ℕ → Option ℕ → Want → ℕ
+taken_after taken (Some key) want.Key = taken + 1
+taken_after taken key other = taken
+
+-- the key that stops a run was taken
+abbrev pub key_stop : Option ℕ → Want → Option Stop
+key_stop (Some key) want.Key = if key == wru then Some Wru else None
+key_stop key other = None
 
 -- a byte for the console is printed
 abbrev pub IsConsole : Want → Type 0
@@ -43,8 +81,13 @@ stop_by unit unit_stop.Go = None
 stop_by unit unit_stop.End = Some (UnitEnd unit)
 stop_by unit unit_stop.NoFile = Some (UnitNone unit)
 
+-- the stop of a unit whose call on its file failed
+abbrev pub file_stop : UnitName → Failure → Stop
+file_stop unit f = FileFault (record { unit = unit; file = None; call = f.call; done = f.done })
+
 -- the unit that a stop names, if it names one, is a unit of its kind
 abbrev pub HasUnit : Stop → Type 0
 HasUnit (UnitEnd unit) = unit.unit < units_of unit.kind
 HasUnit (UnitNone unit) = unit.unit < units_of unit.kind
+HasUnit (FileFault f) = f.unit.unit < units_of f.unit.kind
 HasUnit stop = Unit {0}

@@ -16,6 +16,8 @@ impl<U: Unit> Machine<U> {
     pub(crate) fn burst(&mut self, most: u64) -> Burst
         ensures few { result.done ≤ most }
         ensures told { Bursts most result.done result.end self.old self.new }
+        ensures slots { self.new.slots ≡ self.old.slots }
+        ensures later { self.old.time ≤ self.new.time }
     {
         let budget = most.min(LAST_TIME - self.time).min(self.calm());
         let burst = self.processor.burst(budget);

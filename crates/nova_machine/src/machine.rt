@@ -12,6 +12,7 @@ use nova_processor::Processor;
 use nova_word::{Addr, Word};
 use std::alloc::{AllocError, Global};
 use std::marker::Model;
+use unit_files::{Attached, UnitFault};
 use unit_list::{all_fit, reset_all};
 use unit_trait::{CpuReg, RegFault, Unit, UnitName};
 
@@ -33,6 +34,10 @@ pub enum Stop {
     UnitEnd(UnitName),
     /// That unit has no file, and its STOP_IOE is 1.
     UnitNone(UnitName),
+    /// The key that stops a run was taken: control E, 005.
+    Wru,
+    /// A call on the file of a unit failed. The unit is as it was when it was asked, and its event is gone.
+    FileFault(UnitFault),
     /// The console refused a byte that a unit printed. The unit is as it was when the byte was to be printed, and its
     /// event is gone.
     ConsoleFault,
@@ -68,6 +73,11 @@ pub struct Machine<U: Unit> {
     pub(crate) events: Events,
     /// Where it is true, no interrupt can come.
     pub(crate) quiet: bool,
+    /// How many keys were taken.
+    pub(crate) taken: u64,
+    /// The files of its units: none, until they can be attached.
+    pub(crate) attached: Attached,
+    pub(crate) alloc: Global,
 }
 
 impl<U: Unit> Model for Machine<U> {
@@ -76,6 +86,7 @@ impl<U: Unit> Model for Machine<U> {
     ghost use Rattle.nova_machine.specs.Core.{AreListed};
     ghost use Rattle.nova_machine.specs.Machine.{MachineState};
     ghost use Rattle.nova_machine.specs.Quiet.{IsQuiet};
+    ghost use Rattle.nova_machine.specs.Comes.{AreFree};
     ghost use Rattle.nova_machine.specs.Run.{last_time};
 
     ghost Value = { MachineState };
@@ -88,10 +99,12 @@ impl<U: Unit> Model for Machine<U> {
       units = map U.unit_state m.units.items;
       events = m.events;
       time = m.time;
+      taken = m.taken;
+      slots = m.attached;
     } };
 
     ghost invariant = { λ m. (m.time ≤ last_time) × IsQuiet m.quiet m.ints (map U.unit_state m.units.items)
-        × AllFit (map U.unit_state m.units.items) × AreListed (kinds_of (map U.unit_state m.units.items)) m.events };
+        × AllFit (map U.unit_state m.units.items) × AreListed (kinds_of (map U.unit_state m.units.items)) m.events × AreFree m.attached };
 }
 
 impl<U: Unit> Machine<U> {
@@ -102,7 +115,7 @@ impl<U: Unit> Machine<U> {
     ghost use Rattle.nova_machine.specs.Registers.{register_of, with_register};
 
     /// A machine of 32768 words with those units, at time 0, as a reset leaves it. Memory is 0, and so is every register
-    /// of the processor but `Size`.
+    /// of the processor but `Size`. No key is taken, and no file attached.
     #[tactic(auto, unfolding(crate::specs::Machine::new_machine))]
     pub fn new(alloc: Global, units: Vec<U>) -> Result<Machine<U>, AllocError>
         requires { IsBusOrder (map U.unit_state units.items) }
@@ -118,6 +131,9 @@ impl<U: Unit> Machine<U> {
             units,
             events: Events::new(alloc)?,
             quiet: false,
+            taken: 0,
+            attached: Attached::new(alloc)?,
+            alloc,
         };
         machine.reset();
         Ok(machine)
@@ -129,6 +145,20 @@ impl<U: Unit> Machine<U> {
         ensures last { result ≤ last_time }
     {
         self.time
+    }
+
+    /// How many of the timed keys were taken.
+    pub fn keys_taken(&self) -> u64
+        ensures { result ≡ self.now.taken }
+    {
+        self.taken
+    }
+
+    /// The files of its units.
+    pub fn attached(&self) -> &Attached
+        ensures { result.now ≡ self.now.slots }
+    {
+        &self.attached
     }
 
     /// What holds of every machine: its units' registers are within their limits, and its events are those of units that

@@ -1,9 +1,12 @@
-ghost use Rattle.std.specs.Prelude.{◌≡◌, ◌≢◌, Some};
-ghost use Rattle.nova_machine.specs.declared.machine.Stop.TheVariants.{ConsoleFault};
+ghost use Rattle.std.specs.Prelude.{◌≡◌, Some, None};
+ghost use Rattle.nova_machine.specs.Comes.{IsOwn, bare};
+ghost use Rattle.nova_machine.specs.Notes.{run_note};
 ghost use Rattle.nova_machine.specs.Wants.{HasUnit};
 
 use crate::machine::{Machine, RunLimit, Stop, Turn};
-use host_files::Sink;
+use crate::no_files::NoFiles;
+use expect_actions::Keys;
+use host_files::{Files, Sink};
 use nova_processor::Step;
 use unit_trait::Unit;
 
@@ -16,7 +19,7 @@ impl RunLimit {
     /// The stop of a run that has reached its count.
     fn expired(self) -> Stop
         ensures stop { result ≡ expired self.step }
-        ensures other { result ≢ ConsoleFault }
+        ensures other { IsOwn (Some result) }
         ensures unit { HasUnit result }
     {
         if self.step {
@@ -29,16 +32,29 @@ impl RunLimit {
 
 impl<U: Unit> Machine<U> {
     ghost use Rattle.nova_machine.specs.Seen.{seen};
-    ghost use Rattle.nova_machine.specs.Comes.{Comes, StopCounts};
+    ghost use Rattle.nova_machine.specs.Comes.{Comes, AreTold, StopCounts, FileCause};
+    ghost use Rattle.unit_files.specs.Open.{AllOpen};
     ghost use Rattle.nova_machine.specs.Run.{run};
+    ghost use Rattle.nova_machine.specs.Alone.{alone};
 
     /// Makes turns until one stops, the count of the limit is reached, or time ends, and answers which. The instruction
     /// of a HALT counts; one that stopped as `ChainLimit` or `UnknownDevice` does not, and PC stays there.
-    pub fn run<S: Sink>(&mut self, limit: RunLimit, out: &mut S) -> Stop
-        ensures told { Comes (run limit.step limit.count (seen self.old)) (Some result) (seen self.new) S.tells
-            (S.written out.old) (S.written out.new) }
+    pub fn run<S: Sink, F: Files>(
+        &mut self,
+        limit: RunLimit,
+        keys: &Keys,
+        files: &mut F,
+        out: &mut S,
+    ) -> Stop
+        requires open { AllOpen self.old.slots (F.state files.old).opened }
+        ensures told { AreTold F.tells self.old.slots
+            → Comes (run (run_note self.new.time (Some result)) limit.step limit.count (seen keys.now (F.state files.old).files self.old))
+            (Some result) (seen keys.now (F.state files.new).files self.new) S.tells (S.written out.old) (S.written out.new) }
         ensures counts { StopCounts (Some result) (S.fault_count out.old) (S.fault_count out.new) }
         ensures unit { HasUnit result }
+        ensures slots { self.new.slots ≡ self.old.slots }
+        ensures opened { (F.state files.new).opened ≡ (F.state files.old).opened }
+        ensures file_cause { FileCause (Some result) self.old.slots (F.state files.old) (F.state files.new) }
     {
         let mut first = true;
         let mut left = limit.count;
@@ -46,7 +62,7 @@ impl<U: Unit> Machine<U> {
             if self.time == LAST_TIME {
                 return Stop::Limit;
             }
-            match self.turn(first, out) {
+            match self.turn(first, keys, files, out) {
                 Turn::Stopped(stop) => return stop,
                 Turn::Executed => (),
             }
@@ -58,6 +74,18 @@ impl<U: Unit> Machine<U> {
             }
         }
         limit.expired()
+    }
+
+    /// A run of a machine to whose units no file is attached, and for which no key is typed.
+    pub fn run_alone<S: Sink>(&mut self, limit: RunLimit, out: &mut S) -> Stop
+        ensures told { Comes (run None limit.step limit.count (alone self.old)) (Some result) (alone self.new) S.tells
+            (S.written out.old) (S.written out.new) }
+        ensures plain { bare (Some result) ≡ Some result }
+        ensures counts { StopCounts (Some result) (S.fault_count out.old) (S.fault_count out.new) }
+        ensures unit { HasUnit result }
+    {
+        let keys = Keys::none(self.alloc);
+        self.run(limit, &keys, &mut NoFiles { open: false }, out)
     }
 }
 

@@ -1,11 +1,14 @@
 // What the tests of the machine have in common: a machine with a clock, a keyboard and a printer, which is set, goes on,
 // and is looked at.
-ghost use Rattle.std.specs.Prelude.{◌≡◌, ◌∷◌, [], map};
+ghost use Rattle.std.specs.Prelude.{◌≡◌, ◌∷◌, ◌<◌, [], map};
+ghost use Rattle.nova_machine.specs.Run.{last_time};
 ghost use Rattle.unit_trait.specs.declared.kind.Kind.TheVariants.{Clk as clock, Tti as keyboard, Tto as printer};
 ghost use Rattle.unit_trait.specs.Row.{initial_unit};
 
 use crate::machine::{Machine, RunLimit, Stop, Turn};
+use crate::no_files::NoFiles;
 use clock_unit::Clk;
+use expect_actions::Keys;
 use host_files::{ByteSink, Sink};
 use nova_word::{Addr, Word};
 use std::alloc::Global;
@@ -107,6 +110,16 @@ pub const NOTHING: Case = Case {
 /// A run of that many instructions that is called a step.
 pub fn step(count: u64) -> RunLimit {
     RunLimit { count, step: true }
+}
+
+impl<U: Unit> Machine<U> {
+    /// A turn of a machine to whose units no file is attached, and for which no key is typed.
+    pub fn turn_alone<S: Sink>(&mut self, first: bool, out: &mut S) -> Turn
+        requires { self.old.time < last_time }
+    {
+        let keys = Keys::none(self.alloc);
+        self.turn(first, &keys, &mut NoFiles { open: false }, out)
+    }
 }
 
 /// Plays a case on a new machine in which no event is due: the keyboard's is the only one, and it comes at time 100.
@@ -241,9 +254,9 @@ fn does<U: Unit>(
     match act {
         Act::Turn(turn) => {
             assert!(rt; machine.time() < 1 << 60);
-            assert_eq!(rt; machine.turn(true, console), turn);
+            assert_eq!(rt; machine.turn_alone(true, console), turn);
         }
-        Act::Run(limit, stop) => assert_eq!(rt; machine.run(limit, console), stop),
+        Act::Run(limit, stop) => assert_eq!(rt; machine.run_alone(limit, console), stop),
         Act::Reset => machine.reset(),
         Act::Put(place, value) => put(machine, place, value)?,
         Act::Time(time) => {

@@ -1,36 +1,56 @@
 // Serving the units whose events are due, one method for each definition of a piece of it.
-ghost use Rattle.std.specs.Prelude.{◌≡◌, ◌≢◌, ◌<◌, ◌++◌, None, Some, IsTrue, IfOk, IfSome, OnOk, OnErr};
-ghost use Rattle.fault_counts.specs.Faults.{CountsFault};
+ghost use Rattle.std.specs.Prelude.{◌≡◌, ◌⊎◌, ◌<◌, ◌++◌, map, None, Some, IsTrue, IfSome};
+ghost use Rattle.unit_trait.specs.declared.calls.Want.TheVariants as wants;
+ghost use Rattle.unit_trait.specs.declared.calls.Got.TheVariants as gots;
 ghost use Rattle.unit_trait.specs.Kinds.{code_of, units_of};
-ghost use Rattle.unit_trait.specs.Calls.{Answered};
+ghost use Rattle.unit_trait.specs.Calls.{Due, Answered};
 ghost use Rattle.unit_trait.specs.Row.{IsLater, IsAgain};
-ghost use Rattle.event_queue.specs.EventList.{due, dues, wished};
+ghost use Rattle.event_queue.specs.EventList.{due, dues, wished, IsApart};
+ghost use Rattle.unit_list.specs.Bus.{AllFit, TakesAnswerIn, IsBelowEnd, row_at, after_at, kinds_of};
+ghost use Rattle.unit_trait.specs.declared.calls.Got.{Got};
+ghost use Rattle.expect_actions.specs.KeysFile.{due_key};
 ghost use Rattle.nova_machine.specs.declared.machine.Stop.TheVariants.{ConsoleFault};
-ghost use Rattle.nova_machine.specs.Wants.{answer_to, bytes_of, IsConsole, stop_by, HasUnit};
+ghost use Rattle.nova_machine.specs.declared.service.Hosted.TheVariants.{Gets, Stops};
+ghost use Rattle.nova_machine.specs.Comes.{IsOwn, StopCounts};
+ghost use Rattle.nova_machine.specs.Notes.{unit_note, failure_of_stop};
+ghost use Rattle.nova_machine.specs.Hosting.{CanBeHosted, hosted_of, hosted_key, stop_in, bytes_printed};
+ghost use Rattle.nova_machine.specs.Wants.{taken_after, files_after, stop_by, HasUnit};
 
 use crate::machine::{Machine, Stop};
-use host_files::{Failed, Sink, put_all};
+use expect_actions::Keys;
+use host_files::{Failed, Files, Sink, put_all};
+use unit_files::ByteAnswer;
 use unit_list::{due_at, got_at};
 use unit_trait::{After, Got, Queue, Unit, UnitName, UnitStop, Want};
 
 impl<U: Unit> Machine<U> {
-    ghost use Rattle.unit_list.specs.Bus.{row_at, after_at, kinds_of};
     ghost use Rattle.nova_machine.specs.Core.{IsAmong};
     ghost use Rattle.nova_machine.specs.Seen.{seen};
-    ghost use Rattle.nova_machine.specs.Comes.{Comes, StopCounts};
-    ghost use Rattle.nova_machine.specs.Service.{serving, service, taken, asked, answered, want_at};
+    ghost use Rattle.nova_machine.specs.Comes.{Comes, AreTold, FileCause};
+    ghost use Rattle.nova_machine.specs.Service.{serving, service, asked, answered, want_at};
+    ghost use Rattle.unit_files.specs.Open.{AllOpen};
+    ghost use Rattle.event_queue.specs.EventList.{served};
 
     /// Serves the units whose events are due, first come first.
-    pub(crate) fn serve<S: Sink>(&mut self, out: &mut S) -> Option<Stop>
-        ensures told { Comes (serving (seen self.old)) result (seen self.new) S.tells (S.written out.old)
-            (S.written out.new) }
+    pub(crate) fn serve<S: Sink, F: Files>(
+        &mut self,
+        keys: &Keys,
+        files: &mut F,
+        out: &mut S,
+    ) -> Option<Stop>
+        requires open { AllOpen self.old.slots (F.state files.old).opened }
+        ensures told { AreTold F.tells self.old.slots → Comes (serving (unit_note result) (seen keys.now (F.state files.old).files self.old)) result
+            (seen keys.now (F.state files.new).files self.new) S.tells (S.written out.old) (S.written out.new) }
         ensures rest { result ≡ None → due self.new.events ≡ None }
         ensures time { self.new.time ≡ self.old.time }
         ensures counts { StopCounts result (S.fault_count out.old) (S.fault_count out.new) }
         ensures unit { IfSome result HasUnit }
+        ensures slots { self.new.slots ≡ self.old.slots }
+        ensures opened { (F.state files.new).opened ≡ (F.state files.old).opened }
+        ensures file_cause { FileCause result self.old.slots (F.state files.old) (F.state files.new) }
     {
         'events: while let Some(unit) = self.take_due() {
-            if let Some(stop) = self.serve_unit(unit, out) {
+            if let Some(stop) = self.serve_unit(unit, keys, files, out) {
                 return Some(stop);
             }
         }
@@ -41,8 +61,10 @@ impl<U: Unit> Machine<U> {
     #[tactic(auto, using(crate::proofs::Listed::listings))]
     fn take_due(&mut self) -> Option<UnitName>
         ensures unit { result ≡ due self.old.events }
-        ensures taken { seen self.new ≡ taken (seen self.old) }
+        ensures taken { self.new ≡ record self.old { events = served self.old.events } }
         ensures low { IfSome result (λ u. u.unit < units_of u.kind) }
+        ensures alone { IfSome result (λ u. IsApart u (dues self.new.events)) }
+        ensures slots { self.new.slots ≡ self.old.slots }
         ensures listed { IfSome result (λ u. IsAmong u.kind (kinds_of self.new.units)) }
         ensures time { self.new.time ≡ self.old.time }
     {
@@ -51,20 +73,35 @@ impl<U: Unit> Machine<U> {
 
     /// Serves a unit whose event was taken.
     #[tactic(auto, unfolding(crate::specs::Service::service))]
-    fn serve_unit<S: Sink>(&mut self, unit: UnitName, out: &mut S) -> Option<Stop>
+    fn serve_unit<S: Sink, F: Files>(
+        &mut self,
+        unit: UnitName,
+        keys: &Keys,
+        files: &mut F,
+        out: &mut S,
+    ) -> Option<Stop>
         requires number { unit.unit < units_of unit.kind }
         requires listed { IsAmong unit.kind (kinds_of self.old.units) }
-        ensures told { Comes (service unit (seen self.old)) result (seen self.new) S.tells (S.written out.old)
-            (S.written out.new) }
+        requires open { AllOpen self.old.slots (F.state files.old).opened }
+        ensures told { AreTold F.tells self.old.slots → Comes (service (failure_of_stop result) unit (seen keys.now (F.state files.old).files self.old)) result
+            (seen keys.now (F.state files.new).files self.new) S.tells (S.written out.old) (S.written out.new) }
+        ensures own { IfSome (unit_note result) (λ n. n.unit ≡ unit) }
         ensures dues { result ≡ None → dues self.new.events ≡ dues self.old.events }
         ensures time { self.new.time ≡ self.old.time }
         ensures counts { StopCounts result (S.fault_count out.old) (S.fault_count out.new) }
         ensures unit { IfSome result HasUnit }
+        ensures slots { self.new.slots ≡ self.old.slots }
+        ensures opened { (F.state files.new).opened ≡ (F.state files.old).opened }
+        ensures file_cause { FileCause result self.old.slots (F.state files.old) (F.state files.new) }
     {
         let want = self.ask(unit);
-        match fulfil(want, out) {
-            Ok(got) => self.answer(unit, got),
-            Err(Failed) => Some(Stop::ConsoleFault),
+        match self.host(want, unit, keys, files, out) {
+            Hosted::Gets(got) => self.answer(unit, got),
+            Hosted::Wru => {
+                let _ = self.answer(unit, Got::NoKey);
+                Some(Stop::Wru)
+            }
+            Hosted::Stops(stop) => Some(stop),
         }
     }
 
@@ -74,24 +111,29 @@ impl<U: Unit> Machine<U> {
         requires { unit.unit < units_of unit.kind }
         ensures machine { self.new ≡ asked unit self.old }
         ensures want { result ≡ want_at unit self.old }
+        ensures hosted { CanBeHosted result unit.kind }
+        ensures room { (got : Got) → IsBelowEnd result got → TakesAnswerIn unit.kind got self.new.units }
+        ensures slots { self.new.slots ≡ self.old.slots }
         ensures events { self.new.events ≡ self.old.events }
         ensures kinds { kinds_of self.new.units ≡ kinds_of self.old.units }
         ensures time { self.new.time ≡ self.old.time }
     {
         self.quiet = false;
-        due_at(self.units.as_mut_slice(), unit)
+        wanted(self.units.as_mut_slice(), unit)
     }
 
     /// Gives a unit the machine's answer.
     #[tactic(auto, unfolding(crate::specs::Service::answered))]
     fn answer(&mut self, unit: UnitName, got: Got) -> Option<Stop>
         requires number { unit.unit < units_of unit.kind }
+        requires room { TakesAnswerIn unit.kind got self.old.units }
         requires listed { IsAmong unit.kind (kinds_of self.old.units) }
         ensures machine { self.new ≡ (answered unit got self.old).machine }
         ensures stop { result ≡ (answered unit got self.old).stop }
+        ensures slots { self.new.slots ≡ self.old.slots }
         ensures dues { dues self.new.events ≡ dues self.old.events }
         ensures time { self.new.time ≡ self.old.time }
-        ensures other { result ≢ Some ConsoleFault }
+        ensures other { IsOwn result }
         ensures unit { IfSome result HasUnit }
     {
         let after = self.give(unit, got);
@@ -101,7 +143,8 @@ impl<U: Unit> Machine<U> {
 
     /// A unit gets an answer.
     fn give(&mut self, unit: UnitName, got: Got) -> After
-        requires { unit.unit < units_of unit.kind }
+        requires number { unit.unit < units_of unit.kind }
+        requires room { TakesAnswerIn unit.kind got self.old.units }
         ensures machine { self.new ≡ record self.old {
           units = after_at (code_of unit.kind) (Answered unit.unit got) self.old.units;
         } }
@@ -127,29 +170,131 @@ impl<U: Unit> Machine<U> {
     }
 }
 
-// Does what a unit wants of the machine, and answers it.
-fn fulfil<S: Sink>(want: Want, out: &mut S) -> Result<Got, Failed>
-    ensures answer { IfOk result (λ g. g ≡ answer_to want) }
-    ensures printed { IsTrue S.tells → OnOk result (S.written out.new ≡ S.written out.old ++ bytes_of want) }
-    ensures refused { IsTrue S.tells → OnErr result (S.written out.new ≡ S.written out.old) }
-    ensures console { OnErr result (IsConsole want) }
-    ensures counts { CountsFault (S.fault_count out.old) (S.fault_count out.new) result }
-{
-    match want {
-        Want::Nothing | Want::LinePut { line: _, byte: _ } => Ok(Got::Done),
-        Want::Key | Want::LineKey(_) => Ok(Got::NoKey),
-        Want::Console(byte) => {
-            put_all(out, &[byte])?;
-            Ok(Got::Done)
+/// The key that stops a run: control E.
+const WRU: u8 = 5;
+
+/// What the machine made of what a unit wants.
+#[derive(Clone, Copy)]
+enum Hosted {
+    /// The unit gets that answer.
+    Gets(Got),
+    /// The key that stops a run was taken: the unit gets no key.
+    Wru,
+    /// The unit gets no answer.
+    Stops(Stop),
+}
+
+impl<U: Unit> Machine<U> {
+    ghost use Rattle.unit_files.specs.Attachments.{attachment_at};
+    ghost use Rattle.unit_files.specs.Open.{AllOpen};
+    ghost use Rattle.nova_machine.specs.Seen.{attached_in};
+    ghost use Rattle.nova_machine.specs.Comes.{AreTold, FileCause};
+    ghost use Rattle.nova_machine.specs.Hosting.{IsHosted, HasRoom};
+
+    /// Does what a unit wants of the machine.
+    fn host<S: Sink, F: Files>(
+        &mut self,
+        want: Want,
+        unit: UnitName,
+        keys: &Keys,
+        files: &mut F,
+        out: &mut S,
+    ) -> Hosted
+        requires open { AllOpen self.old.slots (F.state files.old).opened }
+        requires kind { CanBeHosted want unit.kind }
+        ensures machine { self.new ≡ record self.old {
+          taken = taken_after self.old.taken (due_key keys.now self.old.taken self.old.time) want;
+        } }
+        ensures said { AreTold F.tells self.old.slots → IsHosted want (attachment_at (attached_in self.old) unit)
+            (F.state files.old).files (due_key keys.now self.old.taken self.old.time) result }
+        ensures files { (F.state files.new).files ≡ files_after (failure_of_stop (stop_in result))
+            (attachment_at (attached_in self.old) unit) (F.state files.old).files want }
+        ensures printed { IsTrue S.tells → S.written out.new ≡ S.written out.old ++ bytes_printed want result }
+        ensures room { HasRoom want result }
+        ensures own { IfSome (unit_note (stop_in result)) (λ n. n.unit ≡ unit) }
+        ensures unit { unit.unit < units_of unit.kind → IfSome (stop_in result) HasUnit }
+        ensures opened { (F.state files.new).opened ≡ (F.state files.old).opened }
+        ensures counts { StopCounts (stop_in result) (S.fault_count out.old) (S.fault_count out.new) }
+        ensures file_cause { FileCause (stop_in result) self.old.slots (F.state files.old) (F.state files.new) }
+    {
+        match want {
+            Want::Nothing | Want::LinePut { line: _, byte: _ } => Hosted::Gets(Got::Done),
+            Want::Key => self.take_key(keys),
+            Want::LineKey(_) => Hosted::Gets(Got::NoKey),
+            Want::Console(byte) => print(byte, out),
+            Want::ReadByte { place } => made_of(self.attached.read_byte(unit, place, files)),
+            Want::WriteByte { place, byte } => {
+                made_of(self.attached.write_byte(unit, place, byte, files))
+            }
+            _ => Hosted::Gets(Got::NoFile),
         }
-        _ => Ok(Got::NoFile),
+    }
+
+    /// Takes the key that is due, where one is.
+    fn take_key(&mut self, keys: &Keys) -> Hosted
+        ensures machine { self.new ≡ record self.old {
+          taken = taken_after self.old.taken (due_key keys.now self.old.taken self.old.time) wants.Key;
+        } }
+        ensures taken { result ≡ hosted_key (due_key keys.now self.old.taken self.old.time) }
+    {
+        match keys.due(self.taken, self.time) {
+            None => Hosted::Gets(Got::NoKey),
+            Some(key) => {
+                self.taken += 1;
+                if key == WRU {
+                    Hosted::Wru
+                } else {
+                    Hosted::Gets(Got::Key(key))
+                }
+            }
+        }
+    }
+}
+
+/// Prints a byte on the console.
+fn print<S: Sink>(byte: u8, out: &mut S) -> Hosted
+    ensures said { (result ≡ Gets gots.Done) ⊎ (result ≡ Stops ConsoleFault) }
+    ensures printed { IsTrue S.tells → S.written out.new ≡ S.written out.old ++ bytes_printed (wants.Console byte) result }
+    ensures counts { StopCounts (stop_in result) (S.fault_count out.old) (S.fault_count out.new) }
+{
+    match put_all(out, &[byte]) {
+        Ok(()) => Hosted::Gets(Got::Done),
+        Err(Failed) => Hosted::Stops(Stop::ConsoleFault),
+    }
+}
+
+/// What a unit wants whose event is due. It is one that the machine can do for it, with an answer that the unit may get.
+fn wanted<U: Unit>(units: &mut [U], unit: UnitName) -> Want
+    requires number { unit.unit < units_of unit.kind }
+    requires fits { AllFit (map U.unit_state units.old) }
+    ensures want { result ≡ (row_at (code_of unit.kind) (Due unit.unit) (map U.unit_state units.old)).want }
+    ensures units { map U.unit_state units.new
+        ≡ after_at (code_of unit.kind) (Due unit.unit) (map U.unit_state units.old) }
+    ensures fits { AllFit (map U.unit_state units.new) }
+    ensures kinds { kinds_of (map U.unit_state units.new) ≡ kinds_of (map U.unit_state units.old) }
+    ensures hosted { CanBeHosted result unit.kind }
+    ensures room { (got : Got) → IsBelowEnd result got → TakesAnswerIn unit.kind got (map U.unit_state units.new) }
+{
+    due_at(units, unit)
+}
+
+/// What the answer of a call on a byte of its file means for a unit.
+fn made_of(answer: ByteAnswer) -> Hosted
+    ensures { result ≡ hosted_of answer }
+{
+    match answer {
+        ByteAnswer::Byte(byte) => Hosted::Gets(Got::Byte(byte)),
+        ByteAnswer::Written => Hosted::Gets(Got::Done),
+        ByteAnswer::End => Hosted::Gets(Got::End),
+        ByteAnswer::NoFile => Hosted::Gets(Got::NoFile),
+        ByteAnswer::Failed(fault) => Hosted::Stops(Stop::FileFault(fault)),
     }
 }
 
 // The stop of a unit that stops the machine.
 fn stop_by(unit: UnitName, stop: UnitStop) -> Option<Stop>
     ensures stop { result ≡ stop_by unit stop }
-    ensures other { result ≢ Some ConsoleFault }
+    ensures other { IsOwn result }
     ensures unit { unit.unit < units_of unit.kind → IfSome result HasUnit }
 {
     match stop {

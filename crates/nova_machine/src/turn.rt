@@ -1,12 +1,14 @@
-ghost use Rattle.std.specs.Prelude.{◌≡◌, ◌≢◌, ◌<◌, ◌≤◌, ◌+◌, ◌^◌, true, None, Some, IfSome};
+ghost use Rattle.std.specs.Prelude.{◌≡◌, ◌<◌, ◌≤◌, ◌+◌, ◌^◌, true, None, IfSome};
 ghost use Rattle.event_queue.specs.EventList.{due};
-ghost use Rattle.nova_machine.specs.declared.machine.Stop.TheVariants.{ConsoleFault};
+ghost use Rattle.nova_machine.specs.Comes.{IsOwn};
+ghost use Rattle.nova_machine.specs.Notes.{unit_note};
 ghost use Rattle.nova_machine.specs.Run.{last_time};
 ghost use Rattle.nova_machine.specs.Wants.{HasUnit};
 
 use crate::instruction_end::InstructionEnd;
 use crate::machine::{Machine, Stop, Turn};
-use host_files::Sink;
+use expect_actions::Keys;
+use host_files::{Files, Sink};
 use nova_memory::ChainLimit;
 use nova_word::{Addr, Word};
 use unit_trait::Unit;
@@ -18,7 +20,8 @@ impl<U: Unit> Machine<U> {
     ghost use Rattle.nova_machine.specs.Seen.{seen};
     ghost use Rattle.nova_machine.specs.Parts.{stop_of};
     ghost use Rattle.nova_machine.specs.Ends.{end_stop};
-    ghost use Rattle.nova_machine.specs.Comes.{Comes, StopCounts};
+    ghost use Rattle.nova_machine.specs.Comes.{Comes, AreTold, StopCounts, FileCause};
+    ghost use Rattle.unit_files.specs.Open.{AllOpen};
     ghost use Rattle.nova_machine.specs.Quiet.{IsPlain};
     ghost use Rattle.nova_machine.specs.Machine.{on_processor};
     ghost use Rattle.nova_processor.specs.Instruction.{arithmetic, memory_reference};
@@ -30,6 +33,8 @@ impl<U: Unit> Machine<U> {
     /// program goes on as by JMP @1. Then the word at PC is executed, which takes one instruction of time and clears
     /// `Hold`.
     ///
+    /// A unit reads and writes the file that is attached to it, and the keyboard takes the first of the keys that is due.
+    ///
     /// Where a service stops, the turn ends there. After a stop as `ChainLimit` or `UnknownDevice` the registers of the
     /// processor, `Hold` among them, and the time are as they were before the instruction, or the interrupt.
     ///
@@ -37,15 +42,26 @@ impl<U: Unit> Machine<U> {
     /// the first turn passes.
     #[inline]
     #[tactic(auto, unfolding(crate::specs::Turn::turn))]
-    pub fn turn<S: Sink>(&mut self, first: bool, out: &mut S) -> Turn
-        requires { self.old.time < last_time }
-        ensures told { Comes (turn first (seen self.old)) (stop_of result) (seen self.new) S.tells (S.written out.old)
-            (S.written out.new) }
+    pub fn turn<S: Sink, F: Files>(
+        &mut self,
+        first: bool,
+        keys: &Keys,
+        files: &mut F,
+        out: &mut S,
+    ) -> Turn
+        requires early { self.old.time < last_time }
+        requires open { AllOpen self.old.slots (F.state files.old).opened }
+        ensures told { AreTold F.tells self.old.slots → Comes (turn (unit_note (stop_of result)) first (seen keys.now (F.state files.old).files self.old))
+            (stop_of result) (seen keys.now (F.state files.new).files self.new) S.tells (S.written out.old) (S.written out.new) }
         ensures time { stop_of result ≡ None → self.new.time ≡ self.old.time + 1 }
+        ensures fault { IfSome (unit_note (stop_of result)) (λ n. self.new.time ≡ self.old.time) }
         ensures counts { StopCounts (stop_of result) (S.fault_count out.old) (S.fault_count out.new) }
         ensures unit { IfSome (stop_of result) HasUnit }
+        ensures slots { self.new.slots ≡ self.old.slots }
+        ensures opened { (F.state files.new).opened ≡ (F.state files.old).opened }
+        ensures file_cause { FileCause (stop_of result) self.old.slots (F.state files.old) (F.state files.new) }
     {
-        match self.prepare(out) {
+        match self.prepare(keys, files, out) {
             Some(stop) => Turn::Stopped(stop),
             None => self.fetch().turn(),
         }
@@ -53,18 +69,27 @@ impl<U: Unit> Machine<U> {
 
     /// What comes before the instruction: nothing, where the turn is plain.
     #[inline]
-    fn prepare<S: Sink>(&mut self, out: &mut S) -> Option<Stop>
-        ensures told { Comes (prepared (seen self.old)) result (seen self.new) S.tells (S.written out.old)
-            (S.written out.new) }
+    fn prepare<S: Sink, F: Files>(
+        &mut self,
+        keys: &Keys,
+        files: &mut F,
+        out: &mut S,
+    ) -> Option<Stop>
+        requires open { AllOpen self.old.slots (F.state files.old).opened }
+        ensures told { AreTold F.tells self.old.slots → Comes (prepared (unit_note result) (seen keys.now (F.state files.old).files self.old))
+            result (seen keys.now (F.state files.new).files self.new) S.tells (S.written out.old) (S.written out.new) }
         ensures rest { result ≡ None → due self.new.events ≡ None }
         ensures time { self.new.time ≡ self.old.time }
         ensures counts { StopCounts result (S.fault_count out.old) (S.fault_count out.new) }
         ensures unit { IfSome result HasUnit }
+        ensures slots { self.new.slots ≡ self.old.slots }
+        ensures opened { (F.state files.new).opened ≡ (F.state files.old).opened }
+        ensures file_cause { FileCause result self.old.slots (F.state files.old) (F.state files.new) }
     {
         if self.is_plain() {
             None
         } else {
-            self.attend(out)
+            self.attend(keys, files, out)
         }
     }
 
@@ -79,15 +104,19 @@ impl<U: Unit> Machine<U> {
     /// What comes before the instruction.
     #[inline(never)]
     #[tactic(auto, unfolding(crate::specs::Turn::prepared))]
-    fn attend<S: Sink>(&mut self, out: &mut S) -> Option<Stop>
-        ensures told { Comes (prepared (seen self.old)) result (seen self.new) S.tells (S.written out.old)
-            (S.written out.new) }
+    fn attend<S: Sink, F: Files>(&mut self, keys: &Keys, files: &mut F, out: &mut S) -> Option<Stop>
+        requires open { AllOpen self.old.slots (F.state files.old).opened }
+        ensures told { AreTold F.tells self.old.slots → Comes (prepared (unit_note result) (seen keys.now (F.state files.old).files self.old))
+            result (seen keys.now (F.state files.new).files self.new) S.tells (S.written out.old) (S.written out.new) }
         ensures rest { result ≡ None → due self.new.events ≡ None }
         ensures time { self.new.time ≡ self.old.time }
         ensures counts { StopCounts result (S.fault_count out.old) (S.fault_count out.new) }
         ensures unit { IfSome result HasUnit }
+        ensures slots { self.new.slots ≡ self.old.slots }
+        ensures opened { (F.state files.new).opened ≡ (F.state files.old).opened }
+        ensures file_cause { FileCause result self.old.slots (F.state files.old) (F.state files.new) }
     {
-        match self.serve(out) {
+        match self.serve(keys, files, out) {
             Some(stop) => Some(stop),
             None => self.interrupt(),
         }
@@ -98,7 +127,8 @@ impl<U: Unit> Machine<U> {
     fn interrupt(&mut self) -> Option<Stop>
         ensures machine { self.new ≡ (interrupt self.old).machine }
         ensures stop { result ≡ (interrupt self.old).stop }
-        ensures other { result ≢ Some ConsoleFault }
+        ensures other { IsOwn result }
+        ensures slots { self.new.slots ≡ self.old.slots }
         ensures unit { IfSome result HasUnit }
         ensures events { self.new.events ≡ self.old.events }
         ensures time { self.new.time ≡ self.old.time }
@@ -130,7 +160,8 @@ impl<U: Unit> Machine<U> {
     fn enter(&mut self) -> Option<Stop>
         ensures machine { self.new ≡ (enter self.old).machine }
         ensures stop { result ≡ (enter self.old).stop }
-        ensures other { result ≢ Some ConsoleFault }
+        ensures other { IsOwn result }
+        ensures slots { self.new.slots ≡ self.old.slots }
         ensures unit { IfSome result HasUnit }
         ensures events { self.new.events ≡ self.old.events }
         ensures time { self.new.time ≡ self.old.time }
@@ -152,6 +183,7 @@ impl<U: Unit> Machine<U> {
         requires none { due self.old.events ≡ None }
         ensures machine { self.new ≡ (fetch self.old).machine }
         ensures answer { end_stop result ≡ (fetch self.old).stop }
+        ensures slots { self.new.slots ≡ self.old.slots }
         ensures time { end_stop result ≡ None → self.new.time ≡ self.old.time + 1 }
     {
         let word = self.processor.memory.read(self.processor.cpu.pc);

@@ -6,7 +6,14 @@ ghost use Rattle.nova_top.specs.Standard.{IsStandard};
 use unit_trait::{Kind, Unit, reg_initial};
 
 /// The kinds that are built, in bus order.
-const STANDARD_KINDS: [Kind; 3] = [Kind::Clk, Kind::Tti, Kind::Tto];
+const STANDARD_KINDS: [Kind; 6] = [
+    Kind::Lpt,
+    Kind::Ptr,
+    Kind::Ptp,
+    Kind::Clk,
+    Kind::Tti,
+    Kind::Tto,
+];
 
 /// Whether the units are those that a machine of this program has: one of each kind that is built, in bus order, each
 /// with what its registers hold at first.

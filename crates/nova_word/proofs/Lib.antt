@@ -1,3 +1,6 @@
 pub mod NumberLemmas
 pub mod ReadingLemmas
 pub mod WidthLemmas
+pub mod QuotedByteLemmas
+pub mod QuotedLemmas
+pub mod QuotedReadLemmas

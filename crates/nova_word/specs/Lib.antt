@@ -1,2 +1,3 @@
 pub mod Bits
 pub mod Numbers
+pub mod Quoted

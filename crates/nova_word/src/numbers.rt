@@ -75,7 +75,7 @@ fn read_number(base: u64, largest: u64, text: &[u8]) -> Result<u64, NumberFault>
     value_up_to(base, largest, text).ok_or(NumberFault::TooLarge)
 }
 
-fn is_digit(base: u64, b: u8) -> bool
+pub(crate) fn is_digit(base: u64, b: u8) -> bool
     requires { base ≤ 10 }
     ensures { result ≡ is_digit base b }
 {

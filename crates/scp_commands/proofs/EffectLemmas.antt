@@ -4,7 +4,7 @@ use Rattle.std.proofs.Common.{◌≡◌, ℕ, Bool, true, false, List, [], ◌�
 use Rattle.std.proofs.lemmas.Bool.{leb-true}
 use Rattle.observations.specs.Observations.{Prints, reads_of, map_made}
 use Rattle.observations.proofs.MadeLemmas.{reads_of-append, reads_of-map}
-use Rattle.nova_machine.specs.Seen.{seen}
+use Rattle.nova_machine.specs.Alone.{alone}
 use Rattle.nova_machine.specs.Run.{run}
 use Rattle.nova_machine.proofs.NoReads.{run-reads}
 use Rattle.nova_machine.specs.declared.machine.Stop.{Stop}
@@ -55,15 +55,15 @@ run_answer-exit : (stop : Option Stop) → IsExitAnswer (run_answer stop)
 run_answer-exit (Some stop) = tt
 run_answer-exit None = tt
 
-fair-ran : (step : Bool) (count : ℕ) (before live : Live) → Fair before (ran live (run step count (seen live.machine)))
+fair-ran : (step : Bool) (count : ℕ) (before live : Live) → Fair before (ran live (run None step count (alone live.machine)))
 unfolding ran
 fair-ran step count before live =
-    let p = run step count (seen live.machine) in
+    let p = run None step count (alone live.machine) in
     let made = map_made (with_seen live) p.made in
     record {
       reads =
           let same = reads_of-map (with_seen live) p.made in
-          let none = run-reads step count (seen live.machine) in
+          let none = run-reads None step count (alone live.machine) in
           reads_of-append made (Prints (stop_line p.stop p.after.machine) (with_seen live p.after) ∷ []) ∙ omega (arith, same, none);
       exit = run_answer-exit p.stop;
       refused = λ fault h. absurd (run_answer-ok p.stop fault h);

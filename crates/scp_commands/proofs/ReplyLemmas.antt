@@ -7,9 +7,10 @@ use Rattle.observations.proofs.CutLemmas.{breaks-before, breaks-behind, breaks-h
 use Rattle.nova_machine.specs.declared.machine.Stop.{Stop}
 use Rattle.nova_machine.specs.declared.machine.Stop.TheVariants.{ConsoleFault}
 use Rattle.nova_machine.specs.Machine.{MachineState}
-use Rattle.nova_machine.specs.Seen.{Seen, seen}
+use Rattle.nova_machine.specs.Seen.{Seen}
+use Rattle.nova_machine.specs.Alone.{alone}
 use Rattle.nova_machine.specs.Parts.{Part}
-use Rattle.nova_machine.specs.Comes.{Comes}
+use Rattle.nova_machine.specs.Comes.{Comes, bare}
 use Rattle.nova_machine.specs.Comes as run
 use Rattle.nova_machine.proofs.Parts.{split-comes}
 use Rattle.scp_commands.specs.declared.next.Next.TheVariants.{Ran}
@@ -38,7 +39,7 @@ text-refused text answer live tells before after part = record {
 }
 
 -- the text of a stop comes behind what a run has printed
-ran-is : (live : Live) (p : Part) (stop : Stop) (m : MachineState) → Some stop ≡ p.stop → seen m ≡ p.after
+ran-is : (live : Live) (p : Part) (stop : Stop) (m : MachineState) → Some stop ≡ p.stop → alone m ≡ p.after
     → ran live p ≡ record { made = map_made (with_seen live) p.made ++ Prints (stop_text stop m) (live_of m) ∷ []; answer = Ok (Ran stop); after = live_of m }
 unfolding ran
 ran-is live p stop m stops after =
@@ -47,20 +48,20 @@ ran-is live p stop m stops after =
 
 -- a byte that a run prints was refused
 pub ran-cut : (live : Live) (p : Part) (stop : Stop) (m : MachineState) (tells : Bool) (before after : List ℕ) → stop ≡ ConsoleFault
-    → Comes p (Some stop) (seen m) tells before after → IsBrokenOff (ran live p) (live_of m) tells before after
+    → Comes p (Some stop) (alone m) tells before after → IsBrokenOff (ran live p) (live_of m) tells before after
 unfolding ran
 ran-cut live p stop m tells before after is comes =
-    let broken : run.IsBrokenOff p (seen m) tells before after = subst (λ (x : Stop). Comes p (Some x) (seen m) tells before after) is comes in
+    let broken : run.IsBrokenOff p (alone m) tells before after = subst (λ (x : Stop). Comes p (Some x) (alone m) tells before after) is comes in
     let made = map_made (with_seen live) p.made in
     let last = Prints (stop_line p.stop p.after.machine) (with_seen live p.after) ∷ [] in
     record {
-      stands = stands-before (live_of m) made last (stands-map (with_seen live) (seen m) p.made broken.stands);
+      stands = stands-before (live_of m) made last (stands-map (with_seen live) (alone m) p.made broken.stands);
       told = λ told.
           let o = broken.told told in
           record {
             taken = o.taken;
             written = o.written;
-            breaks = breaks-before made last o.taken (live_of m) (breaks-map (with_seen live) p.made o.taken (seen m) o.breaks);
+            breaks = breaks-before made last o.taken (live_of m) (breaks-map (with_seen live) p.made o.taken (alone m) o.breaks);
           };
     }
 
@@ -92,28 +93,28 @@ run-refused made text answer live tells before mid after first part = record {
 
 -- a run that ended by itself, whose stop was printed, or a byte of it refused
 ran-told : {T E : Type 0} (live : Live) (p : Part) (stop : Stop) (m : MachineState) (printed : Result T E) (tells : Bool) (before mid after : List ℕ) → stop ≢ ConsoleFault
-    → Comes p (Some stop) (seen m) tells before mid → (IsTrue tells → Puts mid (stop_text stop m) printed after)
+    → bare (Some stop) ≡ Some stop → Comes p (Some stop) (alone m) tells before mid → (IsTrue tells → Puts mid (stop_text stop m) printed after)
     → Does (ran live p) (told_or_console printed (Ran stop)) (live_of m) tells before after
-ran-told {T} {E} live p stop m printed tells before mid after other comes puts =
-    ⊎_elim (λ cut. absurd (let e = cut.0 in other (cc))) (λ whole. by-printed whole.1 printed puts) (split-comes p (Some stop) (seen m) tells before mid comes)
+ran-told {T} {E} live p stop m printed tells before mid after other plain comes puts =
+    ⊎_elim (λ cut. absurd (let e = cut.0 in other (cc))) (λ whole. by-printed whole.1 printed puts) (split-comes p (Some stop) (alone m) tells before mid comes)
   where
-    written : run.IsWhole p (Some stop) (seen m) tells before mid → IsTrue tells → mid ≡ before ++ text_of (map_made (with_seen live) p.made)
+    written : run.IsWhole p (Some stop) (alone m) tells before mid → IsTrue tells → mid ≡ before ++ text_of (map_made (with_seen live) p.made)
     written whole told = whole.written told ∙ ap (λ (t : List ℕ). before ++ t) (sym (text_of-map (with_seen live) p.made))
 
-    by-printed : run.IsWhole p (Some stop) (seen m) tells before mid → (printed : Result T E) → (IsTrue tells → Puts mid (stop_text stop m) printed after)
+    by-printed : run.IsWhole p (Some stop) (alone m) tells before mid → (printed : Result T E) → (IsTrue tells → Puts mid (stop_text stop m) printed after)
         → Does (ran live p) (told_or_console printed (Ran stop)) (live_of m) tells before after
     by-printed whole (Ok x) puts =
-        subst (λ (r : Reply). Does r (Ok (Ran stop)) (live_of m) tells before after) (sym (ran-is live p stop m whole.stop_is whole.after_is))
+        subst (λ (r : Reply). Does r (Ok (Ran stop)) (live_of m) tells before after) (sym (ran-is live p stop m (sym plain ∙ whole.stop_is) whole.after_is))
         (refl, run-said (map_made (with_seen live) p.made) (stop_text stop m) (Ok (Ran stop)) (live_of m) tells before mid after (written whole) puts)
     by-printed whole (Err e) puts =
-        subst (λ (r : Reply). Does r (Err Console) (live_of m) tells before after) (sym (ran-is live p stop m whole.stop_is whole.after_is))
+        subst (λ (r : Reply). Does r (Err Console) (live_of m) tells before after) (sym (ran-is live p stop m (sym plain ∙ whole.stop_is) whole.after_is))
         (run-refused (map_made (with_seen live) p.made) (stop_text stop m) (Ok (Ran stop)) (live_of m) tells before mid after (written whole) puts)
 
 pub ran-does : {T E : Type 0} (live : Live) (p : Part) (stop : Stop) (m : MachineState) (printed : Result T E) (answer : Answer) (tells : Bool) (before mid after : List ℕ) → stop ≢ ConsoleFault
-    → Comes p (Some stop) (seen m) tells before mid → (IsTrue tells → Puts mid (stop_text stop m) printed after) → answer ≡ told_or_console printed (Ran stop)
+    → bare (Some stop) ≡ Some stop → Comes p (Some stop) (alone m) tells before mid → (IsTrue tells → Puts mid (stop_text stop m) printed after) → answer ≡ told_or_console printed (Ran stop)
     → Does (ran live p) answer (live_of m) tells before after
-ran-does live p stop m printed answer tells before mid after other comes puts is =
-    subst (λ (a : Answer). Does (ran live p) a (live_of m) tells before after) (sym is) (ran-told live p stop m printed tells before mid after other comes puts)
+ran-does live p stop m printed answer tells before mid after other plain comes puts is =
+    subst (λ (a : Answer). Does (ran live p) a (live_of m) tells before after) (sym is) (ran-told live p stop m printed tells before mid after other plain comes puts)
 
 -- a command that prints nothing and does not answer for the console
 

@@ -3,13 +3,15 @@ use Rattle.std.proofs.Common.{◌≡◌, ℕ, ◌==◌, leb, Bool, true, false, 
 use Rattle.std.proofs.lemmas.Bool.{cond_both}
 use Rattle.std.proofs.lemmas.Bool.Decides.{nat_tests}
 use Rattle.unit_trait.specs.declared.kind.Kind.{Kind}
-use Rattle.unit_trait.specs.declared.kind.Kind.TheVariants.{Clk, Tti, Tto, Tti1, Tto1}
+use Rattle.unit_trait.specs.declared.kind.Kind.TheVariants.{Lpt, Ptr, Ptp, Clk, Tti, Tto, Tti1, Tto1}
 use Rattle.unit_trait.specs.declared.kind.UnitName.{UnitName}
 use Rattle.unit_trait.specs.declared.calls.Queue.{Queue}
 use Rattle.unit_trait.specs.declared.calls.Queue.TheVariants as queue
 use Rattle.unit_trait.specs.Kinds.{code_of, same_unit}
 use Rattle.unit_trait.specs.Calls.{UnitState, Reset}
 use Rattle.unit_trait.specs.Row.{row, row_of}
+use Rattle.unit_trait.specs.Reader.{reader_row}
+use Rattle.unit_trait.specs.Writer.{writer_row}
 use Rattle.unit_trait.specs.Clock.{clock_row}
 use Rattle.unit_trait.specs.Keyboard.{keyboard_row}
 use Rattle.unit_trait.specs.Teleprinter.{teleprinter_row}
@@ -69,7 +71,10 @@ waits-wished u v (queue.After t) es keeps h = waits-activated u v t es h
 
 -- no reset cancels an event
 reset-keeps : (kind : Kind) (registers : List ℕ) → KeepsEvents (row_of kind registers Reset).queue
-unfolding row_of clock_row keyboard_row teleprinter_row
+unfolding row_of reader_row writer_row clock_row keyboard_row teleprinter_row
+reset-keeps Lpt registers = tt
+reset-keeps Ptr registers = tt
+reset-keeps Ptp registers = tt
 reset-keeps Clk registers = tt
 reset-keeps Tti registers = tt
 reset-keeps Tto registers = tt

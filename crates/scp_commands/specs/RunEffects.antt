@@ -7,10 +7,10 @@ use Rattle.nova_memory.specs.Memory.{get}
 use Rattle.unit_trait.specs.declared.processor.CpuReg.TheVariants.{Pc}
 use Rattle.unit_trait.specs.Kinds.{unit_name}
 use Rattle.nova_machine.specs.declared.machine.Stop.{Stop}
-use Rattle.nova_machine.specs.declared.machine.Stop.TheVariants.{Halt, ChainLimit, UnknownDevice, Stepped, Limit, UnitEnd, UnitNone, ConsoleFault}
+use Rattle.nova_machine.specs.declared.machine.Stop.TheVariants.{Halt, ChainLimit, UnknownDevice, Stepped, Limit, UnitEnd, UnitNone, Wru, FileFault, ConsoleFault}
 use Rattle.nova_machine.specs.Machine.{MachineState, reset_machine}
 use Rattle.nova_machine.specs.Registers.{with_register}
-use Rattle.nova_machine.specs.Seen.{seen}
+use Rattle.nova_machine.specs.Alone.{alone}
 use Rattle.nova_machine.specs.Parts.{Part}
 use Rattle.nova_machine.specs.Run.{run}
 use Rattle.scp_commands.specs.declared.next.Next.TheVariants.{Go, Ran}
@@ -27,6 +27,8 @@ stop_name Stepped = codes "Step expired"
 stop_name Limit = codes "Instruction limit"
 stop_name (UnitEnd unit) = codes "End of file on " ++ unit_name unit
 stop_name (UnitNone unit) = codes "No file attached to " ++ unit_name unit
+stop_name Wru = codes "Simulation stopped"
+stop_name (FileFault f) = codes "File error on " ++ unit_name f.unit
 stop_name ConsoleFault = []
 
 -- what a stop prints: a newline, its name, PC, the word there, and a newline
@@ -53,7 +55,7 @@ ran live p = record {
 
 -- a run from PC, up to the limit of the session
 abbrev pub running : ℕ → Live → Reply
-running limit live = ran live (run false limit (seen live.machine))
+running limit live = ran live (run None false limit (alone live.machine))
 
 -- the largest address
 abbrev pub last_address : ℕ
@@ -80,7 +82,7 @@ run_from limit resets address live = if address_fits address then running limit 
 
 -- STEP runs that many instructions, or as many as the limit of the session allows, and then stops as a limit does
 unfoldable pub stepped : ℕ → ℕ → Live → Reply
-stepped limit count live = ran live (run (nat_le count limit) (min count limit) (seen live.machine))
+stepped limit count live = ran live (run None (nat_le count limit) (min count limit) (alone live.machine))
 
 -- a STEP is one of 1 to 2 ^ 48 instructions
 unfoldable pub step_of : ℕ → ℕ → Live → Reply

@@ -1,6 +1,6 @@
 // RUN, GO, CONT, STEP and RESET.
-ghost use Rattle.std.specs.Prelude.{◌≡◌, ◌≢◌, ◌≤◌, ◌^◌, ℕ, Bool, List, [], nat_le, min, true, false, IsTrue, Ok};
-ghost use Rattle.nova_machine.specs.Seen.{seen};
+ghost use Rattle.std.specs.Prelude.{◌≡◌, ◌≢◌, ◌≤◌, ◌^◌, ℕ, Bool, List, [], nat_le, min, true, false, IsTrue, None, Ok};
+ghost use Rattle.nova_machine.specs.Alone.{alone};
 ghost use Rattle.nova_machine.specs.Run.{run};
 ghost use Rattle.nova_machine.specs.declared.machine.Stop.TheVariants.{ConsoleFault};
 ghost use Rattle.scp_commands.specs.RunEffects.{address_fits, starting_at, reset_where, started, running, run_from};
@@ -142,13 +142,13 @@ fn run_up_to<U: Unit, S: Sink>(
     limit: RunLimit,
     out: &mut S,
 ) -> Result<Next, CommandFault>
-    ensures told { Does (ran session.old.live (run limit.step limit.count (seen session.old.live.machine))) result
+    ensures told { Does (ran session.old.live (run None limit.step limit.count (alone session.old.live.machine))) result
         session.new.live S.tells (S.written out.old) (S.written out.new) }
     ensures limit { session.new.limit ≡ session.old.limit }
     ensures counts { ConsoleCounts result (S.fault_count out.old) (S.fault_count out.new) }
     ensures stop { result ≢ Ok (Ran ConsoleFault) }
 {
-    let stop = session.machine.run(limit, out);
+    let stop = session.machine.run_alone(limit, out);
     if is_console_fault(stop) {
         return Err(CommandFault::Console);
     }

@@ -59,6 +59,8 @@ fn stop_name(stop: Stop) -> Text<LONGEST_NAME>
         Stop::Limit => words(b"Instruction limit"),
         Stop::UnitEnd(unit) => words_and_unit(b"End of file on ", unit),
         Stop::UnitNone(unit) => words_and_unit(b"No file attached to ", unit),
+        Stop::Wru => words(b"Simulation stopped"),
+        Stop::FileFault(fault) => words_and_unit(b"File error on ", fault.unit),
         Stop::ConsoleFault => Text::new(),
     }
 }

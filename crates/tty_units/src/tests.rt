@@ -188,7 +188,9 @@ fn serve<U: Unit>(units: &mut [U], told: &mut Vec<(Kind, Want, u32, u32)>) -> Re
                 Want::Key => Key(b'K'),
                 _ => Done,
             };
-            let _ = unit.got(answer.unit, got);
+            if unit.reg(5) < 0o100000000 {
+                let _ = unit.got(answer.unit, got);
+            }
             told.push((unit.kind(), want, unit.reg(1), unit.reg(3)))?;
         }
     }

@@ -7,8 +7,10 @@ use Rattle.unit_trait.specs.declared.kind.Kind.{Kind}
 use Rattle.unit_trait.specs.declared.kind.Kind.TheVariants.{Dsk, Mta, Lpt, Ptr, Ptp, Clk, Tti, Tto, Tti1, Tto1, Qty}
 use Rattle.unit_trait.specs.declared.calls.Want.{Want}
 use Rattle.unit_trait.specs.declared.calls.Got.{Got}
-use Rattle.unit_trait.specs.declared.calls.Got.TheVariants.{Done, Key, NoKey, LineFull}
+use Rattle.unit_trait.specs.declared.calls.Got.TheVariants.{Done, Key, NoKey, Byte, End, NoFile, LineFull}
 use Rattle.unit_trait.specs.Device.{Register, time_register}
+use Rattle.unit_trait.specs.Reader.{reader_row}
+use Rattle.unit_trait.specs.Writer.{writer_row}
 use Rattle.unit_trait.specs.Keyboard.{keyboard_registers, keyboard_row}
 use Rattle.unit_trait.specs.Teleprinter.{teleprinter_registers, teleprinter_row}
 use Rattle.unit_trait.specs.Clock.{clock_row}
@@ -54,7 +56,7 @@ after-elsewhere other code call us apart = changed-elsewhere other code (λ u. m
 
 -- a unit whose event is due has its registers in range behind that
 fits-due-of : (kind : Kind) (values : List ℕ) (n : ℕ) → InRange (registers kind) values → InRange (registers kind) (row_of kind values (Due n)).registers
-unfolding row_of clock_row keyboard_row teleprinter_row
+unfolding row_of reader_row writer_row clock_row keyboard_row teleprinter_row
 fits-due-of Dsk values n fits = fits
 fits-due-of Mta values n fits = fits
 fits-due-of Lpt values n fits = fits
@@ -88,6 +90,20 @@ least-held (r' ∷ rs) [] i r range at = absurd range
 least-held (r' ∷ rs) (v ∷ vs) zero r range at = subst (λ (q : Register). q.least ≤ v) (same_Some r' r at) range.0
 least-held (r' ∷ rs) (v ∷ vs) (suc i) r range at = least-held rs vs i r range.2 at
 
+reader-again : (values : List ℕ) (n : ℕ) (got : Got) → IsAgain (reader_row values (Answered n got)).queue
+unfolding reader_row
+reader-again values n (Byte byte) = tt
+reader-again values n End = tt
+reader-again values n NoFile = tt
+reader-again values n got = tt
+
+writer-again : (bits : ℕ) (table : List Register) (values : List ℕ) (n : ℕ) (got : Got) → IsAgain (writer_row bits table values (Answered n got)).queue
+unfolding writer_row
+writer-again bits table values n Done = tt
+writer-again bits table values n End = tt
+writer-again bits table values n NoFile = tt
+writer-again bits table values n got = tt
+
 clock-again : (values : List ℕ) (n : ℕ) (got : Got) → IsAgain (clock_row values (Answered n got)).queue
 unfolding clock_row
 clock-again values n Done = tt
@@ -107,6 +123,9 @@ teleprinter-again print values n got fits = tt
 
 again-of : (kind : Kind) (values : List ℕ) (n : ℕ) (got : Got) → InRange (registers kind) values → IsAgain (row_of kind values (Answered n got)).queue
 unfolding row_of
+again-of Lpt values n got fits = writer-again _ _ values n got
+again-of Ptr values n got fits = reader-again values n got
+again-of Ptp values n got fits = writer-again _ _ values n got
 again-of Clk values n got fits = clock-again values n got
 again-of Tti values n got fits = keyboard-again _ values n got fits
 again-of Tto values n got fits = teleprinter-again _ values n got fits

@@ -1,4 +1,5 @@
 pub mod Calls
 pub mod Held
 pub mod Resets
+pub mod Room
 pub mod Standing

@@ -1,12 +1,16 @@
 -- The units of a machine, in bus order. A unit is found by the code of its kind (How to Use the Nova Computers,
 -- "Input-Output Instructions").
-use Rattle.std.specs.Prelude.{ℕ, ◌==◌, ◌&&◌, Bool, List, [], ◌∷◌, slice_get, slice_index, slice_set, map, Option, Some, None, is_some, option_and_then, if◌then◌else◌}
+use Rattle.std.specs.Prelude.{ℕ, ◌<◌, ◌==◌, ◌&&◌, Bool, IsTrue, List, [], ◌∷◌, slice_get, slice_index, slice_set, map, Option, Some, None, is_some, IfSome, option_and_then, if◌then◌else◌}
 use Rattle.std.specs.List.{AllByRecursion}
 use Rattle.unit_trait.specs.declared.kind.Kind.{Kind}
+use Rattle.unit_trait.specs.declared.calls.Want.{Want}
+use Rattle.unit_trait.specs.declared.calls.Want.TheVariants.{ReadByte, WriteByte}
+use Rattle.unit_trait.specs.declared.calls.Got.{Got}
+use Rattle.unit_trait.specs.Device.{position}
 use Rattle.unit_trait.specs.Kinds.{code_of}
 use Rattle.unit_trait.specs.Registers.{register_at}
 use Rattle.unit_trait.specs.Calls.{UnitState, UnitCall, Row, holds}
-use Rattle.unit_trait.specs.Row.{row, moved, Fits, takes_value}
+use Rattle.unit_trait.specs.Row.{row, moved, Fits, takes_value, goes_by_bytes, moves_on, CanMoveOn}
 use Rattle.unit_list.specs.declared.bus.Flags.{Flags}
 
 -- the unit with that code, if one is there: the first one, where there are several
@@ -31,6 +35,17 @@ row_at code call units = row_or_nothing call (unit_at code units)
 -- the units behind a call of the one with that code
 abbrev pub after_at : ℕ → UnitCall → List UnitState → List UnitState
 after_at code call units = changed_at code (λ u. moved u call) units
+
+-- the unit of that kind, where one is there, gets no answer that would move it past the largest value of POS
+abbrev pub TakesAnswerIn : Kind → Got → List UnitState → Type 0
+TakesAnswerIn kind got units =
+    IsTrue (goes_by_bytes kind) → IsTrue (moves_on got) → IfSome (unit_at (code_of kind) units) (λ u. CanMoveOn u.registers)
+
+-- a byte that was read or written is one below the largest place
+abbrev pub IsBelowEnd : Want → Got → Type 0
+IsBelowEnd (ReadByte place) got = IsTrue (moves_on got) → place < position.largest
+IsBelowEnd (WriteByte place byte) got = IsTrue (moves_on got) → place < position.largest
+IsBelowEnd want got = Unit {0}
 
 -- BUSY and DONE, the first two registers of a unit
 abbrev pub flags_of : UnitState → Flags

@@ -2,7 +2,7 @@ ghost use Rattle.std.specs.Prelude.{◌≡◌, ◌<◌, map};
 ghost use Rattle.unit_trait.specs.Calls.{Due, Answered};
 ghost use Rattle.unit_trait.specs.Kinds.{code_of, units_of};
 ghost use Rattle.unit_trait.specs.Row.{IsAgain};
-ghost use Rattle.unit_list.specs.Bus.{row_at, after_at, kinds_of, AllFit};
+ghost use Rattle.unit_list.specs.Bus.{row_at, after_at, kinds_of, AllFit, TakesAnswerIn};
 
 use crate::places::place_of_kind;
 use unit_trait::{After, Got, Queue, Unit, UnitName, UnitStop, Want};
@@ -23,11 +23,12 @@ pub fn due_at<U: Unit>(units: &mut [U], unit: UnitName) -> Want
     }
 }
 
-/// The machine's answer to what a unit wanted. Its device wishes for nothing, and does not stop, where no unit has its
-/// kind.
+/// The machine's answer to what a unit wanted: none that would move a unit on whose POS is at its largest value. Its
+/// device wishes for nothing, and does not stop, where no unit has its kind.
 #[tactic(auto, using(crate::proofs::Standing::standing))]
 pub fn got_at<U: Unit>(units: &mut [U], unit: UnitName, got: Got) -> After
-    requires { unit.unit < units_of unit.kind }
+    requires number { unit.unit < units_of unit.kind }
+    requires room { TakesAnswerIn unit.kind got (map U.unit_state units.old) }
     ensures queue { result.queue
         ≡ (row_at (code_of unit.kind) (Answered unit.unit got) (map U.unit_state units.old)).queue }
     ensures stop { result.stop

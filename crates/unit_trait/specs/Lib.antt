@@ -1,6 +1,7 @@
 pub mod Device
 pub mod Calls
 pub mod Usual
+pub mod Writer
 pub mod Disk
 pub mod Tape
 pub mod Printer

@@ -1,15 +1,20 @@
 -- The device table: what a device says to each call, by its kind and what its registers hold. Devices that this version
 -- of the program does not have say nothing.
-use Rattle.std.specs.Prelude.{ℕ, ◌≤◌, ◌%◌, ◌^◌, ◌&&◌, Bool, false, nat_le, List, [], ◌∷◌, map, Option, Some, None}
+use Rattle.std.specs.Prelude.{ℕ, ◌<◌, ◌≤◌, ◌%◌, ◌^◌, ◌&&◌, Bool, IsTrue, true, false, nat_le, List, [], ◌∷◌, slice_index, map, Option, Some, None}
 use Rattle.unit_trait.specs.declared.kind.Kind.{Kind}
-use Rattle.unit_trait.specs.declared.kind.Kind.TheVariants.{Clk, Tti, Tto, Tti1, Tto1}
+use Rattle.unit_trait.specs.declared.kind.Kind.TheVariants.{Lpt, Ptr, Ptp, Clk, Tti, Tto, Tti1, Tto1}
 use Rattle.unit_trait.specs.declared.calls.Queue.{Queue}
 use Rattle.unit_trait.specs.declared.calls.Queue.TheVariants.{Keep, Cancel, After}
 use Rattle.unit_trait.specs.declared.calls.Want.{Want}
 use Rattle.unit_trait.specs.declared.calls.Want.TheVariants.{Key, LineKey, Console, LinePut}
-use Rattle.unit_trait.specs.Device.{Register}
+use Rattle.unit_trait.specs.declared.calls.Got.{Got}
+use Rattle.unit_trait.specs.declared.calls.Got.TheVariants.{Done, Byte}
+use Rattle.unit_trait.specs.Device.{Register, position}
 use Rattle.unit_trait.specs.Registers.{registers}
 use Rattle.unit_trait.specs.Calls.{UnitState, UnitCall, Row, holds}
+use Rattle.unit_trait.specs.Printer.{printer_row}
+use Rattle.unit_trait.specs.Reader.{reader_row}
+use Rattle.unit_trait.specs.Punch.{punch_row}
 use Rattle.unit_trait.specs.Clock.{clock_row}
 use Rattle.unit_trait.specs.Keyboard.{keyboard_row}
 use Rattle.unit_trait.specs.Teleprinter.{teleprinter_row}
@@ -23,6 +28,9 @@ abbrev pub line_want : ℕ → ℕ → Want
 line_want line character = LinePut line character
 
 unfoldable pub row_of : Kind → List ℕ → UnitCall → Row
+row_of Lpt registers call = printer_row registers call
+row_of Ptr registers call = reader_row registers call
+row_of Ptp registers call = punch_row registers call
 row_of Clk registers call = clock_row registers call
 row_of Tti registers call = keyboard_row Key registers call
 row_of Tto registers call = teleprinter_row console_want registers call
@@ -65,3 +73,24 @@ abbrev pub IsAgain : Queue → Type 0
 IsAgain (After delay) = 1 ≤ delay
 IsAgain Keep = Unit {0}
 IsAgain Cancel = ⊥
+
+-- the kinds of units that read or write their file byte by byte; POS, their sixth register, is the place of the next byte
+abbrev pub goes_by_bytes : Kind → Bool
+goes_by_bytes Lpt = true
+goes_by_bytes Ptr = true
+goes_by_bytes Ptp = true
+goes_by_bytes kind = false
+
+-- the answers that would move such a unit on
+abbrev pub moves_on : Got → Bool
+moves_on Done = true
+moves_on (Byte byte) = true
+moves_on got = false
+
+-- .. which can be done while POS is below its largest value
+abbrev pub CanMoveOn : List ℕ → Type 0
+CanMoveOn registers = slice_index registers 5 < position.largest
+
+-- a unit gets no answer that would move it past the largest value of POS
+abbrev pub TakesAnswer : UnitState → Got → Type 0
+TakesAnswer unit got = IsTrue (goes_by_bytes unit.kind) → IsTrue (moves_on got) → CanMoveOn unit.registers

@@ -1,9 +1,11 @@
 -- What devices have in common where their tables say nothing else (How to Use the Nova Computers, "Input-Output
 -- Instructions").
-use Rattle.std.specs.Prelude.{ℕ, List, [], ◌∷◌, slice_set, if◌then◌else◌}
+use Rattle.std.specs.Prelude.{ℕ, ◌==◌, List, [], ◌∷◌, slice_index, slice_set, if◌then◌else◌}
 use Rattle.unit_trait.specs.declared.calls.Pulse.{Pulse}
 use Rattle.unit_trait.specs.declared.calls.Pulse.TheVariants.{Start, Clear}
 use Rattle.unit_trait.specs.declared.calls.Queue.TheVariants.{Cancel, After}
+use Rattle.unit_trait.specs.declared.calls.UnitStop.{UnitStop}
+use Rattle.unit_trait.specs.declared.calls.UnitStop.TheVariants.{Go}
 use Rattle.unit_trait.specs.Device.{Register}
 use Rattle.unit_trait.specs.Calls.{Row, holds}
 
@@ -25,6 +27,10 @@ completed registers = holds (flagged 0 1 registers)
 -- nothing has changed, and the unit's event is to come again after that delay
 abbrev pub again : ℕ → List ℕ → Row
 again delay registers = record (holds registers) { queue = After delay }
+
+-- the machine stops for that reason where STOP_IOE, the third register, is 1
+abbrev pub stopping : UnitStop → Row → Row
+stopping stop row = record row { stop = if slice_index row.registers 2 == 1 then stop else Go }
 
 -- what the registers hold behind a reset: those that it clears hold 0
 abbrev pub reset_registers : List Register → List ℕ → List ℕ

@@ -13,7 +13,7 @@ pub trait Unit: Drop {
     ghost use Rattle.unit_trait.specs.Calls.{UnitState, Io, Due, Answered, Reset};
     ghost use Rattle.unit_trait.specs.Kinds.{units_of};
     ghost use Rattle.unit_trait.specs.Registers.{register_at};
-    ghost use Rattle.unit_trait.specs.Row.{row, moved, Fits, takes_value, IsLater, IsAgain};
+    ghost use Rattle.unit_trait.specs.Row.{row, moved, Fits, takes_value, IsLater, IsAgain, TakesAnswer};
 
     /// Its kind, and what its registers hold.
     ghost unit_state: { Self → UnitState };
@@ -53,9 +53,11 @@ pub trait Unit: Drop {
         ensures moved { unit_state self.new ≡ moved (unit_state self.old) (Due unit) }
         ensures fits { Fits (unit_state self.new) };
 
-    /// The machine's answer to what a unit wanted. The wish is for that unit.
+    /// The machine's answer to what a unit wanted. The wish is for that unit. A unit whose POS is at its largest value gets
+    /// no answer that would move it on.
     fn got(&mut self, unit: u8, got: Got) -> After
-        requires { unit < units_of (unit_state self.old).kind }
+        requires number { unit < units_of (unit_state self.old).kind }
+        requires room { TakesAnswer (unit_state self.old) got }
         ensures queue { result.queue ≡ (row (unit_state self.old) (Answered unit got)).queue }
         ensures stop { result.stop ≡ (row (unit_state self.old) (Answered unit got)).stop }
         ensures moved { unit_state self.new ≡ moved (unit_state self.old) (Answered unit got) }

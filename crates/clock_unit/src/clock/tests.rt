@@ -102,7 +102,10 @@ fn a_register_takes_its_limits_and_nothing_past_them(rt: HostRuntime) {
 fn tick_all<U: Unit>(units: &mut [U], told: &mut Vec<(Kind, Queue, u32)>) -> Result<(), Fail> {
     for unit in units.iter_mut() {
         let answer = unit.io(Doa, S, 2);
-        if answer.unit < units_of(unit.kind()) && unit.due(answer.unit) == Want::Nothing {
+        if answer.unit < units_of(unit.kind())
+            && unit.due(answer.unit) == Want::Nothing
+            && unit.reg(5) < 0o100000000
+        {
             let _ = unit.got(answer.unit, Got::Done);
         }
         told.push((unit.kind(), answer.queue, unit.reg(1)))?;

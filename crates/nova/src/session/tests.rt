@@ -1,6 +1,7 @@
 use super::*;
 use clock_unit::Clk;
 use host_files::{ByteSink, ByteSource};
+use paper_tape::{Lpt, Ptp, Ptr};
 use std::alloc::AllocError;
 use std::test::Fail;
 use tty_units::{Tti, Tto};
@@ -10,6 +11,9 @@ fn code_of(alloc: Global, lines: &[u8], room: usize) -> Result<ExitCode, AllocEr
     let mut words = Vec::new(alloc);
     words.push(String::from_str(alloc, "-q")?)?;
     let mut units: Vec<Box<dyn Unit>> = Vec::new(alloc);
+    units.push(Box::new(alloc, Lpt::new())?)?;
+    units.push(Box::new(alloc, Ptr::new())?)?;
+    units.push(Box::new(alloc, Ptp::new())?)?;
     units.push(Box::new(alloc, Clk::new())?)?;
     units.push(Box::new(alloc, Tti::new())?)?;
     units.push(Box::new(alloc, Tto::new())?)?;

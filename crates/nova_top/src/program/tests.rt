@@ -6,6 +6,7 @@ mod counted;
 use super::*;
 use clock_unit::Clk;
 use host_files::{ByteSink, ByteSource};
+use paper_tape::{Lpt, Ptp, Ptr};
 use std::alloc::AllocError;
 use std::test::Fail;
 use tty_units::{Tti, Tto};
@@ -29,6 +30,9 @@ fn run(
     failing_read: Option<u64>,
 ) -> Result<Seen, AllocError> {
     let mut units: Vec<Box<dyn Unit>> = Vec::new(alloc);
+    units.push(Box::new(alloc, Lpt::new())?)?;
+    units.push(Box::new(alloc, Ptr::new())?)?;
+    units.push(Box::new(alloc, Ptp::new())?)?;
     units.push(Box::new(alloc, Clk::new())?)?;
     units.push(Box::new(alloc, Tti::new())?)?;
     units.push(Box::new(alloc, Tto::new())?)?;
@@ -91,7 +95,7 @@ fn sessions_print_and_end_as_the_tables_say(rt: HostRuntime) -> Result<(), Fail>
         // nothing behind EXIT is done
         (b"EXIT\nEXAMINE AC0\n", b"", 0),
         (
-            b"FOO\nexamine ac0\nE\tAC0 \nSTEP -1\nATTACH\nE PTR BUSY\nE PTR\nSHOW CPU\nSHOW FOO\n",
+            b"FOO\nexamine ac0\nE\tAC0 \nSTEP -1\nATTACH\nE DSK BUSY\nE PTR\nSHOW CPU\nSHOW FOO\n",
             b"Unknown command\nAC0:\t000000\nAC0:\t000000\nInvalid number at 5\nNot built\nNot built\nToo few arguments\nNot built\nInvalid name at 5\n",
             0,
         ),

@@ -121,7 +121,7 @@ fn go_on<U: Unit>(
 }
 
 fn ran<U: Unit>(machine: &mut Machine<U>, count: u64, console: &mut ByteSink) -> Stop {
-    machine.run(RunLimit { count, step: true }, console)
+    machine.run_alone(RunLimit { count, step: true }, console)
 }
 
 fn same_registers<U: Unit>(rt: &impl Abort, run: &Machine<U>, turned: &Machine<U>, seed: u32) {
@@ -152,7 +152,7 @@ fn turns<U: Unit>(machine: &mut Machine<U>, count: u64, console: &mut ByteSink) 
         if machine.time() >= 1 << 60 {
             return Stop::Limit;
         }
-        match machine.turn(done == 0, console) {
+        match machine.turn_alone(done == 0, console) {
             Turn::Executed => (),
             Turn::Stopped(stop) => return stop,
         }

@@ -1,16 +1,24 @@
-use Rattle.std.proofs.Common.{◌≡◌, ℕ, List, Option}
+use Rattle.std.proofs.Common.{◌≡◌, ◌≤◌, ℕ, List, Option, IfSome}
+use Rattle.unit_files.specs.Open.{AllOpen}
+use Rattle.unit_files.specs.Causes.{IsQuiet}
 use Rattle.nova_machine.specs.declared.machine.Stop.{Stop}
+use Rattle.nova_machine.specs.Notes.{RunNote}
 use Rattle.nova_machine.specs.Seen.{Seen, seen}
 use Rattle.nova_machine.specs.Run.{run, turns}
-use Rattle.nova_machine.specs.Comes.{Comes}
+use Rattle.nova_machine.specs.Comes.{Comes, AreTold}
 use Rattle.nova_machine.proofs.machine.Machine.run.Given as goal
 
--- what is left of the run comes to what the whole run comes to
+-- what is left of the run comes to, with a call that may still fail, the whole run comes to
 abbrev pub invariant-turns : goal.invariant-turns
 invariant-turns g l = record {
-  told : (r : Option Stop) (s : Seen) (after : List ℕ) → Comes (turns l.limit.step l.first l.left (seen l.self)) r s g.S.Sink.tells (g.S.Sink.written l.out) after
-      → Comes (run l.limit.step l.limit.count (seen l.fn.self)) r s g.S.Sink.tells (g.S.Sink.written l.fn.out) after;
+  told : AreTold g.F.Files.tells l.fn.self.slots → (note : Option RunNote) (r : Option Stop) (s : Seen) (after : List ℕ) → IfSome note (λ n. l.self.time ≤ n.time)
+      → Comes (turns note l.limit.step l.first l.left (seen l.keys (g.F.Files.state l.files).files l.self)) r s g.S.Sink.tells (g.S.Sink.written l.out) after
+      → Comes (run note l.limit.step l.limit.count (seen l.keys (g.F.Files.state l.fn.files).files l.fn.self)) r s g.S.Sink.tells (g.S.Sink.written l.fn.out) after;
+  slots : l.self.slots ≡ l.fn.self.slots;
+  opened : (g.F.Files.state l.files).opened ≡ (g.F.Files.state l.fn.files).opened;
+  is_open : AllOpen l.self.slots (g.F.Files.state l.files).opened;
   counts : g.S.Sink.fault_count l.out ≡ g.S.Sink.fault_count l.fn.out;
+  quiet : IsQuiet (g.F.Files.state l.fn.files) (g.F.Files.state l.files);
 }
 
 abbrev pub decreases-turns : goal.decreases-turns

@@ -1,18 +1,27 @@
 use Rattle.std.proofs.Common.{◌≡◌, ℕ, List, length, Option}
+use Rattle.unit_files.specs.Open.{AllOpen}
+use Rattle.unit_files.specs.Causes.{IsQuiet}
 use Rattle.event_queue.specs.EventList.{dues}
 use Rattle.nova_machine.specs.declared.machine.Stop.{Stop}
+use Rattle.nova_machine.specs.Notes.{UnitNote}
 use Rattle.nova_machine.specs.Seen.{Seen, seen}
-use Rattle.nova_machine.specs.Comes.{Comes}
+use Rattle.nova_machine.specs.Comes.{Comes, AreTold}
 use Rattle.nova_machine.specs.Service.{serving}
+use Rattle.nova_machine.proofs.Serving.{IsStillDue}
 use Rattle.nova_machine.proofs.machine.Machine.serve.Given as goal
 
--- what the services that are left come to, all of them come to
+-- what the services that are left come to, with a call of one of their units that may fail, all of them come to
 abbrev pub invariant-events : goal.invariant-events
 invariant-events g l = record {
-  told : (r : Option Stop) (s : Seen) (after : List ℕ) → Comes (serving (seen l.self)) r s g.S.Sink.tells (g.S.Sink.written l.out) after
-      → Comes (serving (seen l.fn.self)) r s g.S.Sink.tells (g.S.Sink.written l.fn.out) after;
+  told : AreTold g.F.Files.tells l.fn.self.slots → (note : Option UnitNote) (r : Option Stop) (s : Seen) (after : List ℕ) → IsStillDue note (dues l.self.events)
+      → Comes (serving note (seen l.keys (g.F.Files.state l.files).files l.self)) r s g.S.Sink.tells (g.S.Sink.written l.out) after
+      → Comes (serving note (seen l.keys (g.F.Files.state l.fn.files).files l.fn.self)) r s g.S.Sink.tells (g.S.Sink.written l.fn.out) after;
   time : l.self.time ≡ l.fn.self.time;
+  slots : l.self.slots ≡ l.fn.self.slots;
+  opened : (g.F.Files.state l.files).opened ≡ (g.F.Files.state l.fn.files).opened;
+  is_open : AllOpen l.self.slots (g.F.Files.state l.files).opened;
   counts : g.S.Sink.fault_count l.out ≡ g.S.Sink.fault_count l.fn.out;
+  quiet : IsQuiet (g.F.Files.state l.fn.files) (g.F.Files.state l.files);
 }
 
 abbrev pub decreases-events : goal.decreases-events

@@ -1,14 +1,41 @@
-use Rattle.nova_machine.proofs.Serving.{comes-service, broken-service}
+use Rattle.std.proofs.Common.{◌≡◌, rules}
+use Rattle.nova_machine.specs.declared.machine.Stop.TheVariants.{FileFault, ConsoleFault}
+use Rattle.nova_machine.specs.declared.service.Hosted.TheVariants.{Gets, Stops}
+use Rattle.nova_machine.specs.declared.service.Hosted.TheVariants as hosted
+use Rattle.nova_machine.specs.Comes.{AreTold}
+use Rattle.nova_machine.proofs.Quiet.{told-same}
+use Rattle.nova_machine.proofs.Serving.{Hosts, comes-gets, comes-wru, comes-stops}
 use Rattle.nova_machine.proofs.machine.Machine.serve_unit.Goals as goal
 
-pub returns-in-Ok-clause-told : goal.returns-in-Ok-clause-told
-returns-in-Ok-clause-told g c =
-    comes-service c.args.unit c.args.self.now c.ask-want.new.self c.answer.new.self c.ask-want.result c.in-Ok.got c.answer.result g.S.Sink.tells
-    (g.S.Sink.written c.args.out.now) (g.S.Sink.written c.fulfil.new.out)
-    c.ask-want.ensures.machine c.ask-want.ensures.want c.in-Ok.ensures.answer c.in-Ok.ensures.printed c.answer.ensures.other c.answer.ensures.stop c.answer.ensures.machine
+pub returns-in-Gets-clause-told : goal.returns-in-Gets-clause-told
+returns-in-Gets-clause-told g c = λ told.
+    let files = (g.F.Files.state c.args.files.now).files in
+    let now : AreTold g.F.Files.tells c.ask-want.new.self.slots = told-same g.F.Files.tells _ _ (search rules) told in
+    let made : Hosts c.args.unit c.args.keys.now files (g.F.Files.state c.host.new.files).files c.ask-want.new.self c.host.new.self c.ask-want.result (Gets c.in-Gets.got) =
+    record { machine = c.host.ensures.machine; said = c.in-Gets.ensures.said now; changed = c.in-Gets.ensures.files } in
+    comes-gets c.args.unit c.args.keys.now files (g.F.Files.state c.host.new.files).files c.args.self.now c.ask-want.new.self c.host.new.self c.answer.new.self
+    c.ask-want.result c.in-Gets.got c.answer.result g.S.Sink.tells (g.S.Sink.written c.args.out.now) (g.S.Sink.written c.host.new.out)
+    c.ask-want.ensures.machine c.ask-want.ensures.want made c.in-Gets.ensures.printed c.answer.ensures.other c.answer.ensures.stop c.answer.ensures.machine
 
-pub returns-in-Err-clause-told : goal.returns-in-Err-clause-told
-returns-in-Err-clause-told g c =
-    broken-service c.args.unit c.args.self.now c.ask-want.new.self c.ask-want.result g.S.Sink.tells
-    (g.S.Sink.written c.args.out.now) (g.S.Sink.written c.fulfil.new.out)
-    c.ask-want.ensures.machine c.ask-want.ensures.want c.in-Err.ensures.console c.in-Err.ensures.refused
+pub returns-in-Wru-clause-told : goal.returns-in-Wru-clause-told
+returns-in-Wru-clause-told g c = λ told.
+    let files = (g.F.Files.state c.args.files.now).files in
+    let now : AreTold g.F.Files.tells c.ask-want.new.self.slots = told-same g.F.Files.tells _ _ (search rules) told in
+    let made : Hosts c.args.unit c.args.keys.now files (g.F.Files.state c.host.new.files).files c.ask-want.new.self c.host.new.self c.ask-want.result hosted.Wru =
+    record { machine = c.host.ensures.machine; said = c.in-Wru.ensures.said now; changed = c.in-Wru.ensures.files } in
+    comes-wru c.args.unit c.args.keys.now files (g.F.Files.state c.host.new.files).files c.args.self.now c.ask-want.new.self c.host.new.self c.answer-in-Wru.new.self
+    c.ask-want.result g.S.Sink.tells (g.S.Sink.written c.args.out.now) (g.S.Sink.written c.host.new.out)
+    c.ask-want.ensures.machine c.ask-want.ensures.want made c.in-Wru.ensures.printed c.answer-in-Wru.ensures.machine
+
+pub returns-in-Stops-clause-told : goal.returns-in-Stops-clause-told
+returns-in-Stops-clause-told g c = λ told.
+    let files = (g.F.Files.state c.args.files.now).files in
+    let now : AreTold g.F.Files.tells c.ask-want.new.self.slots = told-same g.F.Files.tells _ _ (search rules) told in
+    let made : Hosts c.args.unit c.args.keys.now files (g.F.Files.state c.host.new.files).files c.ask-want.new.self c.host.new.self c.ask-want.result (Stops c.in-Stops.stop) =
+    record { machine = c.host.ensures.machine; said = c.in-Stops.ensures.said now; changed = c.in-Stops.ensures.files } in
+    comes-stops c.args.unit c.args.keys.now files (g.F.Files.state c.host.new.files).files c.args.self.now c.ask-want.new.self c.host.new.self
+    c.ask-want.result c.in-Stops.stop g.S.Sink.tells (g.S.Sink.written c.args.out.now) (g.S.Sink.written c.host.new.out)
+    c.ask-want.ensures.machine c.ask-want.ensures.want made c.in-Stops.ensures.printed c.in-Stops.ensures.own
+
+pub returns-in-Stops-clause-unit : goal.returns-in-Stops-clause-unit
+returns-in-Stops-clause-unit g c = c.in-Stops.ensures.unit c.requires.number

@@ -1,0 +1,4 @@
+pub mod SplitLemmas
+pub mod LineLemmas
+pub mod FollowLemmas
+pub mod AnswerLemmas

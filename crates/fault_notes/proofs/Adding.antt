@@ -1,0 +1,42 @@
+-- Counts over two spans.
+use Rattle.std.proofs.Common.{◌≡◌, inl, inr, ℕ, ◌+◌, List, [], ◌∷◌, ◌++◌, sym, subst, arith}
+use Rattle.host_files.specs.State.{FileState}
+use Rattle.fault_notes.specs.declared.note.FaultNote.{FaultNote}
+use Rattle.fault_notes.specs.Counts.{noted, openings_noted, RoseBy, AreCounted}
+use Rattle.fault_notes.specs.Laws.{CountsAddUp}
+
+pub noted-append : (file : ℕ) (first second : List FaultNote) → noted file (first ++ second) ≡ noted file first + noted file second
+noted-append file [] second = omega arith
+noted-append file (n ∷ first) second =
+    let more = noted-append file first second in
+    omega (arith, more)
+
+pub openings-append : (first second : List FaultNote) → openings_noted (first ++ second) ≡ openings_noted first + openings_noted second
+openings-append [] second = omega arith
+openings-append (n ∷ first) second =
+    let more = openings-append first second in
+    omega (arith, more)
+
+pub rose-both : (m n old mid new : ℕ) → RoseBy m old mid → RoseBy n mid new → RoseBy (m + n) old new
+rose-both m n old mid new (later, inl rise) (after, inl more) = (omega (arith, later, after), inl (omega (arith, rise, more)))
+rose-both m n old mid new (later, inl rise) (after, inr end) = (omega (arith, later, after), inr end)
+rose-both m n old mid new (later, inr end) (after, more) = (omega (arith, later, after), inr (omega (arith, end, after)))
+
+pub rose-none : (n : ℕ) → RoseBy 0 n n
+rose-none n = (omega arith, inl (omega arith))
+
+pub counted-both : (first second : List FaultNote) (old mid new : FileState) → AreCounted first old mid → AreCounted second mid new → AreCounted (first ++ second) old new
+counted-both first second old mid new a b = record {
+  files = λ file.
+      let both = rose-both (noted file first) (noted file second) (old.faults file) (mid.faults file) (new.faults file) (a.files file) (b.files file) in
+      subst (λ (n : ℕ). RoseBy n (old.faults file) (new.faults file)) (sym (noted-append file first second)) both;
+  openings =
+      let both = rose-both (openings_noted first) (openings_noted second) old.open_faults mid.open_faults new.open_faults a.openings b.openings in
+      subst (λ (n : ℕ). RoseBy n old.open_faults new.open_faults) (sym (openings-append first second)) both;
+}
+
+pub counted-none : (s : FileState) → AreCounted [] s s
+counted-none s = record { files = λ file. rose-none (s.faults file); openings = rose-none s.open_faults }
+
+pub counts-add : CountsAddUp
+counts-add = record { both = counted-both; none = counted-none }

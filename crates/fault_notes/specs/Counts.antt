@@ -1,0 +1,36 @@
+-- Notes are at most as many as the counts of faults have risen.
+use Rattle.std.specs.Prelude.{◌⊎◌, ℕ, ◌+◌, ◌-◌, ◌^◌, ◌≤◌, ◌==◌, Bool, true, false, List, [], ◌∷◌, Option, Some, None}
+use Rattle.host_files.specs.declared.files.FileId.{FileId}
+use Rattle.host_files.specs.State.{FileState}
+use Rattle.fault_notes.specs.declared.note.FaultNote.{FaultNote}
+
+-- whether a note is of that file
+abbrev pub is_of : ℕ → Option FileId → Bool
+is_of file None = false
+is_of file (Some id) = id.0 == file
+
+abbrev pub is_opening : Option FileId → Bool
+is_opening None = true
+is_opening (Some id) = false
+
+abbrev pub one_if : Bool → ℕ
+one_if true = 1
+one_if false = 0
+
+-- how many of these notes are of that file, and how many of openings
+abbrev pub noted : ℕ → List FaultNote → ℕ
+noted file [] = 0
+noted file (n ∷ notes) = one_if (is_of file n.file) + noted file notes
+
+abbrev pub openings_noted : List FaultNote → ℕ
+openings_noted [] = 0
+openings_noted (n ∷ notes) = one_if (is_opening n.file) + openings_noted notes
+
+-- a count has risen by so much at least, or stands at its type's end
+abbrev pub RoseBy : ℕ → ℕ → ℕ → Type 0
+RoseBy n before now = (before ≤ now) × ((before + n ≤ now) ⊎ (2 ^ 64 - 1 ≤ now))
+
+-- the notes of each file are at most the rise of its count, and those of openings the rise of theirs
+pub record AreCounted (notes : List FaultNote) (old new : FileState) : Type 0 where
+  pub files : (file : ℕ) → RoseBy (noted file notes) (old.faults file) (new.faults file)
+  pub openings : RoseBy (openings_noted notes) old.open_faults new.open_faults

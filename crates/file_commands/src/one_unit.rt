@@ -1,0 +1,97 @@
+ghost use Rattle.std.specs.Prelude.{◌≡◌, ◌<◌, ◌≤◌, ◌+◌, ◌++◌, List, IsTrue, IfOk, IfSome, OnErr, vec_len, vec_capacity};
+ghost use Rattle.host_files.specs.State.{Opened};
+ghost use Rattle.unit_files.specs.Attachments.{attachments_of, attachment_at, takes_attachment, longest_file, IsFileName};
+ghost use Rattle.unit_files.specs.Acts.{attach_said, attach_files, attached_by, detach_said, detached, refused_first};
+ghost use Rattle.unit_files.specs.Answers.{said_of_attach, said_of_detach};
+ghost use Rattle.unit_files.specs.Open.{AllOpen, Around};
+ghost use Rattle.fault_notes.specs.declared.note.Subject.TheVariants as subjects;
+ghost use Rattle.fault_notes.specs.Notes.{failure_now};
+ghost use Rattle.fault_notes.specs.Counts.{AreCounted};
+ghost use Rattle.file_commands.specs.Notes.{HoldsNothing, fault_of_attach, fault_of_detach, kept_of, own_of};
+
+use crate::stamp::{Stamp, note_of};
+use fault_notes::{FaultNote, keep};
+use host_files::Files;
+use std::alloc::Global;
+use unit_files::{AttachFault, AttachMode, Attached, DetachFault, UnitFault};
+use unit_trait::UnitName;
+
+/// Attaches a file to a unit, and notes the call that failed, if that is why it was refused. Its answer is the file's
+/// length, in bytes.
+pub fn attach_unit<F: Files>(
+    alloc: Global,
+    attached: &mut Attached,
+    unit: UnitName,
+    name: &str,
+    mode: AttachMode,
+    files: &mut F,
+    notes: &mut Vec<FaultNote>,
+    stamp: Stamp,
+) -> Result<u64, AttachFault>
+    requires unit { IsTrue (takes_attachment unit) }
+    requires name { IsFileName name.now }
+    requires open { AllOpen attached.old (F.state files.old).opened }
+    requires room { vec_len notes.old < vec_capacity notes.old }
+    ensures said { IsTrue F.tells → IfSome (said_of_attach result) (λ said. said
+        ≡ attach_said (failure_now stamp.time (subjects.Unit unit) (own_of stamp.time (fault_of_attach result))) mode unit
+        name.now (attachments_of attached.old) (F.state files.old).files) }
+    ensures bound { IfOk result (λ n. n ≤ longest_file unit.kind) }
+    ensures attached { IfSome (said_of_attach result) (λ said. attachments_of attached.new
+        ≡ attached_by said mode unit name.now (attachments_of attached.old)) }
+    ensures refused { OnErr result (attached.new ≡ attached.old) }
+    ensures files { IsTrue F.tells → IfSome (said_of_attach result) (λ said. (F.state files.new).files
+        ≡ attach_files (failure_now stamp.time (subjects.Unit unit) (own_of stamp.time (fault_of_attach result))) mode unit
+        name.now (attachments_of attached.old) (F.state files.old).files) }
+    ensures notes { notes.new.items ≡ notes.old.items ++ kept_of stamp (fault_of_attach result) }
+    ensures capacity { vec_capacity notes.old ≤ vec_capacity notes.new }
+    ensures counted { AreCounted (kept_of stamp (fault_of_attach result)) (F.state files.old) (F.state files.new) }
+    ensures closed { OnErr result ((F.state files.new).opened ≡ (F.state files.old).opened) }
+    ensures open { AllOpen attached.new (F.state files.new).opened }
+    ensures around { (base : List Opened) → Around attached.old base (F.state files.old).opened
+        → Around attached.new base (F.state files.new).opened }
+{
+    let result = attached.attach(alloc, unit, name, mode, files);
+    match result {
+        Err(AttachFault::Failed(fault)) => {
+            keep(notes, note_of(fault, stamp));
+            Err(AttachFault::Failed(fault))
+        }
+        other => other,
+    }
+}
+
+/// Takes a unit's file away, and notes its closing, where that failed.
+pub fn detach_unit<F: Files>(
+    attached: &mut Attached,
+    unit: UnitName,
+    files: &mut F,
+    notes: &mut Vec<FaultNote>,
+    stamp: Stamp,
+) -> Result<Option<UnitFault>, DetachFault>
+    requires unit { IsTrue (takes_attachment unit) }
+    requires open { AllOpen attached.old (F.state files.old).opened }
+    requires room { vec_len notes.old < vec_capacity notes.old }
+    ensures said { said_of_detach result ≡ detach_said
+        (failure_now stamp.time (subjects.Unit unit) (own_of stamp.time (fault_of_detach result))) unit
+        (attachments_of attached.old) }
+    ensures attached { attachments_of attached.new ≡ detached unit (attachments_of attached.old) }
+    ensures refused { OnErr result (attached.new ≡ attached.old) }
+    ensures files { (F.state files.new).files ≡ (F.state files.old).files }
+    ensures notes { notes.new.items ≡ notes.old.items ++ kept_of stamp (fault_of_detach result) }
+    ensures few { vec_len notes.new ≤ vec_len notes.old + 1 }
+    ensures capacity { vec_capacity notes.old ≤ vec_capacity notes.new }
+    ensures counted { AreCounted (kept_of stamp (fault_of_detach result)) (F.state files.old) (F.state files.new) }
+    ensures own { IfSome (fault_of_detach result) (λ f. f.unit ≡ unit) }
+    ensures nothing { HoldsNothing result }
+    ensures open { AllOpen attached.new (F.state files.new).opened }
+    ensures around { (base : List Opened) → Around attached.old base (F.state files.old).opened
+        → Around attached.new base (F.state files.new).opened }
+{
+    match attached.detach(unit, files) {
+        Ok(Some(fault)) => {
+            keep(notes, note_of(fault, stamp));
+            Ok(Some(fault))
+        }
+        other => other,
+    }
+}

@@ -1,0 +1,224 @@
+ghost use Rattle.std.specs.Prelude.{◌≡◌, ◌≢◌, ◌↔◌, [], IfErr, false};
+ghost use Rattle.host_files.specs.declared.files.OpenFault.TheVariants.{NoFile, OutOfMemory as no_memory};
+ghost use Rattle.fault_counts.specs.Faults.{raised};
+ghost use Rattle.host_files.specs.FileCalls.{Opens};
+ghost use Rattle.host_adapters.specs.RealFiles.{options_for, untold_state};
+
+use crate::positioned::{read_whole, write_whole};
+use fault_counts::raised_count;
+use host_files::{Failed, FileId, Files, OpenFault, OpenMode, OpenTable, OutOfMemory, WriteFault};
+use std::alloc::Global;
+use std::fs::{OpenFile, OpenOptions};
+use std::io::ErrorKind;
+use std::marker::Model;
+use std::os::unix::fs::FileExt;
+use std::rt::Files as System;
+
+/// The files of a system, by their paths. Their bytes are not told. Each call that fails raises the count of its file,
+/// and each opening that fails the count of openings, an opening that finds no file among them.
+///
+/// A call that a signal cuts short is made again, up to 64 times in a row. A folder is not opened. What the system
+/// meets where it closes a file is not told: closing does not fail.
+#[derive(Drop)]
+pub struct RealFiles<R: System + Drop> {
+    system: R,
+    table: OpenTable<R::File>,
+    open_faults: u64,
+}
+
+impl<R: System + Drop> Model for RealFiles<R> {
+    ghost use Rattle.host_adapters.specs.RealFiles.{RealState};
+
+    ghost Value = { RealState };
+
+    ghost view = { λ f. record { table = f.table; open_faults = f.open_faults } };
+}
+
+impl<R: System + Drop> RealFiles<R> {
+    /// Nothing is open, and no call has failed.
+    pub fn new(alloc: Global, system: R) -> RealFiles<R>
+        ensures { result ≡ record { table = record { opened = []; counts = [] }; open_faults = 0 } }
+    {
+        RealFiles {
+            system,
+            table: OpenTable::new(alloc),
+            open_faults: 0,
+        }
+    }
+
+    /// Opens a file, and counts no fault. The memory for its name and its place in the table is taken first, so that a
+    /// want of it neither makes nor empties a file.
+    fn open_uncounted(
+        &mut self,
+        alloc: Global,
+        name: &str,
+        mode: OpenMode,
+    ) -> Result<FileId, OpenFault>
+        ensures opens { Opens false (untold_state self.old) (untold_state self.new) name.now mode result }
+        ensures counts { (untold_state self.new).faults ≡ (untold_state self.old).faults }
+        ensures openings { self.new.open_faults ≡ self.old.open_faults }
+    {
+        if self.table.is_full() {
+            return Err(OpenFault::Failed);
+        }
+        let text = match String::from_str(alloc, name) {
+            Ok(text) => text,
+            Err(OutOfMemory) => return Err(OpenFault::OutOfMemory),
+        };
+        match self.table.reserve() {
+            Ok(()) => {}
+            Err(OutOfMemory) => return Err(OpenFault::OutOfMemory),
+        }
+        let handle = open_path(&self.system, name, mode)?;
+        match self.table.add(text, mode, handle) {
+            Ok(file) => Ok(file),
+            Err(OutOfMemory) => Err(OpenFault::OutOfMemory),
+        }
+    }
+
+    /// Counts an opening that failed.
+    fn count_opening(&mut self)
+        ensures { self.new ≡ record self.old { open_faults = raised self.old.open_faults } }
+    {
+        self.open_faults = raised_count(self.open_faults);
+    }
+}
+
+impl<R: System + Drop> Files for RealFiles<R>
+where
+    R::File: FileExt,
+{
+    ghost use Rattle.std.specs.Prelude.{false};
+    ghost use Rattle.host_adapters.specs.RealFiles.{untold};
+
+    ghost tells = { false };
+
+    ghost state = { λ f. untold_state f };
+
+    ghost named = { λ tells f file is_open. untold tells };
+
+    fn open_file(
+        &mut self,
+        alloc: Global,
+        name: &str,
+        mode: OpenMode,
+    ) -> Result<FileId, OpenFault> {
+        let result = self.open_uncounted(alloc, name, mode);
+        if matches!(result, Err(OpenFault::NoFile | OpenFault::Failed)) {
+            self.count_opening();
+        }
+        result
+    }
+
+    fn length(&mut self, file: FileId) -> Result<u64, Failed> {
+        match self.table.handle(file).unwrap().metadata() {
+            Ok(metadata) => Ok(metadata.len()),
+            Err(_) => {
+                self.table.raise(file);
+                Err(Failed)
+            }
+        }
+    }
+
+    fn read_at(&mut self, file: FileId, place: u64, buf: &mut [u8]) -> Result<usize, Failed> {
+        match read_whole(&self.table.handle(file).unwrap(), place, buf) {
+            Ok(count) => Ok(count),
+            Err(_) => {
+                self.table.raise(file);
+                Err(Failed)
+            }
+        }
+    }
+
+    fn write_at(&mut self, file: FileId, place: u64, bytes: &[u8]) -> Result<(), WriteFault> {
+        let mut handle = self.table.handle(file).unwrap();
+        match write_whole(&mut handle, place, bytes) {
+            Ok(()) => Ok(()),
+            Err(fault) => {
+                self.table.raise(file);
+                Err(fault)
+            }
+        }
+    }
+
+    fn set_length(&mut self, file: FileId, length: u64) -> Result<(), Failed> {
+        match self.table.handle(file).unwrap().set_len(length) {
+            Ok(()) => Ok(()),
+            Err(_) => {
+                self.table.raise(file);
+                Err(Failed)
+            }
+        }
+    }
+
+    fn close_file(&mut self, file: FileId) -> Result<(), Failed> {
+        self.table.remove(file);
+        Ok(())
+    }
+
+    fn faults(&self, file: FileId) -> u64 {
+        self.table.count(file)
+    }
+
+    fn open_faults(&self) -> u64 {
+        self.open_faults
+    }
+}
+
+/// Opens a path. A folder, which the system opens to be read, is refused here.
+fn open_path<R: System>(system: &R, name: &str, mode: OpenMode) -> Result<R::File, OpenFault>
+    ensures { IfErr result (λ fault. fault ≢ no_memory) }
+{
+    match options_for(mode).open(system, name) {
+        Ok(file) => {
+            if mode == OpenMode::Read && is_folder(&file) {
+                return Err(OpenFault::Failed);
+            }
+            Ok(file)
+        }
+        Err(error) => Err(opening_fault(error.kind())),
+    }
+}
+
+/// How a file is opened.
+fn options_for(mode: OpenMode) -> OpenOptions
+    ensures { result ≡ options_for mode }
+{
+    let mut options = OpenOptions::new();
+    options.read(true);
+    match mode {
+        OpenMode::Read => {}
+        OpenMode::Update => {
+            options.write(true);
+        }
+        OpenMode::Create => {
+            options.write(true);
+            options.create(true);
+            options.truncate(true);
+        }
+    }
+    options
+}
+
+/// What an opening that met that error answers.
+fn opening_fault(kind: ErrorKind) -> OpenFault
+    ensures missing { (result ≡ NoFile) ↔ (kind ≡ ErrorKind.NotFound) }
+    ensures memory { result ≢ no_memory }
+{
+    if kind == ErrorKind::NotFound {
+        OpenFault::NoFile
+    } else {
+        OpenFault::Failed
+    }
+}
+
+/// Whether an open file is a folder, or does not say what it is.
+fn is_folder<F: OpenFile>(file: &F) -> bool {
+    match file.metadata() {
+        Ok(metadata) => metadata.is_dir(),
+        Err(_) => true,
+    }
+}
+
+#[cfg(test)]
+mod tests;

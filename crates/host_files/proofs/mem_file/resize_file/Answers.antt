@@ -1,0 +1,17 @@
+use Rattle.std.proofs.Common.{◌≡◌, None, map, get_or, refl, sym, rules}
+use Rattle.host_files.specs.Lists.{find_file, resized}
+use Rattle.host_files.specs.MemFiles.{named_of, HasPlace}
+use Rattle.host_files.proofs.Names.{changed-none, set-changed}
+use Rattle.host_files.proofs.mem_file.resize_file.Goals as goal
+
+pub returns-in-Some-clause-files : goal.returns-in-Some-clause-files
+returns-in-Some-clause-files c =
+    let at : HasPlace (map named_of c.args.files.now.items) c.args.name.now c.in-Some.i = search rules in
+    let f = c.index_mut.result.now in
+    let is : f ≡ get_or c.args.files.now.items c.in-Some.i f = c.index_mut.ensures.value in
+    set-changed c.args.files.now.items c.in-Some.i c.args.name.now f (record f { bytes = c.resize_to.new.bytes }) (λ old. resized old c.args.length) at is refl c.resize_to.ensures.bytes
+
+pub returns-in_default-clause-files : goal.returns-in_default-clause-files
+returns-in_default-clause-files c =
+    let none : find_file (map named_of c.args.files.now.items) c.args.name.now ≡ None = search rules in
+    sym (changed-none (map named_of c.args.files.now.items) c.args.name.now (λ old. resized old c.args.length) none)

@@ -1,6 +1,0 @@
--- The writes that a signal cut short added nothing.
-use Rattle.std.specs.Io.KnownBytes.{Keeps}
-use Rattle.host_streams.proofs.writer_sink.write_retrying.Given as goal
-
-abbrev pub invariant-loop : goal.invariant-loop
-invariant-loop g l = Keeps (g.W.Write.contents l.initial.writer) (g.W.Write.contents l.writer)

@@ -1,5 +1,0 @@
-use Rattle.std.proofs.Common.{length}
-use Rattle.named_files.proofs.mem_file.+place_of_name.Given as goal
-
-abbrev pub decreases-place_of_name : goal.decreases-place_of_name
-decreases-place_of_name l = length l.files.now

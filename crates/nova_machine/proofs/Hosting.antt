@@ -1,0 +1,155 @@
+-- What a unit wants of the machine, by its kind.
+use Rattle.std.proofs.Common.{◌≡◌, ◌==◌, if◌then◌else◌, ◌⊎◌, inl, inr, ℕ, ◌+◌, ◌<◌, ◌≤◌, Bool, true, false, IsTrue, List, [], ◌∷◌, refl, ap, sym, subst, ◌∙◌, arith, Option, Some, None, zero, suc, slice_get, slice_index, option_map, nat_lt, get_or}
+use Rattle.std.specs.Prelude.{IfSome}
+use Rattle.std.proofs.lemmas.Option.{same_Some}
+use Rattle.std.proofs.lemmas.Bool.Decides.{nat_tests}
+use Rattle.unit_trait.specs.declared.kind.Kind.{Kind}
+use Rattle.unit_trait.specs.declared.kind.Kind.TheVariants.{Lpt, Ptr, Ptp, Clk, Tti, Tto, Tti1, Tto1}
+use Rattle.unit_trait.specs.declared.calls.Want.{Want}
+use Rattle.unit_trait.specs.declared.calls.Want.TheVariants as want
+use Rattle.unit_trait.specs.Kinds.{code_of}
+use Rattle.unit_trait.specs.Reader.{reader_row}
+use Rattle.unit_trait.specs.Writer.{writer_row}
+use Rattle.unit_trait.specs.Clock.{clock_row}
+use Rattle.unit_trait.specs.Keyboard.{keyboard_row}
+use Rattle.unit_trait.specs.Teleprinter.{teleprinter_row}
+use Rattle.unit_trait.specs.Device.{Register, position}
+use Rattle.unit_trait.specs.Registers.{registers}
+use Rattle.unit_trait.specs.Calls.{UnitState, Due}
+use Rattle.unit_trait.specs.Row.{row, row_of, InRange, Fits}
+use Rattle.unit_trait.proofs.Codes.{same-code}
+use Rattle.unit_list.specs.Bus.{AllFit, unit_at, row_or_nothing, row_at}
+use Rattle.unit_list.proofs.Room.{kind-found}
+use Rattle.unit_list.proofs.Room.{room-in}
+use Rattle.host_files.specs.Lists.{NamedBytes}
+use Rattle.host_files.specs.declared.files.FileCall.TheVariants.{Write}
+use Rattle.unit_trait.specs.declared.kind.UnitName.{UnitName}
+use Rattle.unit_files.specs.declared.faults.ByteAnswer.{ByteAnswer}
+use Rattle.unit_files.specs.declared.faults.ByteAnswer.TheVariants as byte
+use Rattle.unit_files.specs.Attachments.{Attachment, Held, attachments_of, attachment_at, file_place}
+use Rattle.unit_files.specs.Acts.{most_bytes, ByteSaid, ByteIs, WasWritten, AtEnd, read_act, write_act, write_said, failure_at}
+use Rattle.unit_files.specs.Answers.{said_of_byte, failure_of_byte}
+use Rattle.unit_files.specs.Shapes.{MayRead}
+use Rattle.nova_machine.specs.Wants.{key_stop, got_of_byte}
+use Rattle.nova_machine.specs.Comes.{AreTold, AreFree}
+use Rattle.nova_machine.specs.Hosting.{CanBeHosted, HasRoom, IsHosted, hosted_of}
+
+held-within : (rs : List Register) (vs : List ℕ) (i : ℕ) (r : Register) → InRange rs vs → slice_get rs i ≡ Some r → slice_index vs i ≤ r.largest
+held-within [] vs i r range at = absurd (cc)
+held-within (q ∷ rs) [] i r range at = absurd range
+held-within (q ∷ rs) (v ∷ vs) zero r range at = subst (λ (x : Register). v ≤ x.largest) (same_Some q r at) range.1
+held-within (q ∷ rs) (v ∷ vs) (suc i) r range at = held-within rs vs i r range.2 at
+
+wants-of : (kind : Kind) (values : List ℕ) (n : ℕ) → InRange (registers kind) values → CanBeHosted (row_of kind values (Due n)).want kind
+unfolding row_of reader_row writer_row clock_row keyboard_row teleprinter_row most_bytes
+wants-of Ptr values n fits = (refl, held-within (registers Ptr) values 5 position fits refl)
+wants-of Ptp values n fits = (refl, held-within (registers Ptp) values 5 position fits refl)
+wants-of Lpt values n fits = (refl, held-within (registers Lpt) values 5 position fits refl)
+wants-of Clk values n fits = tt
+wants-of Tti values n fits = tt
+wants-of Tto values n fits = tt
+wants-of Tti1 values n fits = tt
+wants-of Tto1 values n fits = tt
+wants-of kind values n fits = tt
+
+unit-wants : (u : UnitState) (n : ℕ) → Fits u → CanBeHosted (row u (Due n)).want u.kind
+unit-wants u n fits = wants-of u.kind u.registers n fits
+
+fits-if : (b : Bool) (u : UnitState) (more : Option UnitState) → Fits u → IfSome more (λ v. Fits v) → IfSome (if b then Some u else more) (λ v. Fits v)
+fits-if true u more fit rest = fit
+fits-if false u more fit rest = rest
+
+fits-found : (code : ℕ) (us : List UnitState) → AllFit us → IfSome (unit_at code us) (λ u. Fits u)
+fits-found code [] fit = tt
+fits-found code (u ∷ us) fit = fits-if (code_of u.kind == code) u (unit_at code us) fit.0 (fits-found code us fit.1)
+
+wants-found : (kind : Kind) (n : ℕ) (there : Option UnitState) → IfSome there (λ u. Fits u) → IfSome there (λ u. u.kind ≡ kind)
+    → CanBeHosted (row_or_nothing (Due n) there).want kind
+wants-found kind n None fits same = tt
+wants-found kind n (Some u) fits same = subst (λ (k : Kind). CanBeHosted (row u (Due n)).want k) same (unit-wants u n fits)
+
+-- what a unit of a machine wants, the machine can do for it
+pub wants-in : (kind : Kind) (n : ℕ) (us : List UnitState) → AllFit us → CanBeHosted (row_at (code_of kind) (Due n) us).want kind
+wants-in kind n us fit = wants-found kind n (unit_at (code_of kind) us) (fits-found (code_of kind) us fit) (kind-found kind us)
+
+-- ---- a byte of a unit's file
+
+free-none : (slots : List (Option Held)) (i : ℕ) → AreFree slots → get_or (attachments_of slots) i None ≡ None
+free-none [] i free = refl
+free-none (slot ∷ slots) zero free = ap (λ (x : Option Held). option_map (λ (h : Held). h.attachment) x) free.0
+free-none (slot ∷ slots) (suc i) free = free-none slots i free.1
+
+-- nothing is read where nothing is attached
+none-read : (answer : ByteAnswer) (a : Option Attachment) (place : ℕ) (files : List NamedBytes) → a ≡ None → MayRead answer a place
+    → said_of_byte answer ≡ read_act (failure_of_byte answer) a place files
+unfolding read_act
+none-read byte.NoFile None place files none may = refl
+none-read answer None place files none may = absurd may
+none-read answer (Some a) place files none may = absurd (cc)
+
+said-read : (tells : Bool) (slots : List (Option Held)) (u : UnitName) (answer : ByteAnswer) (place : ℕ) (files : List NamedBytes) → AreTold tells slots
+    → (IsTrue tells → said_of_byte answer ≡ read_act (failure_of_byte answer) (attachment_at (attachments_of slots) u) place files)
+    → MayRead answer (attachment_at (attachments_of slots) u) place
+    → said_of_byte answer ≡ read_act (failure_of_byte answer) (attachment_at (attachments_of slots) u) place files
+said-read tells slots u answer place files (inl told) said may = said told
+said-read tells slots u answer place files (inr free) said may =
+    none-read answer (attachment_at (attachments_of slots) u) place files (free-none slots (file_place u) free) may
+
+no-key : (key : Option ℕ) (place : ℕ) → key_stop key (want.ReadByte place) ≡ None
+no-key None place = refl
+no-key (Some k) place = refl
+
+read-is : (answer : ByteAnswer) (a : Option Attachment) (place : ℕ) (files : List NamedBytes) (key : Option ℕ) → MayRead answer a place
+    → said_of_byte answer ≡ read_act (failure_of_byte answer) a place files → IsHosted (want.ReadByte place) a files key (hosted_of answer)
+read-is (byte.Byte b) a place files key may said = (ap got_of_byte (sym said), no-key key place)
+read-is byte.End a place files key may said = (ap got_of_byte (sym said), no-key key place)
+read-is byte.NoFile a place files key may said = (ap got_of_byte (sym said), no-key key place)
+read-is (byte.Failed f) a place files key may said = ap got_of_byte (sym said)
+read-is byte.Written a place files key may said = absurd may
+
+-- a byte of a unit's file was read for it
+pub read-hosted : (tells : Bool) (slots : List (Option Held)) (u : UnitName) (answer : ByteAnswer) (place : ℕ) (files : List NamedBytes) (key : Option ℕ) → AreTold tells slots
+    → (IsTrue tells → said_of_byte answer ≡ read_act (failure_of_byte answer) (attachment_at (attachments_of slots) u) place files)
+    → MayRead answer (attachment_at (attachments_of slots) u) place
+    → IsHosted (want.ReadByte place) (attachment_at (attachments_of slots) u) files key (hosted_of answer)
+read-hosted tells slots u answer place files key told said may =
+    read-is answer (attachment_at (attachments_of slots) u) place files key may (said-read tells slots u answer place files told said may)
+
+pub read-room : (answer : ByteAnswer) (a : Option Attachment) (place : ℕ) → MayRead answer a place → HasRoom (want.ReadByte place) (hosted_of answer)
+unfolding most_bytes
+read-room (byte.Byte b) (Some a) place may = λ moves. may
+read-room (byte.Byte b) None place may = absurd may
+read-room byte.End a place may = λ moves. absurd (cc)
+read-room byte.NoFile a place may = λ moves. absurd (cc)
+read-room (byte.Failed f) a place may = tt
+read-room byte.Written a place may = absurd may
+
+written-before : (b : Bool) (place : ℕ) (said : ByteSaid) → nat_lt place most_bytes ≡ b → WasWritten ≡ (if b then said else AtEnd) → place < most_bytes
+written-before true place said low is = grind (arith, nat_tests)
+written-before false place said low is = absurd (cc)
+
+written-within : (a : Option Attachment) (place : ℕ) → WasWritten ≡ write_act None a place → place < most_bytes
+unfolding write_act
+written-within None place is = absurd (cc)
+written-within (Some a) place is = written-before (nat_lt place most_bytes) place (write_said (failure_at Write None)) refl is
+
+within-largest : (place : ℕ) → place < most_bytes → place < position.largest
+unfolding most_bytes
+within-largest place low = low
+
+no-byte-if : (c : Bool) (x : ℕ) (said : ByteSaid) → (ByteIs x ≡ said → ⊥) → ByteIs x ≡ (if c then said else AtEnd) → ⊥
+no-byte-if true x said other is = other is
+no-byte-if false x said other is = absurd (cc)
+
+no-byte : (a : Option Attachment) (place x : ℕ) → ByteIs x ≡ write_act None a place → ⊥
+unfolding write_act
+no-byte None place x is = absurd (cc)
+no-byte (Some y) place x is = no-byte-if (nat_lt place most_bytes) x (write_said (failure_at Write None)) (λ e. absurd (cc)) is
+
+pub write-room : (answer : ByteAnswer) (a : Option Attachment) (place byte_written : ℕ) → said_of_byte answer ≡ write_act (failure_of_byte answer) a place
+    → HasRoom (want.WriteByte place byte_written) (hosted_of answer)
+write-room byte.Written a place b said = λ moves. within-largest place (written-within a place said)
+write-room (byte.Byte x) a place b said = λ moves. absurd (no-byte a place x said)
+write-room byte.End a place b said = λ moves. absurd (cc)
+write-room byte.NoFile a place b said = λ moves. absurd (cc)
+write-room (byte.Failed f) a place b said = tt

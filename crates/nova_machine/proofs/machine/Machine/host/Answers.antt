@@ -1,0 +1,41 @@
+use Rattle.std.proofs.Common.{◌≡◌, sym, subst, IsTrue, List, Option, ap}
+use Rattle.unit_trait.specs.declared.calls.Want.{Want}
+use Rattle.unit_files.specs.Attachments.{Held, attachments_of, attachment_at}
+use Rattle.unit_files.specs.Acts.{read_act, write_act}
+use Rattle.unit_files.specs.Answers.{said_of_byte, failure_of_byte}
+use Rattle.unit_files.specs.Shapes.{MayRead}
+use Rattle.nova_machine.specs.declared.service.Hosted.{Hosted}
+use Rattle.nova_machine.specs.Machine.{MachineState}
+use Rattle.nova_machine.specs.Hosting.{IsHosted, HasRoom, hosted_of}
+use Rattle.expect_actions.specs.KeysFile.{due_key}
+use Rattle.nova_machine.proofs.Hosting.{read-hosted, read-room, write-room}
+use Rattle.nova_machine.proofs.machine.Machine.host.Goals as goal
+
+pub returns-in-ReadByte-clause-said : goal.returns-in-ReadByte-clause-said
+returns-in-ReadByte-clause-said g c = λ told.
+    let slots = c.args.self.now.slots in
+    let same : c.self.inside.attached ≡ slots = ap (λ (m : MachineState). m.slots) c.self.view_is in
+    let a = attachment_at (attachments_of slots) c.args.unit in
+    let files = (g.F.Files.state c.args.files.now).files in
+    let key = due_key c.args.keys.now c.args.self.now.taken c.args.self.now.time in
+    let answer = c.read_byte.result in
+    let place = c.in-ReadByte.place in
+    let S : List (Option Held) → Type 0 =
+    λ x. IsTrue g.F.Files.tells → said_of_byte answer ≡ read_act (failure_of_byte answer) (attachment_at (attachments_of x) c.args.unit) place files in
+    let M : List (Option Held) → Type 0 = λ x. MayRead answer (attachment_at (attachments_of x) c.args.unit) place in
+    subst (λ (o : Hosted). IsHosted c.args.want a files key o) (sym c.made_of.ensures)
+    (subst (λ (w : Want). IsHosted w a files key (hosted_of answer)) (sym c.in-ReadByte.is)
+    (read-hosted g.F.Files.tells slots c.args.unit answer place files key told (subst S same c.read_byte.ensures.said) (subst M same c.read_byte.ensures.may)))
+
+pub returns-in-ReadByte-clause-room : goal.returns-in-ReadByte-clause-room
+returns-in-ReadByte-clause-room g c =
+    subst (λ (o : Hosted). HasRoom c.args.want o) (sym c.made_of.ensures)
+    (subst (λ (w : Want). HasRoom w (hosted_of c.read_byte.result)) (sym c.in-ReadByte.is)
+    (read-room c.read_byte.result (attachment_at (attachments_of c.self.inside.attached) c.args.unit) c.in-ReadByte.place c.read_byte.ensures.may))
+
+pub returns-in-WriteByte-clause-room : goal.returns-in-WriteByte-clause-room
+returns-in-WriteByte-clause-room g c =
+    subst (λ (o : Hosted). HasRoom c.args.want o) (sym c.made_of-in-WriteByte.ensures)
+    (subst (λ (w : Want). HasRoom w (hosted_of c.write_byte.result)) (sym c.in-WriteByte.is)
+    (write-room c.write_byte.result (attachment_at (attachments_of c.self-in-WriteByte.inside.attached) c.args.unit) c.in-WriteByte.place c.in-WriteByte.byte
+    c.write_byte.ensures.said))

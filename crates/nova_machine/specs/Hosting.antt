@@ -1,0 +1,58 @@
+-- What the machine's own answers mean that it makes of what a unit wants.
+use Rattle.std.specs.Prelude.{◌≡◌, ℕ, ◌≤◌, ◌^◌, IsTrue, ◌==◌, List, [], Option, Some, None, Ok, Err, if◌then◌else◌}
+use Rattle.host_files.specs.Lists.{NamedBytes}
+use Rattle.unit_trait.specs.declared.kind.Kind.{Kind}
+use Rattle.unit_list.specs.Bus.{IsBelowEnd}
+use Rattle.unit_trait.specs.declared.calls.Want.{Want}
+use Rattle.unit_trait.specs.declared.calls.Want.TheVariants as want
+use Rattle.unit_trait.specs.declared.calls.Got.{Got}
+use Rattle.unit_trait.specs.declared.calls.Got.TheVariants as got
+use Rattle.unit_files.specs.declared.faults.ByteAnswer.{ByteAnswer}
+use Rattle.unit_files.specs.declared.faults.ByteAnswer.TheVariants as byte
+use Rattle.unit_files.specs.Attachments.{Attachment, is_paper, only_writes}
+use Rattle.unit_files.specs.Answers.{failure_in}
+use Rattle.nova_machine.specs.declared.machine.Stop.{Stop}
+use Rattle.nova_machine.specs.declared.machine.Stop.TheVariants.{FileFault, ConsoleFault, Wru as WruStop}
+use Rattle.nova_machine.specs.declared.service.Hosted.{Hosted}
+use Rattle.nova_machine.specs.declared.service.Hosted.TheVariants.{Gets, Wru, Stops}
+use Rattle.nova_machine.specs.Wants.{wru, answer_to, key_stop, bytes_of, IsConsole}
+
+abbrev pub hosted_of : ByteAnswer → Hosted
+hosted_of (byte.Byte b) = Gets (got.Byte b)
+hosted_of byte.Written = Gets got.Done
+hosted_of byte.End = Gets got.End
+hosted_of byte.NoFile = Gets got.NoFile
+hosted_of (byte.Failed f) = Stops (FileFault f)
+
+abbrev pub hosted_key : Option ℕ → Hosted
+hosted_key None = Gets got.NoKey
+hosted_key (Some key) = if key == wru then Wru else Gets (got.Key key)
+
+-- the stop of a unit that gets no answer
+abbrev pub stop_in : Hosted → Option Stop
+stop_in (Stops stop) = Some stop
+stop_in other = None
+
+-- a refused byte is none that was printed
+abbrev pub bytes_printed : Want → Hosted → List ℕ
+bytes_printed want (Stops stop) = []
+bytes_printed want other = bytes_of want
+
+-- what was made of a want: the answer, or the failure that its stop claims
+abbrev pub IsHosted : Want → Option Attachment → List NamedBytes → Option ℕ → Hosted → Type 0
+IsHosted want a files key (Gets g) = (answer_to None a files key want ≡ Ok g) × (key_stop key want ≡ None)
+IsHosted want a files key Wru = (answer_to None a files key want ≡ Ok got.NoKey) × (key_stop key want ≡ Some WruStop)
+IsHosted want a files key (Stops (FileFault f)) = answer_to (Some (failure_in f)) a files key want ≡ Err (failure_in f)
+IsHosted want a files key (Stops ConsoleFault) = IsConsole want
+IsHosted want a files key (Stops stop) = ⊥
+
+-- what is made of a want is one that its unit may get: no byte past the largest place
+abbrev pub HasRoom : Want → Hosted → Type 0
+HasRoom want (Gets g) = IsBelowEnd want g
+HasRoom want other = Unit {0}
+
+-- bytes are wanted by the paper tape units and the printer alone, each at a place that its register can hold
+abbrev pub CanBeHosted : Want → Kind → Type 0
+CanBeHosted (want.ReadByte place) kind = IsTrue (is_paper kind) × (place ≤ 8 ^ 8)
+CanBeHosted (want.WriteByte place byte) kind = IsTrue (only_writes kind) × (place ≤ 8 ^ 8)
+CanBeHosted other kind = Unit {0}

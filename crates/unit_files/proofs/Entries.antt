@@ -1,0 +1,67 @@
+-- The list of open files: one is put in front, or one is closed.
+use Rattle.std.proofs.Common.{inl, inr, ◌≡◌, ◌≢◌, ℕ, ◌==◌, Bool, true, false, List, [], ◌∷◌, Some, Option, refl, ap}
+use Rattle.std.proofs.Common.{sym, ◌∙◌, arith, if◌then◌else◌}
+use Rattle.std.proofs.lemmas.Bool.{cases_eq}
+use Rattle.std.proofs.lemmas.Bool.Decides.{nat_tests}
+use Rattle.host_files.specs.State.{Opened, opened_at, without}
+
+test-is : (m n : ℕ) → m ≡ n → (m == n) ≡ true
+test-is m n same = grind (arith, nat_tests)
+
+test-not : (m n : ℕ) → m ≢ n → (m == n) ≡ false
+test-not m n other = grind (arith, nat_tests)
+
+-- the entry in front
+pub front-found : (o : Opened) (rest : List Opened) (file : ℕ) → o.file ≡ file → opened_at (o ∷ rest) file ≡ Some o
+front-found o rest file is = ap (λ (b : Bool). if b then Some o else opened_at rest file) (test-is o.file file is)
+
+pub front-out : (o : Opened) (rest : List Opened) (file : ℕ) → o.file ≡ file → without (o ∷ rest) file ≡ rest
+front-out o rest file is = ap (λ (b : Bool). if b then rest else o ∷ without rest file) (test-is o.file file is)
+
+-- another one
+pub front-passed : (o : Opened) (rest : List Opened) (file : ℕ) → o.file ≢ file → opened_at (o ∷ rest) file
+    ≡ opened_at rest file
+front-passed o rest file other =
+    ap (λ (b : Bool). if b then Some o else opened_at rest file) (test-not o.file file other)
+
+pub front-kept : (o : Opened) (rest : List Opened) (file : ℕ) → o.file ≢ file → without (o ∷ rest) file
+    ≡ o ∷ without rest file
+front-kept o rest file other = ap (λ (b : Bool). if b then rest else o ∷ without rest file) (test-not o.file file other)
+
+-- closing one leaves every other as it was
+pub other-kept : (opened : List Opened) (file other : ℕ) → other ≢ file → opened_at (without opened file) other
+    ≡ opened_at opened other
+other-kept [] file other differ = refl
+other-kept (o ∷ rest) file other differ = elim (cases_eq o.file file) [
+  | inl same ↦
+      ap (λ (xs : List Opened). opened_at xs other) (front-out o rest file same)
+      ∙ sym (front-passed o rest other (λ (here : o.file ≡ other). differ (sym here ∙ same)))
+  | inr not ↦
+      ap (λ (xs : List Opened). opened_at xs other) (front-kept o rest file not)
+      ∙ ap (λ (x : Option Opened). if o.file == other then Some o else x) (other-kept rest file other differ)
+]
+
+-- two are closed in either order
+pub closed-both : (opened : List Opened) (a b : ℕ) → without (without opened a) b ≡ without (without opened b) a
+closed-both [] a b = refl
+closed-both (o ∷ rest) a b = elim (cases_eq o.file a) [
+  | inl is_a ↦ elim (cases_eq o.file b) [
+    | inl is_b ↦ λ i. without (without (o ∷ rest) ((sym is_a ∙ is_b) i)) ((sym is_b ∙ is_a) i)
+    | inr not_b ↦
+        ap (λ (xs : List Opened). without xs b) (front-out o rest a is_a)
+        ∙ sym (front-out o (without rest b) a is_a)
+        ∙ ap (λ (xs : List Opened). without xs a) (sym (front-kept o rest b not_b))
+  ]
+  | inr not_a ↦ elim (cases_eq o.file b) [
+    | inl is_b ↦
+        ap (λ (xs : List Opened). without xs b) (front-kept o rest a not_a)
+        ∙ front-out o (without rest a) b is_b
+        ∙ ap (λ (xs : List Opened). without xs a) (sym (front-out o rest b is_b))
+    | inr not_b ↦
+        ap (λ (xs : List Opened). without xs b) (front-kept o rest a not_a)
+        ∙ front-kept o (without rest a) b not_b
+        ∙ ap (λ (xs : List Opened). o ∷ xs) (closed-both rest a b)
+        ∙ sym (front-kept o (without rest b) a not_a)
+        ∙ ap (λ (xs : List Opened). without xs a) (sym (front-kept o rest b not_b))
+  ]
+]

@@ -1,0 +1,4 @@
+pub mod Places
+pub mod Opened
+pub mod Entries
+pub mod Attaching

@@ -1,0 +1,43 @@
+use Rattle.std.proofs.Common.{◌≡◌, Some, None, List, Option, subst, sym, rules, refl}
+use Rattle.host_files.specs.State.{Opened}
+use Rattle.unit_files.specs.Acts.{is_read_only}
+use Rattle.unit_files.specs.Attachments.{Held, held_at, with_held, file_place}
+use Rattle.unit_files.specs.Open.{AllOpen, Around}
+use Rattle.unit_files.specs.Opening.{IsNewlyOpen}
+use Rattle.unit_files.proofs.Attaching.{open-attached, around-attached}
+use Rattle.unit_files.proofs.attached.Attached.attach.Goals as goal
+
+pub returns-in-Ok-take_file-clause-open : goal.returns-in-Ok-take_file-clause-open
+returns-in-Ok-take_file-clause-open g c =
+    let old = g.F.Files.state c.args.files.now in
+    let new = g.F.Files.state c.take_file.new.files in
+    let is : IsNewlyOpen old new c.args.name.now c.args.mode c.in-Ok-take_file.taken.file.0 =
+    c.in-Ok-take_file.ensures.opened in
+    let h : Held = record {
+      file = c.in-Ok-take_file.taken.file.0;
+      attachment =
+          record { name = c.args.name.now; read_only = is_read_only c.args.mode };
+    } in
+    let entry : Opened = record { file = c.in-Ok-take_file.taken.file.0; name = c.args.name.now; mode = is.how } in
+    let held : c.put.new.self ≡ with_held c.args.self.now c.args.unit (Some h) = search rules in
+    let all = open-attached c.args.self.now old.opened (file_place c.args.unit) h entry refl refl is.reading is.fresh
+    c.requires.«open» in
+    subst (λ (x : List (Option Held) × List Opened). AllOpen x.0 x.1) (λ i. (sym held i, sym is.opened i)) all
+
+pub returns-in-Ok-take_file-clause-around : goal.returns-in-Ok-take_file-clause-around
+returns-in-Ok-take_file-clause-around g c = λ base around.
+    let old = g.F.Files.state c.args.files.now in
+    let new = g.F.Files.state c.take_file.new.files in
+    let is : IsNewlyOpen old new c.args.name.now c.args.mode c.in-Ok-take_file.taken.file.0 =
+    c.in-Ok-take_file.ensures.opened in
+    let h : Held = record {
+      file = c.in-Ok-take_file.taken.file.0;
+      attachment =
+          record { name = c.args.name.now; read_only = is_read_only c.args.mode };
+    } in
+    let entry : Opened = record { file = c.in-Ok-take_file.taken.file.0; name = c.args.name.now; mode = is.how } in
+    let held : c.put.new.self ≡ with_held c.args.self.now c.args.unit (Some h) = search rules in
+    let none : held_at c.args.self.now c.args.unit ≡ None = search rules in
+    let more = around-attached c.args.self.now base old.opened (file_place c.args.unit) h entry refl none
+    c.put.ensures.within is.fresh c.requires.«open» around in
+    subst (λ (x : List (Option Held) × List Opened). Around x.0 base x.1) (λ i. (sym held i, sym is.opened i)) more

@@ -1,0 +1,76 @@
+-- Each failing call that is answered has raised a count in this very call: that of its file, or of openings.
+use Rattle.std.specs.Prelude.{◌≡◌, ◌⊎◌, ℕ, ◌<◌, ◌≤◌, Bool, IsTrue, List, Option, Some, None, Result, Ok, Err}
+use Rattle.fault_counts.specs.Faults.{raised, Rose}
+use Rattle.host_files.specs.declared.files.FileId.{FileId}
+use Rattle.host_files.specs.declared.files.FileCall.TheVariants.{Opening, Length, Closing}
+use Rattle.host_files.specs.State.{FileState}
+use Rattle.unit_trait.specs.declared.kind.UnitName.{UnitName}
+use Rattle.unit_files.specs.declared.faults.UnitFault.{UnitFault}
+use Rattle.unit_files.specs.declared.faults.AttachFault.{AttachFault}
+use Rattle.unit_files.specs.declared.faults.AttachFault.TheVariants as attach
+use Rattle.unit_files.specs.declared.faults.DetachFault.{DetachFault}
+use Rattle.unit_files.specs.declared.faults.DetachFault.TheVariants as detach
+use Rattle.unit_files.specs.declared.faults.ByteAnswer.{ByteAnswer}
+use Rattle.unit_files.specs.declared.faults.ByteAnswer.TheVariants as byte
+use Rattle.unit_files.specs.Attachments.{Held, held_at}
+
+-- no count has changed, and no file was opened
+pub record IsQuiet (old new : FileState) : Type 0 where
+  pub counts : new.faults ≡ old.faults
+  pub openings : new.open_faults ≡ old.open_faults
+  pub ids : new.given ≡ old.given
+
+-- a failing call of a unit's attached file: that file's count has risen by one, and no other
+pub record IsFaultOf (f : UnitFault) (unit : UnitName) (slots : List (Option Held)) (old new : FileState) : Type 0 where
+  pub unit_is : f.unit ≡ unit
+  pub held : Held
+  pub there : held_at slots unit ≡ Some held
+  pub id : FileId
+  pub file_is : f.file ≡ Some id
+  pub id_is : id.0 ≡ held.file
+  pub rose : new.faults held.file ≡ raised (old.faults held.file)
+  pub others : (other : ℕ) → (other ≡ held.file → ⊥) → new.faults other ≡ old.faults other
+  pub openings : new.open_faults ≡ old.open_faults
+  pub ids : new.given ≡ old.given
+
+abbrev pub ByteCause : ByteAnswer → UnitName → List (Option Held) → FileState → FileState → Type 0
+ByteCause (byte.Failed f) unit slots old new = IsFaultOf f unit slots old new
+ByteCause answer unit slots old new = IsQuiet old new
+
+abbrev pub DetachCause : Result (Option UnitFault) DetachFault → UnitName → List (Option Held) → FileState → FileState
+    → Type 0
+DetachCause (Ok (Some f)) unit slots old new = (f.call ≡ Closing) × (f.done ≡ 0) × IsFaultOf f unit slots old new
+DetachCause (Ok None) unit slots old new = IsQuiet old new
+DetachCause (Err detach.NotAttached) unit slots old new = IsQuiet old new
+DetachCause (Err (detach.Failed f)) unit slots old new = ⊥
+
+-- the counts of the files that were open or had been are as they were, and none has fallen
+pub record OnlyNewCounts (old new : FileState) : Type 0 where
+  pub before : (file : ℕ) → file < old.given → new.faults file ≡ old.faults file
+  pub later : (file : ℕ) → old.faults file ≤ new.faults file
+  pub openings : old.open_faults ≤ new.open_faults
+  pub ids : old.given ≤ new.given
+
+-- an opening failed, or a call on the file that was opened in this call
+pub record IsNewFault (f : UnitFault) (unit : UnitName) (old new : FileState) : Type 0 where
+  pub unit_is : f.unit ≡ unit
+  pub none_done : f.done ≡ 0
+  pub calls : (f.call ≡ Opening) ⊎ (f.call ≡ Length)
+  pub opening : f.call ≡ Opening → (f.file ≡ None) × Rose old.open_faults new.open_faults
+  pub other : (f.call ≡ Opening → ⊥) → (id : FileId) × (f.file ≡ Some id) × (old.given ≤ id.0) × (id.0 < new.given)
+      × Rose (old.faults id.0) (new.faults id.0)
+
+-- What an attaching leaves of the counts, by its answer. Where names are not told, a file is missing only where the
+-- count of openings rose.
+abbrev pub AttachCause : Bool → Result ℕ AttachFault → UnitName → FileState → FileState → Type 0
+AttachCause tells (Ok count) unit old new =
+    (new.faults ≡ old.faults) × (IsTrue tells → new.open_faults ≡ old.open_faults)
+AttachCause tells (Err (attach.Failed f)) unit old new = IsNewFault f unit old new
+AttachCause tells (Err attach.NoFile) unit old new =
+    (new.faults ≡ old.faults)
+    × ((IsTrue tells → ⊥) → Rose old.open_faults new.open_faults)
+    × (IsTrue tells → new.open_faults ≡ old.open_faults)
+AttachCause tells (Err attach.AlreadyAttached) unit old new = IsQuiet old new
+AttachCause tells (Err attach.ReadOnly) unit old new = IsQuiet old new
+AttachCause tells (Err attach.TooLong) unit old new = Unit {0}
+AttachCause tells (Err attach.OutOfMemory) unit old new = Unit {0}

@@ -1,0 +1,80 @@
+-- A file is opened for a unit, and its length is asked for.
+use Rattle.std.specs.Prelude.{◌≡◌, ◌≢◌, ℕ, ◌+◌, ◌≤◌, Bool, IsTrue, List, ◌∷◌, Some, None, Result, Ok, Err}
+use Rattle.fault_counts.specs.Faults.{Rose}
+use Rattle.host_files.specs.declared.files.FileId.{FileId}
+use Rattle.host_files.specs.declared.files.FileCall.TheVariants as call
+use Rattle.host_files.specs.declared.files.OpenMode.{OpenMode}
+use Rattle.host_files.specs.declared.files.OpenFault.{OpenFault}
+use Rattle.host_files.specs.declared.files.OpenFault.TheVariants as opening
+use Rattle.host_files.specs.State.{FileState, opened_at}
+use Rattle.unit_trait.specs.declared.kind.UnitName.{UnitName}
+use Rattle.unit_files.specs.declared.modes.AttachMode.{AttachMode}
+use Rattle.unit_files.specs.declared.faults.UnitFault.{UnitFault}
+use Rattle.unit_files.specs.declared.faults.AttachFault.{AttachFault}
+use Rattle.unit_files.specs.declared.faults.AttachFault.TheVariants as attach
+use Rattle.unit_files.specs.declared.opening.Taken.{Taken}
+use Rattle.unit_files.specs.Acts.{is_read_only, opened_files}
+use Rattle.unit_files.specs.Open.{is_reading}
+
+-- a file is open now, under an id that was never given before
+pub record IsNewlyOpen (old new : FileState) (name : List ℕ) (mode : AttachMode) (file : ℕ) : Type 0 where
+  pub how : OpenMode
+  pub reading : is_reading how ≡ is_read_only mode
+  pub opened : new.opened ≡ record { file = file; name = name; mode = how } ∷ old.opened
+  pub fresh : opened_at old.opened file ≡ None
+  pub rising : old.given ≤ file
+  pub given : new.given ≡ file + 1
+  pub counts : new.faults ≡ old.faults
+  pub later : old.open_faults ≤ new.open_faults
+
+-- nothing was opened
+pub record IsNotOpened (old new : FileState) : Type 0 where
+  pub opened : new.opened ≡ old.opened
+  pub given : new.given ≡ old.given
+  pub files : new.files ≡ old.files
+  pub counts : new.faults ≡ old.faults
+  pub later : old.open_faults ≤ new.open_faults
+
+-- what an opening for a unit does, by its answer
+abbrev pub OpensFor : Bool → FileState → FileState → List ℕ → AttachMode → Result FileId OpenFault → Type 0
+OpensFor tells old new name mode (Ok id) =
+    IsNewlyOpen old new name mode id.0
+    × (IsTrue tells → opened_files mode name old.files ≡ Some new.files)
+    × (IsTrue tells → new.open_faults ≡ old.open_faults)
+OpensFor tells old new name mode (Err opening.NoFile) =
+    IsNotOpened old new
+    × (IsTrue tells → opened_files mode name old.files ≡ None)
+    × (IsTrue tells → new.open_faults ≡ old.open_faults)
+    × ((IsTrue tells → ⊥) → Rose old.open_faults new.open_faults)
+OpensFor tells old new name mode (Err opening.Failed) = IsNotOpened old new × Rose old.open_faults new.open_faults
+OpensFor tells old new name mode (Err opening.OutOfMemory) = IsNotOpened old new
+
+-- an opening that failed, said of a unit
+abbrev pub failed_opening : UnitName → UnitFault
+failed_opening unit = record { unit = unit; file = None; call = call.Opening; done = 0 }
+
+-- why a unit got no file, by why none was opened
+abbrev pub fault_of_opening : UnitName → OpenFault → AttachFault
+fault_of_opening unit opening.NoFile = attach.NoFile
+fault_of_opening unit opening.Failed = attach.Failed (failed_opening unit)
+fault_of_opening unit opening.OutOfMemory = attach.OutOfMemory
+
+-- the answer of a measuring, with what it leaves of the counts of its file
+abbrev pub MeasureCause : Result ℕ AttachFault → UnitName → FileId → FileState → FileState → Type 0
+MeasureCause (Ok count) unit id old new = new.faults ≡ old.faults
+MeasureCause (Err attach.TooLong) unit id old new = Unit {0}
+MeasureCause (Err (attach.Failed f)) unit id old new =
+    (f ≡ record { unit = unit; file = Some id; call = call.Length; done = 0 })
+    × Rose (old.faults id.0) (new.faults id.0)
+MeasureCause (Err fault) unit id old new = ⊥
+
+-- no count but that of one file has changed, and that one has not fallen
+pub record OnlyCountOf (file : ℕ) (old new : FileState) : Type 0 where
+  pub others : (other : ℕ) → other ≢ file → new.faults other ≡ old.faults other
+  pub later : old.faults file ≤ new.faults file
+  pub openings : new.open_faults ≡ old.open_faults
+  pub ids : new.given ≡ old.given
+
+abbrev pub length_of : Result Taken AttachFault → Result ℕ AttachFault
+length_of (Ok taken) = Ok taken.length
+length_of (Err fault) = Err fault

@@ -1,0 +1,51 @@
+-- What the byte calls may answer, whether names are told or not.
+use Rattle.std.specs.Prelude.{◌≡◌, ◌≢◌, ℕ, ◌<◌, ◌≤◌, ◌^◌, Option, Some, None}
+use Rattle.fault_counts.specs.Faults.{raised}
+use Rattle.host_files.specs.declared.files.FileId.{FileId}
+use Rattle.host_files.specs.declared.files.FileCall.TheVariants as call
+use Rattle.host_files.specs.State.{FileState}
+use Rattle.unit_trait.specs.declared.kind.UnitName.{UnitName}
+use Rattle.unit_files.specs.declared.faults.UnitFault.{UnitFault}
+use Rattle.unit_files.specs.declared.faults.ByteAnswer.{ByteAnswer}
+use Rattle.unit_files.specs.declared.faults.ByteAnswer.TheVariants as byte
+use Rattle.unit_files.specs.Attachments.{Attachment}
+use Rattle.unit_files.specs.Causes.{IsQuiet}
+
+-- A reading answers that nothing is there exactly where nothing is attached. A byte comes only from places below
+-- 8 ^ 8, where alone a read is made; and a failed read wrote nothing.
+abbrev pub MayRead : ByteAnswer → Option Attachment → ℕ → Type 0
+MayRead (byte.Byte b) (Some a) place = place < 8 ^ 8
+MayRead byte.End (Some a) place = Unit {0}
+MayRead (byte.Failed f) (Some a) place = (place < 8 ^ 8) × (f.call ≡ call.Read) × (f.done ≡ 0)
+MayRead byte.NoFile None place = Unit {0}
+MayRead answer a place = ⊥
+
+-- what a read of an open file may come to
+abbrev pub IsOfRead : ByteAnswer → Type 0
+IsOfRead (byte.Byte b) = Unit {0}
+IsOfRead byte.End = Unit {0}
+IsOfRead (byte.Failed f) = (f.call ≡ call.Read) × (f.done ≡ 0)
+IsOfRead answer = ⊥
+
+-- a failed write of a byte wrote at most that byte
+abbrev pub WroteAtMostOne : ByteAnswer → Type 0
+WroteAtMostOne (byte.Failed f) = (f.call ≡ call.Write) × (f.done ≤ 1)
+WroteAtMostOne answer = Unit {0}
+
+-- a failed call on an open file: its count has risen by one, and no other
+pub record IsFaultAt (f : UnitFault) (unit : UnitName) (id : FileId) (old new : FileState) : Type 0 where
+  pub unit_is : f.unit ≡ unit
+  pub file_is : f.file ≡ Some id
+  pub rose : new.faults id.0 ≡ raised (old.faults id.0)
+  pub others : (other : ℕ) → other ≢ id.0 → new.faults other ≡ old.faults other
+  pub openings : new.open_faults ≡ old.open_faults
+  pub ids : new.given ≡ old.given
+
+abbrev pub OpenCause : ByteAnswer → UnitName → FileId → FileState → FileState → Type 0
+OpenCause (byte.Failed f) unit id old new = IsFaultAt f unit id old new
+OpenCause answer unit id old new = IsQuiet old new
+
+-- what a closing leaves of the counts
+abbrev pub CloseCause : Option UnitFault → UnitName → FileId → FileState → FileState → Type 0
+CloseCause None unit id old new = IsQuiet old new
+CloseCause (Some f) unit id old new = (f.call ≡ call.Closing) × (f.done ≡ 0) × IsFaultAt f unit id old new

@@ -1,0 +1,28 @@
+-- What contracts see of the files of units.
+use Rattle.std.specs.Prelude.{◌≡◌, List, Option, Some, None, option_map, string_bytes}
+use Rattle.host_files.specs.declared.files.FileId.{FileId}
+use Rattle.unit_trait.specs.declared.kind.UnitName.{UnitName}
+use Rattle.unit_files.specs.declared.slots.UnitFile.{UnitFile}
+use Rattle.unit_files.specs.Attachments.{Held, held_at, attachments_of, attachment_at}
+
+abbrev pub held_of : UnitFile → Held
+held_of f = record { file = f.file.0; attachment = record { name = string_bytes f.name; read_only = f.read_only } }
+
+abbrev pub slot_of : Option UnitFile → Option Held
+slot_of slot = option_map held_of slot
+
+-- the number of a unit's file, with all that is attached to it
+pub record HoldsFile (slots : List (Option Held)) (unit : UnitName) (id : FileId) : Type 0 where
+  pub held : Held
+  pub there : held_at slots unit ≡ Some held
+  pub number : held.file ≡ id.0
+  pub attachment : attachment_at (attachments_of slots) unit ≡ Some held.attachment
+
+-- nothing is attached to a unit
+pub record HoldsNone (slots : List (Option Held)) (unit : UnitName) : Type 0 where
+  pub there : held_at slots unit ≡ None
+  pub attachment : attachment_at (attachments_of slots) unit ≡ None
+
+abbrev pub Holds : List (Option Held) → UnitName → Option FileId → Type 0
+Holds slots unit (Some id) = HoldsFile slots unit id
+Holds slots unit None = HoldsNone slots unit

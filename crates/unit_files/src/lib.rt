@@ -1,0 +1,13 @@
+//! The files of units: what is attached to each, and what is done with it (SIMH Users' Guide, "Attaching Devices").
+#![tactic(auto)]
+
+pub mod attached;
+pub mod bytes;
+pub mod faults;
+pub mod modes;
+mod opening;
+mod slots;
+
+pub use attached::Attached;
+pub use faults::{AttachFault, ByteAnswer, DetachFault, UnitFault};
+pub use modes::AttachMode;
