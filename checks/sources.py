@@ -8,15 +8,15 @@ is passed over in silence.
 import re
 from dataclasses import dataclass, field
 
-WORD = r"[^\W\d]\w*"
+WORD = r"[^\W\d][\w']*"
 TOKEN = re.compile(rf'"(?:[^"\\]|\\.)*"|{WORD}(?:\.\w+)*|\d\w*|\.\w+|[(){{}};,]|[^\s\w(){{}};,"]+')
 USE = re.compile(
     r"^[ \t]*(?:pub |ghost )*use[ \t]+Rattle\.([\w.]+?)(?:\.\{([^}]*)\}|[ \t]+as[ \t]+(\w+))?[ \t]*;?[ \t]*$", re.M
 )
 DEFINES = re.compile(rf"(?:(?:abbrev|unfoldable|pub|opaque)[ ])*(?:(record|data)[ ]+({WORD})|(\S+)[ ]*:[ ])")
 # Words of the language, and the types that no file defines.
-KEYWORDS = {"record", "if", "then", "else", "let", "in", "do", "λ", "Type", "Unit", "where", "_"}
-SYMBOLS = {"=", ":", "→", "×", "⊥", "¬", ".", ";", ",", "-", "⊤"}
+KEYWORDS = {"record", "if", "then", "else", "let", "in", "do", "elim", "λ", "Type", "Unit", "where", "_"}
+SYMBOLS = {"=", ":", "→", "×", "⊥", "¬", ".", ";", ",", "-", "⊤", "[", "]", "|", "↦"}
 
 
 class SourceError(Exception):
@@ -154,6 +154,10 @@ def free_names(items, bound):
             while items[place] != ".":
                 found |= names_of_parameter(items[place], bound)
                 place += 1
+        elif item == "|":
+            end = items.index("↦", place)  # `| pattern ↦ expression`, in an `elim`
+            found |= names_of_pattern(items[place:end], bound)
+            place = end
         elif item == "let":
             lets.append(items[place])
             place += 1
@@ -179,6 +183,14 @@ def names_of_group(group, bound):
         # The fields of a record: `name = value`, with `;` between them.
         return set().union(*(free_names(part[2:], bound) for part in split(group[1:], ";")))
     return free_names(group[1:], bound)
+
+
+def names_of_pattern(items, bound):
+    """The constructors of a pattern, which have capitals. What it binds is added to `bound`."""
+    words = {word for word in flat(items) if is_word(word)}
+    constructors = {word for word in words if word.split(".")[-1][0].isupper()}
+    bound.update(words - constructors)
+    return constructors
 
 
 def names_of_parameter(item, bound):

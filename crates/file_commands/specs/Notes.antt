@@ -1,5 +1,9 @@
 -- The notes that commands on the files of units keep.
-use Rattle.std.specs.Prelude.{ℕ, List, [], ◌∷◌, Option, Some, None, Result, Ok, Err}
+use Rattle.std.specs.Prelude.{◌≡◌, ◌⊎◌, ℕ, Bool, IsTrue, List, [], ◌∷◌, Option, Some, None, Result, Ok, Err}
+use Rattle.fault_counts.specs.Faults.{Rose}
+use Rattle.host_files.specs.declared.files.FileCall.TheVariants.{Opening, Length}
+use Rattle.host_files.specs.State.{FileState}
+use Rattle.unit_trait.specs.declared.kind.UnitName.{UnitName}
 use Rattle.unit_files.specs.declared.faults.UnitFault.{UnitFault}
 use Rattle.unit_files.specs.declared.faults.AttachFault.{AttachFault}
 use Rattle.unit_files.specs.declared.faults.AttachFault.TheVariants as attach
@@ -37,6 +41,16 @@ kept_of stamp (Some f) = fault_note stamp f ∷ []
 abbrev pub own_of : ℕ → Option UnitFault → List CommandNote
 own_of time None = []
 own_of time (Some f) = own_note time f ∷ []
+
+-- a call that fails while a file is attached is that unit's, and it is an opening, or it asks for the length
+pub record IsAttachFault (unit : UnitName) (f : UnitFault) : Type 0 where
+  pub unit_is : f.unit ≡ unit
+  pub call_is : (f.call ≡ Opening) ⊎ (f.call ≡ Length)
+
+-- where names are not told, a file is missing only where the count of openings rose
+abbrev pub MissingCause : Bool → Result ℕ AttachFault → FileState → FileState → Type 0
+MissingCause tells (Err attach.NoFile) old new = (IsTrue tells → ⊥) → Rose old.open_faults new.open_faults
+MissingCause tells result old new = Unit {0}
 
 -- no unit holds anything of its file that could fail to be written
 abbrev pub HoldsNothing : Result (Option UnitFault) DetachFault → Type 0

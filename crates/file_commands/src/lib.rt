@@ -7,4 +7,4 @@ pub mod stamp;
 
 pub use all_units::{ATTACHABLE, detach_all};
 pub use one_unit::{attach_unit, detach_unit};
-pub use stamp::Stamp;
+pub use stamp::{Stamp, note_of};

@@ -2,12 +2,12 @@ ghost use Rattle.std.specs.Prelude.{◌≡◌, ◌<◌, ◌≤◌, ◌+◌, ◌+
 ghost use Rattle.host_files.specs.State.{Opened};
 ghost use Rattle.unit_files.specs.Attachments.{attachments_of, attachment_at, takes_attachment, longest_file, IsFileName};
 ghost use Rattle.unit_files.specs.Acts.{attach_said, attach_files, attached_by, detach_said, detached, refused_first};
-ghost use Rattle.unit_files.specs.Answers.{said_of_attach, said_of_detach};
+ghost use Rattle.unit_files.specs.Answers.{said_of_attach, said_of_detach, first_refusal, IfNoMemory};
 ghost use Rattle.unit_files.specs.Open.{AllOpen, Around};
 ghost use Rattle.fault_notes.specs.declared.note.Subject.TheVariants as subjects;
 ghost use Rattle.fault_notes.specs.Notes.{failure_now};
 ghost use Rattle.fault_notes.specs.Counts.{AreCounted};
-ghost use Rattle.file_commands.specs.Notes.{HoldsNothing, fault_of_attach, fault_of_detach, kept_of, own_of};
+ghost use Rattle.file_commands.specs.Notes.{IsAttachFault, MissingCause, HoldsNothing, fault_of_attach, fault_of_detach, kept_of, own_of};
 
 use crate::stamp::{Stamp, note_of};
 use fault_notes::{FaultNote, keep};
@@ -35,6 +35,7 @@ pub fn attach_unit<F: Files>(
     ensures said { IsTrue F.tells → IfSome (said_of_attach result) (λ said. said
         ≡ attach_said (failure_now stamp.time (subjects.Unit unit) (own_of stamp.time (fault_of_attach result))) mode unit
         name.now (attachments_of attached.old) (F.state files.old).files) }
+    ensures first { first_refusal result ≡ refused_first (attachment_at (attachments_of attached.old) unit) unit mode }
     ensures bound { IfOk result (λ n. n ≤ longest_file unit.kind) }
     ensures attached { IfSome (said_of_attach result) (λ said. attachments_of attached.new
         ≡ attached_by said mode unit name.now (attachments_of attached.old)) }
@@ -42,6 +43,9 @@ pub fn attach_unit<F: Files>(
     ensures files { IsTrue F.tells → IfSome (said_of_attach result) (λ said. (F.state files.new).files
         ≡ attach_files (failure_now stamp.time (subjects.Unit unit) (own_of stamp.time (fault_of_attach result))) mode unit
         name.now (attachments_of attached.old) (F.state files.old).files) }
+    ensures no_memory { IfNoMemory result ((F.state files.new).files ≡ (F.state files.old).files) }
+    ensures own { IfSome (fault_of_attach result) (IsAttachFault unit) }
+    ensures missing { MissingCause F.tells result (F.state files.old) (F.state files.new) }
     ensures notes { notes.new.items ≡ notes.old.items ++ kept_of stamp (fault_of_attach result) }
     ensures capacity { vec_capacity notes.old ≤ vec_capacity notes.new }
     ensures counted { AreCounted (kept_of stamp (fault_of_attach result)) (F.state files.old) (F.state files.new) }

@@ -1,1 +1,1 @@
-pub mod Machines
+pub mod Ends

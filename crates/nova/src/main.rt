@@ -3,21 +3,25 @@
 //! writes nothing to standard error.
 #![tactic(auto)]
 
-ghost use Rattle.std.specs.Prelude.{◌≡◌, ◌⊎◌, None, IfOk};
+ghost use Rattle.std.specs.Prelude.{◌≡◌, ◌⊎◌, None, IfOk, map};
+ghost use Rattle.nova_top.specs.Standard.{IsStandard};
 ghost use Rattle.std.specs.Process.{exit_status};
-ghost use Rattle.nova_top.specs.Outside.{options_of, texts_of};
+ghost use Rattle.nova_top.specs.Words.{options_of, texts_of};
 
 mod session;
 mod words;
 
 use clock_unit::Clk;
-use host_adapters::{ReaderSource, WriterSink};
+use host_adapters::{ReaderSource, RealFiles, WriterSink};
+use host_files::{Sink, Source};
 use paper_tape::{Lpt, Ptp, Ptr};
 use session::session;
 use std::alloc::AllocError as OutOfMemory;
 use std::env::Env;
 use std::io;
+use std::os::unix::fs::FileExt;
 use std::process::ExitCode;
+use std::rt::Files as System;
 use tty_units::{Tti, Tto};
 use unit_trait::Unit;
 
@@ -31,19 +35,24 @@ fn main(rt: HostRuntime) -> ExitCode {
     }
 }
 
-/// Runs a session over the runtime's words and standard streams.
-fn command_line_session<R: Env + Input + Print + AllocGlobal>(
+/// Runs a session over the runtime's words, standard streams and files.
+fn command_line_session<R: Env + Input + Print + AllocGlobal + System>(
     rt: &R,
-) -> Result<ExitCode, OutOfMemory> {
+) -> Result<ExitCode, OutOfMemory>
+where
+    R::File: FileExt,
+{
     let words = words::command_line(rt)?;
     standard_session(rt, words.as_slice())
 }
 
-/// Runs a session over these words and the runtime's standard streams, with a new unit of each kind that is built.
-fn standard_session<R: Input + Print + AllocGlobal>(
+/// Runs a session over these words and the runtime's standard streams and files, with a new unit of each kind that is built.
+fn standard_session<R: Input + Print + AllocGlobal + System>(
     rt: &R,
     words: &[String],
 ) -> Result<ExitCode, OutOfMemory>
+where
+    R::File: FileExt,
     ensures usage { IfOk result (λ code. exit_status code ≡ 100 → options_of (texts_of words.now) ≡ None) }
     ensures bad_words { options_of (texts_of words.now) ≡ None
         → IfOk result (λ code. (exit_status code ≡ 100) ⊎ (exit_status code ≡ 102)) }
@@ -57,5 +66,24 @@ fn standard_session<R: Input + Print + AllocGlobal>(
     units.push(Box::new(rt.alloc(), Clk::new())?)?;
     units.push(Box::new(rt.alloc(), Tti::new())?)?;
     units.push(Box::new(rt.alloc(), Tto::new())?)?;
-    Ok(session(rt.alloc(), words, units, &mut input, &mut output))
+    Ok(with_files(rt, words, units, &mut input, &mut output))
+}
+
+/// Runs a session with these units over any input and output, and the files of the system.
+fn with_files<U: Unit, C: Source, S: Sink, R: System + AllocGlobal>(
+    rt: &R,
+    words: &[String],
+    units: Vec<U>,
+    input: &mut C,
+    output: &mut S,
+) -> ExitCode
+where
+    R::File: FileExt,
+    requires { IsStandard (map U.unit_state units.items) }
+    ensures usage { exit_status result ≡ 100 → options_of (texts_of words.now) ≡ None }
+    ensures bad_words { options_of (texts_of words.now) ≡ None
+        → (exit_status result ≡ 100) ⊎ (exit_status result ≡ 102) }
+{
+    let mut files = RealFiles::new(rt.alloc(), rt);
+    session(rt.alloc(), words, units, input, output, &mut files)
 }

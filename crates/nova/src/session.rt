@@ -2,42 +2,47 @@ ghost use Rattle.std.specs.Prelude.{◌≡◌, ◌≢◌, map, None, IsTrue};
 ghost use Rattle.std.specs.Process.{exit_status};
 ghost use Rattle.fault_counts.specs.Faults.{Rose};
 ghost use Rattle.nova_top.specs.Standard.{IsStandard};
-ghost use Rattle.nova_top.specs.Outside.{options_of, texts_of};
-ghost use Rattle.nova_top.specs.Ends.{IsOutcome, IsCutShort, StatusCause, IsComplete};
-ghost use Rattle.nova.specs.Machines.{OfSomeMachine};
+ghost use Rattle.nova_top.specs.Words.{options_of, texts_of};
+ghost use Rattle.nova_top.specs.Ends.{IsOutcome, IsCutShort, StatusCause, IsComplete, NoneFailed};
+ghost use Rattle.nova.specs.Ends.{OfSomeEnd};
 
-use host_files::{Sink, Source};
+use host_files::{Files, Sink, Source};
 use nova_top::simulate;
 use std::alloc::Global;
 use std::process::ExitCode;
 use unit_trait::Unit;
 
-/// Runs a session over any input and output, with the standard units in whichever types. The exit code is the status that `simulate` has answered, so it keeps all
-/// that `simulate` promises of its status, the input and the console.
-pub fn session<U: Unit, C: Source, S: Sink>(
+/// Runs a session over any input, output and files, with the standard units in whichever types. The exit code is the status
+/// that `simulate` has answered, so it keeps all that `simulate` promises of its status, the input, the console and the
+/// files. The machine and the notes are let go.
+pub fn session<U: Unit, C: Source, S: Sink, F: Files>(
     alloc: Global,
     words: &[String],
     units: Vec<U>,
     input: &mut C,
     output: &mut S,
+    files: &mut F,
 ) -> ExitCode
     requires { IsStandard (map U.unit_state units.items) }
-    ensures outcome { IsTrue C.tells → IsTrue S.tells → exit_status result ≢ 103
-        → OfSomeMachine (λ machine. IsOutcome (texts_of words.now) (C.left input.old) (C.left input.new)
-        (S.written output.old) (S.written output.new) (exit_status result) machine) }
-    ensures memory { IsTrue C.tells → IsTrue S.tells → exit_status result ≡ 103
-        → OfSomeMachine (λ machine. IsCutShort (texts_of words.now) (C.left input.old) (C.left input.new)
-        (S.written output.old) (S.written output.new) machine) }
-    ensures complete { IsTrue C.tells → IsTrue S.tells → exit_status result ≢ 103
+    ensures outcome { IsTrue C.tells → IsTrue F.tells → IsTrue S.tells → exit_status result ≢ 103
+        → OfSomeEnd (λ machine notes. IsOutcome (texts_of words.now) (C.left input.old) (C.left input.new)
+        (S.written output.old) (S.written output.new) (F.state files.old).files (F.state files.new).files
+        (exit_status result) machine notes) }
+    ensures memory { IsTrue C.tells → IsTrue F.tells → IsTrue S.tells → exit_status result ≡ 103
+        → OfSomeEnd (λ machine notes. IsCutShort (texts_of words.now) (C.left input.old) (C.left input.new)
+        (S.written output.old) (S.written output.new) (F.state files.old).files (F.state files.new).files machine notes) }
+    ensures complete { IsTrue C.tells → IsTrue F.tells → IsTrue S.tells → exit_status result ≢ 103
         → (Rose (S.fault_count output.old) (S.fault_count output.new) → ⊥)
         → (Rose (C.fault_count input.old) (C.fault_count input.new) → ⊥)
-        → OfSomeMachine (λ machine. IsComplete (texts_of words.now) (C.left input.old) (C.left input.new)
-        (S.written output.old) (S.written output.new) (exit_status result) machine) }
+        → NoneFailed (F.state files.old) (F.state files.new)
+        → OfSomeEnd (λ machine notes. IsComplete (texts_of words.now) (C.left input.old) (C.left input.new)
+        (S.written output.old) (S.written output.new) (F.state files.old).files (F.state files.new).files
+        (exit_status result) machine) }
     ensures cause { StatusCause (texts_of words.now) (exit_status result) (S.fault_count output.old)
         (S.fault_count output.new) (C.fault_count input.old) (C.fault_count input.new) }
     ensures unread { options_of (texts_of words.now) ≡ None → input.new ≡ input.old }
 {
-    let ending = simulate(alloc, words, units, input, output);
+    let ending = simulate(alloc, words, units, input, output, files);
     ExitCode::from(ending.status)
 }
 

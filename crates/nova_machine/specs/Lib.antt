@@ -14,7 +14,6 @@ pub mod Turn
 pub mod Run
 pub mod Bursts
 pub mod Comes
-pub mod Alone
 pub mod Quiet
 pub mod Laws
 pub mod StopLaws

@@ -22,6 +22,10 @@ pub record MachineState : Type 0 where
   pub taken : ℕ
   pub slots : List (Option Held)
 
+-- the machine with that attached to its units
+abbrev pub with_slots : MachineState → List (Option Held) → MachineState
+with_slots m slots = record m { slots = slots }
+
 -- All devices are reset: the mask is cleared, no event waits, and each unit is reset, in bus order, which may bring an
 -- event of it.
 unfoldable pub reset_devices : MachineState → MachineState

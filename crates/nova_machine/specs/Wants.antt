@@ -1,6 +1,8 @@
 -- What the machine does for a unit whose event is due.
 use Rattle.std.specs.Prelude.{ℕ, ◌+◌, ◌<◌, ◌==◌, ◌≡◌, List, [], ◌∷◌, Option, Some, None, Result, Ok, Err, if◌then◌else◌}
 use Rattle.observations.specs.Observations.{Observation, Prints}
+use Rattle.host_files.specs.declared.files.FileCall.{FileCall}
+use Rattle.host_files.specs.declared.files.FileCall.TheVariants as call
 use Rattle.host_files.specs.Lists.{NamedBytes}
 use Rattle.unit_trait.specs.declared.kind.UnitName.{UnitName}
 use Rattle.unit_trait.specs.Kinds.{units_of}
@@ -85,9 +87,15 @@ stop_by unit unit_stop.NoFile = Some (UnitNone unit)
 abbrev pub file_stop : UnitName → Failure → Stop
 file_stop unit f = FileFault (record { unit = unit; file = None; call = f.call; done = f.done })
 
--- the unit that a stop names, if it names one, is a unit of its kind
+-- a run makes no other call on a file
+abbrev pub IsByteCall : FileCall → Type 0
+IsByteCall call.Read = Unit {0}
+IsByteCall call.Write = Unit {0}
+IsByteCall call = ⊥
+
+-- The unit that a stop names, if it names one, is a unit of its kind, and a call of a run is one on a byte.
 abbrev pub HasUnit : Stop → Type 0
 HasUnit (UnitEnd unit) = unit.unit < units_of unit.kind
 HasUnit (UnitNone unit) = unit.unit < units_of unit.kind
-HasUnit (FileFault f) = f.unit.unit < units_of f.unit.kind
+HasUnit (FileFault f) = (f.unit.unit < units_of f.unit.kind) × IsByteCall f.call
 HasUnit stop = Unit {0}

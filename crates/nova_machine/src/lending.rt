@@ -2,13 +2,16 @@ ghost use Rattle.std.specs.Prelude.{◌≡◌};
 
 use crate::machine::Machine;
 use nova_memory::Memory;
+use unit_files::Attached;
 use unit_trait::Unit;
 
 impl<U: Unit> Machine<U> {
     ghost use Rattle.std.specs.Borrow.{sem, Lends};
     ghost use Rattle.nova_memory.specs.contracts.memory.Memory.{the_row as memory_row};
     ghost use Rattle.nova_machine.specs.contracts.machine.Machine.{the_row};
+    ghost use Rattle.unit_files.specs.contracts.attached.Attached.{the_row as attached_row};
     ghost use Rattle.nova_machine.specs.Turn.{with_memory};
+    ghost use Rattle.nova_machine.specs.Machine.{with_slots};
 
     /// The machine's memory, to be changed as a person at the console or a loader does. It takes no time.
     pub fn memory_mut(&mut self) -> &mut Memory
@@ -16,5 +19,13 @@ impl<U: Unit> Machine<U> {
         ensures value { result.now ≡ self.old.processor.memory }
     {
         &mut self.processor.memory
+    }
+
+    /// The files of its units, to be attached and detached as a person at the console does. It takes no time.
+    pub fn attached_mut(&mut self) -> &mut Attached
+        ensures* writes_back { sem 𝓛 (Lends (the_row U.row U.Unit) attached_row self.entry result (with_slots self.old)) }
+        ensures value { result.now ≡ self.old.slots }
+    {
+        &mut self.attached
     }
 }

@@ -6,7 +6,6 @@ mod instruction_end;
 pub mod laws;
 mod lending;
 pub mod machine;
-mod no_files;
 mod registers;
 mod run;
 #[cfg(test)]

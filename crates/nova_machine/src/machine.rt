@@ -1,7 +1,9 @@
-ghost use Rattle.std.specs.Prelude.{◌≡◌, ◌≤◌, ◌<◌, ◌^◌, ◌↔◌, [], map, None, IfOk, IsOk, OnOk, OnErr};
+ghost use Rattle.std.specs.Prelude.{◌≡◌, ◌≤◌, ◌<◌, ◌^◌, ◌↔◌, List, [], map, None, IfOk, IsOk, OnOk, OnErr};
 ghost use Rattle.event_queue.specs.EventList.{due};
 ghost use Rattle.unit_list.specs.Bus.{AllFit, kinds_of};
 ghost use Rattle.unit_list.specs.Reset.{reset_units, reset_events};
+ghost use Rattle.host_files.specs.State.{Opened};
+ghost use Rattle.unit_files.specs.Open.{AllOpen, Around};
 ghost use Rattle.nova_machine.specs.Core.{AreListed};
 ghost use Rattle.nova_machine.specs.Run.{last_time};
 
@@ -75,9 +77,8 @@ pub struct Machine<U: Unit> {
     pub(crate) quiet: bool,
     /// How many keys were taken.
     pub(crate) taken: u64,
-    /// The files of its units: none, until they can be attached.
+    /// The files of its units.
     pub(crate) attached: Attached,
-    pub(crate) alloc: Global,
 }
 
 impl<U: Unit> Model for Machine<U> {
@@ -86,7 +87,6 @@ impl<U: Unit> Model for Machine<U> {
     ghost use Rattle.nova_machine.specs.Core.{AreListed};
     ghost use Rattle.nova_machine.specs.Machine.{MachineState};
     ghost use Rattle.nova_machine.specs.Quiet.{IsQuiet};
-    ghost use Rattle.nova_machine.specs.Comes.{AreFree};
     ghost use Rattle.nova_machine.specs.Run.{last_time};
 
     ghost Value = { MachineState };
@@ -104,7 +104,7 @@ impl<U: Unit> Model for Machine<U> {
     } };
 
     ghost invariant = { λ m. (m.time ≤ last_time) × IsQuiet m.quiet m.ints (map U.unit_state m.units.items)
-        × AllFit (map U.unit_state m.units.items) × AreListed (kinds_of (map U.unit_state m.units.items)) m.events × AreFree m.attached };
+        × AllFit (map U.unit_state m.units.items) × AreListed (kinds_of (map U.unit_state m.units.items)) m.events };
 }
 
 impl<U: Unit> Machine<U> {
@@ -119,7 +119,9 @@ impl<U: Unit> Machine<U> {
     #[tactic(auto, unfolding(crate::specs::Machine::new_machine))]
     pub fn new(alloc: Global, units: Vec<U>) -> Result<Machine<U>, AllocError>
         requires { IsBusOrder (map U.unit_state units.items) }
-        ensures { IfOk result (λ m. m ≡ new_machine (map U.unit_state units.items)) }
+        ensures machine { IfOk result (λ m. m ≡ new_machine (map U.unit_state units.items)) }
+        ensures open { IfOk result (λ m. (opened : List Opened) → AllOpen m.slots opened) }
+        ensures around { IfOk result (λ m. (opened : List Opened) → Around m.slots opened opened) }
     {
         all_fit(units.as_slice());
         let mut machine = Machine {
@@ -133,7 +135,6 @@ impl<U: Unit> Machine<U> {
             quiet: false,
             taken: 0,
             attached: Attached::new(alloc)?,
-            alloc,
         };
         machine.reset();
         Ok(machine)
@@ -215,10 +216,11 @@ impl<U: Unit> Machine<U> {
 
     /// Resets the machine: interrupts go off and wait for no instruction, the interrupt mask is cleared, no event waits,
     /// and each unit is reset, in bus order, which brings the events that a reset wishes. PC, the accumulators, carry,
-    /// the switch register, STOP_DEV, memory and time stay.
+    /// the switch register, STOP_DEV, memory, time and the files of its units stay.
     #[tactic(auto, unfolding(crate::specs::Machine::reset_machine))]
     pub fn reset(&mut self)
-        ensures { self.new ≡ reset_machine self.old }
+        ensures machine { self.new ≡ reset_machine self.old }
+        ensures slots { self.new.slots ≡ self.old.slots }
     {
         self.reset_devices();
         self.ints.reset();
@@ -230,6 +232,7 @@ impl<U: Unit> Machine<U> {
         ensures machine { self.new ≡ reset_devices self.old }
         ensures none { due self.new.events ≡ None }
         ensures time { self.new.time ≡ self.old.time }
+        ensures slots { self.new.slots ≡ self.old.slots }
     {
         self.quiet = false;
         self.ints.mask_out(0);

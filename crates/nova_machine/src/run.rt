@@ -4,7 +4,6 @@ ghost use Rattle.nova_machine.specs.Notes.{run_note};
 ghost use Rattle.nova_machine.specs.Wants.{HasUnit};
 
 use crate::machine::{Machine, RunLimit, Stop, Turn};
-use crate::no_files::NoFiles;
 use expect_actions::Keys;
 use host_files::{Files, Sink};
 use nova_processor::Step;
@@ -32,10 +31,9 @@ impl RunLimit {
 
 impl<U: Unit> Machine<U> {
     ghost use Rattle.nova_machine.specs.Seen.{seen};
-    ghost use Rattle.nova_machine.specs.Comes.{Comes, AreTold, StopCounts, FileCause};
+    ghost use Rattle.nova_machine.specs.Comes.{Comes, AreTold, AreFree, StopCounts, FileCause};
     ghost use Rattle.unit_files.specs.Open.{AllOpen};
     ghost use Rattle.nova_machine.specs.Run.{run};
-    ghost use Rattle.nova_machine.specs.Alone.{alone};
 
     /// Makes turns until one stops, the count of the limit is reached, or time ends, and answers which. The instruction
     /// of a HALT counts; one that stopped as `ChainLimit` or `UnknownDevice` does not, and PC stays there.
@@ -74,18 +72,6 @@ impl<U: Unit> Machine<U> {
             }
         }
         limit.expired()
-    }
-
-    /// A run of a machine to whose units no file is attached, and for which no key is typed.
-    pub fn run_alone<S: Sink>(&mut self, limit: RunLimit, out: &mut S) -> Stop
-        ensures told { Comes (run None limit.step limit.count (alone self.old)) (Some result) (alone self.new) S.tells
-            (S.written out.old) (S.written out.new) }
-        ensures plain { bare (Some result) ≡ Some result }
-        ensures counts { StopCounts (Some result) (S.fault_count out.old) (S.fault_count out.new) }
-        ensures unit { HasUnit result }
-    {
-        let keys = Keys::none(self.alloc);
-        self.run(limit, &keys, &mut NoFiles { open: false }, out)
     }
 }
 

@@ -6,15 +6,15 @@ ghost use Rattle.unit_trait.specs.declared.kind.Kind.TheVariants.{Clk as clock, 
 ghost use Rattle.unit_trait.specs.Row.{initial_unit};
 
 use crate::machine::{Machine, RunLimit, Stop, Turn};
-use crate::no_files::NoFiles;
 use clock_unit::Clk;
 use expect_actions::Keys;
-use host_files::{ByteSink, Sink};
+use host_files::{ByteSink, MemFiles, Sink};
 use nova_word::{Addr, Word};
-use std::alloc::Global;
+use std::alloc::{AllocError, Global};
 use std::process::Abort;
 use std::test::Fail;
 use tty_units::{Tti, Tto};
+use unit_files::Attached;
 use unit_trait::{CpuReg, Kind, RegFault, Unit, UnitName};
 
 /// The numbers of registers of devices.
@@ -113,12 +113,30 @@ pub fn step(count: u64) -> RunLimit {
 }
 
 impl<U: Unit> Machine<U> {
-    /// A turn of a machine to whose units no file is attached, and for which no key is typed.
-    pub fn turn_alone<S: Sink>(&mut self, first: bool, out: &mut S) -> Turn
+    /// A turn, with no file attached, and for which no key is typed.
+    pub fn turn_alone<S: Sink>(
+        &mut self,
+        alloc: Global,
+        first: bool,
+        out: &mut S,
+    ) -> Result<Turn, AllocError>
         requires { self.old.time < last_time }
     {
-        let keys = Keys::none(self.alloc);
-        self.turn(first, &keys, &mut NoFiles { open: false }, out)
+        self.attached = Attached::new(alloc)?;
+        let mut files = MemFiles::with_room(alloc, 0)?;
+        Ok(self.turn(first, &Keys::none(alloc), &mut files, out))
+    }
+
+    /// A run, with no file attached, and for which no key is typed.
+    pub fn run_free<S: Sink>(
+        &mut self,
+        alloc: Global,
+        limit: RunLimit,
+        out: &mut S,
+    ) -> Result<Stop, AllocError> {
+        self.attached = Attached::new(alloc)?;
+        let mut files = MemFiles::with_room(alloc, 0)?;
+        Ok(self.run(limit, &Keys::none(alloc), &mut files, out))
     }
 }
 
@@ -177,7 +195,7 @@ fn play<U: Unit>(rt: &impl Abort, alloc: Global, units: Vec<U>, case: Case) -> R
     }
     let mut console = ByteSink::with_room(alloc, case.room)?;
     for act in case.acts {
-        does(rt, &mut machine, *act, &mut console)?;
+        does(rt, alloc, &mut machine, *act, &mut console)?;
     }
     let word = case.words.first().copied().unwrap_or(0);
     assert_eq!(rt; machine.time(), case.time, "{word:o}");
@@ -247,16 +265,17 @@ fn named(values: Values, wanted: Place) -> Option<u32> {
 
 fn does<U: Unit>(
     rt: &impl Abort,
+    alloc: Global,
     machine: &mut Machine<U>,
     act: Act,
     console: &mut ByteSink,
-) -> Result<(), RegFault> {
+) -> Result<(), Fail> {
     match act {
         Act::Turn(turn) => {
             assert!(rt; machine.time() < 1 << 60);
-            assert_eq!(rt; machine.turn_alone(true, console), turn);
+            assert_eq!(rt; machine.turn_alone(alloc, true, console)?, turn);
         }
-        Act::Run(limit, stop) => assert_eq!(rt; machine.run_alone(limit, console), stop),
+        Act::Run(limit, stop) => assert_eq!(rt; machine.run_free(alloc, limit, console)?, stop),
         Act::Reset => machine.reset(),
         Act::Put(place, value) => put(machine, place, value)?,
         Act::Time(time) => {

@@ -1,3 +1,4 @@
 pub mod OutsideLemmas
 pub mod WordsLemmas
 pub mod StandardLemmas
+pub mod ProgramLemmas

@@ -1,5 +1,6 @@
 pub mod Counts
 pub mod Standard
+pub mod Words
 pub mod Outside
 pub mod Ends
 pub mod Laws

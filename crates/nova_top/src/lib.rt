@@ -2,6 +2,7 @@
 #![tactic(auto)]
 
 mod counts;
+mod keys;
 pub mod laws;
 mod options;
 pub mod program;

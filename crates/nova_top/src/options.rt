@@ -5,6 +5,19 @@ pub struct Options {
     pub prompt: bool,
     /// How many instructions a run may execute, from 1 to 2^48.
     pub limit: u64,
+    /// Which of the words, counted from 0, names the keys file.
+    pub keys: Option<usize>,
+}
+
+/// What the word before asks the next one to be.
+#[derive(Clone, Copy, Debug, PartialEq, Eq)]
+pub enum Wanted {
+    /// An option.
+    Option,
+    /// The limit of `-l`.
+    Limit,
+    /// The file of `-k`.
+    Keys,
 }
 
 /// What the words up to some place chose.
@@ -12,6 +25,6 @@ pub struct Options {
 pub struct Choices {
     pub quiet: bool,
     pub limit: Option<u64>,
-    /// The word before was `-l`, so the next one is a limit.
-    pub wants_limit: bool,
+    pub keys: Option<usize>,
+    pub wanted: Wanted,
 }

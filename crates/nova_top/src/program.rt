@@ -1,18 +1,28 @@
-ghost use Rattle.std.specs.Prelude.{◌≡◌, ◌≢◌, map, None, IsTrue};
-ghost use Rattle.fault_counts.specs.Faults.{Rose};
-ghost use Rattle.scp_commands.specs.Live.{live_of};
-ghost use Rattle.scp_script.specs.Loop.{FinishCause};
-ghost use Rattle.scp_script.specs.Perform.{IsSession};
+ghost use Rattle.std.specs.Prelude.{◌≡◌, ◌≢◌, List, [], map, None, IsTrue, IsSome, string_bytes};
+ghost use Rattle.fault_counts.specs.Faults.{Rose, CountsFault};
+ghost use Rattle.host_files.specs.Streams.{Puts};
+ghost use Rattle.host_files.specs.State.{Opened};
+ghost use Rattle.unit_files.specs.Open.{AllOpen, Around};
+ghost use Rattle.fault_notes.specs.Notes.{notes_said};
+ghost use Rattle.fault_notes.specs.Counts.{AreCounted};
+ghost use Rattle.nova_machine.specs.Seen.{seen};
+ghost use Rattle.scp_script.specs.Loop.{FinishCause, AreKept};
+ghost use Rattle.scp_script.specs.Perform.{Performed};
 ghost use Rattle.nova_top.specs.Standard.{IsStandard};
-ghost use Rattle.nova_top.specs.Outside.{options_of, session_with, texts_of};
-ghost use Rattle.nova_top.specs.Ends.{IsOutcome, IsCutShort, StatusCause, MachineThere, IsComplete};
-ghost use Rattle.nova_top.specs.Program.{IsUsage, UsageCause, SessionEnds};
+ghost use Rattle.nova_top.specs.Words.{texts_of};
+ghost use Rattle.nova_top.specs.Outside.{session_with, usage_text, bad_keys_text};
+ghost use Rattle.nova_top.specs.Ends.{IsOutcome, IsCutShort, StatusCause, MachineThere, IsComplete, FilesAtEnd, NoneFailed};
+ghost use Rattle.nova_top.specs.Program.{IsRefused, RefusedCause, SessionEnds};
+ghost use Rattle.nova_top.specs.Program.{KeysAreRefused, KeysRefusedCause, status_printed};
 
+use crate::keys::{Refusal, take_keys};
 use crate::options::Options;
 use crate::words::options_of;
-use host_files::{Sink, Source, put_all};
+use expect_actions::Keys;
+use host_files::{Failed, Files, Sink, Source, put_all, put_pieces};
+use itoa::Buffer;
 use nova_machine::Machine;
-use scp_commands::Session;
+use scp_commands::{FaultNote, Session};
 use scp_script::{Opening, perform};
 use std::alloc::Global;
 use unit_trait::Unit;
@@ -27,94 +37,176 @@ const USAGE: &[u8] =
 /// How the program ended.
 #[derive(Drop)]
 pub struct Ending<U: Unit> {
-    /// The exit status of the process: 0 to 99, 100, 102, 103, 104 or 106.
+    /// The exit status of the process: 0 to 99, 100 to 106.
     pub status: u8,
-    /// The machine as it was left, where there was one.
+    /// The machine as it was left, where there was one. Files that are still attached to it are still open.
     pub machine: Option<Machine<U>>,
+    /// The calls on files that failed, in order, but for the closing that a refused ATTACH makes.
+    pub faults: Vec<FaultNote>,
 }
 
-/// The whole program, over the words, the units, the input and the console that are handed in. The units are the standard
-/// ones (`is_standard`); the program is the same over whichever types they have, so they may be boxes.
-pub fn simulate<U: Unit, C: Source, S: Sink>(
+/// The whole program, over the words, the units, the input, the console and the files that are handed in. The units are the
+/// standard ones (`is_standard`); the program is the same over whichever types they have, so they may be boxes.
+///
+/// The keys file of `-k` is read before the session begins. Files that are attached at the end of the input, or at EXIT, are
+/// closed; at any other end they stay open.
+pub fn simulate<U: Unit, C: Source, S: Sink, F: Files>(
     alloc: Global,
     words: &[String],
     units: Vec<U>,
     input: &mut C,
     output: &mut S,
+    files: &mut F,
 ) -> Ending<U>
     requires { IsStandard (map U.unit_state units.items) }
-    ensures outcome { IsTrue C.tells → IsTrue S.tells → result.status ≢ 103
+    ensures outcome { IsTrue C.tells → IsTrue F.tells → IsTrue S.tells → result.status ≢ 103
         → IsOutcome (texts_of words.now) (C.left input.old) (C.left input.new) (S.written output.old)
-        (S.written output.new) result.status result.machine }
-    ensures memory { IsTrue C.tells → IsTrue S.tells → result.status ≡ 103
+        (S.written output.new) (F.state files.old).files (F.state files.new).files result.status result.machine
+        (notes_said result.faults.items) }
+    ensures memory { IsTrue C.tells → IsTrue F.tells → IsTrue S.tells → result.status ≡ 103
         → IsCutShort (texts_of words.now) (C.left input.old) (C.left input.new) (S.written output.old)
-        (S.written output.new) result.machine }
-    ensures complete { IsTrue C.tells → IsTrue S.tells → result.status ≢ 103
+        (S.written output.new) (F.state files.old).files (F.state files.new).files result.machine
+        (notes_said result.faults.items) }
+    ensures complete { IsTrue C.tells → IsTrue F.tells → IsTrue S.tells → result.status ≢ 103
         → (Rose (S.fault_count output.old) (S.fault_count output.new) → ⊥)
         → (Rose (C.fault_count input.old) (C.fault_count input.new) → ⊥)
+        → NoneFailed (F.state files.old) (F.state files.new)
         → IsComplete (texts_of words.now) (C.left input.old) (C.left input.new) (S.written output.old)
-        (S.written output.new) result.status result.machine }
+        (S.written output.new) (F.state files.old).files (F.state files.new).files result.status result.machine }
     ensures cause { StatusCause (texts_of words.now) result.status (S.fault_count output.old) (S.fault_count output.new)
         (C.fault_count input.old) (C.fault_count input.new) }
+    ensures notes { AreCounted result.faults.items (F.state files.old) (F.state files.new) }
     ensures machine { MachineThere (texts_of words.now) result.status result.machine }
-    ensures unread { options_of (texts_of words.now) ≡ None → input.new ≡ input.old }
+    ensures files { FilesAtEnd result.machine (F.state files.old).opened (F.state files.new).opened }
+    ensures unread { result.machine ≡ None → input.new ≡ input.old }
 {
     let Some(options) = options_of(words) else {
-        return usage(output);
+        return usage(alloc, output);
     };
-    let Ok(machine) = Machine::new(alloc, units) else {
+    let Ok(mut session) = Session::new(alloc, units, Keys::none(alloc), options.limit) else {
         return Ending {
             status: 103,
             machine: None,
+            faults: Vec::new(alloc),
         };
     };
-    session(machine, options, input, output)
+    if let Some(place) = options.keys {
+        match take_keys(alloc, &words[place], files, &mut session.notes) {
+            Ok(keys) => session.keys = keys,
+            Err(refusal) => return refuse_keys(&words[place], refusal, session.notes, output),
+        }
+    }
+    lines(alloc, session, options, input, output, files)
 }
 
 /// Answers words outside their grammar.
-fn usage<U: Unit, S: Sink>(output: &mut S) -> Ending<U>
-    ensures told { IsTrue S.tells → IsUsage result.status (S.written output.old) (S.written output.new) }
-    ensures cause { UsageCause result.status (S.fault_count output.old) (S.fault_count output.new) }
+fn usage<U: Unit, S: Sink>(alloc: Global, output: &mut S) -> Ending<U>
+    ensures told { IsTrue S.tells
+        → IsRefused 100 usage_text result.status (S.written output.old) (S.written output.new) }
+    ensures cause { RefusedCause 100 result.status (S.fault_count output.old) (S.fault_count output.new) }
     ensures machine { result.machine ≡ None }
+    ensures notes { result.faults.items ≡ [] }
 {
-    let status = match put_all(output, USAGE) {
-        Ok(()) => 100,
-        Err(_) => 102,
+    let printed = put_all(output, USAGE);
+    refused(printed, 100, Vec::new(alloc))
+}
+
+/// Answers a keys file that was refused.
+fn refuse_keys<U: Unit, S: Sink>(
+    name: &String,
+    refusal: Refusal,
+    notes: Vec<FaultNote>,
+    output: &mut S,
+) -> Ending<U>
+    ensures told { IsTrue S.tells → KeysAreRefused (string_bytes name.now) refusal result.status (S.written output.old)
+        (S.written output.new) }
+    ensures cause { KeysRefusedCause refusal result.status (S.fault_count output.old) (S.fault_count output.new) }
+    ensures machine { result.machine ≡ None }
+    ensures notes { result.faults.items ≡ notes.items }
+{
+    match refusal {
+        Refusal::Unopened => {
+            let printed = put_pieces(output, &[b"Cannot open ", name.as_bytes(), b"\n"]);
+            refused(printed, 101, notes)
+        }
+        Refusal::BadKeys(place) => {
+            let printed = put_bad_keys(place, output);
+            refused(printed, 105, notes)
+        }
+        Refusal::OutOfMemory => Ending {
+            status: 103,
+            machine: None,
+            faults: notes,
+        },
+    }
+}
+
+/// Prints the place of the first faulty line of a keys file, in decimal.
+fn put_bad_keys<S: Sink>(place: usize, output: &mut S) -> Result<(), Failed>
+    ensures told { IsTrue S.tells
+        → Puts (S.written output.old) (bad_keys_text place) result (S.written output.new) }
+    ensures counts { CountsFault (S.fault_count output.old) (S.fault_count output.new) result }
+{
+    let mut buffer = Buffer::new();
+    put_pieces(
+        output,
+        &[b"Bad keys file at ", buffer.format(place).as_bytes(), b"\n"],
+    )
+}
+
+/// The end with that status, if its text was printed.
+fn refused<U: Unit>(printed: Result<(), Failed>, status: u8, notes: Vec<FaultNote>) -> Ending<U>
+    ensures status { result.status ≡ status_printed printed status }
+    ensures machine { result.machine ≡ None }
+    ensures notes { result.faults.items ≡ notes.items }
+{
+    let status = match printed {
+        Ok(()) => status,
+        Err(Failed) => 102,
     };
     Ending {
         status,
         machine: None,
+        faults: notes,
     }
 }
 
-/// A session with a new machine.
+/// The lines of a session.
 #[tactic(auto, unfolding(crate::specs::Outside::session_with))]
-fn session<U: Unit, C: Source, S: Sink>(
-    machine: Machine<U>,
+fn lines<U: Unit, C: Source, S: Sink, F: Files>(
+    alloc: Global,
+    session: Session<U>,
     options: Options,
     input: &mut C,
     output: &mut S,
+    files: &mut F,
 ) -> Ending<U>
+    requires command { session.command ≡ 0 }
+    requires limit { session.limit ≡ options.limit }
+    requires open { AllOpen session.machine.slots (F.state files.old).opened }
     ensures ended { SessionEnds result.status result.machine
-        (λ finish now. IsTrue C.tells → IsTrue S.tells → IsSession
-        (session_with machine options (C.left input.old)) finish (live_of now)
-        (C.left input.new) (S.written output.old) (S.written output.new))
+        (λ finish now. IsTrue C.tells → IsTrue F.tells → IsTrue S.tells → Performed
+        (λ notes. session_with session.machine session.keys options (F.state files.old).files (C.left input.old) notes)
+        finish (seen session.keys (F.state files.new).files now) (C.left input.new) (S.written output.old)
+        (S.written output.new) (notes_said session.notes) (notes_said result.faults.items))
         (λ finish. FinishCause finish (S.fault_count output.old) (S.fault_count output.new) (C.fault_count input.old)
         (C.fault_count input.new)) }
+    ensures keeps { AreKept session.notes result.faults.items (F.state files.old) (F.state files.new) }
+    ensures files { (base : List Opened) → Around session.machine.slots base (F.state files.old).opened
+        → FilesAtEnd result.machine base (F.state files.new).opened }
+    ensures there { IsSome result.machine }
 {
-    let mut session = Session {
-        machine,
-        limit: options.limit,
-    };
+    let mut session = session;
     let opening = Opening {
         prompt: options.prompt,
         budget: WHOLE_BUDGET,
     };
-    let finish = perform(&mut session, &opening, input, output);
-    let Session { machine, limit: _ } = session;
+    let finish = perform(alloc, &mut session, &opening, input, files, output);
+    let Session { machine, notes, .. } = session;
     Ending {
         status: finish.status(),
         machine: Some(machine),
+        faults: notes,
     }
 }
 

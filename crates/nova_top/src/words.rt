@@ -1,22 +1,29 @@
-ghost use Rattle.std.specs.Prelude.{◌≡◌, nat_eq, [], ◌∷◌, slice_index, codes, bytes_eq, string_bytes};
-ghost use Rattle.nova_top.specs.Outside.{limit_of, next_choice, all_chosen, options_of, texts_of};
+ghost use Rattle.std.specs.Prelude.{◌≡◌, ◌+◌, ◌<◌, ◌^◌, nat_eq, slice_index, codes, bytes_eq, string_bytes, length, IfSome};
+ghost use Rattle.nova_top.specs.Words.{limit_of, is_file_name, next_choice, chosen_option, all_chosen, options_of, texts_of};
+ghost use Rattle.nova_top.specs.Words.{KeysAreNamed};
 
 use crate::counts::read_count;
-use crate::options::{Choices, Options};
+use crate::options::{Choices, Options, Wanted};
 use scp_commands::MOST_INSTRUCTIONS;
 
-/// What the words choose, where they are in their grammar: `-q` and `-l instructions`, in any order, each at most once.
-#[tactic(auto, unfolding(crate::specs::Outside::options_of))]
+/// How many bytes the name of a file has at most.
+const LONGEST_NAME: usize = 255;
+
+/// What the words choose, where they are in their grammar: `-q`, `-l instructions` and `-k keysfile`, in any order, each
+/// at most once.
+#[tactic(auto, unfolding(crate::specs::Words::options_of))]
 pub fn options_of(words: &[String]) -> Option<Options>
-    ensures { result ≡ options_of (texts_of words.now) }
+    ensures options { result ≡ options_of (texts_of words.now) }
+    ensures named { IfSome result (KeysAreNamed (texts_of words.now)) }
 {
     let mut choices = Choices {
         quiet: false,
         limit: None,
-        wants_limit: false,
+        keys: None,
+        wanted: Wanted::Option,
     };
-    for word in words {
-        match next_choice(choices, word) {
+    for place in 0..words.len() {
+        match next_choice(choices, place, &words[place]) {
             Some(next) => choices = next,
             None => return None,
         }
@@ -24,36 +31,54 @@ pub fn options_of(words: &[String]) -> Option<Options>
     all_chosen(choices)
 }
 
-/// What the words chose, with one more.
-#[tactic(auto, unfolding(crate::specs::Outside::next_choice))]
-fn next_choice(choices: Choices, word: &String) -> Option<Choices>
-    ensures { result ≡ next_choice choices (string_bytes word.now) }
+/// What the words chose, with one more, which stands at that place.
+#[tactic(auto, unfolding(crate::specs::Words::next_choice))]
+fn next_choice(choices: Choices, place: usize, word: &String) -> Option<Choices>
+    ensures { result ≡ next_choice place choices (string_bytes word.now) }
 {
-    let Choices {
-        quiet,
-        limit,
-        wants_limit,
-    } = choices;
-    if wants_limit {
-        match limit_of(word) {
-            Some(number) => Some(Choices {
-                quiet,
-                limit: Some(number),
-                wants_limit: false,
+    match choices.wanted {
+        Wanted::Option => chosen_option(choices, word),
+        Wanted::Limit => match limit_of(word) {
+            Some(limit) => Some(Choices {
+                limit: Some(limit),
+                wanted: Wanted::Option,
+                ..choices
             }),
             None => None,
+        },
+        Wanted::Keys => {
+            if is_file_name(word) {
+                Some(Choices {
+                    keys: Some(place),
+                    wanted: Wanted::Option,
+                    ..choices
+                })
+            } else {
+                None
+            }
         }
-    } else if is_quiet(word) && !quiet {
+    }
+}
+
+/// The same where an option is wanted.
+#[tactic(auto, unfolding(crate::specs::Words::chosen_option))]
+fn chosen_option(choices: Choices, word: &String) -> Option<Choices>
+    ensures { result ≡ chosen_option choices (string_bytes word.now) }
+{
+    if is_word(word, b"-q") && !choices.quiet {
         Some(Choices {
             quiet: true,
-            limit,
-            wants_limit: false,
+            ..choices
         })
-    } else if is_limit(word) && limit.is_none() {
+    } else if is_word(word, b"-l") && choices.limit.is_none() {
         Some(Choices {
-            quiet,
-            limit,
-            wants_limit: true,
+            wanted: Wanted::Limit,
+            ..choices
+        })
+    } else if is_word(word, b"-k") && choices.keys.is_none() {
+        Some(Choices {
+            wanted: Wanted::Keys,
+            ..choices
         })
     } else {
         None
@@ -61,36 +86,37 @@ fn next_choice(choices: Choices, word: &String) -> Option<Choices>
 }
 
 /// What all words chose, where none is missing.
-#[tactic(auto, unfolding(crate::specs::Outside::all_chosen))]
+#[tactic(auto, unfolding(crate::specs::Words::all_chosen))]
 fn all_chosen(choices: Choices) -> Option<Options>
     ensures { result ≡ all_chosen choices }
 {
-    if choices.wants_limit {
-        None
-    } else {
-        Some(Options {
+    match choices.wanted {
+        Wanted::Option => Some(Options {
             prompt: !choices.quiet,
             limit: choices.limit.unwrap_or(MOST_INSTRUCTIONS),
-        })
+            keys: choices.keys,
+        }),
+        Wanted::Limit | Wanted::Keys => None,
     }
 }
 
-/// The word that turns the prompt off.
-fn is_quiet(word: &String) -> bool
-    ensures { result ≡ bytes_eq (string_bytes word.now) (codes "-q") }
+/// Whether a word has these bytes.
+fn is_word(word: &String, bytes: &[u8]) -> bool
+    ensures { result ≡ bytes_eq (string_bytes word.now) bytes.now }
 {
-    word.as_bytes() == b"-q".as_slice()
+    word.as_bytes() == bytes
 }
 
-/// The word before a limit.
-fn is_limit(word: &String) -> bool
-    ensures { result ≡ bytes_eq (string_bytes word.now) (codes "-l") }
+/// Whether a file can have that name: it has 1 to 255 bytes.
+fn is_file_name(word: &String) -> bool
+    ensures { result ≡ is_file_name (string_bytes word.now) }
 {
-    word.as_bytes() == b"-l".as_slice()
+    let count = word.as_bytes().len();
+    1 <= count && count <= LONGEST_NAME
 }
 
 /// A limit of instructions, from 1 to 2^48, without a leading zero.
-#[tactic(auto, unfolding(crate::specs::Outside::limit_of))]
+#[tactic(auto, unfolding(crate::specs::Words::limit_of))]
 fn limit_of(word: &String) -> Option<u64>
     ensures { result ≡ limit_of (string_bytes word.now) }
 {

@@ -1,10 +1,16 @@
 -- What holds of every command: it reads nothing, the status of an exit is small, and one that is refused has changed
--- nothing.
+-- nothing but files.
 use Rattle.std.proofs.Common.{◌≡◌, ℕ, Bool, true, false, List, [], ◌∷◌, refl, sym, subst, ◌∙◌, Option, Some, None, Ok, Err, if◌then◌else◌, nat_le, ◌&&◌, ◌^◌, min, unwrap_or, arith}
 use Rattle.std.proofs.lemmas.Bool.{leb-true}
 use Rattle.observations.specs.Observations.{Prints, reads_of, map_made}
 use Rattle.observations.proofs.MadeLemmas.{reads_of-append, reads_of-map}
-use Rattle.nova_machine.specs.Alone.{alone}
+use Rattle.unit_trait.specs.declared.kind.UnitName.{UnitName}
+use Rattle.unit_files.specs.declared.modes.AttachMode.{AttachMode}
+use Rattle.unit_files.specs.Acts.{Failure, AttachSaid, Attached, UnitHasFile, OnlyWrites, NotThere, TooLong, CallFailed, DetachSaid, HadNone, Detached}
+use Rattle.unit_files.specs.Acts.{attach_said, detach_said}
+use Rattle.fault_notes.specs.declared.note.Subject.TheVariants as subject
+use Rattle.fault_notes.specs.Notes.{CommandNote, failure_now}
+use Rattle.nova_machine.specs.Seen.{attached_in}
 use Rattle.nova_machine.specs.Run.{run}
 use Rattle.nova_machine.proofs.NoReads.{run-reads}
 use Rattle.nova_machine.specs.declared.machine.Stop.{Stop}
@@ -18,34 +24,46 @@ use Rattle.scp_examine.specs.Effect.{examine_fault, fault_of_deposit}
 use Rattle.scp_commands.specs.declared.next.Next.TheVariants.{Go, Ran, Exit}
 use Rattle.scp_commands.specs.declared.fault.CommandFault.{CommandFault}
 use Rattle.scp_commands.specs.declared.fault.CommandFault.TheVariants.{OutOfRange}
-use Rattle.scp_commands.specs.Live.{Live, with_seen}
+use Rattle.scp_commands.specs.Live.{Live, Standing, standing, with_machine}
 use Rattle.scp_commands.specs.Reply.{Answer, Reply, goes, says, refused}
 use Rattle.scp_commands.specs.Doing.{Does, IsExitAnswer}
-use Rattle.scp_commands.specs.RunEffects.{stop_line, run_answer, ran, address_fits, started, run_from, stepped, step_of, reset_reply}
+use Rattle.scp_commands.specs.RunEffects.{stop_line, run_answer, used_by, run_failure, ran, address_fits, started, run_from, stepped, step_of, reset_reply}
 use Rattle.scp_commands.specs.ListEffects.{lacks_device, examine_after, examine_reply, handed, deposit_after, deposit_reply}
+use Rattle.scp_commands.specs.FileEffects.{lacks_unit, mode_of, attach_answer, attached_machine, attach_with, attach_reply}
+use Rattle.scp_commands.specs.FileEffects.{detach_answer, detach_used, detached_machine, detach_with, detach_reply, detach_all_reply, detach_one_or_all, all_closings, detached_all}
 use Rattle.scp_commands.specs.ShowEffects.{show_reply}
 use Rattle.scp_commands.specs.ExitEffects.{exit_reply}
 use Rattle.scp_commands.specs.Effect.{effect, Asked, does}
-use Rattle.scp_commands.specs.Laws.{IsUntouched, RefusalsChangeNothing}
+use Rattle.scp_commands.specs.Laws.{LeavesTraces, IsUntouched, RefusalsChangeNothing}
+use Rattle.scp_commands.proofs.TraceLemmas.{files-kept}
 
--- what holds of a reply to a command that was given in that state
-pub record Fair (live : Live) (reply : Reply) : Type 0 where
+-- what holds of a reply to a command that was given in that state, and leaves files changed only where it is refused with
+-- those faults
+pub record Fair (traces : CommandFault → Type 0) (live : Live) (reply : Reply) : Type 0 where
   pub reads : reads_of reply.made ≡ 0
   pub exit : IsExitAnswer reply.answer
-  pub refused : (fault : CommandFault) → reply.answer ≡ Err fault → IsUntouched live reply
+  pub untouched : (fault : CommandFault) → reply.answer ≡ Err fault → IsUntouched live reply
+  pub files : (fault : CommandFault) → reply.answer ≡ Err fault → (traces fault → ⊥) → reply.after.live.files ≡ live.files
 
-fair-if : (b : Bool) (live : Live) (x y : Reply) → Fair live x → Fair live y → Fair live (if b then x else y)
+fair-if : {W : CommandFault → Type 0} (b : Bool) (live : Live) (x y : Reply) → Fair W live x → Fair W live y → Fair W live (if b then x else y)
 fair-if true live x y first second = first
 fair-if false live x y first second = second
 
-fair-goes : (before live : Live) → Fair before (goes live)
-fair-goes before live = record { reads = refl; exit = tt; refused = λ fault h. absurd (cc) }
+fair-goes : {W : CommandFault → Type 0} (before live : Live) → Fair W before (goes live)
+fair-goes before live = record { reads = refl; exit = tt; untouched = λ fault h. absurd (cc); files = λ fault h none. absurd (cc) }
 
-fair-says : (text : List ℕ) (before live : Live) → Fair before (says text live)
-fair-says text before live = record { reads = refl; exit = tt; refused = λ fault h. absurd (cc) }
+fair-says : {W : CommandFault → Type 0} (text : List ℕ) (before live : Live) → Fair W before (says text live)
+fair-says text before live = record { reads = refl; exit = tt; untouched = λ fault h. absurd (cc); files = λ fault h none. absurd (cc) }
 
-fair-refused : (fault : CommandFault) (live : Live) → Fair live (refused fault live)
-fair-refused fault live = record { reads = refl; exit = tt; refused = λ other h. record { state = refl; text = refl } }
+fair-refused : {W : CommandFault → Type 0} (fault : CommandFault) (live : Live) → Fair W live (refused fault live)
+fair-refused fault live = record {
+  reads = refl;
+  exit = tt;
+  untouched = λ other h. record { machine = refl; keys = refl; text = refl };
+  files = λ other h none. refl;
+}
+
+-- ---- runs
 
 run_answer-ok : (stop : Option Stop) (fault : CommandFault) → run_answer stop ≡ Err fault → ⊥
 run_answer-ok (Some stop) fault h = absurd (cc)
@@ -55,93 +73,172 @@ run_answer-exit : (stop : Option Stop) → IsExitAnswer (run_answer stop)
 run_answer-exit (Some stop) = tt
 run_answer-exit None = tt
 
-fair-ran : (step : Bool) (count : ℕ) (before live : Live) → Fair before (ran live (run None step count (alone live.machine)))
+fair-ran : {W : CommandFault → Type 0} (notes : List CommandNote) (step : Bool) (count : ℕ) (before live : Live) → Fair W before (ran (run (run_failure notes) step count live))
 unfolding ran
-fair-ran step count before live =
-    let p = run None step count (alone live.machine) in
-    let made = map_made (with_seen live) p.made in
+fair-ran notes step count before live =
+    let p = run (run_failure notes) step count live in
+    let made = map_made (standing 0) p.made in
     record {
       reads =
-          let same = reads_of-map (with_seen live) p.made in
-          let none = run-reads None step count (alone live.machine) in
-          reads_of-append made (Prints (stop_line p.stop p.after.machine) (with_seen live p.after) ∷ []) ∙ omega (arith, same, none);
+          let same = reads_of-map (standing 0) p.made in
+          let none = run-reads (run_failure notes) step count live in
+          reads_of-append made (Prints (stop_line p.stop p.after.machine) (standing (used_by p.stop) p.after) ∷ []) ∙ omega (arith, same, none);
       exit = run_answer-exit p.stop;
-      refused = λ fault h. absurd (run_answer-ok p.stop fault h);
+      untouched = λ fault h. absurd (run_answer-ok p.stop fault h);
+      files = λ fault h none. absurd (run_answer-ok p.stop fault h);
     }
 
-fair-run_from : (limit : ℕ) (resets : Bool) (address : Option ℕ) (live : Live) → Fair live (run_from limit resets address live)
+fair-run_from : {W : CommandFault → Type 0} (limit : ℕ) (notes : List CommandNote) (resets : Bool) (address : Option ℕ) (live : Live) → Fair W live (run_from limit notes resets address live)
 unfolding run_from
-fair-run_from limit resets address live =
-    fair-if (address_fits address) live _ _ (fair-ran false limit live (started resets address live)) (fair-refused _ live)
+fair-run_from limit notes resets address live =
+    fair-if (address_fits address) live _ _ (fair-ran notes false limit live (started resets address live)) (fair-refused _ live)
 
-fair-step_of : (limit count : ℕ) (live : Live) → Fair live (step_of limit count live)
+fair-step_of : {W : CommandFault → Type 0} (limit : ℕ) (notes : List CommandNote) (count : ℕ) (live : Live) → Fair W live (step_of limit notes count live)
 unfolding step_of stepped
-fair-step_of limit count live =
-    fair-if (nat_le 1 count && nat_le count (2 ^ 48)) live _ _ (fair-ran (nat_le count limit) (min count limit) live live) (fair-refused _ live)
+fair-step_of limit notes count live =
+    fair-if (nat_le 1 count && nat_le count (2 ^ 48)) live _ _ (fair-ran notes (nat_le count limit) (min count limit) live live) (fair-refused _ live)
 
-fair-examine_after : (fault : Option ExamineFault) (live : Live) (l : Listing) → Fair live (examine_after fault live l)
+fair-reset : {W : CommandFault → Type 0} (live : Live) → Fair W live (reset_reply live)
+unfolding reset_reply
+fair-reset live = fair-goes live _
+
+-- ---- lists
+
+fair-examine_after : {W : CommandFault → Type 0} (fault : Option ExamineFault) (live : Live) (l : Listing) → Fair W live (examine_after fault live l)
 fair-examine_after (Some fault) live l = fair-refused _ live
 fair-examine_after None live l = fair-says _ live live
 
-fair-examine : (live : Live) (l : Listing) → Fair live (examine_reply live l)
+fair-examine : {W : CommandFault → Type 0} (live : Live) (l : Listing) → Fair W live (examine_reply live l)
 unfolding examine_reply
 fair-examine live l = fair-if (lacks_device live.machine l.device) live _ _ (fair-refused _ live) (fair-examine_after (examine_fault live.machine l) live l)
 
-fair-deposit_after : (fault : Option ExamineFault) (live : Live) (l : Listing) (value : ℕ) → Fair live (deposit_after fault live l value)
+fair-deposit_after : {W : CommandFault → Type 0} (fault : Option ExamineFault) (live : Live) (l : Listing) (value : ℕ) → Fair W live (deposit_after fault live l value)
 fair-deposit_after (Some fault) live l value = fair-refused _ live
 fair-deposit_after None live l value = fair-goes live _
 
-fair-deposit : (live : Live) (l : Listing) (value : ℕ) → Fair live (deposit_reply live l value)
+fair-deposit : {W : CommandFault → Type 0} (live : Live) (l : Listing) (value : ℕ) → Fair W live (deposit_reply live l value)
 unfolding deposit_reply
 fair-deposit live l value =
     fair-if (lacks_device live.machine l.device) live _ _ (fair-refused _ live) (fair-deposit_after (fault_of_deposit live.machine l (handed value)) live l (handed value))
 
-fair-show : (live : Live) (subject : Shown) → Fair live (show_reply live subject)
+-- ---- files
+
+fair-attach_with : (fault : Option Failure) (mode : AttachMode) (unit : UnitName) (name : List ℕ) (option : ℕ) (live : Live)
+    → Fair (LeavesTraces (request.Attach option unit name)) live (attach_with fault mode unit name live)
+fair-attach_with fault mode unit name option live = record {
+  reads = refl;
+  exit = answer-exit said;
+  untouched = λ other h. record { machine = machine-kept said other h; keys = refl; text = refl };
+  files = λ other h none. files-kept fault mode unit name option (attached_in live.machine) live.files other h none;
+}
+  where
+    said : AttachSaid
+    said = attach_said fault mode unit name (attached_in live.machine) live.files
+
+    answer-exit : (said : AttachSaid) → IsExitAnswer (attach_answer unit said)
+    answer-exit (Attached count) = tt
+    answer-exit UnitHasFile = tt
+    answer-exit OnlyWrites = tt
+    answer-exit NotThere = tt
+    answer-exit TooLong = tt
+    answer-exit (CallFailed f) = tt
+
+    machine-kept : (said : AttachSaid) (other : CommandFault) → attach_answer unit said ≡ Err other → attached_machine said mode unit name live.machine ≡ live.machine
+    machine-kept (Attached count) other h = absurd (cc)
+    machine-kept UnitHasFile other h = refl
+    machine-kept OnlyWrites other h = refl
+    machine-kept NotThere other h = refl
+    machine-kept TooLong other h = refl
+    machine-kept (CallFailed f) other h = refl
+
+fair-attach : (notes : List CommandNote) (live : Live) (option : ℕ) (unit : UnitName) (name : List ℕ)
+    → Fair (LeavesTraces (request.Attach option unit name)) live (attach_reply notes live option unit name)
+unfolding attach_reply
+fair-attach notes live option unit name =
+    fair-if (lacks_unit live.machine unit) live _ _ (fair-refused _ live)
+    (fair-attach_with (failure_now live.machine.time (subject.Unit unit) notes) (mode_of option) unit name option live)
+
+fair-detach_with : {W : CommandFault → Type 0} (fault : Option Failure) (unit : UnitName) (live : Live) → Fair W live (detach_with fault unit live)
+fair-detach_with {W} fault unit live = by-said (detach_said fault unit (attached_in live.machine))
+  where
+    by-said : (said : DetachSaid)
+        → Fair W live (record { made = []; answer = detach_answer said; after = standing (detach_used said) (with_machine live (detached_machine said unit live.machine)) })
+    by-said HadNone = record {
+      reads = refl;
+      exit = tt;
+      untouched = λ other h. record { machine = refl; keys = refl; text = refl };
+      files = λ other h none. refl;
+    }
+    by-said (Detached f) = record { reads = refl; exit = tt; untouched = λ other h. absurd (cc); files = λ other h none. absurd (cc) }
+
+fair-detach : {W : CommandFault → Type 0} (notes : List CommandNote) (live : Live) (unit : UnitName) → Fair W live (detach_reply notes live unit)
+unfolding detach_reply
+fair-detach notes live unit =
+    fair-if (lacks_unit live.machine unit) live _ _ (fair-refused _ live) (fair-detach_with (failure_now live.machine.time (subject.Unit unit) notes) unit live)
+
+fair-detach_all : {W : CommandFault → Type 0} (notes : List CommandNote) (live : Live) → Fair W live (detach_all_reply notes live)
+unfolding detach_all_reply
+fair-detach_all notes live = record { reads = refl; exit = tt; untouched = λ other h. absurd (cc); files = λ other h none. absurd (cc) }
+
+fair-detach_where : {W : CommandFault → Type 0} (notes : List CommandNote) (live : Live) (unit : Option UnitName) → Fair W live (detach_one_or_all notes live unit)
+fair-detach_where notes live None = fair-detach_all notes live
+fair-detach_where notes live (Some unit) = fair-detach notes live unit
+
+-- ---- SHOW and EXIT
+
+fair-show : {W : CommandFault → Type 0} (live : Live) (subject : Shown) → Fair W live (show_reply live subject)
 unfolding show_reply
 fair-show live shown.Time = fair-says _ live live
 fair-show live shown.Queue = fair-says _ live live
+fair-show live (shown.Unit unit) = fair-if (lacks_unit live.machine unit) live _ _ (fair-refused _ live) (fair-says _ live live)
 fair-show live subject = fair-refused _ live
 
-fair-exit : (live : Live) (status : Option ℕ) → Fair live (exit_reply live status)
+fair-exit : {W : CommandFault → Type 0} (notes : List CommandNote) (live : Live) (status : Option ℕ) → Fair W live (exit_reply notes live status)
 unfolding exit_reply
-fair-exit live status = exit-if (nat_le (unwrap_or status 0) 99) refl
+fair-exit {W} notes live status = exit-if (nat_le (unwrap_or status 0) 99) refl
   where
     exit-if : (b : Bool) → nat_le (unwrap_or status 0) 99 ≡ b
-        → Fair live (if b then record { made = []; answer = Ok (Exit (unwrap_or status 0)); after = live } else refused OutOfRange live)
-    exit-if true is = record { reads = refl; exit = leb-true (unwrap_or status 0) 99 is; refused = λ fault h. absurd (cc) }
+        → Fair W live (if b then record { made = []; answer = Ok (Exit (unwrap_or status 0)); after = standing (all_closings notes live) (detached_all live) } else refused OutOfRange live)
+    exit-if true is = record {
+      reads = refl;
+      exit = leb-true (unwrap_or status 0) 99 is;
+      untouched = λ fault h. absurd (cc);
+      files = λ fault h none. absurd (cc);
+    }
     exit-if false is = fair-refused OutOfRange live
 
-fair-reset : (live : Live) → Fair live (reset_reply live)
-unfolding reset_reply
-fair-reset live = fair-goes live _
-
-pub fair-effect : (limit : ℕ) (live : Live) (r : Request) → Fair live (effect limit live r)
+pub fair-effect : (limit : ℕ) (notes : List CommandNote) (live : Live) (r : Request) → Fair (LeavesTraces r) live (effect limit notes live r)
 unfolding effect
-fair-effect limit live request.Nothing = fair-goes live live
-fair-effect limit live (request.Examine l) = fair-examine live l
-fair-effect limit live (request.Deposit l value) = fair-deposit live l value
-fair-effect limit live (request.Run address) = fair-run_from limit true address live
-fair-effect limit live (request.Go address) = fair-run_from limit false address live
-fair-effect limit live request.Cont = fair-ran false limit live live
-fair-effect limit live (request.Step count) = fair-step_of limit (unwrap_or count 1) live
-fair-effect limit live request.Reset = fair-reset live
-fair-effect limit live (request.Show subject) = fair-show live subject
-fair-effect limit live (request.Exit status) = fair-exit live status
-fair-effect limit live r = fair-refused _ live
+fair-effect limit notes live request.Nothing = fair-goes live live
+fair-effect limit notes live (request.Examine l) = fair-examine live l
+fair-effect limit notes live (request.Deposit l value) = fair-deposit live l value
+fair-effect limit notes live (request.Run address) = fair-run_from limit notes true address live
+fair-effect limit notes live (request.Go address) = fair-run_from limit notes false address live
+fair-effect limit notes live request.Cont = fair-ran notes false limit live live
+fair-effect limit notes live (request.Step count) = fair-step_of limit notes (unwrap_or count 1) live
+fair-effect limit notes live request.Reset = fair-reset live
+fair-effect limit notes live (request.Attach option unit name) = fair-attach notes live option unit name
+fair-effect limit notes live (request.Detach unit) = fair-detach_where notes live unit
+fair-effect limit notes live (request.Show subject) = fair-show live subject
+fair-effect limit notes live (request.Exit status) = fair-exit notes live status
+fair-effect limit notes live r = fair-refused _ live
 
 -- a command reads nothing
-pub does-reads : (limit : ℕ) (live : Live) (asked : Asked) → reads_of (does limit live asked).made ≡ 0
+pub does-reads : (limit : ℕ) (notes : List CommandNote) (live : Live) (asked : Asked) → reads_of (does limit notes live asked).made ≡ 0
 unfolding does
-does-reads limit live (Ok r) = (fair-effect limit live r).reads
-does-reads limit live (Err fault) = refl
+does-reads limit notes live (Ok r) = (fair-effect limit notes live r).reads
+does-reads limit notes live (Err fault) = refl
 
 -- the status of an exit that is answered is 0 to 99
-pub does-exit : (limit : ℕ) (live : Live) (r : Request) (answer : Answer) (now : Live) (tells : Bool) (before after : List ℕ)
-    → Does (effect limit live r) answer now tells before after → IsExitAnswer answer
-does-exit limit live r (Ok (Exit status)) now tells before after h = subst (λ (a : Answer). IsExitAnswer a) (sym h.0) (fair-effect limit live r).exit
-does-exit limit live r (Ok Go) now tells before after h = tt
-does-exit limit live r (Ok (Ran stop)) now tells before after h = tt
-does-exit limit live r (Err fault) now tells before after h = tt
+pub does-exit : (limit : ℕ) (notes : List CommandNote) (live : Live) (r : Request) (answer : Answer) (at : Standing) (tells : Bool) (before after : List ℕ)
+    → Does (effect limit notes live r) answer at tells before after → IsExitAnswer answer
+does-exit limit notes live r (Ok (Exit status)) at tells before after h = subst (λ (a : Answer). IsExitAnswer a) (sym h.0) (fair-effect limit notes live r).exit
+does-exit limit notes live r (Ok Go) at tells before after h = tt
+does-exit limit notes live r (Ok (Ran stop)) at tells before after h = tt
+does-exit limit notes live r (Err fault) at tells before after h = tt
 
 pub refusals-change-nothing : RefusalsChangeNothing
-refusals-change-nothing limit live r fault h none = (fair-effect limit live r).refused fault h
+refusals-change-nothing = record {
+  untouched = λ limit notes live r fault h. (fair-effect limit notes live r).untouched fault h;
+  files = λ limit notes live r fault h none. (fair-effect limit notes live r).files fault h none;
+}

@@ -15,7 +15,7 @@ use Rattle.scp_examine.specs.Effect.{fault_of_deposit}
 use Rattle.scp_commands.specs.Live.{Live}
 use Rattle.scp_commands.specs.Reply.{Reply}
 use Rattle.scp_commands.specs.ListEffects.{lacks_device, handed, deposit_after, deposit_reply}
-use Rattle.scp_commands.proofs.ReplyLemmas.{IsOwn}
+use Rattle.scp_commands.specs.Doing.{IsPlain}
 
 -- a fault that is not the console's, or none
 abbrev IsListsOwn : Option ExamineFault → Type 0
@@ -69,18 +69,18 @@ unfolding items_fault
 own-items fault_of own [] = tt
 own-items fault_of own (item ∷ more) = own-or (fault_of item) (items_fault fault_of more) (own item) (own-items fault_of own more)
 
-own-after : (fault : Option ExamineFault) (live : Live) (l : Listing) (value : ℕ) → IsListsOwn fault → IsOwn (deposit_after fault live l value).answer
+own-after : (fault : Option ExamineFault) (live : Live) (l : Listing) (value : ℕ) → IsListsOwn fault → IsPlain (deposit_after fault live l value).answer
 own-after None live l value own = tt
 own-after (Some list.NoSuchName) live l value own = tt
 own-after (Some list.OutOfRange) live l value own = tt
 own-after (Some list.ReadOnlyName) live l value own = tt
 own-after (Some list.Console) live l value own = absurd own
 
-own-if : (b : Bool) (x y : Reply) → IsOwn x.answer → IsOwn y.answer → IsOwn (if b then x else y).answer
+own-if : (b : Bool) (x y : Reply) → IsPlain x.answer → IsPlain y.answer → IsPlain (if b then x else y).answer
 own-if true x y a b = a
 own-if false x y a b = b
 
-pub deposit-own : (live : Live) (l : Listing) (value : ℕ) → IsOwn (deposit_reply live l value).answer
+pub deposit-own : (live : Live) (l : Listing) (value : ℕ) → IsPlain (deposit_reply live l value).answer
 unfolding deposit_reply fault_of_deposit
 deposit-own live l value =
     own-if (lacks_device live.machine l.device) _ _ tt

@@ -18,9 +18,10 @@ use Rattle.unit_trait.specs.Teleprinter.{teleprinter_row}
 use Rattle.event_queue.specs.EventList.{Event, waits, placed, activated, wished}
 use Rattle.unit_list.specs.Bus.{unit_at}
 use Rattle.unit_list.specs.Reset.{first_unit, reset_events}
+use Rattle.fault_notes.specs.Notes.{CommandNote}
 use Rattle.nova_machine.specs.Machine.{MachineState, reset_devices, reset_machine}
 use Rattle.scp_parser.specs.Command as request
-use Rattle.scp_commands.specs.Live.{Live}
+use Rattle.scp_commands.specs.Live.{Live, with_machine}
 use Rattle.scp_commands.specs.declared.fault.CommandFault.TheVariants.{OutOfRange}
 use Rattle.scp_commands.specs.Reply.{refused}
 use Rattle.scp_commands.specs.RunEffects.{address_fits, starting_at, running, started, run_from, reset_reply}
@@ -109,23 +110,25 @@ machine-reset m = record {
   sr = refl;
   stop_dev = refl;
   time = refl;
+  taken = refl;
+  slots = refl;
   ints = refl;
   units = refl;
   events = refl;
   keyboard = keyboard-waits m.units [];
 }
 
-reset-leaves : (limit : ℕ) (live : Live) → IsReset live.machine (effect limit live request.Reset).after.machine
+reset-leaves : (limit : ℕ) (notes : List CommandNote) (live : Live) → IsReset live.machine (effect limit notes live request.Reset).after.live.machine
 unfolding effect reset_reply
-reset-leaves limit live = machine-reset live.machine
+reset-leaves limit notes live = machine-reset live.machine
 
-run-leaves : (limit : ℕ) (live : Live) (address : Option ℕ) → IsTrue (address_fits address)
-    → (m : MachineState) × IsReset live.machine m × (effect limit live (request.Run address) ≡ running limit (record live { machine = starting_at address m }))
+run-leaves : (limit : ℕ) (notes : List CommandNote) (live : Live) (address : Option ℕ) → IsTrue (address_fits address)
+    → (m : MachineState) × IsReset live.machine m × (effect limit notes live (request.Run address) ≡ running limit notes (with_machine live (starting_at address m)))
 unfolding effect run_from
-run-leaves limit live address fits = (
+run-leaves limit notes live address fits = (
   reset_machine live.machine,
   machine-reset live.machine,
-  ap (λ (b : Bool). if b then running limit (started true address live) else refused OutOfRange live) fits,
+  ap (λ (b : Bool). if b then running limit notes (started true address live) else refused OutOfRange live) fits,
 )
 
 pub resets-leave-the-program : ResetsLeaveTheProgram

@@ -1,41 +1,174 @@
--- What a call comes to that does a command, on a console that had and has these bytes.
-use Rattle.std.specs.Prelude.{◌≡◌, ℕ, ◌≤◌, Bool, IsTrue, List, ◌++◌, Result, Ok, Err}
-use Rattle.fault_counts.specs.Faults.{raised}
+-- What a call comes to that does a command: on a console that had and has these bytes, and with the notes that it kept.
+use Rattle.std.specs.Prelude.{◌≡◌, ◌⊎◌, ℕ, ◌≤◌, ◌<◌, Bool, IsTrue, List, [], ◌∷◌, ◌++◌, length, Option, None, is_some, Result, Ok, Err}
+use Rattle.std.specs.List.{AllByRecursion, list_any}
+use Rattle.fault_counts.specs.Faults.{raised, Rose}
 use Rattle.observations.specs.Observations.{text_of, StandsAt}
 use Rattle.observations.specs.Cut.{BreaksOff}
+use Rattle.host_files.specs.declared.files.FileCall.TheVariants.{Closing}
+use Rattle.host_files.specs.State.{FileState}
+use Rattle.unit_trait.specs.declared.kind.UnitName.{UnitName}
+use Rattle.unit_trait.specs.Kinds.{same_unit}
+use Rattle.unit_files.specs.Attachments.{Held, attachment_at}
+use Rattle.fault_notes.specs.declared.note.Subject.{Subject}
+use Rattle.fault_notes.specs.declared.note.Subject.TheVariants as subject
+use Rattle.fault_notes.specs.declared.note.FaultNote.{FaultNote}
+use Rattle.fault_notes.specs.Notes.{CommandNote, Note, numbered}
+use Rattle.fault_notes.specs.Counts.{AreCounted}
+use Rattle.file_commands.specs.declared.stamp.Stamp.{Stamp}
+use Rattle.file_commands.specs.Notes.{fault_note}
+use Rattle.file_commands.specs.AllUnits.{attachable}
+use Rattle.nova_machine.specs.declared.machine.Stop.{Stop}
+use Rattle.nova_machine.specs.declared.machine.Stop.TheVariants.{ConsoleFault, FileFault}
+use Rattle.nova_machine.specs.Comes.{AreFree}
+use Rattle.nova_machine.specs.Seen.{attached_in}
+use Rattle.scp_parser.specs.Command.{Request, Attach}
 use Rattle.scp_commands.specs.declared.next.Next.{Next}
-use Rattle.scp_commands.specs.declared.next.Next.TheVariants.{Exit}
-use Rattle.scp_commands.specs.declared.fault.CommandFault.TheVariants.{Console}
-use Rattle.scp_commands.specs.Live.{Live}
-use Rattle.scp_commands.specs.Reply.{Answer, Reply}
+use Rattle.scp_commands.specs.declared.next.Next.TheVariants.{Exit, Ran}
+use Rattle.scp_commands.specs.declared.fault.CommandFault.TheVariants.{Console, OutOfMemory, NoFile, FileFailed}
+use Rattle.scp_commands.specs.Live.{Live, Standing, standing, CommandState}
+use Rattle.scp_commands.specs.Reply.{Answer, Reply, bare_answer}
+use Rattle.scp_commands.specs.FileEffects.{all_closings}
 
--- it has left its state, and all that it prints was printed
-pub record IsSaid (reply : Reply) (live : Live) (tells : Bool) (before after : List ℕ) : Type 0 where
-  pub after_is : live ≡ reply.after
+-- ---- what is printed, and what is left
+
+-- it has left its place, and all that it prints was printed
+pub record IsSaid (reply : Reply) (at : Standing) (tells : Bool) (before after : List ℕ) : Type 0 where
+  pub after_is : at ≡ reply.after
   pub written : IsTrue tells → after ≡ before ++ text_of reply.made
 
--- the first bytes of what it makes were printed, and the next one was refused in that state
-pub record BrokenOff (reply : Reply) (live : Live) (before after : List ℕ) : Type 0 where
+-- the first bytes of what it makes were printed, and the next one was refused at that place
+pub record BrokenOff (reply : Reply) (at : Standing) (before after : List ℕ) : Type 0 where
   pub taken : List ℕ
   pub written : after ≡ before ++ taken
-  pub breaks : BreaksOff reply.made taken live
+  pub breaks : BreaksOff reply.made taken at
 
--- The console refused a byte. The state is that in which the byte was to be printed, and, where bytes are not told, that
+-- The console refused a byte. The place is that at which the byte was to be printed, and, where bytes are not told, that
 -- of one of the texts.
-pub record IsBrokenOff (reply : Reply) (live : Live) (tells : Bool) (before after : List ℕ) : Type 0 where
-  pub stands : StandsAt live reply.made
-  pub told : IsTrue tells → BrokenOff reply live before after
+pub record IsBrokenOff (reply : Reply) (at : Standing) (tells : Bool) (before after : List ℕ) : Type 0 where
+  pub stands : StandsAt at reply.made
+  pub told : IsTrue tells → BrokenOff reply at before after
 
--- the answer is that of the definition, or that the console refused a byte
-abbrev pub Does : Reply → Answer → Live → Bool → List ℕ → List ℕ → Type 0
-Does reply (Err Console) live tells before after = IsBrokenOff reply live tells before after
-Does reply answer live tells before after = (answer ≡ reply.answer) × IsSaid reply live tells before after
+-- The answer is that of the definition, or that the console refused a byte. Where memory ran out, another clause says
+-- what stands.
+abbrev pub Does : Reply → Answer → Standing → Bool → List ℕ → List ℕ → Type 0
+Does reply (Err Console) at tells before after = IsBrokenOff reply at tells before after
+Does reply (Err OutOfMemory) at tells before after = Unit {0}
+Does reply answer at tells before after = (bare_answer answer ≡ reply.answer) × IsSaid reply at tells before after
+
+-- ---- the notes of a command
+
+-- a note of the closing of a file that is still attached where a command has left off
+pub record IsClosing (live : Live) (n : CommandNote) : Type 0 where
+  pub unit : UnitName
+  pub subject_is : n.subject ≡ subject.Unit unit
+  pub among : IsTrue (list_any (λ u. same_unit u unit) attachable)
+  pub call : n.failure.call ≡ Closing
+  pub there : IsTrue (is_some (attachment_at (attached_in live.machine) unit))
+
+-- Notes that may come behind a command's own under its number: where the session ends with it, the files are closed that
+-- are still attached, and a closing that fails has the number of the last command.
+abbrev pub ComeBehind : Live → List CommandNote → Type 0
+ComeBehind live notes = AllByRecursion (IsClosing live) notes
+
+-- A command was done, with the notes that were kept in it: it has used all of them and no others, whatever comes behind.
+pub record Did (reply : List CommandNote → Reply) (number : ℕ) (answer : Answer) (new : Live) (tells : Bool) (before after : List ℕ) (notes notes' : List Note) : Type 0 where
+  pub own : List CommandNote
+  pub kept : notes' ≡ notes ++ numbered number own
+  pub does : (behind : List CommandNote) → ComeBehind new behind → Does (reply (own ++ behind)) answer (standing (length own) new) tells before after
+
+-- what is done is told where the names and bytes of files are told, or where no file is attached
+abbrev pub IsTold : Bool → List (Option Held) → Request → Type 0
+IsTold tells slots (Attach option unit name) = IsTrue tells
+IsTold tells slots request = IsTrue tells ⊎ AreFree slots
+
+-- ---- causes, whether anything is told or not
+
+-- a note that was kept for a refusal: it is of that subject, and of no closing
+abbrev pub IsRefusalOf : Subject → FaultNote → Type 0
+IsRefusalOf who n = (n.subject ≡ who) × (n.call ≡ Closing → ⊥)
+
+-- A file was missing only where the count of openings rose, if names are not told, and a call on it failed only where that
+-- is the one note that was kept.
+abbrev pub FileCause : Bool → Answer → List FaultNote → FileState → FileState → Type 0
+FileCause tells (Err NoFile) kept old new = (kept ≡ []) × ((IsTrue tells → ⊥) → Rose old.open_faults new.open_faults)
+FileCause tells (Err (FileFailed who)) kept old new = (n : FaultNote) × (kept ≡ n ∷ []) × IsRefusalOf who n
+FileCause tells answer kept old new = Unit {0}
+
+-- what stands on a note
+abbrev pub IsStamped : ℕ → ℕ → FaultNote → Type 0
+IsStamped number time n = (n.command ≡ number) × (n.time ≡ time)
+
+-- The notes that were kept are those of calls that failed just now: they have the command's number and the time at which
+-- the machine stands, they are at most as many as the counts rose, and they are why a file was refused.
+pub record Keeps (number time : ℕ) (tells : Bool) (answer : Answer) (notes notes' : List FaultNote) (old new : FileState) : Type 0 where
+  pub kept : List FaultNote
+  pub added : notes' ≡ notes ++ kept
+  pub few : length kept ≤ 16
+  pub stamped : AllByRecursion (IsStamped number time) kept
+  pub counted : AreCounted kept old new
+  pub cause : FileCause tells answer kept old new
 
 -- The console's count of faults rises by one where the answer is that it refused a byte, and stands still with every
 -- other answer.
 abbrev pub ConsoleCounts : Answer → ℕ → ℕ → Type 0
 ConsoleCounts (Err Console) before now = now ≡ raised before
 ConsoleCounts answer before now = now ≡ before
+
+-- an answer that is not the console's
+abbrev pub IsOwn : Answer → Type 0
+IsOwn (Err Console) = ⊥
+IsOwn (Ok (Ran stop)) = ⊥
+IsOwn answer = Unit {0}
+
+-- the same of a call that takes no memory
+abbrev pub IsPlain : Answer → Type 0
+IsPlain (Err Console) = ⊥
+IsPlain (Err OutOfMemory) = ⊥
+IsPlain (Ok (Ran stop)) = ⊥
+IsPlain answer = Unit {0}
+
+-- an answer of a call that prints: it may be the console's
+abbrev pub IsShown : Answer → Type 0
+IsShown (Ok (Ran stop)) = ⊥
+IsShown (Ok (Exit status)) = ⊥
+IsShown (Err OutOfMemory) = ⊥
+IsShown answer = Unit {0}
+
+-- an answer of a run: the stop of its machine, which is never that of the console, or that the console refused a byte
+abbrev pub IsRunAnswer : Answer → Type 0
+IsRunAnswer (Ok (Ran ConsoleFault)) = ⊥
+IsRunAnswer (Ok (Exit status)) = ⊥
+IsRunAnswer (Err OutOfMemory) = ⊥
+IsRunAnswer answer = Unit {0}
+
+-- the notes that are kept for a stop
+abbrev pub stop_notes : Stamp → Stop → List FaultNote
+stop_notes stamp (FileFault f) = fault_note stamp f ∷ []
+stop_notes stamp stop = []
+
+-- ---- want of memory
+
+-- memory may be wanted where the room of 16 notes is not there yet, and by ATTACH
+abbrev pub MayWant : ℕ → Request → Type 0
+MayWant spare (Attach option unit name) = Unit {0}
+MayWant spare request = spare < 16
+
+-- nothing was done
+pub record IsUndone (old new : CommandState) (before after : List ℕ) (files files' : FileState) : Type 0 where
+  pub machine : new.machine ≡ old.machine
+  pub notes : new.notes ≡ old.notes
+  pub written : after ≡ before
+  pub files_are : files'.files ≡ files.files
+
+-- ---- the end of the input
+
+-- All files were closed at the end, with the notes that were kept for it: they are used, and they may come behind those
+-- of the last command.
+pub record Closes (number : ℕ) (live : Live) (notes notes' : List Note) : Type 0 where
+  pub own : List CommandNote
+  pub kept : notes' ≡ notes ++ numbered number own
+  pub used : all_closings own live ≡ length own
+  pub behind : ComeBehind live own
 
 -- the status of an exit is 0 to 99
 abbrev pub IsExitAnswer : Answer → Type 0

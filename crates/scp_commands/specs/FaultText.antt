@@ -2,10 +2,16 @@
 use Rattle.std.specs.Prelude.{ℕ, List, [], ◌∷◌, ◌++◌, codes, decimal, Option, Some, None}
 use Rattle.scp_parser.specs.declared.fault.ParseFault.{ParseFault}
 use Rattle.scp_parser.specs.declared.fault.ParseFault.TheVariants as parse
+use Rattle.unit_files.specs.declared.faults.AttachFault.{AttachFault}
+use Rattle.unit_files.specs.declared.faults.AttachFault.TheVariants as attach
+use Rattle.unit_files.specs.declared.faults.DetachFault.{DetachFault}
+use Rattle.unit_files.specs.declared.faults.DetachFault.TheVariants as detach
+use Rattle.fault_notes.specs.declared.note.Subject.TheVariants as subject
 use Rattle.scp_examine.specs.declared.fault.ExamineFault.{ExamineFault}
 use Rattle.scp_examine.specs.declared.fault.ExamineFault.TheVariants as list
 use Rattle.scp_commands.specs.declared.fault.CommandFault.{CommandFault}
 use Rattle.scp_commands.specs.declared.fault.CommandFault.TheVariants.{Parse, NoSuchName, OutOfRange, ReadOnlyName, Console, NotBuilt}
+use Rattle.scp_commands.specs.declared.fault.CommandFault.TheVariants.{AlreadyAttached, NotAttached, ReadOnly, NoFile, FileTooLong, FileFailed, OutOfMemory}
 
 -- the fault of a line that is no command
 abbrev pub line_fault : ParseFault → CommandFault
@@ -18,6 +24,19 @@ list_fault list.NoSuchName = NoSuchName
 list_fault list.OutOfRange = OutOfRange
 list_fault list.ReadOnlyName = ReadOnlyName
 list_fault list.Console = Console
+
+-- the fault of a file that was not attached, and of a unit that was not detached
+abbrev pub attach_fault : AttachFault → CommandFault
+attach_fault attach.AlreadyAttached = AlreadyAttached
+attach_fault attach.ReadOnly = ReadOnly
+attach_fault attach.NoFile = NoFile
+attach_fault attach.TooLong = FileTooLong
+attach_fault (attach.Failed f) = FileFailed (subject.Unit f.unit)
+attach_fault attach.OutOfMemory = OutOfMemory
+
+abbrev pub detach_fault : DetachFault → CommandFault
+detach_fault detach.NotAttached = NotAttached
+detach_fault (detach.Failed f) = FileFailed (subject.Unit f.unit)
 
 -- the words of the fault of a line that is no command
 abbrev pub parse_words : ParseFault → List ℕ
@@ -38,13 +57,20 @@ parse_place (parse.BadSymbol place) = Some place
 parse_place (parse.Extra place) = Some place
 parse_place fault = None
 
--- the words of a fault; that of the console has none, as there is nothing left to print them on
+-- the words of a fault; those that end the session have none
 abbrev pub fault_words : CommandFault → Option (List ℕ)
 fault_words (Parse fault) = Some (parse_words fault)
 fault_words NoSuchName = Some (codes "No such name")
 fault_words OutOfRange = Some (codes "Value out of range")
 fault_words ReadOnlyName = Some (codes "Read only name")
+fault_words AlreadyAttached = Some (codes "Unit already attached")
+fault_words NotAttached = Some (codes "Unit not attached")
+fault_words ReadOnly = Some (codes "Read only not allowed")
+fault_words NoFile = Some (codes "File not found")
+fault_words FileTooLong = Some (codes "File too long")
+fault_words (FileFailed who) = Some (codes "File error")
 fault_words Console = None
+fault_words OutOfMemory = None
 fault_words NotBuilt = Some (codes "Not built")
 
 abbrev pub fault_place : CommandFault → Option ℕ

@@ -1,42 +1,52 @@
 -- What holds of every command, in a reader's words.
-use Rattle.std.specs.Prelude.{◌≡◌, ℕ, true, IsTrue, [], Option, is_some, Err}
+use Rattle.std.specs.Prelude.{◌≡◌, ℕ, true, IsTrue, List, [], Option, is_some, Err}
 use Rattle.unit_trait.specs.declared.kind.Kind.TheVariants.{Tti}
 use Rattle.unit_trait.specs.Kinds.{code_of}
 use Rattle.event_queue.specs.EventList.{waits}
 use Rattle.unit_list.specs.Bus.{unit_at}
 use Rattle.unit_list.specs.Reset.{first_unit, reset_units, reset_events}
+use Rattle.fault_notes.specs.Notes.{CommandNote}
 use Rattle.nova_interrupts.specs.Interrupts.{no_interrupts}
 use Rattle.nova_machine.specs.Machine.{MachineState}
-use Rattle.scp_parser.specs.Command.{Request, Reset, Run}
+use Rattle.scp_parser.specs.Command.{Request, Reset, Run, Attach}
 use Rattle.scp_commands.specs.declared.fault.CommandFault.{CommandFault}
-use Rattle.scp_commands.specs.Live.{Live}
+use Rattle.scp_commands.specs.declared.fault.CommandFault.TheVariants.{FileFailed}
+use Rattle.scp_commands.specs.Live.{Live, with_machine}
 use Rattle.scp_commands.specs.Reply.{Reply}
 use Rattle.scp_commands.specs.RunEffects.{address_fits, starting_at, running}
 use Rattle.scp_commands.specs.Effect.{effect}
 
--- the commands that may leave something behind where they are refused with that fault: none does yet
+-- the commands that may leave something behind where they are refused with that fault: ATTACH, which may have made or
+-- emptied its file before a call on it failed
 abbrev pub LeavesTraces : Request → CommandFault → Type 0
+LeavesTraces (Attach option unit name) (FileFailed who) = Unit {0}
 LeavesTraces request fault = ⊥
 
--- it has printed nothing and changed nothing
+-- it has printed nothing, and changed nothing but files
 pub record IsUntouched (live : Live) (reply : Reply) : Type 0 where
-  pub state : reply.after ≡ live
+  pub machine : reply.after.live.machine ≡ live.machine
+  pub keys : reply.after.live.keys ≡ live.keys
   pub text : reply.made ≡ []
 
--- a command that is refused leaves all as it was, but for those that may leave something behind
-abbrev pub RefusalsChangeNothing : Type 0
-RefusalsChangeNothing =
-    (limit : ℕ) (live : Live) (request : Request) (fault : CommandFault) → (effect limit live request).answer ≡ Err fault
-    → (LeavesTraces request fault → ⊥) → IsUntouched live (effect limit live request)
+-- a command that is refused prints nothing and leaves all as it was, but for those that may leave something behind, and
+-- these in files alone
+pub record RefusalsChangeNothing : Type 0 where
+  pub untouched : (limit : ℕ) (notes : List CommandNote) (live : Live) (request : Request) (fault : CommandFault)
+      → (effect limit notes live request).answer ≡ Err fault → IsUntouched live (effect limit notes live request)
+  pub files : (limit : ℕ) (notes : List CommandNote) (live : Live) (request : Request) (fault : CommandFault)
+      → (effect limit notes live request).answer ≡ Err fault → (LeavesTraces request fault → ⊥)
+      → (effect limit notes live request).after.live.files ≡ live.files
 
 -- A machine behind a reset: interrupts are off, none waits for an instruction, and none is masked out; each unit is reset,
 -- and the events are those that the units' resets wish, in bus order, and no others. The processor with its memory, the
--- switch register, STOP_DEV and the time are as they were.
+-- switch register, STOP_DEV, the time, the keys taken and the files are as they were.
 pub record IsReset (before after : MachineState) : Type 0 where
   pub processor : after.processor ≡ before.processor
   pub sr : after.sr ≡ before.sr
   pub stop_dev : after.stop_dev ≡ before.stop_dev
   pub time : after.time ≡ before.time
+  pub taken : after.taken ≡ before.taken
+  pub slots : after.slots ≡ before.slots
   pub ints : after.ints ≡ no_interrupts
   pub units : after.units ≡ reset_units before.units
   pub events : after.events ≡ reset_events before.units []
@@ -45,6 +55,6 @@ pub record IsReset (before after : MachineState) : Type 0 where
 
 -- RESET leaves a machine that is reset, and RUN begins with one, in which PC is its address where one is given.
 pub record ResetsLeaveTheProgram : Type 0 where
-  pub reset : (limit : ℕ) (live : Live) → IsReset live.machine (effect limit live Reset).after.machine
-  pub run : (limit : ℕ) (live : Live) (address : Option ℕ) → IsTrue (address_fits address)
-      → (m : MachineState) × IsReset live.machine m × (effect limit live (Run address) ≡ running limit (record live { machine = starting_at address m }))
+  pub reset : (limit : ℕ) (notes : List CommandNote) (live : Live) → IsReset live.machine (effect limit notes live Reset).after.live.machine
+  pub run : (limit : ℕ) (notes : List CommandNote) (live : Live) (address : Option ℕ) → IsTrue (address_fits address)
+      → (m : MachineState) × IsReset live.machine m × (effect limit notes live (Run address) ≡ running limit notes (with_machine live (starting_at address m)))

@@ -3,6 +3,7 @@ pub mod Reply
 pub mod FaultText
 pub mod RunEffects
 pub mod ListEffects
+pub mod FileEffects
 pub mod ShowEffects
 pub mod ExitEffects
 pub mod Effect

@@ -9,7 +9,7 @@ use Rattle.scp_parser.specs.declared.listing.Listing.{Listing}
 use Rattle.scp_examine.specs.declared.fault.ExamineFault.{ExamineFault}
 use Rattle.scp_examine.specs.Effect.{examine_fault, examined, fault_of_deposit, deposited}
 use Rattle.scp_commands.specs.declared.fault.CommandFault.TheVariants.{NotBuilt}
-use Rattle.scp_commands.specs.Live.{Live}
+use Rattle.scp_commands.specs.Live.{Live, with_machine}
 use Rattle.scp_commands.specs.Reply.{Reply, goes, says, refused}
 use Rattle.scp_commands.specs.FaultText.{list_fault}
 
@@ -33,7 +33,7 @@ handed value = min value (2 ^ 32 - 1)
 
 abbrev pub deposit_after : Option ExamineFault → Live → Listing → ℕ → Reply
 deposit_after (Some fault) live l value = refused (list_fault fault) live
-deposit_after None live l value = goes (record live { machine = deposited live.machine l value })
+deposit_after None live l value = goes (with_machine live (deposited live.machine l value))
 
 -- DEPOSIT puts its value into its list
 unfoldable pub deposit_reply : Live → Listing → ℕ → Reply

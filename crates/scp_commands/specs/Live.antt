@@ -1,21 +1,45 @@
 -- What commands work on: all that they may change and on which the future depends. An early end shows it as it then
--- stands. Files, watch tables and lines join the machine here.
-use Rattle.std.specs.Prelude.{ℕ}
+-- stands. Watch tables and lines join it here.
+use Rattle.std.specs.Prelude.{ℕ, List, map, option_map, Option}
+use Rattle.host_files.specs.Lists.{NamedBytes}
+use Rattle.unit_files.specs.Attachments.{Attachment, Held}
+use Rattle.fault_notes.specs.declared.note.FaultNote.{FaultNote}
 use Rattle.nova_machine.specs.Machine.{MachineState}
-use Rattle.nova_machine.specs.Seen.{Seen}
+use Rattle.nova_machine.specs.Seen.{Seen, seen, attached_in}
 
-pub record Live : Type 0 where
-  pub machine : MachineState
+-- the machine, without the numbers of open files; the timed keys; and all files by their names
+abbrev pub Live : Type 0
+Live = Seen
 
--- a machine alone
-abbrev pub live_of : MachineState → Live
-live_of m = record { machine = m }
-
--- the same with what a run has made of it
-abbrev pub with_seen : Live → Seen → Live
-with_seen live s = record live { machine = s.machine }
-
--- what commands stand in: what they work on, and how many instructions a run may execute
-pub record CommandState : Type 0 where
+-- a place within a command: what it works on there, and how many of its notes it has used
+pub record Standing : Type 0 where
   pub live : Live
+  pub used : ℕ
+
+abbrev pub standing : ℕ → Live → Standing
+standing used live = record { live = live; used = used }
+
+abbrev pub with_machine : Live → MachineState → Live
+with_machine live m = record live { machine = m }
+
+-- attachments, none of which has a number of its file
+abbrev pub numberless : List (Option Attachment) → List (Option Held)
+numberless attached = map (λ slot. option_map (λ (a : Attachment). record { file = 0; attachment = a }) slot) attached
+
+-- the same with other attachments
+abbrev pub with_attached : MachineState → List (Option Attachment) → MachineState
+with_attached m attached = record m { slots = numberless attached }
+
+-- what commands stand in: the machine, the timed keys, how many instructions a run may execute, the notes that were kept,
+-- how many units of the budget are spent, and how many further notes have their room already
+pub record CommandState : Type 0 where
+  pub machine : MachineState
+  pub keys : List (ℕ × ℕ)
   pub limit : ℕ
+  pub notes : List FaultNote
+  pub command : ℕ
+  pub spare : ℕ
+
+-- what its commands work on
+abbrev pub live_in : CommandState → List NamedBytes → Live
+live_in s files = seen s.keys files s.machine

@@ -6,16 +6,22 @@ use Rattle.nova_word.specs.Numbers.{octal_digits}
 use Rattle.nova_memory.specs.Memory.{get}
 use Rattle.unit_trait.specs.declared.processor.CpuReg.TheVariants.{Pc}
 use Rattle.unit_trait.specs.Kinds.{unit_name}
+use Rattle.host_files.specs.declared.files.FileCall.{FileCall}
+use Rattle.host_files.specs.declared.files.FileCall.TheVariants.{Read, Write}
+use Rattle.unit_files.specs.Acts.{Failure}
+use Rattle.fault_notes.specs.declared.note.Subject.{Subject}
+use Rattle.fault_notes.specs.declared.note.Subject.TheVariants as subject
+use Rattle.fault_notes.specs.Notes.{CommandNote}
 use Rattle.nova_machine.specs.declared.machine.Stop.{Stop}
 use Rattle.nova_machine.specs.declared.machine.Stop.TheVariants.{Halt, ChainLimit, UnknownDevice, Stepped, Limit, UnitEnd, UnitNone, Wru, FileFault, ConsoleFault}
 use Rattle.nova_machine.specs.Machine.{MachineState, reset_machine}
 use Rattle.nova_machine.specs.Registers.{with_register}
-use Rattle.nova_machine.specs.Alone.{alone}
+use Rattle.nova_machine.specs.Notes.{RunNote}
 use Rattle.nova_machine.specs.Parts.{Part}
 use Rattle.nova_machine.specs.Run.{run}
 use Rattle.scp_commands.specs.declared.next.Next.TheVariants.{Go, Ran}
 use Rattle.scp_commands.specs.declared.fault.CommandFault.TheVariants.{OutOfRange}
-use Rattle.scp_commands.specs.Live.{Live, with_seen}
+use Rattle.scp_commands.specs.Live.{Live, standing, with_machine}
 use Rattle.scp_commands.specs.Reply.{Answer, Reply, goes, refused}
 
 -- the name of a stop; that of a refused byte has none, as there is nothing left to print it on
@@ -45,17 +51,38 @@ abbrev pub run_answer : Option Stop → Answer
 run_answer (Some stop) = Ok (Ran stop)
 run_answer None = Ok Go
 
+-- a run makes no other calls on a file than those for a byte
+abbrev pub is_byte_call : FileCall → Bool
+is_byte_call Read = true
+is_byte_call Write = true
+is_byte_call call = false
+
+-- a failing call as a run meets it
+abbrev pub met_by_run : ℕ → Subject → Failure → Option RunNote
+met_by_run time (subject.Unit unit) f = if is_byte_call f.call then Some (record { time = time; note = record { unit = unit; failure = f } }) else None
+met_by_run time subject f = None
+
+-- the failing call that a run is handed: the first of the command's notes, where it is one for a byte
+abbrev pub run_failure : List CommandNote → Option RunNote
+run_failure [] = None
+run_failure (n ∷ notes) = met_by_run n.time n.subject n.failure
+
+-- a run uses its note where it stops for it
+abbrev pub used_by : Option Stop → ℕ
+used_by (Some (FileFault f)) = 1
+used_by stop = 0
+
 -- a run prints what was made in it, and then its stop
-unfoldable pub ran : Live → Part → Reply
-ran live p = record {
-  made = map_made (with_seen live) p.made ++ Prints (stop_line p.stop p.after.machine) (with_seen live p.after) ∷ [];
+unfoldable pub ran : Part → Reply
+ran p = record {
+  made = map_made (standing 0) p.made ++ Prints (stop_line p.stop p.after.machine) (standing (used_by p.stop) p.after) ∷ [];
   answer = run_answer p.stop;
-  after = with_seen live p.after;
+  after = standing (used_by p.stop) p.after;
 }
 
 -- a run from PC, up to the limit of the session
-abbrev pub running : ℕ → Live → Reply
-running limit live = ran live (run None false limit (alone live.machine))
+abbrev pub running : ℕ → List CommandNote → Live → Reply
+running limit notes live = ran (run (run_failure notes) false limit live)
 
 -- the largest address
 abbrev pub last_address : ℕ
@@ -74,20 +101,20 @@ abbrev pub reset_where : Bool → MachineState → MachineState
 reset_where resets m = if resets then reset_machine m else m
 
 abbrev pub started : Bool → Option ℕ → Live → Live
-started resets address live = record live { machine = starting_at address (reset_where resets live.machine) }
+started resets address live = with_machine live (starting_at address (reset_where resets live.machine))
 
 -- a run from an address, or from PC where none is given; RUN resets the machine first
-unfoldable pub run_from : ℕ → Bool → Option ℕ → Live → Reply
-run_from limit resets address live = if address_fits address then running limit (started resets address live) else refused OutOfRange live
+unfoldable pub run_from : ℕ → List CommandNote → Bool → Option ℕ → Live → Reply
+run_from limit notes resets address live = if address_fits address then running limit notes (started resets address live) else refused OutOfRange live
 
 -- STEP runs that many instructions, or as many as the limit of the session allows, and then stops as a limit does
-unfoldable pub stepped : ℕ → ℕ → Live → Reply
-stepped limit count live = ran live (run None (nat_le count limit) (min count limit) (alone live.machine))
+unfoldable pub stepped : ℕ → List CommandNote → ℕ → Live → Reply
+stepped limit notes count live = ran (run (run_failure notes) (nat_le count limit) (min count limit) live)
 
 -- a STEP is one of 1 to 2 ^ 48 instructions
-unfoldable pub step_of : ℕ → ℕ → Live → Reply
-step_of limit count live = if nat_le 1 count && nat_le count (2 ^ 48) then stepped limit count live else refused OutOfRange live
+unfoldable pub step_of : ℕ → List CommandNote → ℕ → Live → Reply
+step_of limit notes count live = if nat_le 1 count && nat_le count (2 ^ 48) then stepped limit notes count live else refused OutOfRange live
 
 -- RESET resets the machine and prints nothing
 unfoldable pub reset_reply : Live → Reply
-reset_reply live = goes (record live { machine = reset_machine live.machine })
+reset_reply live = goes (with_machine live (reset_machine live.machine))

@@ -1,13 +1,14 @@
 -- SHOW.
-use Rattle.std.specs.Prelude.{ℕ, List, [], ◌∷◌, ◌++◌, codes, decimal}
+use Rattle.std.specs.Prelude.{ℕ, List, [], ◌∷◌, ◌++◌, codes, decimal, if◌then◌else◌}
 use Rattle.unit_trait.specs.Kinds.{unit_name}
 use Rattle.event_queue.specs.EventList.{Event}
 use Rattle.nova_machine.specs.Machine.{MachineState}
 use Rattle.scp_parser.specs.declared.command.Shown.{Shown}
-use Rattle.scp_parser.specs.declared.command.Shown.TheVariants.{Time, Queue}
+use Rattle.scp_parser.specs.declared.command.Shown.TheVariants.{Time, Queue, Unit as AUnit}
 use Rattle.scp_commands.specs.declared.fault.CommandFault.TheVariants.{NotBuilt}
 use Rattle.scp_commands.specs.Live.{Live}
 use Rattle.scp_commands.specs.Reply.{Reply, says, refused}
+use Rattle.scp_commands.specs.FileEffects.{lacks_unit, unit_text}
 
 -- what SHOW TIME prints
 abbrev pub time_text : MachineState → List ℕ
@@ -22,8 +23,9 @@ unfoldable pub queue_text : List Event → List ℕ
 queue_text [] = []
 queue_text (e ∷ events) = event_line e ++ queue_text events
 
--- SHOW of anything but the time and the queue is not built
+-- SHOW of anything but the time, the queue, and a unit with its file is not built
 unfoldable pub show_reply : Live → Shown → Reply
 show_reply live Time = says (time_text live.machine) live
 show_reply live Queue = says (queue_text live.machine.events) live
+show_reply live (AUnit unit) = if lacks_unit live.machine unit then refused NotBuilt live else says (unit_text live.machine unit) live
 show_reply live subject = refused NotBuilt live

@@ -1,8 +1,13 @@
-ghost use Rattle.std.specs.Prelude.{◌≡◌, ◌≢◌, Ok};
+ghost use Rattle.std.specs.Prelude.{◌≡◌, ◌≢◌, ◌≤◌, List, Ok, Err};
+ghost use Rattle.host_files.specs.State.{Opened};
+ghost use Rattle.unit_files.specs.Open.{AllOpen, Around};
+ghost use Rattle.fault_notes.specs.Notes.{notes_said};
 ghost use Rattle.nova_machine.specs.declared.machine.Stop.TheVariants.{ConsoleFault};
 ghost use Rattle.scp_commands.specs.declared.next.Next.TheVariants.{Ran};
+ghost use Rattle.scp_commands.specs.declared.fault.CommandFault.TheVariants.{OutOfMemory};
+ghost use Rattle.scp_commands.specs.Live.{live_in};
 ghost use Rattle.scp_commands.specs.Effect.{effect};
-ghost use Rattle.scp_commands.specs.Doing.{Does, ConsoleCounts};
+ghost use Rattle.scp_commands.specs.Doing.{Did, IsTold, Keeps, ConsoleCounts, MayWant, IsUndone, IsExitAnswer};
 
 use crate::exit_command::exit;
 use crate::fault::CommandFault;
@@ -11,38 +16,96 @@ use crate::next::Next;
 use crate::run_commands::{reset, run, run_from, step};
 use crate::session::Session;
 use crate::show_command::show;
-use host_files::Sink;
+use crate::unit_commands::{attach, detach_one_or_every};
+use host_files::{Files, Sink};
 use scp_parser::{Command, Verb};
+use std::alloc::Global;
 use unit_trait::Unit;
 
 /// Does a command, and prints what it has to say.
 ///
-/// A command that is refused has printed nothing and changed nothing; who called prints the text of its fault.
-/// `Console` means that the console refused a byte, also within a run: what comes before it was printed, and the session
-/// stands as it did when that byte was to be printed.
-#[tactic(auto, unfolding(crate::specs::Effect::effect))]
-pub fn execute<U: Unit, S: Sink>(
+/// A command that is refused has printed nothing and changed nothing, but that ATTACH may have made or emptied its file;
+/// who called prints the text of its fault. `Console` means that the console refused a byte, also within a run: what comes
+/// before it was printed, and the session stands as it did when that byte was to be printed. `OutOfMemory` means that
+/// nothing was done: it comes where the room for 16 notes can't be taken, and from ATTACH.
+pub fn execute<U: Unit, F: Files, S: Sink>(
+    alloc: Global,
     session: &mut Session<U>,
     command: &Command,
+    files: &mut F,
     out: &mut S,
 ) -> Result<Next, CommandFault>
-    ensures told { Does (effect session.old.limit session.old.live command.now) result session.new.live S.tells
-        (S.written out.old) (S.written out.new) }
+    requires open { AllOpen session.old.machine.slots (F.state files.old).opened }
+    ensures told { IsTold F.tells session.old.machine.slots command.now
+        → Did (λ notes. effect session.old.limit notes (live_in session.old (F.state files.old).files) command.now)
+        session.old.command result (live_in session.new (F.state files.new).files) S.tells (S.written out.old)
+        (S.written out.new) (notes_said session.old.notes) (notes_said session.new.notes) }
+    ensures undone { result ≡ Err OutOfMemory → IsUndone session.old session.new (S.written out.old) (S.written out.new)
+        (F.state files.old) (F.state files.new) }
+    ensures want { result ≡ Err OutOfMemory → MayWant session.old.spare command.now }
+    ensures keeps { Keeps session.old.command session.new.machine.time F.tells result session.old.notes
+        session.new.notes (F.state files.old) (F.state files.new) }
+    ensures keys { session.new.keys ≡ session.old.keys }
     ensures limit { session.new.limit ≡ session.old.limit }
+    ensures command { session.new.command ≡ session.old.command }
     ensures counts { ConsoleCounts result (S.fault_count out.old) (S.fault_count out.new) }
     ensures stop { result ≢ Ok (Ran ConsoleFault) }
+    ensures exit { IsExitAnswer result }
+    ensures open { AllOpen session.new.machine.slots (F.state files.new).opened }
+    ensures around { (base : List Opened) → Around session.old.machine.slots base (F.state files.old).opened
+        → Around session.new.machine.slots base (F.state files.new).opened }
+{
+    match session.take_room() {
+        Ok(()) => obey(alloc, session, command, files, out),
+        Err(_) => Err(CommandFault::OutOfMemory),
+    }
+}
+
+// The same, where there is room for the notes.
+#[tactic(auto, unfolding(crate::specs::Effect::effect))]
+fn obey<U: Unit, F: Files, S: Sink>(
+    alloc: Global,
+    session: &mut Session<U>,
+    command: &Command,
+    files: &mut F,
+    out: &mut S,
+) -> Result<Next, CommandFault>
+    requires room { 16 ≤ session.old.spare }
+    requires open { AllOpen session.old.machine.slots (F.state files.old).opened }
+    ensures told { IsTold F.tells session.old.machine.slots command.now
+        → Did (λ notes. effect session.old.limit notes (live_in session.old (F.state files.old).files) command.now)
+        session.old.command result (live_in session.new (F.state files.new).files) S.tells (S.written out.old)
+        (S.written out.new) (notes_said session.old.notes) (notes_said session.new.notes) }
+    ensures undone { result ≡ Err OutOfMemory → IsUndone session.old session.new (S.written out.old) (S.written out.new)
+        (F.state files.old) (F.state files.new) }
+    ensures want { result ≡ Err OutOfMemory → MayWant 16 command.now }
+    ensures keeps { Keeps session.old.command session.new.machine.time F.tells result session.old.notes
+        session.new.notes (F.state files.old) (F.state files.new) }
+    ensures keys { session.new.keys ≡ session.old.keys }
+    ensures limit { session.new.limit ≡ session.old.limit }
+    ensures command { session.new.command ≡ session.old.command }
+    ensures counts { ConsoleCounts result (S.fault_count out.old) (S.fault_count out.new) }
+    ensures stop { result ≢ Ok (Ran ConsoleFault) }
+    ensures exit { IsExitAnswer result }
+    ensures open { AllOpen session.new.machine.slots (F.state files.new).opened }
+    ensures around { (base : List Opened) → Around session.old.machine.slots base (F.state files.old).opened
+        → Around session.new.machine.slots base (F.state files.new).opened }
 {
     match &command.verb {
         Verb::Nothing => Ok(Next::Go),
         Verb::Examine(listing) => examine_list(session, listing, out),
         Verb::Deposit(listing, value) => deposit_list(session, listing, *value),
-        Verb::Run(address) => run_from(session, true, *address, out),
-        Verb::Go(address) => run_from(session, false, *address, out),
-        Verb::Cont => run(session, out),
-        Verb::Step(count) => step(session, count.unwrap_or(1), out),
+        Verb::Run(address) => run_from(session, true, *address, files, out),
+        Verb::Go(address) => run_from(session, false, *address, files, out),
+        Verb::Cont => run(session, files, out),
+        Verb::Step(count) => step(session, count.unwrap_or(1), files, out),
         Verb::Reset => reset(session),
+        Verb::Attach { option, unit, .. } => {
+            attach(alloc, session, *option, *unit, command.file_name(), files)
+        }
+        Verb::Detach(unit) => detach_one_or_every(session, *unit, files),
         Verb::Show(subject) => show(session, *subject, out),
-        Verb::Exit(status) => exit(*status),
+        Verb::Exit(status) => exit(session, *status, files),
         _ => Err(CommandFault::NotBuilt),
     }
 }

@@ -1,24 +1,47 @@
 // EXIT, QUIT and BYE.
+ghost use Rattle.std.specs.Prelude.{◌≡◌, ◌≤◌, ℕ, Bool, List};
+ghost use Rattle.host_files.specs.State.{Opened};
+ghost use Rattle.unit_files.specs.Open.{AllOpen, Around};
+ghost use Rattle.fault_notes.specs.Notes.{notes_said};
+ghost use Rattle.scp_commands.specs.Live.{live_in};
 ghost use Rattle.scp_commands.specs.ExitEffects.{exit_reply};
-ghost use Rattle.scp_commands.specs.Live.{Live};
-ghost use Rattle.scp_commands.specs.Doing.{Does, ConsoleCounts};
-ghost use Rattle.std.specs.Prelude.{◌≢◌, ℕ, Bool, List, Ok};
-ghost use Rattle.nova_machine.specs.declared.machine.Stop.TheVariants.{ConsoleFault};
-ghost use Rattle.scp_commands.specs.declared.next.Next.TheVariants.{Ran};
+ghost use Rattle.scp_commands.specs.Doing.{Did, Keeps, IsPlain, IsExitAnswer};
 
 use crate::fault::CommandFault;
 use crate::next::Next;
+use crate::session::Session;
+use host_files::Files;
+use unit_trait::Unit;
 
-/// The end of a session, with a status from 0 to 99; 0 where none is given.
+/// The end of a session, with a status from 0 to 99; 0 where none is given. All files are closed before it.
 #[tactic(auto, unfolding(crate::specs::ExitEffects::exit_reply))]
-pub fn exit(status: Option<u64>) -> Result<Next, CommandFault>
-    ensures told { (live : Live) (tells : Bool) (text : List ℕ)
-        → Does (exit_reply live status) result live tells text text }
-    ensures counts { (count : ℕ) → ConsoleCounts result count count }
-    ensures stop { result ≢ Ok (Ran ConsoleFault) }
+pub fn exit<U: Unit, F: Files>(
+    session: &mut Session<U>,
+    status: Option<u64>,
+    files: &mut F,
+) -> Result<Next, CommandFault>
+    requires room { 16 ≤ session.old.spare }
+    requires open { AllOpen session.old.machine.slots (F.state files.old).opened }
+    ensures told { (tells : Bool) (text : List ℕ)
+        → Did (λ notes. exit_reply notes (live_in session.old (F.state files.old).files) status)
+        session.old.command result (live_in session.new (F.state files.new).files) tells text text
+        (notes_said session.old.notes) (notes_said session.new.notes) }
+    ensures keeps { Keeps session.old.command session.new.machine.time F.tells result session.old.notes
+        session.new.notes (F.state files.old) (F.state files.new) }
+    ensures own { IsPlain result }
+    ensures exit { IsExitAnswer result }
+    ensures keys { session.new.keys ≡ session.old.keys }
+    ensures limit { session.new.limit ≡ session.old.limit }
+    ensures command { session.new.command ≡ session.old.command }
+    ensures open { AllOpen session.new.machine.slots (F.state files.new).opened }
+    ensures around { (base : List Opened) → Around session.old.machine.slots base (F.state files.old).opened
+        → Around session.new.machine.slots base (F.state files.new).opened }
 {
     match status.unwrap_or(0) {
-        status @ 0..=99 => Ok(Next::Exit(status as u8)),
+        status @ 0..=99 => {
+            session.detach_files(files);
+            Ok(Next::Exit(status as u8))
+        }
         _ => Err(CommandFault::OutOfRange),
     }
 }

@@ -1,13 +1,15 @@
 ghost use Rattle.std.specs.Prelude.{◌≡◌, IsTrue, option_map};
 ghost use Rattle.fault_counts.specs.Faults.{CountsFault};
 ghost use Rattle.host_files.specs.Streams.{Puts};
-ghost use Rattle.scp_commands.specs.FaultText.{line_fault, list_fault, parse_words, parse_place, fault_words};
+ghost use Rattle.scp_commands.specs.FaultText.{line_fault, list_fault, attach_fault, detach_fault, parse_words, parse_place, fault_words};
 ghost use Rattle.scp_commands.specs.FaultText.{fault_place, words_line, fault_text};
 
+use fault_notes::Subject;
 use host_files::{Failed, Sink, put_pieces};
 use itoa::Buffer;
 use scp_examine::ExamineFault;
 use scp_parser::ParseFault;
+use unit_files::{AttachFault, DetachFault};
 
 /// Why a command was not done. Nothing has changed then, but for what the commands' own pages say.
 #[derive(Clone, Copy, Debug, PartialEq, Eq)]
@@ -20,8 +22,22 @@ pub enum CommandFault {
     OutOfRange,
     /// The register is read only.
     ReadOnlyName,
+    /// The unit has a file.
+    AlreadyAttached,
+    /// The unit has no file.
+    NotAttached,
+    /// The unit only writes, and was to be attached to be read only.
+    ReadOnly,
+    /// There is no file of that name.
+    NoFile,
+    /// The file is longer than the unit takes.
+    FileTooLong,
+    /// A call on a file failed; it may have been emptied or made before. A note says which call it was.
+    FileFailed(Subject),
     /// The console refused a byte, which ends the session. It has no text.
     Console,
+    /// Memory ran out, which ends the session. It has no text.
+    OutOfMemory,
     /// This version of the program does not have the command or the subject, or its machine no unit of the device.
     NotBuilt,
 }
@@ -49,7 +65,31 @@ impl CommandFault {
         }
     }
 
-    // The words of the fault; none for `Console`.
+    /// The fault of a file that was not attached.
+    pub fn of_attach(fault: AttachFault) -> CommandFault
+        ensures { result ≡ attach_fault fault }
+    {
+        match fault {
+            AttachFault::AlreadyAttached => CommandFault::AlreadyAttached,
+            AttachFault::ReadOnly => CommandFault::ReadOnly,
+            AttachFault::NoFile => CommandFault::NoFile,
+            AttachFault::TooLong => CommandFault::FileTooLong,
+            AttachFault::Failed(fault) => CommandFault::FileFailed(Subject::Unit(fault.unit)),
+            AttachFault::OutOfMemory => CommandFault::OutOfMemory,
+        }
+    }
+
+    /// The fault of a unit that was not detached.
+    pub fn of_detach(fault: DetachFault) -> CommandFault
+        ensures { result ≡ detach_fault fault }
+    {
+        match fault {
+            DetachFault::NotAttached => CommandFault::NotAttached,
+            DetachFault::Failed(fault) => CommandFault::FileFailed(Subject::Unit(fault.unit)),
+        }
+    }
+
+    // The words of the fault; none for those that end the session.
     fn words(self) -> Option<&'static [u8]>
         ensures { option_map (λ words. words.now) result ≡ fault_words self }
     {
@@ -58,7 +98,13 @@ impl CommandFault {
             CommandFault::NoSuchName => b"No such name",
             CommandFault::OutOfRange => b"Value out of range",
             CommandFault::ReadOnlyName => b"Read only name",
-            CommandFault::Console => return None,
+            CommandFault::AlreadyAttached => b"Unit already attached",
+            CommandFault::NotAttached => b"Unit not attached",
+            CommandFault::ReadOnly => b"Read only not allowed",
+            CommandFault::NoFile => b"File not found",
+            CommandFault::FileTooLong => b"File too long",
+            CommandFault::FileFailed(_) => b"File error",
+            CommandFault::Console | CommandFault::OutOfMemory => return None,
             CommandFault::NotBuilt => b"Not built",
         };
         Some(words)
@@ -74,7 +120,7 @@ impl CommandFault {
         }
     }
 
-    /// Prints the text of the fault, a line; nothing for `Console`.
+    /// Prints the text of the fault, a line; nothing for `Console` and `OutOfMemory`.
     pub fn put_text<S: Sink>(self, out: &mut S) -> Result<(), Failed>
         ensures told { IsTrue S.tells → Puts (S.written out.old) (fault_text self) result (S.written out.new) }
         ensures counts { CountsFault (S.fault_count out.old) (S.fault_count out.new) result }

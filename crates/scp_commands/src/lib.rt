@@ -12,11 +12,13 @@ mod run_commands;
 pub mod session;
 mod show_command;
 mod stop_line;
+mod unit_commands;
 mod unit_names;
 
 pub use counts::{MOST_INSTRUCTIONS, is_count};
 pub use execute_command::execute;
 pub use fault::CommandFault;
+pub use fault_notes::{FaultNote, Subject};
 pub use laws::{refusals_change_nothing, resets_leave_the_program};
 pub use next::Next;
 pub use session::Session;

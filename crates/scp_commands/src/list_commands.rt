@@ -1,9 +1,9 @@
 // EXAMINE and DEPOSIT.
-ghost use Rattle.std.specs.Prelude.{◌≡◌, ◌≢◌, ℕ, Bool, List, [], Ok};
-ghost use Rattle.nova_machine.specs.declared.machine.Stop.TheVariants.{ConsoleFault};
-ghost use Rattle.scp_commands.specs.declared.next.Next.TheVariants.{Ran};
+ghost use Rattle.std.specs.Prelude.{◌≡◌, ℕ, Bool, List, []};
+ghost use Rattle.host_files.specs.Lists.{NamedBytes};
+ghost use Rattle.scp_commands.specs.Live.{standing, live_in};
 ghost use Rattle.scp_commands.specs.ListEffects.{lacks_device, examine_reply, handed, deposit_reply};
-ghost use Rattle.scp_commands.specs.Doing.{Does, ConsoleCounts};
+ghost use Rattle.scp_commands.specs.Doing.{Does, ConsoleCounts, IsShown, IsPlain, IsExitAnswer};
 
 use crate::fault::CommandFault;
 use crate::next::Next;
@@ -21,10 +21,11 @@ pub fn examine_list<U: Unit, S: Sink>(
     listing: &Listing,
     out: &mut S,
 ) -> Result<Next, CommandFault>
-    ensures told { Does (examine_reply session.now.live listing.now) result session.now.live S.tells
-        (S.written out.old) (S.written out.new) }
+    ensures told { (files : List NamedBytes) → Does (examine_reply (live_in session.now files) listing.now) result
+        (standing 0 (live_in session.now files)) S.tells (S.written out.old) (S.written out.new) }
     ensures counts { ConsoleCounts result (S.fault_count out.old) (S.fault_count out.new) }
-    ensures stop { result ≢ Ok (Ran ConsoleFault) }
+    ensures own { IsShown result }
+    ensures exit { IsExitAnswer result }
 {
     if lacks_device(&session.machine, listing.device) {
         return Err(CommandFault::NotBuilt);
@@ -41,11 +42,14 @@ pub fn deposit_list<U: Unit>(
     listing: &Listing,
     value: u64,
 ) -> Result<Next, CommandFault>
-    ensures told { (tells : Bool) (text : List ℕ)
-        → Does (deposit_reply session.old.live listing.now value) result session.new.live tells text text }
-    ensures limit { session.new.limit ≡ session.old.limit }
-    ensures counts { (count : ℕ) → ConsoleCounts result count count }
-    ensures stop { result ≢ Ok (Ran ConsoleFault) }
+    ensures told { (files : List NamedBytes) (tells : Bool) (text : List ℕ)
+        → Does (deposit_reply (live_in session.old files) listing.now value) result
+        (standing 0 (live_in session.new files)) tells text text }
+    ensures own { IsPlain result }
+    ensures exit { IsExitAnswer result }
+    ensures rest { session.new ≡ record session.old { machine = session.new.machine } }
+    ensures slots { session.new.machine.slots ≡ session.old.machine.slots }
+    ensures time { session.new.machine.time ≡ session.old.machine.time }
 {
     fill_list(session, listing, value)
 }
@@ -56,11 +60,16 @@ fn fill_list<U: Unit>(
     listing: &Listing,
     value: u64,
 ) -> Result<Next, CommandFault>
-    ensures answer { result ≡ (deposit_reply session.old.live listing.now value).answer }
-    ensures live { session.new.live ≡ (deposit_reply session.old.live listing.now value).after }
-    ensures stop { result ≢ Ok (Ran ConsoleFault) }
-    ensures silent { (deposit_reply session.old.live listing.now value).made ≡ [] }
-    ensures limit { session.new.limit ≡ session.old.limit }
+    ensures answer { (files : List NamedBytes)
+        → result ≡ (deposit_reply (live_in session.old files) listing.now value).answer }
+    ensures after { (files : List NamedBytes) → standing 0 (live_in session.new files)
+        ≡ (deposit_reply (live_in session.old files) listing.now value).after }
+    ensures exit { IsExitAnswer result }
+    ensures silent { (files : List NamedBytes)
+        → (deposit_reply (live_in session.old files) listing.now value).made ≡ [] }
+    ensures rest { session.new ≡ record session.old { machine = session.new.machine } }
+    ensures slots { session.new.machine.slots ≡ session.old.machine.slots }
+    ensures time { session.new.machine.time ≡ session.old.machine.time }
 {
     if lacks_device(&session.machine, listing.device) {
         return Err(CommandFault::NotBuilt);

@@ -1,19 +1,28 @@
 // RUN, GO, CONT, STEP and RESET.
-ghost use Rattle.std.specs.Prelude.{◌≡◌, ◌≢◌, ◌≤◌, ◌^◌, ℕ, Bool, List, [], nat_le, min, true, false, IsTrue, None, Ok};
-ghost use Rattle.nova_machine.specs.Alone.{alone};
+ghost use Rattle.std.specs.Prelude.{◌≡◌, ◌≢◌, ◌≤◌, ◌^◌, ◌⊎◌, ℕ, Bool, List, [], nat_le, min, true, false, IsTrue, Ok, Err};
+ghost use Rattle.host_files.specs.Lists.{NamedBytes};
+ghost use Rattle.unit_files.specs.Open.{AllOpen};
+ghost use Rattle.fault_notes.specs.Notes.{notes_said};
+ghost use Rattle.nova_machine.specs.Comes.{AreTold};
 ghost use Rattle.nova_machine.specs.Run.{run};
 ghost use Rattle.nova_machine.specs.declared.machine.Stop.TheVariants.{ConsoleFault};
+ghost use Rattle.nova_machine.specs.Machine.{reset_machine};
+ghost use Rattle.scp_commands.specs.Live.{live_in, standing};
+ghost use Rattle.scp_commands.specs.Doing.{IsPlain, stop_notes, IsExitAnswer};
+ghost use Rattle.std.specs.Prelude.{◌++◌};
 ghost use Rattle.scp_commands.specs.RunEffects.{address_fits, starting_at, reset_where, started, running, run_from};
-ghost use Rattle.scp_commands.specs.RunEffects.{stepped, step_of, ran, reset_reply};
-ghost use Rattle.scp_commands.specs.Doing.{Does, ConsoleCounts};
-ghost use Rattle.scp_commands.specs.declared.next.Next.TheVariants.{Ran};
+ghost use Rattle.scp_commands.specs.RunEffects.{stepped, step_of, run_failure, ran, reset_reply};
+ghost use Rattle.scp_commands.specs.Doing.{Did, Does, Keeps, ConsoleCounts, IsRunAnswer};
 
 use crate::counts::is_count;
 use crate::fault::CommandFault;
 use crate::next::{Next, told_or_console};
 use crate::session::Session;
 use crate::stop_line::put_stop;
-use host_files::Sink;
+use crate::unit_commands::stamp_of;
+use fault_notes::keep;
+use file_commands::note_of;
+use host_files::{Files, Sink};
 use nova_machine::{CpuReg, Machine, RunLimit, Stop};
 use unit_trait::Unit;
 
@@ -22,23 +31,35 @@ const LAST_ADDRESS: u64 = 0o77777;
 
 /// Runs up to the limit of the session, from that address where one is given. RUN resets the machine first.
 #[tactic(auto, unfolding(crate::specs::RunEffects::run_from))]
-pub fn run_from<U: Unit, S: Sink>(
+pub fn run_from<U: Unit, F: Files, S: Sink>(
     session: &mut Session<U>,
     resets: bool,
     address: Option<u64>,
+    files: &mut F,
     out: &mut S,
 ) -> Result<Next, CommandFault>
-    ensures told { Does (run_from session.old.limit resets address session.old.live) result session.new.live S.tells
-        (S.written out.old) (S.written out.new) }
+    requires room { 16 ≤ session.old.spare }
+    requires open { AllOpen session.old.machine.slots (F.state files.old).opened }
+    ensures told { AreTold F.tells session.old.machine.slots → Did
+        (λ notes. run_from session.old.limit notes resets address (live_in session.old (F.state files.old).files))
+        session.old.command result (live_in session.new (F.state files.new).files) S.tells (S.written out.old)
+        (S.written out.new) (notes_said session.old.notes) (notes_said session.new.notes) }
+    ensures keeps { Keeps session.old.command session.new.machine.time F.tells result session.old.notes
+        session.new.notes (F.state files.old) (F.state files.new) }
+    ensures keys { session.new.keys ≡ session.old.keys }
     ensures limit { session.new.limit ≡ session.old.limit }
+    ensures command { session.new.command ≡ session.old.command }
+    ensures slots { session.new.machine.slots ≡ session.old.machine.slots }
+    ensures opened { (F.state files.new).opened ≡ (F.state files.old).opened }
     ensures counts { ConsoleCounts result (S.fault_count out.old) (S.fault_count out.new) }
-    ensures stop { result ≢ Ok (Ran ConsoleFault) }
+    ensures own { IsRunAnswer result }
+    ensures exit { IsExitAnswer result }
 {
     if !address_fits(address) {
         return Err(CommandFault::OutOfRange);
     }
     start(session, resets, address);
-    run(session, out)
+    run(session, files, out)
 }
 
 // Whether an address is one of memory's.
@@ -54,8 +75,7 @@ fn address_fits(address: Option<u64>) -> bool
 // Readies a session for a run.
 fn start<U: Unit>(session: &mut Session<U>, resets: bool, address: Option<u64>)
     requires { IsTrue (address_fits address) }
-    ensures live { session.new.live ≡ started resets address session.old.live }
-    ensures limit { session.new.limit ≡ session.old.limit }
+    ensures { session.new ≡ record session.old { machine = starting_at address (reset_where resets session.old.machine) } }
 {
     start_machine(&mut session.machine, resets, address);
 }
@@ -83,77 +103,146 @@ fn reset_where<U: Unit>(machine: &mut Machine<U>, resets: bool)
 }
 
 /// Runs from PC up to the limit of the session, and prints the stop behind what the run has printed.
-pub fn run<U: Unit, S: Sink>(session: &mut Session<U>, out: &mut S) -> Result<Next, CommandFault>
-    ensures told { Does (running session.old.limit session.old.live) result session.new.live S.tells
-        (S.written out.old) (S.written out.new) }
+pub fn run<U: Unit, F: Files, S: Sink>(
+    session: &mut Session<U>,
+    files: &mut F,
+    out: &mut S,
+) -> Result<Next, CommandFault>
+    requires room { 16 ≤ session.old.spare }
+    requires open { AllOpen session.old.machine.slots (F.state files.old).opened }
+    ensures told { AreTold F.tells session.old.machine.slots → Did
+        (λ notes. running session.old.limit notes (live_in session.old (F.state files.old).files))
+        session.old.command result (live_in session.new (F.state files.new).files) S.tells (S.written out.old)
+        (S.written out.new) (notes_said session.old.notes) (notes_said session.new.notes) }
+    ensures keeps { Keeps session.old.command session.new.machine.time F.tells result session.old.notes
+        session.new.notes (F.state files.old) (F.state files.new) }
+    ensures keys { session.new.keys ≡ session.old.keys }
     ensures limit { session.new.limit ≡ session.old.limit }
+    ensures command { session.new.command ≡ session.old.command }
+    ensures slots { session.new.machine.slots ≡ session.old.machine.slots }
+    ensures opened { (F.state files.new).opened ≡ (F.state files.old).opened }
     ensures counts { ConsoleCounts result (S.fault_count out.old) (S.fault_count out.new) }
-    ensures stop { result ≢ Ok (Ran ConsoleFault) }
+    ensures own { IsRunAnswer result }
+    ensures exit { IsExitAnswer result }
 {
     let limit = RunLimit {
         count: session.limit,
         step: false,
     };
-    run_up_to(session, limit, out)
+    run_up_to(session, limit, files, out)
 }
 
 /// Runs that many instructions, from 1 to 2^48, and prints the stop.
 #[tactic(auto, unfolding(crate::specs::RunEffects::step_of))]
-pub fn step<U: Unit, S: Sink>(
+pub fn step<U: Unit, F: Files, S: Sink>(
     session: &mut Session<U>,
     count: u64,
+    files: &mut F,
     out: &mut S,
 ) -> Result<Next, CommandFault>
-    ensures told { Does (step_of session.old.limit count session.old.live) result session.new.live S.tells
-        (S.written out.old) (S.written out.new) }
+    requires room { 16 ≤ session.old.spare }
+    requires open { AllOpen session.old.machine.slots (F.state files.old).opened }
+    ensures told { AreTold F.tells session.old.machine.slots → Did
+        (λ notes. step_of session.old.limit notes count (live_in session.old (F.state files.old).files))
+        session.old.command result (live_in session.new (F.state files.new).files) S.tells (S.written out.old)
+        (S.written out.new) (notes_said session.old.notes) (notes_said session.new.notes) }
+    ensures keeps { Keeps session.old.command session.new.machine.time F.tells result session.old.notes
+        session.new.notes (F.state files.old) (F.state files.new) }
+    ensures keys { session.new.keys ≡ session.old.keys }
     ensures limit { session.new.limit ≡ session.old.limit }
+    ensures command { session.new.command ≡ session.old.command }
+    ensures slots { session.new.machine.slots ≡ session.old.machine.slots }
+    ensures opened { (F.state files.new).opened ≡ (F.state files.old).opened }
     ensures counts { ConsoleCounts result (S.fault_count out.old) (S.fault_count out.new) }
-    ensures stop { result ≢ Ok (Ran ConsoleFault) }
+    ensures own { IsRunAnswer result }
+    ensures exit { IsExitAnswer result }
 {
     if is_count(count) {
-        step_by(session, count, out)
+        step_by(session, count, files, out)
     } else {
         Err(CommandFault::OutOfRange)
     }
 }
 
 #[tactic(auto, unfolding(crate::specs::RunEffects::stepped))]
-fn step_by<U: Unit, S: Sink>(
+fn step_by<U: Unit, F: Files, S: Sink>(
     session: &mut Session<U>,
     count: u64,
+    files: &mut F,
     out: &mut S,
 ) -> Result<Next, CommandFault>
-    ensures told { Does (stepped session.old.limit count session.old.live) result session.new.live S.tells
-        (S.written out.old) (S.written out.new) }
+    requires room { 16 ≤ session.old.spare }
+    requires open { AllOpen session.old.machine.slots (F.state files.old).opened }
+    ensures told { AreTold F.tells session.old.machine.slots → Did
+        (λ notes. stepped session.old.limit notes count (live_in session.old (F.state files.old).files))
+        session.old.command result (live_in session.new (F.state files.new).files) S.tells (S.written out.old)
+        (S.written out.new) (notes_said session.old.notes) (notes_said session.new.notes) }
+    ensures keeps { Keeps session.old.command session.new.machine.time F.tells result session.old.notes
+        session.new.notes (F.state files.old) (F.state files.new) }
+    ensures keys { session.new.keys ≡ session.old.keys }
     ensures limit { session.new.limit ≡ session.old.limit }
+    ensures command { session.new.command ≡ session.old.command }
+    ensures slots { session.new.machine.slots ≡ session.old.machine.slots }
+    ensures opened { (F.state files.new).opened ≡ (F.state files.old).opened }
     ensures counts { ConsoleCounts result (S.fault_count out.old) (S.fault_count out.new) }
-    ensures stop { result ≢ Ok (Ran ConsoleFault) }
+    ensures own { IsRunAnswer result }
+    ensures exit { IsExitAnswer result }
 {
     let limit = RunLimit {
         count: count.min(session.limit),
         step: count <= session.limit,
     };
-    run_up_to(session, limit, out)
+    run_up_to(session, limit, files, out)
 }
 
-// Runs up to that limit, and prints the stop behind what the run has printed.
-fn run_up_to<U: Unit, S: Sink>(
+// Runs up to that limit, notes the call on a file that failed, if that is why it stopped, and prints the stop behind what
+// the run has printed.
+fn run_up_to<U: Unit, F: Files, S: Sink>(
     session: &mut Session<U>,
     limit: RunLimit,
+    files: &mut F,
     out: &mut S,
 ) -> Result<Next, CommandFault>
-    ensures told { Does (ran session.old.live (run None limit.step limit.count (alone session.old.live.machine))) result
-        session.new.live S.tells (S.written out.old) (S.written out.new) }
+    requires room { 16 ≤ session.old.spare }
+    requires open { AllOpen session.old.machine.slots (F.state files.old).opened }
+    ensures told { AreTold F.tells session.old.machine.slots → Did
+        (λ notes. ran (run (run_failure notes) limit.step limit.count (live_in session.old (F.state files.old).files)))
+        session.old.command result (live_in session.new (F.state files.new).files) S.tells (S.written out.old)
+        (S.written out.new) (notes_said session.old.notes) (notes_said session.new.notes) }
+    ensures keeps { Keeps session.old.command session.new.machine.time F.tells result session.old.notes
+        session.new.notes (F.state files.old) (F.state files.new) }
+    ensures keys { session.new.keys ≡ session.old.keys }
     ensures limit { session.new.limit ≡ session.old.limit }
+    ensures command { session.new.command ≡ session.old.command }
+    ensures slots { session.new.machine.slots ≡ session.old.machine.slots }
+    ensures opened { (F.state files.new).opened ≡ (F.state files.old).opened }
     ensures counts { ConsoleCounts result (S.fault_count out.old) (S.fault_count out.new) }
-    ensures stop { result ≢ Ok (Ran ConsoleFault) }
+    ensures own { IsRunAnswer result }
+    ensures exit { IsExitAnswer result }
 {
-    let stop = session.machine.run_alone(limit, out);
+    let stop = session.machine.run(limit, &session.keys, files, out);
     if is_console_fault(stop) {
         return Err(CommandFault::Console);
     }
+    note_stop(session, stop);
     let printed = put_stop(stop, &session.machine, out);
     told_or_console(printed, Next::Ran(stop))
+}
+
+// Notes the call on a file that failed, where a run stopped for it.
+fn note_stop<U: Unit>(session: &mut Session<U>, stop: Stop)
+    requires { 16 ≤ session.old.spare }
+    ensures notes { session.new.notes ≡ session.old.notes
+        ++ stop_notes (record { command = session.old.command; time = session.old.machine.time }) stop }
+    ensures rest { session.new ≡ record session.old { notes = session.new.notes; spare = session.new.spare } }
+{
+    match stop {
+        Stop::FileFault(fault) => {
+            let stamp = stamp_of(session);
+            keep(&mut session.notes, note_of(fault, stamp));
+        }
+        _ => (),
+    }
 }
 
 // Whether a run ended since the console refused a byte.
@@ -167,11 +256,11 @@ fn is_console_fault(stop: Stop) -> bool
 /// RESET resets the machine. It prints nothing.
 #[tactic(auto, unfolding(crate::specs::RunEffects::reset_reply))]
 pub fn reset<U: Unit>(session: &mut Session<U>) -> Result<Next, CommandFault>
-    ensures told { (tells : Bool) (text : List ℕ)
-        → Does (reset_reply session.old.live) result session.new.live tells text text }
-    ensures limit { session.new.limit ≡ session.old.limit }
-    ensures counts { (count : ℕ) → ConsoleCounts result count count }
-    ensures stop { result ≢ Ok (Ran ConsoleFault) }
+    ensures told { (files : List NamedBytes) (tells : Bool) (text : List ℕ)
+        → Does (reset_reply (live_in session.old files)) result (standing 0 (live_in session.new files)) tells text text }
+    ensures own { IsPlain result }
+    ensures exit { IsExitAnswer result }
+    ensures rest { session.new ≡ record session.old { machine = reset_machine session.old.machine } }
 {
     session.machine.reset();
     Ok(Next::Go)

@@ -1,4 +1,16 @@
-use nova_machine::Machine;
+ghost use Rattle.std.specs.Prelude.{◌≡◌, ◌≤◌, ◌<◌, ◌+◌, List, [], map, IfOk, OnOk, OnErr};
+ghost use Rattle.host_files.specs.State.{Opened};
+ghost use Rattle.unit_files.specs.Open.{AllOpen, Around};
+ghost use Rattle.fault_notes.specs.Notes.{notes_said};
+ghost use Rattle.nova_machine.specs.BusOrder.{IsBusOrder};
+ghost use Rattle.nova_machine.specs.Machine.{new_machine};
+
+use expect_actions::Keys;
+use fault_notes::{FaultNote, take_room};
+use file_commands::{Stamp, detach_all};
+use host_files::Files;
+use nova_machine::{Machine, OutOfMemory};
+use std::alloc::Global;
 use std::marker::Model;
 use unit_trait::Unit;
 
@@ -6,14 +18,99 @@ use unit_trait::Unit;
 #[derive(Drop)]
 pub struct Session<U: Unit> {
     pub machine: Machine<U>,
+    /// The keys that are typed at given times.
+    pub keys: Keys,
     /// How many instructions a run may execute, from 1 to 2^48.
     pub limit: u64,
+    /// The calls on files that failed, in order, but for the closing that a refused ATTACH makes.
+    pub notes: Vec<FaultNote>,
+    /// How many units of the budget are spent, those of the command that is done included.
+    pub command: u64,
 }
 
 impl<U: Unit> Model for Session<U> {
-    ghost use Rattle.scp_commands.specs.Live.{CommandState, live_of};
+    ghost use Rattle.std.specs.Prelude.{◌-◌, vec_len, vec_capacity};
+    ghost use Rattle.scp_commands.specs.Live.{CommandState};
 
     ghost Value = { CommandState };
 
-    ghost view = { λ s. record { live = live_of s.machine; limit = s.limit } };
+    ghost view = { λ s. record {
+      machine = s.machine;
+      keys = s.keys;
+      limit = s.limit;
+      notes = s.notes.items;
+      command = s.command;
+      spare = vec_capacity s.notes - vec_len s.notes;
+    } };
+}
+
+impl<U: Unit> Session<U> {
+    ghost use Rattle.scp_commands.specs.Live.{CommandState, live_in};
+    ghost use Rattle.scp_commands.specs.FileEffects.{detached_all};
+    ghost use Rattle.scp_commands.specs.Doing.{Closes, Keeps};
+    ghost use Rattle.std.specs.Prelude.{Ok};
+    ghost use Rattle.scp_commands.specs.declared.next.Next.TheVariants.{Go};
+
+    /// A session of a machine with those units, before its first command. No file is attached, and no note kept.
+    pub fn new(
+        alloc: Global,
+        units: Vec<U>,
+        keys: Keys,
+        limit: u64,
+    ) -> Result<Session<U>, OutOfMemory>
+        requires { IsBusOrder (map U.unit_state units.items) }
+        ensures machine { IfOk result (λ s. s.machine ≡ new_machine (map U.unit_state units.items)) }
+        ensures keys { IfOk result (λ s. s.keys ≡ keys) }
+        ensures limit { IfOk result (λ s. s.limit ≡ limit) }
+        ensures notes { IfOk result (λ s. s.notes ≡ []) }
+        ensures command { IfOk result (λ s. s.command ≡ 0) }
+        ensures room { IfOk result (λ s. 16 ≤ s.spare) }
+        ensures open { IfOk result (λ s. (opened : List Opened) → AllOpen s.machine.slots opened) }
+        ensures around { IfOk result (λ s. (opened : List Opened) → Around s.machine.slots opened opened) }
+    {
+        let mut notes = Vec::new(alloc);
+        take_room(&mut notes)?;
+        Ok(Session {
+            machine: Machine::new(alloc, units)?,
+            keys,
+            limit,
+            notes,
+            command: 0,
+        })
+    }
+
+    /// Takes the memory for the notes of one more command. Where it is there already, it is not refused.
+    pub fn take_room(&mut self) -> Result<(), OutOfMemory>
+        ensures room { OnOk result (16 ≤ self.new.spare) }
+        ensures refused { OnErr result (self.old.spare < 16) }
+        ensures rest { self.new ≡ record self.old { spare = self.new.spare } }
+    {
+        take_room(&mut self.notes)
+    }
+
+    /// Closes the files of all units, in bus order, at the end of the input. A closing that fails is noted, and the next
+    /// one follows.
+    pub fn detach_files<F: Files>(&mut self, files: &mut F)
+        requires room { 3 ≤ self.old.spare }
+        requires open { AllOpen self.old.machine.slots (F.state files.old).opened }
+        ensures live { live_in self.new (F.state files.new).files
+            ≡ detached_all (live_in self.old (F.state files.old).files) }
+        ensures files { (F.state files.new).files ≡ (F.state files.old).files }
+        ensures closes { Closes self.old.command (live_in self.old (F.state files.old).files)
+            (notes_said self.old.notes) (notes_said self.new.notes) }
+        ensures keeps { Keeps self.old.command self.new.machine.time F.tells (Ok Go) self.old.notes self.new.notes
+            (F.state files.old) (F.state files.new) }
+        ensures keys { self.new.keys ≡ self.old.keys }
+        ensures limit { self.new.limit ≡ self.old.limit }
+        ensures command { self.new.command ≡ self.old.command }
+        ensures open { AllOpen self.new.machine.slots (F.state files.new).opened }
+        ensures around { (base : List Opened) → Around self.old.machine.slots base (F.state files.old).opened
+            → Around self.new.machine.slots base (F.state files.new).opened }
+    {
+        let stamp = Stamp {
+            command: self.command,
+            time: self.machine.time(),
+        };
+        detach_all(self.machine.attached_mut(), files, &mut self.notes, stamp);
+    }
 }

@@ -1,23 +1,30 @@
 // SHOW.
-ghost use Rattle.std.specs.Prelude.{◌≡◌, ◌≢◌, ◌<◌, IsTrue, Ok};
+ghost use Rattle.std.specs.Prelude.{◌≡◌, ◌<◌, ◌++◌, ◌∷◌, ℕ, List, [], Some, IsTrue};
 ghost use Rattle.fault_counts.specs.Faults.{CountsFault};
+ghost use Rattle.host_files.specs.Lists.{NamedBytes};
 ghost use Rattle.host_files.specs.Streams.{Puts};
 ghost use Rattle.unit_trait.specs.Kinds.{units_of};
+ghost use Rattle.unit_files.specs.Attachments.{attachments_of, attachment_at};
 ghost use Rattle.event_queue.specs.EventList.{event};
+ghost use Rattle.nova_machine.specs.Seen.{seen};
+ghost use Rattle.scp_parser.specs.Command.{ShowsUnit};
+ghost use Rattle.scp_parser.specs.declared.command.Shown.TheVariants.{Unit as AUnit};
+ghost use Rattle.scp_commands.specs.Live.{standing, live_in};
+ghost use Rattle.scp_commands.specs.FileEffects.{attachment_text, unit_line};
 ghost use Rattle.scp_commands.specs.ShowEffects.{time_text, event_line, queue_text, show_reply};
-ghost use Rattle.scp_commands.specs.Doing.{Does, ConsoleCounts};
-ghost use Rattle.nova_machine.specs.declared.machine.Stop.TheVariants.{ConsoleFault};
-ghost use Rattle.scp_commands.specs.declared.next.Next.TheVariants.{Ran};
+ghost use Rattle.scp_commands.specs.Doing.{Does, ConsoleCounts, IsShown, IsExitAnswer};
 
 use crate::fault::CommandFault;
 use crate::next::{Next, told_or_console};
 use crate::session::Session;
+use crate::unit_commands::lacks_unit;
 use crate::unit_names::unit_name;
 use event_queue::Events;
 use host_files::{Failed, Sink, put_pieces};
 use itoa::Buffer;
 use nova_machine::Machine;
 use scp_parser::Shown;
+use unit_files::Attached;
 use unit_trait::{Unit, UnitName};
 
 /// SHOW prints what its subject is like.
@@ -27,10 +34,12 @@ pub fn show<U: Unit, S: Sink>(
     subject: Shown,
     out: &mut S,
 ) -> Result<Next, CommandFault>
-    ensures told { Does (show_reply session.now.live subject) result session.now.live S.tells
-        (S.written out.old) (S.written out.new) }
+    requires { ShowsUnit subject }
+    ensures told { (files : List NamedBytes) → Does (show_reply (live_in session.now files) subject) result
+        (standing 0 (live_in session.now files)) S.tells (S.written out.old) (S.written out.new) }
     ensures counts { ConsoleCounts result (S.fault_count out.old) (S.fault_count out.new) }
-    ensures stop { result ≢ Ok (Ran ConsoleFault) }
+    ensures own { IsShown result }
+    ensures exit { IsExitAnswer result }
 {
     match subject {
         Shown::Time => {
@@ -41,7 +50,65 @@ pub fn show<U: Unit, S: Sink>(
             let printed = put_queue(session.machine.events(), out);
             told_or_console(printed, Next::Go)
         }
+        Shown::Unit(unit) => show_unit(&session.machine, unit, out),
         _ => Err(CommandFault::NotBuilt),
+    }
+}
+
+// SHOW of a unit prints what is attached to it.
+fn show_unit<U: Unit, S: Sink>(
+    machine: &Machine<U>,
+    unit: UnitName,
+    out: &mut S,
+) -> Result<Next, CommandFault>
+    requires { unit.unit < units_of unit.kind }
+    ensures told { (keys : List (ℕ × ℕ)) (files : List NamedBytes)
+        → Does (show_reply (seen keys files machine.now) (AUnit unit)) result
+        (standing 0 (seen keys files machine.now)) S.tells (S.written out.old) (S.written out.new) }
+    ensures counts { ConsoleCounts result (S.fault_count out.old) (S.fault_count out.new) }
+    ensures own { IsShown result }
+    ensures exit { IsExitAnswer result }
+{
+    if lacks_unit(machine, unit) {
+        return Err(CommandFault::NotBuilt);
+    }
+    let printed = put_unit(machine.attached(), unit, out);
+    told_or_console(printed, Next::Go)
+}
+
+// Prints the line of a unit: its name, and its file, if it has one.
+fn put_unit<S: Sink>(attached: &Attached, unit: UnitName, out: &mut S) -> Result<(), Failed>
+    requires { unit.unit < units_of unit.kind }
+    ensures told { IsTrue S.tells → Puts (S.written out.old)
+        (unit_line unit (attachment_at (attachments_of attached.now) unit)) result (S.written out.new) }
+    ensures counts { CountsFault (S.fault_count out.old) (S.fault_count out.new) result }
+{
+    let name = unit_name(unit);
+    match attached.name_of(unit) {
+        None => put_pieces(out, &[name.as_slice(), b", not attached\n"]),
+        Some(file) => {
+            let read_only = attached.is_read_only(unit);
+            put_attachment(name.as_slice(), file.as_bytes(), read_only, out)
+        }
+    }
+}
+
+// Prints the line of a unit that has a file.
+fn put_attachment<S: Sink>(
+    name: &[u8],
+    file: &[u8],
+    read_only: bool,
+    out: &mut S,
+) -> Result<(), Failed>
+    ensures told { IsTrue S.tells → Puts (S.written out.old)
+        (name.now ++ attachment_text (Some (record { name = file.now; read_only = read_only })) ++ 10 ∷ []) result
+        (S.written out.new) }
+    ensures counts { CountsFault (S.fault_count out.old) (S.fault_count out.new) result }
+{
+    if read_only {
+        put_pieces(out, &[name, b", attached to ", file, b", read only", b"\n"])
+    } else {
+        put_pieces(out, &[name, b", attached to ", file, b"\n"])
     }
 }
 

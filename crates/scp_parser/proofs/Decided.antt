@@ -1,5 +1,5 @@
 -- Each form of a word is decided by its function.
-use Rattle.scp_parser.proofs.FormLemmas.{octal_decides, decimal_decides, items_decide, condition_decides, device_decides, subject_decides, symbolic_decides, command_decides}
+use Rattle.scp_parser.proofs.FormLemmas.{octal_decides, decimal_decides, items_decide, condition_decides, device_decides, subject_decides, symbolic_decides, option_decides, target_decides, detached_decides, command_decides}
 use Rattle.scp_parser.proofs.FormsDecided.{Forms_decided}
 
 pub decided : Forms_decided
@@ -11,5 +11,8 @@ decided = record {
   device = device_decides;
   subject = subject_decides;
   symbolic = symbolic_decides;
+  option = option_decides;
+  target = target_decides;
+  detached = detached_decides;
   command = command_decides;
 }

@@ -1,14 +1,15 @@
 -- A text without the blanks round it.
 use Rattle.std.specs.Prelude.{reverse}
-use Rattle.std.proofs.Common.{◌≡◌, ℕ, ◌+◌, ◌-◌, ◌<◌, ◌≤◌, zero, suc, true, false, List, [], ◌∷◌, ◌++◌, length, take, drop, get_or, refl, ap, sym, subst, ◌∙◌, inl, inr, arith, length-append}
+use Rattle.std.proofs.Common.{◌≡◌, ℕ, ◌+◌, ◌-◌, ◌<◌, ◌≤◌, zero, suc, true, false, List, [], ◌∷◌, ◌++◌, length, take, drop, get_or, refl, ap, sym, subst, ◌∙◌, ◌⊎◌, inl, inr, arith, length-append}
 use Rattle.std.specs.List.{suffix_len}
 use Rattle.std.proofs.lemmas.Bool.{cases_lt}
-use Rattle.std.proofs.lemmas.List.{take-append-drop, take_at, get_or-take, get_or-drop, get_or-reverse, get_or_append_left, get_or-append-add, length-take-le, length-drop, length-reverse, get_or_default}
+use Rattle.std.proofs.lemmas.List.{take-append-drop, take_at, drop_at, get_or-take, get_or-drop, get_or-reverse, get_or_append_left, get_or-append-add, length-take-le, length-drop, length-reverse, get_or_default}
 use Rattle.std.proofs.Math.Nat.{add-zero}
 use Rattle.std.proofs.lemmas.List.Sums.{suffix_len-le-length, suffix_len_is, prefix_len_passes, prefix_len_stops}
 use Rattle.line_words.specs.Words.{IsBlank, IsBlanks, is_blank, past_blanks, trimmed}
 use Rattle.scp_parser.specs.Grammar.{EndsWithoutBlank, IsInside}
-use Rattle.scp_parser.proofs.WordLemmas.{blank_is, blank_passes, not_blank, not_blank_is, IsBare, past_blanks_split, past_is_bare, blanked}
+use Rattle.scp_parser.specs.Reading.{inside_of}
+use Rattle.scp_parser.proofs.WordLemmas.{blank_is, blank_passes, not_blank, not_blank_is, IsBare, past_blanks_split, past_is_bare, blanked, past_of_blanks, blanks_from_past}
 
 -- a text without the blanks at its end
 
@@ -158,3 +159,38 @@ bare_inside (b ∷ more) behind some bare = bare
 pub inside_past : (text inside behind : List ℕ) → IsInside text inside behind → past_blanks text ≡ inside ++ behind
 inside_past text inside behind is =
     ap past_blanks is.spelled ∙ past_blanks_split is.before (inside ++ behind) is.blank_before (bare_inside inside behind is.some is.starts)
+
+-- the trimmed text by its length
+
+pub trimmed_within : (text : List ℕ) → length (trimmed text) ≤ length text
+trimmed_within text =
+    let long : length (trimmed text) ≡ kept text = ap length (trimmed_is text) ∙ length-take-le (kept text) text (kept_within text) in
+    omega (arith, long, kept_within text)
+
+pub trimmed_front : (text : List ℕ) → take (length (trimmed text)) text ≡ trimmed text
+trimmed_front text =
+    let long : length (trimmed text) ≡ kept text = ap length (trimmed_is text) ∙ length-take-le (kept text) text (kept_within text) in
+    ap (λ (n : ℕ). take n text) long ∙ sym (trimmed_is text)
+
+-- the inside of a text, as its function gives it
+
+pub inside_given : (text inside behind : List ℕ) → IsInside text inside behind → inside_of text ≡ (inside, behind)
+unfolding inside_of
+inside_given text inside behind is =
+    let past = inside_past text inside behind is in
+    let front : trimmed (inside ++ behind) ≡ inside = trimmed_at inside behind is.blank_behind is.ends in
+    ap (λ (t : List ℕ). (trimmed t, drop (length (trimmed t)) t)) past
+    ∙ ap (λ (t : List ℕ). (t, drop (length t) (inside ++ behind))) front
+    ∙ ap (λ (t : List ℕ). (inside, t)) (drop_at inside behind (length inside) refl)
+
+pub inside_of_blanks : (text : List ℕ) → IsBlanks text → inside_of text ≡ ([], [])
+unfolding inside_of trimmed
+inside_of_blanks text are = ap (λ (t : List ℕ). (trimmed t, drop (length (trimmed t)) t)) (past_of_blanks text are)
+
+inside_cases : (text past : List ℕ) → past_blanks text ≡ past → IsBlanks text ⊎ ((x : List ℕ × List ℕ) × IsInside text x.0 x.1)
+inside_cases text [] none = inl (blanks_from_past text none)
+inside_cases text (b ∷ more) is = inr ((trimmed (b ∷ more), drop (kept (b ∷ more)) (b ∷ more)), inside_there text b more is)
+
+-- a text is of blanks alone, or has an inside
+pub blanks_or_inside : (text : List ℕ) → IsBlanks text ⊎ ((x : List ℕ × List ℕ) × IsInside text x.0 x.1)
+blanks_or_inside text = inside_cases text (past_blanks text) refl

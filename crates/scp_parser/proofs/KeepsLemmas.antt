@@ -1,12 +1,13 @@
 -- What a line asks for keeps the facts of commands.
-use Rattle.std.proofs.Common.{◌≡◌, ◌⊎◌, eqb, length, take, drop, codes, ◌-◌, ◌<◌, ℕ, Bool, true, false, cond, leb, ltb, ◌&&◌, Option, Some, None, Result, Ok, Err, List, [], ◌∷◌, refl, ap, inl, inr, arith, subst}
+use Rattle.std.proofs.Common.{◌≡◌, ◌⊎◌, eqb, length, take, drop, codes, ◌-◌, ◌<◌, ℕ, Bool, true, false, cond, leb, ltb, ◌&&◌, Option, Some, None, Result, Ok, Err, List, [], ◌∷◌, ◌++◌, refl, ap, sym, ◌∙◌, inl, inr, arith, subst}
 use Rattle.std.specs.Option.{option_map}
 use Rattle.std.proofs.lemmas.Option.{cond_some, same_Some}
 use Rattle.std.proofs.lemmas.Bool.Decides.{nat_tests}
 use Rattle.unit_trait.specs.declared.kind.Kind.{Kind}
 use Rattle.unit_trait.specs.declared.kind.Kind.TheVariants.{Mta, Tti1}
 use Rattle.unit_trait.specs.declared.kind.UnitName.{UnitName}
-use Rattle.unit_trait.specs.Kinds.{kind_name, TakesFile}
+use Rattle.std.proofs.lemmas.List.{append-nil}
+use Rattle.unit_trait.specs.Kinds.{kind_name, takes_file, TakesFile}
 use Rattle.scp_parser.specs.declared.command.Shown.{Shown}
 use Rattle.scp_parser.specs.declared.command.Shown.TheVariants as shown
 use Rattle.scp_parser.specs.declared.command.Verb.{Verb}
@@ -15,11 +16,22 @@ use Rattle.line_words.specs.Words.{past_blanks}
 use Rattle.scp_parser.specs.declared.fault.ParseFault.{ParseFault}
 use Rattle.scp_parser.specs.declared.names.CommandName.{CommandName}
 use Rattle.scp_parser.specs.declared.names.CommandName.TheVariants as name
-use Rattle.scp_parser.specs.Command.{IsNamedUnit, ShowsUnit, Keeps}
+use Rattle.scp_parser.specs.Command.{IsNamedUnit, IsFileUnit, IsAttachOption, ShowsUnit, Keeps}
+use Rattle.scp_parser.specs.Forms.{IsUnit, IsOption, existing, new, read_only, IsTarget}
+use Rattle.scp_parser.specs.Grammar.{MayBegin, there, not_there, Takes, IsLastName, option_letter}
+use Rattle.scp_parser.specs.Faults.{WordFaults, NameFaults}
 use Rattle.line_words.specs.Words.{is_spelled}
 use Rattle.scp_parser.specs.Names.{unit_kinds, first_of, command_named}
-use Rattle.scp_parser.specs.Operands.{or_else, unit_alone, drive_at, drive_of, kind_named, octal, decimal, unit_of, subject_of}
-use Rattle.scp_parser.specs.Reading.{◌>>=◌, next_word, needed, needed_found, ended, last_number, numbered, listing, examine, valued, instruction, deposit, show, operands, command_found, named}
+use Rattle.scp_parser.specs.Operands.{or_else, unit_alone, drive_at, drive_of, kind_named, octal, decimal, unit_of, subject_of, option_of, target_of, detached_of}
+use Rattle.scp_parser.specs.Reading.{◌>>=◌, next_word, needed, needed_found, ended, last_number, numbered, listing, examine, valued, instruction, deposit, show, operands, command_found, named, maybe, last_name, piece_before, attach_file, attach_port, attach_unit, attach_target, attach, detach}
+use Rattle.scp_parser.proofs.Decided.{decided}
+use Rattle.scp_parser.proofs.Settles.{sound_of}
+use Rattle.scp_parser.proofs.WordLemmas.{first_word, blanks_next}
+use Rattle.scp_parser.proofs.UnitLemmas.{unit_reads}
+use Rattle.scp_parser.proofs.TargetLemmas.{no_option, no_target}
+use Rattle.scp_parser.proofs.OperandLemmas.{needed_settles, maybe_begins}
+use Rattle.scp_parser.proofs.FileNameLemmas.{name_settles, name_piece}
+use Rattle.scp_parser.proofs.AttachLemmas.{IsEnd, behind_part, behind_word, behind_maybe}
 
 -- what holds of each of a list holds of the first that passes
 abbrev pub Each : {T : Type 0} → (T → Type 0) → List T → Type 0
@@ -41,6 +53,10 @@ or_else_keeps P None b x h first second = second h
 option_map_keeps : {A B : Type 0} (P : B → Type 0) (f : A → B) (o : Option A) (y : B) → option_map f o ≡ Some y → ((x : A) → o ≡ Some x → P (f x)) → P y
 option_map_keeps P f None y h holds = absurd (cc h)
 option_map_keeps P f (Some x) y h holds = subst P (same_Some (f x) y h) (holds x refl)
+
+either_named : {T : Type 0} (P : T → Type 0) (b : Bool) (x : T) (rest : Option T) (y : T) → cond b (Some x) rest ≡ Some y → P x → (rest ≡ Some y → P y) → P y
+either_named P true x rest y h here later = subst P (same_Some x y h) here
+either_named P false x rest y h here later = later h
 
 cond_passes : {T : Type 0} (b : Bool) (o : Option T) (x : T) → cond b o None ≡ Some x → o ≡ Some x
 cond_passes true o x h = h
@@ -143,39 +159,111 @@ show_keeps line text v h =
     let subject : subject_of (next_word text).0 ≡ Some s.0 = needed_some false (subject_of (next_word text).0) (next_word text).0 (next_word text).1 s is in
     ended_keeps (Keeps line) (verb.Show s.0) s.1 v last (subject_of_keeps (next_word text).0 s.0 subject))
 
-operands_keeps : (line : List ℕ) (name : CommandName) (text : List ℕ) (v : Verb) → operands name text ≡ Ok v → Keeps line v
-unfolding operands
-operands_keeps line name.Examine text v h = examine_keeps line text v h
-operands_keeps line name.Deposit text v h = deposit_keeps line text v h
-operands_keeps line name.Run text v h = numbered_keeps line (λ n. verb.Run n) (last_number octal text) v (λ n. tt) h
-operands_keeps line name.Go text v h = numbered_keeps line (λ n. verb.Go n) (last_number octal text) v (λ n. tt) h
-operands_keeps line name.Cont text v h = ended_keeps (Keeps line) verb.Cont text v h tt
-operands_keeps line name.Step text v h = numbered_keeps line (λ n. verb.Step n) (last_number decimal text) v (λ n. tt) h
-operands_keeps line name.Reset text v h = ended_keeps (Keeps line) verb.Reset text v h tt
-operands_keeps line name.Show text v h = show_keeps line text v h
-operands_keeps line name.Exit text v h = numbered_keeps line (λ n. verb.Exit n) (last_number decimal text) v (λ n. tt) h
-operands_keeps line name.NoExpect text v h = absurd (cc h)
-operands_keeps line name.NoSend text v h = absurd (cc h)
-operands_keeps line name.Break text v h = absurd (cc h)
-operands_keeps line name.NoBreak text v h = absurd (cc h)
-operands_keeps line name.Expect text v h = absurd (cc h)
-operands_keeps line name.Send text v h = absurd (cc h)
-operands_keeps line name.Attach text v h = absurd (cc h)
-operands_keeps line name.Detach text v h = absurd (cc h)
-operands_keeps line name.Load text v h = absurd (cc h)
-operands_keeps line name.Save text v h = absurd (cc h)
-operands_keeps line name.Dump text v h = absurd (cc h)
-operands_keeps line name.Restore text v h = absurd (cc h)
-operands_keeps line name.Set text v h = absurd (cc h)
-operands_keeps line name.Do text v h = absurd (cc h)
-operands_keeps line name.Goto text v h = absurd (cc h)
-operands_keeps line name.Assert text v h = absurd (cc h)
-operands_keeps line name.Echo text v h = absurd (cc h)
+detached_of_keeps : (line text : List ℕ) (unit : Option UnitName) → detached_of text ≡ Some unit → Keeps line (verb.Detach unit)
+unfolding detached_of
+detached_of_keeps line text unit h =
+    either_named (λ u. Keeps line (verb.Detach u)) (is_spelled text (codes "ALL")) None (option_map (λ u. Some u) (unit_of text)) unit h tt
+    (λ later. option_map_keeps (λ u. Keeps line (verb.Detach u)) (λ u. Some u) (unit_of text) unit later (λ u is. unit_of_keeps text u is))
 
-found_keeps : (line : List ℕ) (found : Option CommandName) (rest : List ℕ) (v : Verb) → command_found found rest ≡ Ok v → Keeps line v
-found_keeps line None rest v h = absurd (cc h)
-found_keeps line (Some name) rest v h = operands_keeps line name rest v h
+detach_keeps : (line text : List ℕ) (v : Verb) → detach text ≡ Ok v → Keeps line v
+unfolding detach
+detach_keeps line text v h =
+    bind_keeps (Keeps line) (needed false detached_of text) (λ u. ended (verb.Detach u.0) u.1) v h (λ u is last.
+    let unit : detached_of (next_word text).0 ≡ Some u.0 = needed_some false (detached_of (next_word text).0) (next_word text).0 (next_word text).1 u is in
+    ended_keeps (Keeps line) (verb.Detach u.0) u.1 v last (detached_of_keeps line (next_word text).0 u.0 unit))
+
+-- the option of ATTACH
+
+letter_keeps : (text : List ℕ) (letter : ℕ) → IsOption text letter → IsAttachOption letter
+letter_keeps text letter (existing _ h) = inr (inl refl)
+letter_keeps text letter (new _ h) = inr (inr (inl refl))
+letter_keeps text letter (read_only _ h) = inr (inr (inr refl))
+
+option_keeps : (text rest : List ℕ) (option : Option ℕ) → MayBegin IsOption text option rest → IsAttachOption (option_letter option)
+option_keeps text rest option (there word _ letter begins is) = letter_keeps word letter is
+option_keeps text rest option (not_there never) = inl refl
+
+-- and its unit
+
+unit_keeps : (text : List ℕ) (u : UnitName) → IsUnit text u → IsNamedUnit u
+unit_keeps text u is = unit_of_keeps text u (unit_reads text u is)
+
+target_keeps : (option : Option ℕ) (text : List ℕ) (u : UnitName) → IsTarget option text u → IsNamedUnit u
+target_keeps None text u is = unit_keeps text u is
+target_keeps (Some letter) text u is = unit_keeps text u is.0
+
+file_keeps : (line text : List ℕ) (option : ℕ) (u : UnitName) (v : Verb) → IsEnd line text → IsAttachOption option → IsFileUnit u → attach_file (length line) option u text ≡ Ok v → Keeps line v
+file_keeps line text option u v end letter unit h =
+    bind_keeps (Keeps line) (last_name text) (λ name. Ok (verb.Attach option u (piece_before (length line) name.0 name.1))) v h (λ name is last.
+    let there : IsLastName text name = sound_of (IsLastName text) (NameFaults text) (last_name text) (Ok name) is (name_settles text).found in
+    let (start, spelled) = behind_part line text there.0.before (name.0 ++ name.1) end there.0.spelled in
+    subst (Keeps line) (same_Ok (verb.Attach option u (piece_before (length line) name.0 name.1)) v last) (letter, unit, name_piece line start name.0 name.1 spelled there.1))
+
+port_keeps : (line text : List ℕ) (v : Verb) → attach_port text ≡ Ok v → Keeps line v
+port_keeps line text v h =
+    bind_keeps (Keeps line) (needed true decimal text) (λ n. ended (verb.AttachPort Tti1 n.0) n.1) v h (λ n is last. ended_keeps (Keeps line) (verb.AttachPort Tti1 n.0) n.1 v last refl)
+
+unit_then_keeps : (line text : List ℕ) (takes : Bool) (option : ℕ) (u : UnitName) (v : Verb) → takes_file u.kind ≡ takes → IsEnd line text → IsAttachOption option → IsNamedUnit u
+    → cond takes (attach_file (length line) option u text) (attach_port text) ≡ Ok v → Keeps line v
+unit_then_keeps line text true option u v is end letter unit h = file_keeps line text option u v end letter (is, unit.1) h
+unit_then_keeps line text false option u v is end letter unit h = port_keeps line text v h
+
+attach_target_keeps : (line text : List ℕ) (option : Option ℕ) (v : Verb) → IsEnd line text → IsAttachOption (option_letter option) → attach_target (length line) (option, text) ≡ Ok v → Keeps line v
+attach_target_keeps line text option v end letter h =
+    bind_keeps (Keeps line) (needed false (target_of option) text) (attach_unit (length line) option) v h (λ u is last.
+    let there : Takes (IsTarget option) text u =
+    sound_of (Takes (IsTarget option) text) (WordFaults (IsTarget option) false text) (needed false (target_of option) text) (Ok u) is
+    (needed_settles (IsTarget option) (target_of option) (decided.target option) (no_target option) false text).found in
+    unit_then_keeps line u.1 (takes_file u.0.kind) (option_letter option) u.0 v refl (behind_word line text there.0 u.1 end there.1) letter (target_keeps option there.0 u.0 there.2) last)
+
+attach_keeps : (line text : List ℕ) (v : Verb) → IsEnd line text → attach (length line) text ≡ Ok v → Keeps line v
+unfolding attach
+attach_keeps line text v end h =
+    let option = maybe option_of text in
+    let there : MayBegin IsOption text option.0 option.1 = maybe_begins IsOption option_of decided.option no_option text in
+    attach_target_keeps line option.1 option.0 v (behind_maybe IsOption line text option.1 option.0 end there) (option_keeps text option.1 option.0 there) h
+
+operands_keeps : (line : List ℕ) (name : CommandName) (text : List ℕ) (v : Verb) → IsEnd line text → operands (length line) name text ≡ Ok v → Keeps line v
+unfolding operands
+operands_keeps line name.Examine text v end h = examine_keeps line text v h
+operands_keeps line name.Deposit text v end h = deposit_keeps line text v h
+operands_keeps line name.Run text v end h = numbered_keeps line (λ n. verb.Run n) (last_number octal text) v (λ n. tt) h
+operands_keeps line name.Go text v end h = numbered_keeps line (λ n. verb.Go n) (last_number octal text) v (λ n. tt) h
+operands_keeps line name.Cont text v end h = ended_keeps (Keeps line) verb.Cont text v h tt
+operands_keeps line name.Step text v end h = numbered_keeps line (λ n. verb.Step n) (last_number decimal text) v (λ n. tt) h
+operands_keeps line name.Reset text v end h = ended_keeps (Keeps line) verb.Reset text v h tt
+operands_keeps line name.Show text v end h = show_keeps line text v h
+operands_keeps line name.Exit text v end h = numbered_keeps line (λ n. verb.Exit n) (last_number decimal text) v (λ n. tt) h
+operands_keeps line name.NoExpect text v end h = absurd (cc h)
+operands_keeps line name.NoSend text v end h = absurd (cc h)
+operands_keeps line name.Break text v end h = absurd (cc h)
+operands_keeps line name.NoBreak text v end h = absurd (cc h)
+operands_keeps line name.Expect text v end h = absurd (cc h)
+operands_keeps line name.Send text v end h = absurd (cc h)
+operands_keeps line name.Attach text v end h = attach_keeps line text v end h
+operands_keeps line name.Detach text v end h = detach_keeps line text v h
+operands_keeps line name.Load text v end h = absurd (cc h)
+operands_keeps line name.Save text v end h = absurd (cc h)
+operands_keeps line name.Dump text v end h = absurd (cc h)
+operands_keeps line name.Restore text v end h = absurd (cc h)
+operands_keeps line name.Set text v end h = absurd (cc h)
+operands_keeps line name.Do text v end h = absurd (cc h)
+operands_keeps line name.Goto text v end h = absurd (cc h)
+operands_keeps line name.Assert text v end h = absurd (cc h)
+operands_keeps line name.Echo text v end h = absurd (cc h)
+
+found_keeps : (line : List ℕ) (found : Option CommandName) (rest : List ℕ) (v : Verb) → IsEnd line rest → command_found (length line) found rest ≡ Ok v → Keeps line v
+found_keeps line None rest v end h = absurd (cc h)
+found_keeps line (Some name) rest v end h = operands_keeps line name rest v end h
+
+-- what follows the first word of a line stands at its end
+next_is_end : (line : List ℕ) → IsEnd line (next_word line).1
+next_is_end line =
+    elim (first_word line) [
+      | inl are ↦ (line, sym (append-nil line) ∙ ap (λ (n : List ℕ × List ℕ). line ++ n.1) (sym (blanks_next line are)))
+      | inr begins ↦ behind_word line line (next_word line).0 (next_word line).1 ([], refl) begins
+    ]
 
 pub named_keeps : (line : List ℕ) (v : Verb) → named line ≡ Ok v → Keeps line v
 unfolding named
-named_keeps line v h = found_keeps line (command_named (next_word line).0) (next_word line).1 v h
+named_keeps line v h = found_keeps line (command_named (next_word line).0) (next_word line).1 v (next_is_end line) h

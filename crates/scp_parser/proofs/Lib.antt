@@ -20,8 +20,11 @@ mod NothingLemmas
 mod OperandLemmas
 mod LastNumberLemmas
 mod ListingLemmas
-mod InsideLemmas
+pub mod InsideLemmas
+pub mod FileNameLemmas
 mod ValueLemmas
+mod TargetLemmas
+pub mod AttachLemmas
 mod OperatesLemmas
 pub mod LineLemmas
 mod Decided

@@ -22,6 +22,7 @@ use Rattle.scp_parser.specs.Reading.{next_word, operands, is_mark, begins_with_m
 use Rattle.scp_parser.proofs.FormsDecided.{Forms_decided}
 use Rattle.scp_parser.proofs.WordLemmas.{first_word, begins_next, begins_past, begins_not_blank, past_blanks_split, past_of_blanks, blanks_from_past}
 use Rattle.scp_parser.proofs.Settles.{Sound, Settles}
+use Rattle.scp_parser.proofs.AttachLemmas.{IsEnd, behind_word}
 use Rattle.scp_parser.proofs.OperatesLemmas.{operands_settle}
 
 -- a line that asks for nothing
@@ -138,18 +139,21 @@ named_line line short asks =
     let none : asks_nothing line ≡ false = false_from_ne_true (asks_nothing line) (λ e. asks (asks_is line e)) in
     short_line line short ∙ ap (map_ok (request_of line)) (cond-false (asks_nothing line) (Ok verb.Nothing) (placed_in (length line) (named line)) none)
 
-named_by : (line word rest : List ℕ) (o : Option CommandName) → Begins line word rest → command_named word ≡ o → named line ≡ command_found o rest
+named_by : (line word rest : List ℕ) (o : Option CommandName) → Begins line word rest → command_named word ≡ o → named line ≡ command_found (length line) o rest
 unfolding named
 named_by line word rest o begins is =
-    ap (λ (n : List ℕ × List ℕ). command_found (command_named n.0) n.1) (begins_next line word rest begins) ∙ ap (λ (p : Option CommandName). command_found p rest) is
+    ap (λ (n : List ℕ × List ℕ). command_found (length line) (command_named n.0) n.1) (begins_next line word rest begins) ∙ ap (λ (p : Option CommandName). command_found (length line) p rest) is
 
 -- a line whose word names no command
 unknown_line : (line word rest : List ℕ) → length line ≤ longest_line → (AsksNothing line → ⊥) → Begins line word rest → command_named word ≡ None → reading line ≡ Err Unknown
 unknown_line line word rest short asks begins is = named_line line short asks ∙ ap (λ (r : Result Verb ParseFault). map_ok (request_of line) (placed_in (length line) r)) (named_by line word rest None begins is)
 
+behind_name : (line word rest : List ℕ) → Begins line word rest → IsEnd line rest
+behind_name line word rest begins = behind_word line line word rest ([], refl) begins
+
 -- a line by the operands behind its command's name
 operands_line : (line word rest : List ℕ) (name : CommandName) → length line ≤ longest_line → Begins line word rest → IsCommandName word name → command_named word ≡ Some name
-    → reading line ≡ map_ok (request_of line) (placed_in (length line) (operands name rest))
+    → reading line ≡ map_ok (request_of line) (placed_in (length line) (operands (length line) name rest))
 operands_line line word rest name short begins is some =
     named_line line short (command_asks line word rest name begins is) ∙ ap (λ (r : Result Verb ParseFault). map_ok (request_of line) (placed_in (length line) r)) (named_by line word rest (Some name) begins some)
 
@@ -162,14 +166,14 @@ module _ (d : Forms_decided) where
   parses_given line c (nothing_form _ short asks) = nothing_line line short asks
   parses_given line c (command_form _ word rest name what short begins is operates) =
       operands_line line word rest name short begins is ((d.command word name).1 is)
-      ∙ placed_ok line (length line) (operands name rest) what ((operands_settle d line name rest).reads what operates)
+      ∙ placed_ok line (length line) (operands (length line) name rest) what ((operands_settle d line name rest (behind_name line word rest begins)).reads what operates)
 
   faults_given : (line : List ℕ) (e : ParseFault) → Faults line e → reading line ≡ Err e
   faults_given line e (too_long _ long) = long-line line long
   faults_given line e (unknown _ word rest short asks begins never) = unknown_line line word rest short asks begins (none_named word (command_named word) d refl never)
   faults_given line e (operands_form _ word rest name fault short begins is faulty) =
       operands_line line word rest name short begins is ((d.command word name).1 is)
-      ∙ placed_err line (length line) (operands name rest) fault ((operands_settle d line name rest).faults fault faulty)
+      ∙ placed_err line (length line) (operands (length line) name rest) fault ((operands_settle d line name rest (behind_name line word rest begins)).faults fault faulty)
 
   abbrev IsFound : List ℕ → Result Request ParseFault → Type 0
   IsFound line r = Sound (Parses line) (Faults line) r
@@ -182,7 +186,7 @@ module _ (d : Forms_decided) where
   word_found : (line word rest : List ℕ) (o : Option CommandName) → length line ≤ longest_line → (AsksNothing line → ⊥) → Begins line word rest → command_named word ≡ o → IsFound line (reading line)
   word_found line word rest (Some name) short asks begins named_so =
       let is = (d.command word name).0 named_so in
-      subst (IsFound line) (sym (operands_line line word rest name short begins is named_so)) (operands_found line word rest name short begins is (operands name rest) (operands_settle d line name rest).found)
+      subst (IsFound line) (sym (operands_line line word rest name short begins is named_so)) (operands_found line word rest name short begins is (operands (length line) name rest) (operands_settle d line name rest (behind_name line word rest begins)).found)
   word_found line word rest None short asks begins named_so =
       let never : (name : CommandName) → IsCommandName word name → ⊥ = λ name is. let some = (d.command word name).1 is in cc in
       subst (IsFound line) (sym (unknown_line line word rest short asks begins named_so)) (unknown line word rest short asks begins never)

@@ -1,12 +1,12 @@
 -- What each command asks for, by the operands behind its name.
-use Rattle.std.proofs.Common.{◌≡◌, ℕ, Bool, true, false, cond, Option, Ok, Err, List, refl, ap, sym, inl, inr}
+use Rattle.std.proofs.Common.{◌≡◌, ℕ, Bool, true, false, cond, Option, Ok, Err, List, length, refl, ap, sym, inl, inr}
 use Rattle.scp_parser.specs.declared.listing.Listing.{Listing}
 use Rattle.scp_parser.specs.declared.command.Verb.{Verb}
 use Rattle.scp_parser.specs.declared.command.Verb.TheVariants as verb
 use Rattle.scp_parser.specs.declared.fault.ParseFault.{ParseFault}
 use Rattle.scp_parser.specs.declared.fault.ParseFault.TheVariants.{NotBuilt}
 use Rattle.scp_parser.specs.declared.names.CommandName.{CommandName}
-use Rattle.scp_parser.specs.declared.names.CommandName.TheVariants.{Examine, Deposit, Run, Go, Cont, Step, Reset, Show, Exit}
+use Rattle.scp_parser.specs.declared.names.CommandName.TheVariants.{Examine, Deposit, Run, Go, Cont, Step, Reset, Attach, Detach, Show, Exit}
 use Rattle.scp_parser.specs.Command.{Request, request_of}
 use Rattle.scp_parser.specs.Command as request
 use Rattle.scp_parser.specs.Forms.{IsOctal, IsDecimal, IsSubject}
@@ -21,6 +21,7 @@ use Rattle.scp_parser.proofs.OperandLemmas.{ended_seen, needed_settles}
 use Rattle.scp_parser.proofs.LastNumberLemmas.{number_seen}
 use Rattle.scp_parser.proofs.ListingLemmas.{listing_settles}
 use Rattle.scp_parser.proofs.ValueLemmas.{instruction_settles}
+use Rattle.scp_parser.proofs.AttachLemmas.{IsEnd, attach_settles, detach_settles}
 
 -- a command that this version of the program does not have
 no_request : Settles {A = Request} (Err NotBuilt) (λ asked. ⊥) (λ fault. fault ≡ NotBuilt)
@@ -83,15 +84,17 @@ module _ (d : Forms_decided) (line : List ℕ) where
       → Settles (map_ok see (numbered make (last_number decimal text))) (HasNumber IsDecimal text (λ n. see (make n))) (LastNumberFaults IsDecimal text)
   decimal_settles make text = number_seen see IsDecimal decimal d.decimal no_decimal make text
 
-  pub operands_settle : (name : CommandName) (text : List ℕ) → Settles (map_ok see (operands name text)) (Operates name text) (OperandFaults name text)
+  pub operands_settle : (name : CommandName) (text : List ℕ) → IsEnd line text → Settles (map_ok see (operands (length line) name text)) (Operates name text) (OperandFaults name text)
   unfolding operands
-  operands_settle Examine text = examine_settles text
-  operands_settle Deposit text = deposit_settles text
-  operands_settle Run text = octal_settles (λ n. verb.Run n) text
-  operands_settle Go text = octal_settles (λ n. verb.Go n) text
-  operands_settle Cont text = ended_seen see verb.Cont text
-  operands_settle Step text = decimal_settles (λ n. verb.Step n) text
-  operands_settle Reset text = ended_seen see verb.Reset text
-  operands_settle Show text = show_settles text
-  operands_settle Exit text = decimal_settles (λ n. verb.Exit n) text
-  operands_settle name text = no_request
+  operands_settle Examine text end = examine_settles text
+  operands_settle Deposit text end = deposit_settles text
+  operands_settle Run text end = octal_settles (λ n. verb.Run n) text
+  operands_settle Go text end = octal_settles (λ n. verb.Go n) text
+  operands_settle Cont text end = ended_seen see verb.Cont text
+  operands_settle Step text end = decimal_settles (λ n. verb.Step n) text
+  operands_settle Reset text end = ended_seen see verb.Reset text
+  operands_settle Attach text end = attach_settles d line text end
+  operands_settle Detach text end = detach_settles d line text
+  operands_settle Show text end = show_settles text
+  operands_settle Exit text end = decimal_settles (λ n. verb.Exit n) text
+  operands_settle name text end = no_request

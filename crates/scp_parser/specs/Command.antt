@@ -164,6 +164,26 @@ IsKept (Do echo strict name arguments) = IsFileName name
 IsKept (Assert test) = IsTested test.item
 IsKept request = Unit {0}
 
+-- a request that names a file
+abbrev pub NamesFile : Request → Type 0
+NamesFile (Attach option unit name) = Unit {0}
+NamesFile (Load name) = Unit {0}
+NamesFile (Save name) = Unit {0}
+NamesFile (Dump from to name) = Unit {0}
+NamesFile (Restore force name) = Unit {0}
+NamesFile (Do echo strict name arguments) = Unit {0}
+NamesFile request = ⊥
+
+-- the bytes of the name
+abbrev pub file_name_of : Request → List ℕ
+file_name_of (Attach option unit name) = name
+file_name_of (Load name) = name
+file_name_of (Save name) = name
+file_name_of (Dump from to name) = name
+file_name_of (Restore force name) = name
+file_name_of (Do echo strict name arguments) = name
+file_name_of request = []
+
 -- what a verb keeps: each piece lies within the line and is what it is read as, and each unit can be named
 abbrev pub Keeps : List ℕ → Verb → Type 0
 Keeps line (verb.Break at count actions) = IsPiece line actions

@@ -1,6 +1,7 @@
 -- The one fault of each line that is no command. The words are taken from the left: the first that is not as the
 -- grammar wants it is at fault. A place is said by how many bytes of the line are left there.
 use Rattle.std.specs.Prelude.{◌≡◌, ◌⊎◌, ℕ, ◌-◌, ◌<◌, ◌≤◌, Bool, true, false, ◌||◌, List, [], ◌∷◌, ◌++◌, length, Option, if◌then◌else◌}
+use Rattle.unit_trait.specs.Kinds.{takes_file}
 use Rattle.line_words.specs.Words.{IsBlanks, Begins}
 use Rattle.nova_word.specs.Numbers.{is_digit}
 use Rattle.nova_symbols.specs.Forms.{Reads}
@@ -9,10 +10,11 @@ use Rattle.scp_parser.specs.declared.listing.Condition.{Condition}
 use Rattle.scp_parser.specs.declared.fault.ParseFault.{ParseFault}
 use Rattle.scp_parser.specs.declared.fault.ParseFault.TheVariants.{Unknown, Missing, BadNumber, BadName, BadSymbol, Extra, TooLong, NotBuilt}
 use Rattle.scp_parser.specs.declared.names.CommandName.{CommandName}
-use Rattle.scp_parser.specs.declared.names.CommandName.TheVariants.{Examine, Deposit, Run, Go, Cont, Step, Reset, Show, Exit}
+use Rattle.scp_parser.specs.declared.names.CommandName.TheVariants.{Examine, Deposit, Run, Go, Cont, Step, Reset, Attach, Detach, Show, Exit}
 use Rattle.scp_parser.specs.Names.{IsCommandName}
-use Rattle.scp_parser.specs.Forms.{IsOctal, IsDecimal, IsList, IsSubject}
-use Rattle.scp_parser.specs.Grammar.{longest_line, Chooses, IsListing, Takes, IsInside, AsksNothing}
+use Rattle.scp_parser.specs.Command.{IsFileName}
+use Rattle.scp_parser.specs.Forms.{IsOctal, IsDecimal, IsList, IsSubject, IsOption, IsTarget, IsDetached}
+use Rattle.scp_parser.specs.Grammar.{longest_line, Chooses, IsListing, Then, Takes, MayTake, IsInside, AsksNothing}
 
 abbrev pub begins_with_digit : List ℕ → Bool
 begins_with_digit [] = false
@@ -55,6 +57,20 @@ abbrev pub ValueFaults : Bool → List ℕ → ParseFault → Type 0
 ValueFaults true text fault = InstructionFaults text fault
 ValueFaults false text fault = FaultThen (WordFaults IsOctal true text) (Takes IsOctal text) (λ n. EndFaults n.1) fault
 
+-- the faults of the name of a file up to the end of the line: none is there, or no file can have it
+pub data NameFaults (text : List ℕ) : ParseFault → Type 0 where
+  no_name : IsBlanks text → NameFaults text Missing
+  no_file_name : (inside behind : List ℕ) → IsInside text inside behind → (IsFileName inside → ⊥) → NameFaults text (bad_word false inside (length (inside ++ behind)))
+
+-- the faults behind the unit of ATTACH, by whether the unit takes a file
+abbrev pub AttachFaults : Bool → List ℕ → ParseFault → Type 0
+AttachFaults true text fault = NameFaults text fault
+AttachFaults false text fault = FaultThen (WordFaults IsDecimal true text) (Takes IsDecimal text) (λ n. EndFaults n.1) fault
+
+-- the faults behind the option of ATTACH
+abbrev pub TargetFaults : Option ℕ → List ℕ → ParseFault → Type 0
+TargetFaults option text fault = FaultThen (WordFaults (IsTarget option) false text) (Takes (IsTarget option) text) (λ u. AttachFaults (takes_file u.0.kind) u.1) fault
+
 -- the faults of the operands of each command, and that of each that this version of the program does not have
 abbrev pub OperandFaults : CommandName → List ℕ → ParseFault → Type 0
 OperandFaults Examine text fault = FaultThen (ListFaults true text) (IsListing true text) (λ l. EndFaults l.1) fault
@@ -64,6 +80,8 @@ OperandFaults Go text fault = LastNumberFaults IsOctal text fault
 OperandFaults Cont text fault = EndFaults text fault
 OperandFaults Step text fault = LastNumberFaults IsDecimal text fault
 OperandFaults Reset text fault = EndFaults text fault
+OperandFaults Attach text fault = Then (MayTake IsOption text) (λ option. TargetFaults option.0 option.1) fault
+OperandFaults Detach text fault = FaultThen (WordFaults IsDetached false text) (Takes IsDetached text) (λ u. EndFaults u.1) fault
 OperandFaults Show text fault = FaultThen (WordFaults IsSubject false text) (Takes IsSubject text) (λ s. EndFaults s.1) fault
 OperandFaults Exit text fault = LastNumberFaults IsDecimal text fault
 OperandFaults name text fault = fault ≡ NotBuilt

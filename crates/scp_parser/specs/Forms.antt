@@ -1,10 +1,10 @@
 -- The forms of the words of a line: numbers, names, items, conditions, devices, units and subjects.
-use Rattle.std.specs.Prelude.{◌≡◌, ◌⊎◌, ℕ, ◌+◌, ◌-◌, ◌<◌, ◌≤◌, ◌^◌, All, List, [], ◌∷◌, ◌++◌, length, codes, nat_le, slice_get, Some, None, Contains, if◌then◌else◌}
+use Rattle.std.specs.Prelude.{◌≡◌, ◌⊎◌, ℕ, ◌+◌, ◌-◌, ◌<◌, ◌≤◌, ◌^◌, All, List, [], ◌∷◌, ◌++◌, length, codes, nat_le, slice_get, Option, Some, None, Contains, if◌then◌else◌}
 use Rattle.nova_word.specs.Numbers.{IsDigit, IsNumber}
 use Rattle.unit_trait.specs.declared.kind.Kind.{Kind}
 use Rattle.unit_trait.specs.declared.kind.Kind.TheVariants.{Mta}
 use Rattle.unit_trait.specs.declared.kind.UnitName.{UnitName}
-use Rattle.unit_trait.specs.Kinds.{kind_name}
+use Rattle.unit_trait.specs.Kinds.{kind_name, TakesFile}
 use Rattle.scp_parser.specs.declared.listing.Name.{Name}
 use Rattle.scp_parser.specs.declared.listing.Rel.{Rel}
 use Rattle.scp_parser.specs.declared.listing.Rel.TheVariants.{Eq, Ne, Lt, Le, Gt, Ge}
@@ -116,3 +116,19 @@ pub data IsSubject : List ℕ → Shown → Type 0 where
 -- the option for symbolic text
 abbrev pub IsSymbolic : List ℕ → Type 0
 IsSymbolic text = IsSpelled text (codes "-M")
+
+-- the option of ATTACH, as the capital of its letter: the file must exist, must be new, or is only read
+pub data IsOption : List ℕ → ℕ → Type 0 where
+  existing : (text : List ℕ) → IsSpelled text (codes "-E") → IsOption text 69
+  new : (text : List ℕ) → IsSpelled text (codes "-N") → IsOption text 78
+  read_only : (text : List ℕ) → IsSpelled text (codes "-R") → IsOption text 82
+
+-- a unit that ATTACH names; behind an option it must be one that takes a file
+abbrev pub IsTarget : Option ℕ → List ℕ → UnitName → Type 0
+IsTarget None text u = IsUnit text u
+IsTarget (Some letter) text u = IsUnit text u × TakesFile u.kind
+
+-- what DETACH names: all units, or one
+pub data IsDetached : List ℕ → Option UnitName → Type 0 where
+  every : (text : List ℕ) → IsSpelled text (codes "ALL") → IsDetached text None
+  one : (text : List ℕ) (u : UnitName) → IsUnit text u → IsDetached text (Some u)

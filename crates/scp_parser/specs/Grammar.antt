@@ -1,6 +1,9 @@
 -- Which line is which command: a relation by the forms of the lines (SIMH Users' Guide, "Commands").
 use Rattle.std.specs.Prelude.{◌≡◌, ◌⊎◌, ℕ, ◌<◌, ◌≤◌, Bool, true, false, List, [], ◌∷◌, ◌++◌, length, Option, Some, None, is_some}
 use Rattle.unit_trait.specs.declared.kind.Kind.{Kind}
+use Rattle.unit_trait.specs.declared.kind.Kind.TheVariants.{Tti1}
+use Rattle.unit_trait.specs.declared.kind.UnitName.{UnitName}
+use Rattle.unit_trait.specs.Kinds.{takes_file}
 use Rattle.line_words.specs.Words.{IsBlank, IsBlanks, StartsIn, Begins}
 use Rattle.nova_symbols.specs.Forms.{Reads}
 use Rattle.scp_parser.specs.declared.listing.Name.{Name}
@@ -8,11 +11,11 @@ use Rattle.scp_parser.specs.declared.listing.Name.TheVariants as whose
 use Rattle.scp_parser.specs.declared.listing.Condition.{Condition}
 use Rattle.scp_parser.specs.declared.listing.Listing.{Listing}
 use Rattle.scp_parser.specs.declared.names.CommandName.{CommandName}
-use Rattle.scp_parser.specs.declared.names.CommandName.TheVariants.{Examine, Deposit, Run, Go, Cont, Step, Reset, Show, Exit}
-use Rattle.scp_parser.specs.Command.{Request}
+use Rattle.scp_parser.specs.declared.names.CommandName.TheVariants.{Examine, Deposit, Run, Go, Cont, Step, Reset, Attach, Detach, Show, Exit}
+use Rattle.scp_parser.specs.Command.{Request, IsFileName}
 use Rattle.scp_parser.specs.Command as request
 use Rattle.scp_parser.specs.Names.{IsCommandName}
-use Rattle.scp_parser.specs.Forms.{IsOctal, IsDecimal, IsList, IsCondition, IsDevice, IsSubject, IsSymbolic}
+use Rattle.scp_parser.specs.Forms.{IsOctal, IsDecimal, IsList, IsCondition, IsDevice, IsSubject, IsSymbolic, IsOption, IsTarget, IsDetached}
 
 -- how many bytes a command line has at most
 abbrev pub longest_line : ℕ
@@ -22,6 +25,10 @@ longest_line = 512
 pub data MayBegin {V : Type 0} (Form : List ℕ → V → Type 0) (text : List ℕ) : Option V → List ℕ → Type 0 where
   there : (word rest : List ℕ) (v : V) → Begins text word rest → Form word v → MayBegin Form text (Some v) rest
   not_there : ((word rest : List ℕ) (v : V) → Begins text word rest → Form word v → ⊥) → MayBegin Form text None text
+
+-- the same of a value, which is x.0, and the rest, which is x.1
+abbrev pub MayTake : {V : Type 0} → (List ℕ → V → Type 0) → List ℕ → Option V × List ℕ → Type 0
+MayTake Form text x = MayBegin Form text x.0 x.1
 
 -- the option for symbolic text, as an operand
 abbrev pub IsSymbolicOption : List ℕ → Bool → Type 0
@@ -77,6 +84,10 @@ pub record IsInstruction (text : List ℕ) (w : ℕ) : Type 0 where
   pub there : IsInside text inside behind
   pub reads : Reads inside w
 
+-- the name of a file, which is name.0 and goes up to the blanks at the end of the line, which are name.1
+abbrev pub IsLastName : List ℕ → List ℕ × List ℕ → Type 0
+IsLastName text name = IsInside text name.0 name.1 × IsFileName name.0
+
 -- a number that may be left out at the end of a line
 pub data IsLastNumber (Form : List ℕ → ℕ → Type 0) (text : List ℕ) : Option ℕ → Type 0 where
   left_out : IsBlanks text → IsLastNumber Form text None
@@ -107,6 +118,20 @@ HasValue false text make asked = Then (Takes IsOctal text) (λ n. Ends (make n.0
 abbrev pub IsListing : Bool → List ℕ → Listing × List ℕ → Type 0
 IsListing conditions text l = Lists conditions text l.0 l.1
 
+-- the option of ATTACH as its command holds it: 0 where there is none
+abbrev pub option_letter : Option ℕ → ℕ
+option_letter None = 0
+option_letter (Some letter) = letter
+
+-- what follows the unit of ATTACH: the name of a file where the unit takes one, and else the port of the second terminal
+abbrev pub Attaches : Bool → ℕ → UnitName → List ℕ → Request → Type 0
+Attaches true option unit text asked = Then (IsLastName text) (λ name a. a ≡ request.Attach option unit name.0) asked
+Attaches false option unit text asked = Then (Takes IsDecimal text) (λ n. Ends (request.AttachPort Tti1 n.0) n.1) asked
+
+-- a unit for ATTACH, and what follows it
+abbrev pub HasTarget : Option ℕ → List ℕ → Request → Type 0
+HasTarget option text asked = Then (Takes (IsTarget option) text) (λ u. Attaches (takes_file u.0.kind) (option_letter option) u.0 u.1) asked
+
 -- what a command asks for, by its name and the operands behind it; with one that this version of the program does not
 -- have no line is a command
 abbrev pub Operates : CommandName → List ℕ → Request → Type 0
@@ -117,6 +142,8 @@ Operates Go text asked = HasNumber IsOctal text (λ n. request.Go n) asked
 Operates Cont text asked = Ends request.Cont text asked
 Operates Step text asked = HasNumber IsDecimal text (λ n. request.Step n) asked
 Operates Reset text asked = Ends request.Reset text asked
+Operates Attach text asked = Then (MayTake IsOption text) (λ option. HasTarget option.0 option.1) asked
+Operates Detach text asked = Then (Takes IsDetached text) (λ u. Ends (request.Detach u.0) u.1) asked
 Operates Show text asked = Then (Takes IsSubject text) (λ s. Ends (request.Show s.0) s.1) asked
 Operates Exit text asked = HasNumber IsDecimal text (λ n. request.Exit n) asked
 Operates name text asked = ⊥

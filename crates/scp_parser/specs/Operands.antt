@@ -1,13 +1,14 @@
 -- The forms of words as functions: what a word stands for, if it has the form.
 use Rattle.std.specs.Prelude.{ℕ, ◌-◌, ◌==◌, zero, suc, Bool, true, false, ◌&&◌, ◌||◌, nat_le, nat_lt, List, [], ◌∷◌, length, take, drop, codes, Option, Some, None, option_map, Result, Ok, Err, if◌then◌else◌}
 use Rattle.std.specs.List.{list_all, before_first, after_first, position, position_or_len}
+use Rattle.std.specs.Str.{is_utf8}
 use Rattle.nova_word.specs.declared.numbers.NumberFault.{NumberFault}
 use Rattle.nova_word.specs.declared.numbers.NumberFault.TheVariants.{TooLarge}
 use Rattle.nova_word.specs.Numbers.{is_digit, number_read}
 use Rattle.unit_trait.specs.declared.kind.Kind.{Kind}
 use Rattle.unit_trait.specs.declared.kind.Kind.TheVariants.{Mta}
 use Rattle.unit_trait.specs.declared.kind.UnitName.{UnitName}
-use Rattle.unit_trait.specs.Kinds.{kind_name}
+use Rattle.unit_trait.specs.Kinds.{kind_name, takes_file}
 use Rattle.scp_parser.specs.declared.listing.Name.{Name}
 use Rattle.scp_parser.specs.declared.listing.Rel.{Rel}
 use Rattle.scp_parser.specs.declared.listing.Rel.TheVariants.{Eq, Ne, Lt, Le, Gt, Ge}
@@ -170,3 +171,29 @@ subject_of text =
 
 unfoldable pub symbolic_of : List ℕ → Option Bool
 symbolic_of text = if is_spelled text (codes "-M") then Some true else None
+
+unfoldable pub option_of : List ℕ → Option ℕ
+option_of text =
+    if is_spelled text (codes "-E") then Some 69
+    else if is_spelled text (codes "-N") then Some 78
+    else if is_spelled text (codes "-R") then Some 82
+    else None
+
+-- a unit that takes a file
+abbrev pub file_unit : Option UnitName → Option UnitName
+file_unit None = None
+file_unit (Some unit) = if takes_file unit.kind then Some unit else None
+
+unfoldable pub target_of : Option ℕ → List ℕ → Option UnitName
+target_of None text = unit_of text
+target_of (Some letter) text = file_unit (unit_of text)
+
+unfoldable pub detached_of : List ℕ → Option (Option UnitName)
+detached_of text = if is_spelled text (codes "ALL") then Some None else option_map (λ u. Some u) (unit_of text)
+
+-- 1 to 255 bytes in UTF-8
+unfoldable pub is_file_name : List ℕ → Bool
+is_file_name text = nat_lt 0 (length text) && (nat_le (length text) 255 && is_utf8 text)
+
+abbrev pub as_file_name : List ℕ → Option (List ℕ)
+as_file_name text = if is_file_name text then Some text else None

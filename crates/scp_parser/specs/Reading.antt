@@ -1,6 +1,9 @@
 -- Which line is which command, as a function: its words one by one from the left. A fault is said by how many bytes of
 -- the line are left at its place.
-use Rattle.std.specs.Prelude.{ℕ, ◌==◌, Bool, true, false, ◌||◌, nat_le, List, [], ◌∷◌, ◌++◌, length, Option, Some, None, is_some, Result, Ok, Err, if◌then◌else◌}
+use Rattle.std.specs.Prelude.{ℕ, ◌-◌, ◌==◌, Bool, true, false, ◌||◌, nat_le, List, [], ◌∷◌, ◌++◌, length, drop, Option, Some, None, is_some, Result, Ok, Err, if◌then◌else◌}
+use Rattle.unit_trait.specs.declared.kind.Kind.TheVariants.{Tti1}
+use Rattle.unit_trait.specs.declared.kind.UnitName.{UnitName}
+use Rattle.unit_trait.specs.Kinds.{takes_file}
 use Rattle.line_words.specs.Words.{past_blanks, word_at, trimmed}
 use Rattle.nova_symbols.specs.declared.fault.SymbolFault.{SymbolFault}
 use Rattle.nova_symbols.specs.Reading as symbols
@@ -8,16 +11,17 @@ use Rattle.scp_parser.specs.declared.listing.Name.{Name}
 use Rattle.scp_parser.specs.declared.listing.Condition.{Condition}
 use Rattle.scp_parser.specs.declared.listing.Item.{Item}
 use Rattle.scp_parser.specs.declared.listing.Listing.{Listing}
+use Rattle.scp_parser.specs.declared.command.Piece.{Piece}
 use Rattle.scp_parser.specs.declared.command.Verb.{Verb}
 use Rattle.scp_parser.specs.declared.command.Verb.TheVariants as verb
 use Rattle.scp_parser.specs.declared.fault.ParseFault.{ParseFault}
 use Rattle.scp_parser.specs.declared.fault.ParseFault.TheVariants.{Unknown, Missing, BadSymbol, Extra, TooLong, NotBuilt}
 use Rattle.scp_parser.specs.declared.names.CommandName.{CommandName}
-use Rattle.scp_parser.specs.declared.names.CommandName.TheVariants.{Examine, Deposit, Run, Go, Cont, Step, Reset, Show, Exit}
+use Rattle.scp_parser.specs.declared.names.CommandName.TheVariants.{Examine, Deposit, Run, Go, Cont, Step, Reset, Attach, Detach, Show, Exit}
 use Rattle.scp_parser.specs.Command.{Request, request_of}
 use Rattle.scp_parser.specs.Names.{command_named}
-use Rattle.scp_parser.specs.Operands.{octal, decimal, items_of, condition_of, device_of, subject_of, symbolic_of}
-use Rattle.scp_parser.specs.Grammar.{longest_line, name_of}
+use Rattle.scp_parser.specs.Operands.{octal, decimal, items_of, condition_of, device_of, subject_of, symbolic_of, option_of, target_of, detached_of, as_file_name}
+use Rattle.scp_parser.specs.Grammar.{longest_line, name_of, option_letter}
 use Rattle.scp_parser.specs.Faults.{bad_word, placed}
 
 infixl 10 ◌>>=◌
@@ -120,18 +124,51 @@ deposit text = listing false text >>= valued
 unfoldable pub show : List ℕ → Result Verb ParseFault
 show text = needed false subject_of text >>= (λ s. ended (verb.Show s.0) s.1)
 
--- what a command asks for, by what stands behind its name
-unfoldable pub operands : CommandName → List ℕ → Result Verb ParseFault
-operands Examine text = examine text
-operands Deposit text = deposit text
-operands Run text = numbered (λ n. verb.Run n) (last_number octal text)
-operands Go text = numbered (λ n. verb.Go n) (last_number octal text)
-operands Cont text = ended verb.Cont text
-operands Step text = numbered (λ n. verb.Step n) (last_number decimal text)
-operands Reset text = ended verb.Reset text
-operands Show text = show text
-operands Exit text = numbered (λ n. verb.Exit n) (last_number decimal text)
-operands name text = Err NotBuilt
+-- the rest of a line without the blanks round it, and the blanks behind it
+unfoldable pub inside_of : List ℕ → List ℕ × List ℕ
+inside_of text = let past = past_blanks text in let inside = trimmed past in (inside, drop (length inside) past)
+
+-- the name of a file, which goes up to the end of the line, and the blanks behind it
+unfoldable pub last_name : List ℕ → Result (List ℕ × List ℕ) ParseFault
+last_name text = let inside = inside_of text in needed_found false (as_file_name inside.0) inside.0 inside.1
+
+-- a word of a line of so many bytes, by what follows it up to the end of the line
+abbrev pub piece_before : ℕ → List ℕ → List ℕ → Piece
+piece_before bytes word rest = record { from = bytes - length (word ++ rest); to = bytes - length rest }
+
+abbrev pub attach_file : ℕ → ℕ → UnitName → List ℕ → Result Verb ParseFault
+attach_file bytes option unit text = last_name text >>= (λ name. Ok (verb.Attach option unit (piece_before bytes name.0 name.1)))
+
+abbrev pub attach_port : List ℕ → Result Verb ParseFault
+attach_port text = needed true decimal text >>= (λ n. ended (verb.AttachPort Tti1 n.0) n.1)
+
+-- what follows the unit of ATTACH
+abbrev pub attach_unit : ℕ → Option ℕ → UnitName × List ℕ → Result Verb ParseFault
+attach_unit bytes option u = if takes_file u.0.kind then attach_file bytes (option_letter option) u.0 u.1 else attach_port u.1
+
+abbrev pub attach_target : ℕ → Option ℕ × List ℕ → Result Verb ParseFault
+attach_target bytes option = needed false (target_of option.0) option.1 >>= attach_unit bytes option.0
+
+unfoldable pub attach : ℕ → List ℕ → Result Verb ParseFault
+attach bytes text = attach_target bytes (maybe option_of text)
+
+unfoldable pub detach : List ℕ → Result Verb ParseFault
+detach text = needed false detached_of text >>= (λ u. ended (verb.Detach u.0) u.1)
+
+-- what a command asks for, by what stands behind its name in a line of so many bytes
+unfoldable pub operands : ℕ → CommandName → List ℕ → Result Verb ParseFault
+operands bytes Examine text = examine text
+operands bytes Deposit text = deposit text
+operands bytes Run text = numbered (λ n. verb.Run n) (last_number octal text)
+operands bytes Go text = numbered (λ n. verb.Go n) (last_number octal text)
+operands bytes Cont text = ended verb.Cont text
+operands bytes Step text = numbered (λ n. verb.Step n) (last_number decimal text)
+operands bytes Reset text = ended verb.Reset text
+operands bytes Attach text = attach bytes text
+operands bytes Detach text = detach text
+operands bytes Show text = show text
+operands bytes Exit text = numbered (λ n. verb.Exit n) (last_number decimal text)
+operands bytes name text = Err NotBuilt
 
 -- a comment begins with `;` or `#`, and a label with `:`
 abbrev pub is_mark : ℕ → Bool
@@ -144,12 +181,12 @@ begins_with_mark (b ∷ more) = is_mark b
 unfoldable pub asks_nothing : List ℕ → Bool
 asks_nothing line = begins_with_mark line || (length (past_blanks line) == 0)
 
-abbrev pub command_found : Option CommandName → List ℕ → Result Verb ParseFault
-command_found None rest = Err Unknown
-command_found (Some name) rest = operands name rest
+abbrev pub command_found : ℕ → Option CommandName → List ℕ → Result Verb ParseFault
+command_found bytes None rest = Err Unknown
+command_found bytes (Some name) rest = operands bytes name rest
 
 unfoldable pub named : List ℕ → Result Verb ParseFault
-named line = let next = next_word line in command_found (command_named next.0) next.1
+named line = let next = next_word line in command_found (length line) (command_named next.0) next.1
 
 abbrev pub placed_in : ℕ → Result Verb ParseFault → Result Verb ParseFault
 placed_in length (Ok what) = Ok what

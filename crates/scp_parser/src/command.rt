@@ -1,11 +1,16 @@
 ghost use Rattle.std.specs.Prelude.{◌≡◌};
+ghost use Rattle.scp_parser.specs.Command.{IsNamePiece, piece_of};
 
 use crate::listing::{Listing, Test};
 use std::marker::Model;
+use std::str::from_utf8;
 use unit_trait::{Kind, UnitName};
 
 /// How many bytes a command line has at most.
 pub const LONGEST_LINE: usize = 512;
+
+/// How many bytes the name of a file has at most.
+pub const LONGEST_FILE_NAME: usize = 255;
 
 /// Bytes of the line: those from a place up to another.
 #[derive(Clone, Copy, Debug, PartialEq, Eq)]
@@ -118,8 +123,16 @@ impl Model for Command {
     ghost invariant = { λ c. (c.length ≤ 512) × Keeps (take c.length c.line) c.verb };
 }
 
+// The name of a file that stands in a line as that piece.
+fn name_text(line: &[u8], piece: Piece) -> &str
+    requires { IsNamePiece line.now piece }
+    ensures { result.now ≡ piece_of line.now piece }
+{
+    from_utf8(&line[piece.from..piece.to]).unwrap()
+}
+
 impl Command {
-    ghost use Rattle.scp_parser.specs.Command.{Nothing, IsKept};
+    ghost use Rattle.scp_parser.specs.Command.{Nothing, IsKept, IsFileName, NamesFile, file_name_of};
 
     /// An empty line, which asks for nothing.
     pub fn new() -> Command
@@ -137,5 +150,24 @@ impl Command {
         ensures { IsKept self.now }
     {
         let _ = &self.verb;
+    }
+
+    /// The name of the file that the command names: the file of an ATTACH, LOAD, SAVE, DUMP, RESTORE or DO. It has 1 to
+    /// 255 bytes.
+    pub fn file_name(&self) -> &str
+        requires { NamesFile self.now }
+        ensures name { result.now ≡ file_name_of self.now }
+        ensures form { IsFileName result.now }
+    {
+        let line = &self.line[..self.length];
+        match &self.verb {
+            Verb::Attach { name, .. } => name_text(line, *name),
+            Verb::Load(name) => name_text(line, *name),
+            Verb::Save(name) => name_text(line, *name),
+            Verb::Dump { name, .. } => name_text(line, *name),
+            Verb::Restore { name, .. } => name_text(line, *name),
+            Verb::Do { name, .. } => name_text(line, *name),
+            _ => unreachable!(),
+        }
     }
 }

@@ -1,6 +1,7 @@
 //! The grammar of command lines: which line is which command, and the one fault of a line that is none.
 #![tactic(auto)]
 
+mod attachment;
 pub mod command;
 mod condition;
 pub mod fault;
@@ -12,7 +13,7 @@ mod operands;
 pub mod reader;
 mod subject;
 
-pub use command::{Command, LONGEST_LINE, Piece, Shown, Verb};
+pub use command::{Command, LONGEST_FILE_NAME, LONGEST_LINE, Piece, Shown, Verb};
 pub use fault::ParseFault;
 pub use listing::{Condition, Item, Items, Listing, MOST_ITEMS, Name, Rel, Test};
 pub use names::register_name;

@@ -25,7 +25,7 @@ pub fn next_word(text: &[u8]) -> (&[u8], &[u8])
 }
 
 // The fault of a word that is not in the form of its operand, or of none.
-fn bad_operand(only_number: bool, word: &[u8], rest: &[u8]) -> ParseFault
+pub fn bad_operand(only_number: bool, word: &[u8], rest: &[u8]) -> ParseFault
     ensures { result ≡ bad_operand only_number word.now rest.now }
 {
     match word {
@@ -98,7 +98,7 @@ pub fn needed_octal(text: &[u8]) -> Result<(u64, &[u8]), ParseFault>
 }
 
 // A decimal number, which must be there.
-fn needed_decimal(text: &[u8]) -> Result<(u64, &[u8]), ParseFault>
+pub fn needed_decimal(text: &[u8]) -> Result<(u64, &[u8]), ParseFault>
     ensures { Gives (λ x. (x.0, x.1.now)) result (needed true decimal text.now) }
 {
     let (word, rest) = next_word(text);

@@ -7,6 +7,7 @@ ghost use Rattle.scp_parser.specs.Reading.{reading};
 ghost use Rattle.scp_parser.specs.Views.{run, go, step, exit};
 ghost use Rattle.scp_parser.specs.declared.fault.ParseFault.{ParseFault};
 
+use crate::attachment::{attach, detach};
 use crate::command::{Command, LONGEST_LINE, Verb};
 use crate::fault::ParseFault;
 use crate::names::{CommandName, command_named};
@@ -92,15 +93,15 @@ fn named(line: &[u8]) -> Result<Verb, ParseFault>
 {
     let (word, rest) = next_word(line);
     match command_named(word) {
-        Some(name) => operands(name, rest),
+        Some(name) => operands(line.len(), name, rest),
         None => Err(ParseFault::Unknown),
     }
 }
 
-// What a command asks for, by what stands behind its name.
+// What a command asks for, by what stands behind its name in a line of so many bytes.
 #[tactic(auto, unfolding(crate::specs::Reading::operands))]
-fn operands(name: CommandName, text: &[u8]) -> Result<Verb, ParseFault>
-    ensures { result ≡ operands name text.now }
+fn operands(bytes: usize, name: CommandName, text: &[u8]) -> Result<Verb, ParseFault>
+    ensures { result ≡ operands bytes name text.now }
 {
     match name {
         CommandName::Examine => examine(text),
@@ -110,6 +111,8 @@ fn operands(name: CommandName, text: &[u8]) -> Result<Verb, ParseFault>
         CommandName::Cont => ended(Verb::Cont, text),
         CommandName::Step => step(text),
         CommandName::Reset => ended(Verb::Reset, text),
+        CommandName::Attach => attach(bytes, text),
+        CommandName::Detach => detach(text),
         CommandName::Show => show(text),
         CommandName::Exit => exit(text),
         _ => Err(ParseFault::NotBuilt),

@@ -50,9 +50,9 @@ fn kind_named(kinds: &[Kind], word: &[u8]) -> Option<Kind>
     None
 }
 
-// The unit that a word names; the tape's name alone is its first drive.
+/// The unit that a word names; the tape's name alone is its first drive.
 #[tactic(auto, unfolding(crate::specs::Operands::unit_of))]
-fn unit_of(word: &[u8]) -> Option<UnitName>
+pub fn unit_of(word: &[u8]) -> Option<UnitName>
     ensures { result ≡ unit_of word.now }
 {
     match kind_named(&UNIT_KINDS, word) {

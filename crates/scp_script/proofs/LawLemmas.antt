@@ -8,16 +8,17 @@ use Rattle.scp_commands.specs.declared.next.Next.TheVariants.{Go, Ran, Exit}
 use Rattle.scp_commands.specs.Reply.{Answer}
 use Rattle.scp_commands.specs.Effect.{Asked}
 use Rattle.scp_script.specs.Lines.{Arrival, InputEnds, Unpaid, LineComes, arrival, first_line, line_cost}
-use Rattle.scp_script.specs.Session.{Session, Going, asking, behind_line, upcoming_of, upcoming, text_reply, following, text_step, step_upcoming, step}
+use Rattle.scp_script.specs.Session.{Session, Going, asking, behind_line, upcoming_of, upcoming, following, text_step, step_upcoming, step}
 use Rattle.scp_script.specs.Laws.{lines_size, lines_cost, LinesAreConsumed}
 use Rattle.scp_script.proofs.SessionLemmas.{going-equal, arrival-paid, step-line}
-use Rattle.scp_script.proofs.LineLemmas.{line-made, line-reads, comes-reads}
+use Rattle.scp_script.proofs.LineLemmas.{reply_to, line-made, line-reads, comes-reads}
 
 -- a session behind one line
 pub record IsNext (s t : Session) : Type 0 where
   pub rest : t.input ≡ drop (length (first_line s.input) + 1) s.input
   pub reads : reads_of (step s).made ≡ length (first_line s.input) + 1
   pub budget : s.budget ≡ t.budget + line_cost (length (first_line s.input))
+  pub spent : t.spent ≡ s.spent + line_cost (length (first_line s.input))
   pub limit : t.limit ≡ s.limit
   pub prompt : t.prompt ≡ s.prompt
 
@@ -27,11 +28,12 @@ following-is (Ok Go) s t h = going-equal h
 following-is (Ok (Ran stop)) s t h = going-equal h
 following-is (Err fault) s t h = going-equal h
 
-behind-text : (s t : Session) (asked : Asked) → (text_step (asking s) (behind_line s) asked).next ≡ Going t → record (behind_line s) { live = (text_reply s.limit s.live asked).after } ≡ t
+behind-text : (s t : Session) (asked : Asked) → (text_step (asking s) (behind_line s) asked).next ≡ Going t
+    → record (behind_line s) { live = (reply_to s asked).after.live; notes = drop (reply_to s asked).after.used s.notes } ≡ t
 unfolding text_step behind_line
 behind-text s t asked h =
-    let reply = text_reply s.limit s.live asked in
-    following-is reply.answer (record (behind_line s) { live = reply.after }) t h
+    let reply = reply_to s asked in
+    following-is reply.answer (record (behind_line s) { live = reply.after.live; notes = drop reply.after.used s.notes }) t h
 
 at-line : (s t : Session) (line : List ℕ) (asked : Asked) → arrival s.budget s.open_ s.input ≡ LineComes line → reading line ≡ asked → (step s).next ≡ Going t → IsNext s t
 unfolding behind_line
@@ -44,6 +46,7 @@ at-line s t line asked e c h =
       rest = sym (ap (λ (x : Session). x.input) behind);
       reads = ap (λ x. reads_of x.made) is ∙ ap (λ l. reads_of l) (line-made s asked) ∙ line-reads s asked ∙ comes-reads s.budget s.open_ s.input line e;
       budget = omega (arith, paid, fallen);
+      spent = sym (ap (λ (x : Session). x.spent) behind);
       limit = sym (ap (λ (x : Session). x.limit) behind);
       prompt = sym (ap (λ (x : Session). x.prompt) behind);
     }
@@ -64,6 +67,7 @@ lines-are-consumed zero s t made h =
       rest = ap (λ (x : Session). x.input) (sym same);
       reads = ap (λ l. reads_of l) h.0;
       budget = ap (λ (x : Session). x.budget) same ∙ omega arith;
+      spent = ap (λ (x : Session). x.spent) (sym same) ∙ omega arith;
       limit = ap (λ (x : Session). x.limit) (sym same);
       prompt = ap (λ (x : Session). x.prompt) (sym same);
     }
@@ -78,6 +82,8 @@ lines-are-consumed (suc count) s t made (mid, more, goes, parts, rest) =
           ∙ ap (λ n. size + n) (inner.reads ∙ ap (lines_size count) left);
       budget = let costs : lines_cost count mid.input ≡ lines_cost count (drop size s.input) = ap (lines_cost count) left in
           omega (arith, one.budget, inner.budget, costs);
+      spent = let costs : lines_cost count mid.input ≡ lines_cost count (drop size s.input) = ap (lines_cost count) left in
+          omega (arith, one.spent, inner.spent, costs);
       limit = inner.limit ∙ one.limit;
       prompt = inner.prompt ∙ one.prompt;
     }

@@ -219,7 +219,9 @@ reading-end input kept count budget budget_now TooLong reader s paid f closed =
     )
 reading-end input kept count budget budget_now End reader s paid f closed =
     let none : input ≡ [] = s.whole ∙ append-nil s.seen ∙ nothing-seen s.seen (omega (arith, s.size, f.0)) in
-    subst (λ o. (arrival budget true input ≡ InputEnds) × AreRead (line_reads budget true input) true input o []) (sym closed) (end-of-input budget input none)
+    let free : budget_now ≡ budget = omega (arith, paid, ap spent f.0) in
+    let ends = end-of-input budget input none in
+    (ends.0, free, subst (λ o. AreRead (line_reads budget true input) true input o []) (sym closed) ends.1)
 reading-end input kept count budget budget_now Unpaid reader s paid f closed = absurd f
 reading-end input kept count budget budget_now Failed reader s paid f closed = absurd f
 

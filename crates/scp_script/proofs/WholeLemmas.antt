@@ -1,31 +1,57 @@
 -- All lines of a session, one behind another.
-use Rattle.std.proofs.Common.{◌≡◌, ℕ, ◌+◌, Bool, List, [], ◌++◌, length, drop, refl, ap, sym, ◌∙◌, subst, arith, append_assoc, append-nil, zero-add, length-append}
+use Rattle.std.proofs.Common.{◌≡◌, ℕ, zero, suc, ◌+◌, Bool, List, [], ◌++◌, length, drop, refl, ap, sym, ◌∙◌, subst, arith, append_assoc, append-nil, zero-add, length-append}
 use Rattle.std.proofs.lemmas.List.{drop-drop}
 use Rattle.fault_counts.specs.Faults.{raised}
+use Rattle.host_files.specs.State.{FileState}
 use Rattle.observations.specs.Observations.{Observation, after_made, text_of, reads_of}
-use Rattle.observations.specs.Cut.{behind, cut, cut_trace}
+use Rattle.observations.specs.Cut.{behind, ends, cut, cut_trace}
 use Rattle.observations.proofs.CutLemmas.{cut-after}
 use Rattle.observations.proofs.MadeLemmas.{text_of-append, reads_of-append, after_made-append}
+use Rattle.fault_notes.specs.declared.note.FaultNote.{FaultNote}
+use Rattle.fault_notes.specs.Notes.{Note}
+use Rattle.fault_notes.proofs.Adding.{counted-both, counted-none}
+use Rattle.scp_script.specs.declared.progress.Progress.TheVariants.{GoesOn, IsOver}
 use Rattle.scp_script.specs.declared.progress.Finish.{Finish}
-use Rattle.scp_script.specs.declared.progress.Finish.TheVariants.{Exit, EndOfInput, Commands, Console, Input}
-use Rattle.scp_commands.specs.Live.{Live}
+use Rattle.scp_script.specs.declared.progress.Finish.TheVariants.{Exit, EndOfInput, Commands, Console, Input, OutOfMemory}
 use Rattle.scp_script.specs.Lines.{reads_left}
 use Rattle.scp_script.specs.Reading.{AreRead}
-use Rattle.scp_script.specs.Session.{Session, step, Going, after_step, course, trace}
-use Rattle.scp_script.specs.Loop.{finish_of, Finishes, FinishCause, GoesPast, LetsThrough}
-use Rattle.scp_script.specs.Perform.{IsSession}
+use Rattle.scp_script.specs.Session.{State, Session, step, Going, after_step, course, trace, ComesTo}
+use Rattle.scp_script.specs.Loop.{status_of, finish_of, Finishes, FinishCause, GoesPast, LetsThrough, RunsOut, MayFollow, Progresses, Stepped, AreKept}
+use Rattle.scp_script.specs.Perform.{IsSession, RunsShort, IsPerformed, Performed}
 use Rattle.scp_script.proofs.SessionLemmas.{course-going}
+use Rattle.scp_script.proofs.NoteLemmas.{with_notes}
 
--- the session came from its start to here, with these observations
+-- one text more
+comes-more : (count : ℕ) (s t u : Session) (made : List (Observation State)) → ComesTo count s made t → (step t).next ≡ Going u → ComesTo (suc count) s (made ++ (step t).made) u
+comes-more zero s t u made (none, same) goes = (
+  u,
+  [],
+  ap (λ x. (step x).next) same ∙ goes,
+  ap (λ l. l ++ (step t).made) none ∙ ap (λ x. (step x).made) (sym same) ∙ sym (append-nil (step s).made),
+  (refl, refl),
+)
+comes-more (suc count) s t u made (mid, more, first, parts, rest) goes = (
+  mid,
+  more ++ (step t).made,
+  first,
+  ap (λ l. l ++ (step t).made) parts ∙ append_assoc (step s).made more (step t).made,
+  comes-more count mid t u more rest goes,
+)
+
+-- the session came from its start to here by that many texts, with these observations
 pub record Reached (start now : Session) (before after : List ℕ) : Type 0 where
-  pub done : List (Observation Live)
+  pub count : ℕ
+  pub done : List (Observation State)
+  pub comes : ComesTo count start done now
   pub so_far : course start ≡ after_step done (Going now) course
   pub written : after ≡ before ++ text_of done
   pub reads : AreRead (reads_of done) start.open_ start.input now.open_ now.input
 
 pub reached-none : (start : Session) (before : List ℕ) → Reached start start before before
 reached-none start before = record {
+  count = 0;
   done = [];
+  comes = (refl, refl);
   so_far = refl;
   written = sym (append-nil before);
   reads = record { rest = refl; count = sym (zero-add (reads_left start.open_ start.input)) };
@@ -39,7 +65,9 @@ reads-behind m n o1 o2 o3 i1 i2 i3 a b = record {
 
 pub reached-more : (start now next : Session) (before mid after : List ℕ) → Reached start now before mid → GoesPast now next mid after → Reached start next before after
 reached-more start now next before mid after r g = record {
+  count = suc r.count;
   done = r.done ++ (step now).made;
+  comes = comes-more r.count start now next r.done r.comes g.next;
   so_far = r.so_far ∙ ap (λ c. after_step r.done (Going now) (λ _. c)) (course-going now next g.next)
       ∙ ap (λ t. record { trace = t; end = (course next).end }) (sym (after_made-append r.done (step now).made (course next).trace));
   written = g.written ∙ ap (λ t. t ++ text_of (step now).made) r.written ∙ append_assoc before (text_of r.done) (text_of (step now).made)
@@ -49,7 +77,7 @@ reached-more start now next before mid after r g = record {
 }
 
 -- the trace of a session that came to another
-trace-behind : (start now : Session) (done : List (Observation Live)) → course start ≡ after_step done (Going now) course → trace start ≡ after_made done (trace now)
+trace-behind : (start now : Session) (done : List (Observation State)) → course start ≡ after_step done (Going now) course → trace start ≡ after_made done (trace now)
 unfolding trace
 trace-behind start now done so_far = ap (λ c. c.trace) so_far
 
@@ -58,14 +86,18 @@ all-let : (finish : Finish) (gives made all done whole : ℕ) → LetsThrough fi
 all-let (Exit status) gives made all done whole h e = omega (arith, h, e)
 all-let EndOfInput gives made all done whole h e = omega (arith, h, e)
 all-let Commands gives made all done whole h e = omega (arith, h, e)
+all-let OutOfMemory gives made all done whole h e = omega (arith, h, e)
 all-let Console gives made all done whole h e = omega (arith, h, e)
 all-let Input gives made all done whole h e = omega (arith, h)
 
-pub session-over : (start now new : Session) (finish : Finish) (before mid after : List ℕ) → Reached start now before mid → Finishes now finish new mid after → IsSession start finish new.live new.input before after
-session-over start now new finish before mid after r f =
+-- the session is over, and has used every note
+session-over : (start now new : Session) (finish : Finish) (before mid after : List ℕ) → new.notes ≡ [] → Reached start now before mid → Finishes now finish new mid after
+    → IsSession start finish new.live new.input before after
+session-over start now new finish before mid after used r f =
     let taken = text_of r.done ++ f.end.taken in
     let so_far = trace-behind start now r.done r.so_far in
     let size : length taken ≡ length (text_of r.done) + length f.end.taken = length-append (text_of r.done) f.end.taken in
+    let none = ap (λ (l : List Note). behind (text_of r.done) (reads_of r.done) (ends (status_of finish) f.end.taken f.made (record { live = new.live; notes = l }))) used in
     record {
       gives = reads_of r.done + f.gives;
       made = reads_of r.done + f.made;
@@ -77,10 +109,84 @@ session-over start now new finish before mid after r f =
         outcome = ap (cut_trace (length taken) (reads_of r.done + f.gives)) so_far
             ∙ ap (λ n. cut n (reads_of r.done + f.gives) (r.done ++ (trace now).made) (trace now).ended) size
             ∙ cut-after r.done (trace now).made (trace now).ended (length f.end.taken) f.gives
-            ∙ ap (behind (text_of r.done) (reads_of r.done)) f.end.outcome;
+            ∙ ap (behind (text_of r.done) (reads_of r.done)) f.end.outcome
+            ∙ none;
       };
       named = λ console input. f.named console input ∙ ap (λ c. finish_of c.end) (sym r.so_far);
     }
+
+-- memory ran out
+session-short : (start now new : Session) (before mid after : List ℕ) → Reached start now before mid → RunsOut now new mid after → RunsShort start new.live new.input before after
+session-short start now new before mid after r s = record {
+  count = r.count;
+  done = r.done;
+  reached = now;
+  comes = r.comes;
+  mid = mid;
+  written = r.written;
+  made = s.made;
+  few = s.few;
+  rest = (reads-behind (reads_of r.done) s.made start.open_ now.open_ new.open_ start.input now.input new.input r.reads s.reads).rest;
+  short = s.short;
+}
+
+performed-by : (start now new : Session) (finish : Finish) (before mid after : List ℕ) → new.notes ≡ [] → Reached start now before mid → Progresses now (IsOver finish) new mid after
+    → IsPerformed start finish new.live new.input before after
+performed-by start now new (Exit status) before mid after used r p = session-over start now new (Exit status) before mid after used r p
+performed-by start now new EndOfInput before mid after used r p = session-over start now new EndOfInput before mid after used r p
+performed-by start now new Commands before mid after used r p = session-over start now new Commands before mid after used r p
+performed-by start now new Console before mid after used r p = session-over start now new Console before mid after used r p
+performed-by start now new Input before mid after used r p = session-over start now new Input before mid after used r p
+performed-by start now new OutOfMemory before mid after used r p = session-short start now new before mid after r p
+
+-- With any notes that may follow here behind those that were kept, the session came from its start to here, where those are
+-- left.
+pub record ComesSoFar (start now : List Note → Session) (before after : List ℕ) (notes notes' : List Note) : Type 0 where
+  pub own : List Note
+  pub kept : notes' ≡ notes ++ own
+  pub first : (more : List Note) → MayFollow (now []).spent (now []).live more → MayFollow (start []).spent (start []).live (own ++ more)
+  pub comes : (more : List Note) → MayFollow (now []).spent (now []).live more → Reached (start (own ++ more)) (now more) before after
+
+pub begun : (start : List Note → Session) (before : List ℕ) (notes : List Note) → ComesSoFar start start before before notes notes
+begun start before notes = record {
+  own = [];
+  kept = sym (append-nil notes);
+  first = λ more follow. follow;
+  comes = λ more follow. reached-none (start more) before;
+}
+
+pub further : (start now next : List Note → Session) (before mid after : List ℕ) (notes notes' notes'' : List Note) → ComesSoFar start now before mid notes notes'
+    → Stepped now GoesOn next mid after notes' notes'' → ComesSoFar start next before after notes notes''
+further start now next before mid after notes notes' notes'' s st = record {
+  own = s.own ++ st.own;
+  kept = st.kept ∙ ap (λ l. l ++ st.own) s.kept ∙ append_assoc notes s.own st.own;
+  first = λ more follow. subst (λ l. MayFollow (start []).spent (start []).live l) (sym (append_assoc s.own st.own more)) (s.first (st.own ++ more) (st.first more follow));
+  comes = λ more follow. subst (λ l. Reached (start l) (next more) before after) (sym (append_assoc s.own st.own more))
+      (reached-more (start (s.own ++ (st.own ++ more))) (now (st.own ++ more)) (next more) before mid after (s.comes (st.own ++ more) (st.first more follow)) (st.goes more follow));
+}
+
+pub over : (start now : List Note → Session) (new : Session) (finish : Finish) (before mid after : List ℕ) (notes notes' notes'' : List Note) → ComesSoFar start now before mid notes notes'
+    → Stepped now (IsOver finish) (with_notes new) mid after notes' notes'' → Performed start finish new.live new.input before after notes notes''
+over start now new finish before mid after notes notes' notes'' s st =
+    let own = s.own ++ (st.own ++ []) in
+    let follow = st.first [] refl in
+    record {
+      own = own;
+      kept = st.kept ∙ ap (λ l. l ++ st.own) s.kept ∙ append_assoc notes s.own st.own ∙ ap (λ l. notes ++ (s.own ++ l)) (sym (append-nil st.own));
+      first = s.first (st.own ++ []) follow;
+      is = performed-by (start own) (now (st.own ++ [])) (with_notes new []) finish before mid after refl (s.comes (st.own ++ []) follow) (st.goes [] refl);
+    }
+
+-- the notes that were kept are counted
+pub kept-none : (notes : List FaultNote) (s : FileState) → AreKept notes notes s s
+kept-none notes s = record { kept = []; added = sym (append-nil notes); counted = counted-none s }
+
+pub kept-both : (notes notes' notes'' : List FaultNote) (old mid new : FileState) → AreKept notes notes' old mid → AreKept notes' notes'' mid new → AreKept notes notes'' old new
+kept-both notes notes' notes'' old mid new a b = record {
+  kept = a.kept ++ b.kept;
+  added = b.added ∙ ap (λ l. l ++ b.kept) a.added ∙ append_assoc notes a.kept b.kept;
+  counted = counted-both a.kept b.kept old mid new a.counted b.counted;
+}
 
 pub causes-behind : (finish : Finish) (sink sink_mid sink_now source source_mid source_now : ℕ) → sink_mid ≡ sink → source_mid ≡ source → FinishCause finish sink_mid sink_now source_mid source_now
     → FinishCause finish sink sink_now source source_now

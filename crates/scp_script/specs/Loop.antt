@@ -1,6 +1,6 @@
 -- What the calls of the loop over texts come to, for a console that had and has these bytes and an input that let so many
 -- reads through.
-use Rattle.std.specs.Prelude.{◌≡◌, ◌≢◌, ℕ, ◌<◌, ◌≤◌, Bool, IsTrue, List, ◌++◌, length, Option, Some, None, Ok}
+use Rattle.std.specs.Prelude.{◌≡◌, ◌≢◌, ◌⊎◌, ℕ, ◌<◌, ◌≤◌, Bool, IsTrue, List, [], ◌++◌, length, Option, Some, None, Ok}
 use Rattle.fault_counts.specs.Faults.{raised}
 use Rattle.host_files.specs.Streams.{AddsPart}
 use Rattle.observations.specs.Observations.{Trace, text_of, reads_of}
@@ -8,23 +8,30 @@ use Rattle.observations.specs.Cut.{ends, cut_trace}
 use Rattle.scp_commands.specs.declared.next.Next.TheVariants.{Exit as ExitNext}
 use Rattle.scp_commands.specs.declared.fault.CommandFault.{CommandFault}
 use Rattle.scp_commands.specs.declared.fault.CommandFault.TheVariants as fault
-use Rattle.scp_commands.specs.Live.{Live, CommandState}
+use Rattle.host_files.specs.Lists.{NamedBytes}
+use Rattle.host_files.specs.State.{FileState}
+use Rattle.fault_notes.specs.declared.note.FaultNote.{FaultNote}
+use Rattle.fault_notes.specs.Notes.{CommandNote, Note, numbered, Follow}
+use Rattle.fault_notes.specs.Counts.{AreCounted}
+use Rattle.scp_commands.specs.Live.{Live, Standing, CommandState, live_in}
 use Rattle.scp_commands.specs.Reply.{Answer, Reply}
 use Rattle.scp_commands.specs.FaultText.{fault_text}
-use Rattle.scp_commands.specs.Doing.{IsSaid, IsBrokenOff}
+use Rattle.scp_commands.specs.Doing.{IsSaid, IsBrokenOff, ComeBehind}
 use Rattle.scp_script.specs.declared.progress.CommandLoop.{CommandLoop}
 use Rattle.scp_script.specs.declared.progress.Finish.{Finish}
-use Rattle.scp_script.specs.declared.progress.Finish.TheVariants.{Exit, EndOfInput, Commands, Console, Input}
+use Rattle.scp_script.specs.declared.progress.Finish.TheVariants.{Exit, EndOfInput, Commands, Console, Input, OutOfMemory}
 use Rattle.scp_script.specs.declared.progress.Progress.{Progress}
 use Rattle.scp_script.specs.declared.progress.Progress.TheVariants.{GoesOn, IsOver}
-use Rattle.scp_script.specs.Lines.{reads_left}
+use Rattle.scp_script.specs.Lines.{reads_left, line_reads}
 use Rattle.scp_script.specs.Reading.{AreRead}
-use Rattle.scp_script.specs.Session.{Session, SessionEnd, ExitDone, InputEnded, BudgetSpent, Going, step, course, trace}
+use Rattle.scp_script.specs.Session.{State, Session, SessionEnd, ExitDone, InputEnded, BudgetSpent, Going, prompt_text, step, course, trace}
 
--- the session that the loop stands in
-abbrev pub session_of : CommandState → CommandLoop → List ℕ → Session
-session_of state l input = record {
-  live = state.live;
+-- the session that the loop stands in, to which these failing calls are still to come
+abbrev pub session_of : CommandState → List NamedBytes → CommandLoop → List ℕ → List Note → Session
+session_of state files l input notes = record {
+  live = live_in state files;
+  notes = notes;
+  spent = state.command;
   limit = state.limit;
   budget = l.budget;
   prompt = l.prompt;
@@ -37,14 +44,22 @@ abbrev pub exit_of : Answer → Option ℕ
 exit_of (Ok (ExitNext status)) = Some status
 exit_of answer = None
 
--- what a text comes to on the console: it was done and what it prints was printed, or a byte of that was refused
-abbrev pub IsAnswer : Reply → Progress → Live → Bool → List ℕ → List ℕ → Type 0
-IsAnswer reply GoesOn live tells before after = (exit_of reply.answer ≡ None) × IsSaid reply live tells before after
-IsAnswer reply (IsOver (Exit status)) live tells before after = (exit_of reply.answer ≡ Some status) × IsSaid reply live tells before after
-IsAnswer reply (IsOver Console) live tells before after = IsBrokenOff reply live tells before after
-IsAnswer reply (IsOver EndOfInput) live tells before after = ⊥
-IsAnswer reply (IsOver Commands) live tells before after = ⊥
-IsAnswer reply (IsOver Input) live tells before after = ⊥
+-- what a text comes to on the console: it was done and what it prints was printed, or a byte of that was refused. Where
+-- memory ran out, another clause says what stands.
+abbrev pub IsAnswer : Reply → Progress → Standing → Bool → List ℕ → List ℕ → Type 0
+IsAnswer reply GoesOn at tells before after = (exit_of reply.answer ≡ None) × IsSaid reply at tells before after
+IsAnswer reply (IsOver (Exit status)) at tells before after = (exit_of reply.answer ≡ Some status) × IsSaid reply at tells before after
+IsAnswer reply (IsOver Console) at tells before after = IsBrokenOff reply at tells before after
+IsAnswer reply (IsOver OutOfMemory) at tells before after = Unit {0}
+IsAnswer reply (IsOver EndOfInput) at tells before after = ⊥
+IsAnswer reply (IsOver Commands) at tells before after = ⊥
+IsAnswer reply (IsOver Input) at tells before after = ⊥
+
+-- a text was answered, with the notes that were kept in it: it has used all of them and no others, whatever comes behind
+pub record Answers (reply : List CommandNote → Reply) (number : ℕ) (result : Progress) (new : Live) (tells : Bool) (before after : List ℕ) (notes notes' : List Note) : Type 0 where
+  pub own : List CommandNote
+  pub kept : notes' ≡ notes ++ numbered number own
+  pub answers : (behind : List CommandNote) → ComeBehind new behind → IsAnswer (reply (own ++ behind)) result (record { live = new; used = length own }) tells before after
 
 -- the text of a fault was printed, or a byte of it was refused
 abbrev pub Complains : Bool → List ℕ → List ℕ → Progress → List ℕ → Type 0
@@ -68,9 +83,10 @@ abbrev pub HasExitStatus : Progress → Type 0
 HasExitStatus (IsOver finish) = IsExitStatus finish
 HasExitStatus GoesOn = Unit {0}
 
--- a fault is answered by its text, and the console's by the end of the session
+-- a fault is answered by its text, and that of the console or of memory by the end of the session
 abbrev pub Denies : CommandFault → Bool → Progress → List ℕ → List ℕ → ℕ → ℕ → Type 0
 Denies fault.Console tells result before after sink sink_now = (result ≡ IsOver Console) × (after ≡ before) × (sink_now ≡ sink)
+Denies fault.OutOfMemory tells result before after sink sink_now = (result ≡ IsOver OutOfMemory) × (after ≡ before) × (sink_now ≡ sink)
 Denies fault tells result before after sink sink_now = Complains tells before (fault_text fault) result after × AnswerCounts result sink sink_now × HasExitStatus result
 
 -- the status of a finish
@@ -80,12 +96,18 @@ status_of EndOfInput = 0
 status_of Commands = 104
 status_of Console = 102
 status_of Input = 106
+status_of OutOfMemory = 103
 
 -- the finish of a session in which nothing failed
 abbrev pub finish_of : SessionEnd → Finish
 finish_of (ExitDone status) = Exit status
 finish_of InputEnded = EndOfInput
 finish_of BudgetSpent = Commands
+
+-- where memory ran out at a text, nothing was done
+abbrev pub IsShort : Progress → Live → Live → List FaultNote → List FaultNote → List ℕ → List ℕ → Type 0
+IsShort (IsOver OutOfMemory) old new notes notes' before after = (new ≡ old) × (notes' ≡ notes) × (after ≡ before)
+IsShort result old new notes notes' before after = Unit {0}
 
 -- A finish that is no fault says by what the session is over. A fault comes before that, wherever the session would
 -- have ended.
@@ -98,10 +120,10 @@ LetsThrough Input gives made all = gives ≡ made
 LetsThrough finish gives made all = gives ≡ all
 
 -- The trace comes to that end on the console, which had and has these bytes.
-pub record EndsAs (t : Trace Live) (status gives made : ℕ) (before after : List ℕ) (live : Live) : Type 0 where
+pub record EndsAs (t : Trace State) (status gives made : ℕ) (before after : List ℕ) (state : State) : Type 0 where
   pub taken : List ℕ
   pub written : after ≡ before ++ taken
-  pub outcome : cut_trace (length taken) gives t ≡ ends status taken made live
+  pub outcome : cut_trace (length taken) gives t ≡ ends status taken made state
 
 -- the session is over
 pub record Finishes (old : Session) (finish : Finish) (new : Session) (before after : List ℕ) : Type 0 where
@@ -109,7 +131,7 @@ pub record Finishes (old : Session) (finish : Finish) (new : Session) (before af
   pub made : ℕ
   pub lets_through : LetsThrough finish gives made (reads_left old.open_ old.input)
   pub reads : AreRead made old.open_ old.input new.open_ new.input
-  pub end : EndsAs (trace old) (status_of finish) gives made before after new.live
+  pub end : EndsAs (trace old) (status_of finish) gives made before after (record { live = new.live; notes = new.notes })
   pub named : NamesEnd finish (course old).end
 
 -- the session goes on behind its next text, all of whose observations were made
@@ -118,9 +140,51 @@ pub record GoesPast (old new : Session) (before after : List ℕ) : Type 0 where
   pub written : after ≡ before ++ text_of (step old).made
   pub reads : AreRead (reads_of (step old).made) old.open_ old.input new.open_ new.input
 
+-- A session for which memory ran out before its next text, or at it: nothing of the text was done, and of what is printed
+-- before it comes all or nothing.
+pub record StopsShort (old : Session) (live : Live) (before after : List ℕ) : Type 0 where
+  pub live_is : live ≡ old.live
+  pub written : (after ≡ before) ⊎ (after ≡ before ++ prompt_text old.prompt)
+
+-- the same, with the reads that were made of its line
+pub record RunsOut (old new : Session) (before after : List ℕ) : Type 0 where
+  pub short : StopsShort old new.live before after
+  pub made : ℕ
+  pub few : made ≤ line_reads old.budget old.open_ old.input
+  pub reads : AreRead made old.open_ old.input new.open_ new.input
+
 abbrev pub Progresses : Session → Progress → Session → List ℕ → List ℕ → Type 0
 Progresses old GoesOn new before after = GoesPast old new before after
+Progresses old (IsOver OutOfMemory) new before after = RunsOut old new before after
 Progresses old (IsOver finish) new before after = Finishes old finish new before after
+
+-- Notes that may come behind those of the command with that number, which left that: those of closings at the end of the
+-- session, which have the same number, and then those of later commands.
+pub record MayFollow (number : ℕ) (live : Live) (notes : List Note) : Type 0 where
+  pub behind : List CommandNote
+  pub later : List Note
+  pub are : notes ≡ numbered number behind ++ later
+  pub closings : ComeBehind live behind
+  pub follows : Follow number later
+
+-- the same where the session goes on; behind one that is over there are none
+abbrev pub MayCome : Progress → ℕ → Live → List Note → Type 0
+MayCome GoesOn number live notes = MayFollow number live notes
+MayCome (IsOver finish) number live notes = notes ≡ []
+
+-- The next text was done, with the notes that were kept in it: with these before any that may follow, the session goes on to
+-- where those are left.
+pub record Stepped (old : List Note → Session) (p : Progress) (new : List Note → Session) (before after : List ℕ) (notes notes' : List Note) : Type 0 where
+  pub own : List Note
+  pub kept : notes' ≡ notes ++ own
+  pub first : (more : List Note) → MayCome p (new []).spent (new []).live more → MayFollow (old []).spent (old []).live (own ++ more)
+  pub goes : (more : List Note) → MayCome p (new []).spent (new []).live more → Progresses (old (own ++ more)) p (new more) before after
+
+-- the notes that were kept are at most as many as the counts rose
+pub record AreKept (notes notes' : List FaultNote) (old new : FileState) : Type 0 where
+  pub kept : List FaultNote
+  pub added : notes' ≡ notes ++ kept
+  pub counted : AreCounted kept old new
 
 -- Each finish has its cause: the console's count rose by one where it failed, and stood still else, and so did the
 -- input's.

@@ -1,16 +1,22 @@
 -- What a whole session comes to, from its opening on.
-use Rattle.std.specs.Prelude.{◌≡◌, ℕ, true, List, drop}
-use Rattle.scp_commands.specs.Live.{Live, CommandState}
+use Rattle.std.specs.Prelude.{◌≡◌, ℕ, ◌≤◌, true, List, [], ◌++◌, ◌+◌, drop}
+use Rattle.host_files.specs.Lists.{NamedBytes}
+use Rattle.fault_notes.specs.Notes.{Note}
+use Rattle.scp_commands.specs.Live.{Live, CommandState, live_in}
 use Rattle.scp_script.specs.declared.perform_session.Opening.{Opening}
 use Rattle.scp_script.specs.declared.progress.Finish.{Finish}
-use Rattle.scp_script.specs.Lines.{reads_left}
-use Rattle.scp_script.specs.Session.{Session, course, trace}
-use Rattle.scp_script.specs.Loop.{EndsAs, LetsThrough, NamesEnd, status_of}
+use Rattle.scp_script.specs.declared.progress.Finish.TheVariants.{OutOfMemory}
+use Rattle.scp_script.specs.Lines.{reads_left, line_reads}
+use Rattle.scp_script.specs.Session.{State, Session, course, trace, ComesTo}
+use Rattle.scp_script.specs.Loop.{EndsAs, LetsThrough, NamesEnd, status_of, StopsShort, MayFollow}
+use Rattle.observations.specs.Observations.{Observation, text_of, reads_of}
 
--- a session before its first text
-unfoldable pub beginning : CommandState → Opening → List ℕ → Session
-beginning state opening input = record {
-  live = state.live;
+-- a session before its first text, in which these calls on files fail
+unfoldable pub beginning : CommandState → List NamedBytes → Opening → List ℕ → List Note → Session
+beginning state files opening input notes = record {
+  live = live_in state files;
+  notes = notes;
+  spent = state.command;
   limit = state.limit;
   budget = opening.budget;
   prompt = opening.prompt;
@@ -18,11 +24,36 @@ beginning state opening input = record {
   open_ = true;
 }
 
--- The whole session, which took the first bytes of the input and left the others.
+-- The whole session, which took the first bytes of the input and left the others. It has used every note.
 pub record IsSession (start : Session) (finish : Finish) (live : Live) (left before after : List ℕ) : Type 0 where
   pub gives : ℕ
   pub made : ℕ
   pub lets_through : LetsThrough finish gives made (reads_left start.open_ start.input)
   pub rest : left ≡ drop made start.input
-  pub end : EndsAs (trace start) (status_of finish) gives made before after live
+  pub end : EndsAs (trace start) (status_of finish) gives made before after (record { live = live; notes = [] })
   pub named : NamesEnd finish (course start).end
+
+-- A session for which memory ran out: it had come to a session in so many texts, and that one stopped short, so that what
+-- the commands that were done have left stands.
+pub record RunsShort (start : Session) (live : Live) (left before after : List ℕ) : Type 0 where
+  pub count : ℕ
+  pub done : List (Observation State)
+  pub reached : Session
+  pub comes : ComesTo count start done reached
+  pub mid : List ℕ
+  pub written : mid ≡ before ++ text_of done
+  pub made : ℕ
+  pub few : made ≤ line_reads reached.budget reached.open_ reached.input
+  pub rest : left ≡ drop (reads_of done + made) start.input
+  pub short : StopsShort reached live mid after
+
+abbrev pub IsPerformed : Session → Finish → Live → List ℕ → List ℕ → List ℕ → Type 0
+IsPerformed start OutOfMemory live left before after = RunsShort start live left before after
+IsPerformed start finish live left before after = IsSession start finish live left before after
+
+-- The session with exactly the notes that were kept.
+pub record Performed (start : List Note → Session) (finish : Finish) (live : Live) (left before after : List ℕ) (notes notes' : List Note) : Type 0 where
+  pub own : List Note
+  pub kept : notes' ≡ notes ++ own
+  pub first : MayFollow (start []).spent (start []).live own
+  pub is : IsPerformed (start own) finish live left before after

@@ -16,7 +16,8 @@ pub record AreRead (made : ℕ) (open_ : Bool) (input : List ℕ) (open_now : Bo
   pub rest : left ≡ drop made input
   pub count : reads_left open_ input ≡ made + reads_left open_now left
 
--- A reading under a budget: the next line with what it costs, the end, a unit that is not there, or a read that failed.
+-- A reading under a budget: the next line with what it costs, the end, which costs nothing, a unit that is not there, or a
+-- read that failed.
 -- Each made exactly its reads.
 abbrev pub IsReading : ℕ → Bool → List ℕ → Reading → ℕ → ReaderState → List ℕ → Type 0
 IsReading budget open_ input Line budget_now reader left =
@@ -25,7 +26,8 @@ IsReading budget open_ input Line budget_now reader left =
 IsReading budget open_ input TooLong budget_now reader left =
     (line : List ℕ) × (arrival budget open_ input ≡ LineComes line) × (longest_line < length line) × (budget_now ≡ budget - line_cost (length (first_line input)))
     × (reader.open_ ≡ has_lf input) × AreRead (line_reads budget open_ input) open_ input reader.open_ left
-IsReading budget open_ input End budget_now reader left = (arrival budget open_ input ≡ InputEnds) × AreRead (line_reads budget open_ input) open_ input reader.open_ left
+IsReading budget open_ input End budget_now reader left =
+    (arrival budget open_ input ≡ InputEnds) × (budget_now ≡ budget) × AreRead (line_reads budget open_ input) open_ input reader.open_ left
 IsReading budget open_ input Unpaid budget_now reader left = (arrival budget open_ input ≡ lines.Unpaid) × AreRead (line_reads budget open_ input) open_ input reader.open_ left
 IsReading budget open_ input Failed budget_now reader left = (made : ℕ) × (made < line_reads budget open_ input) × AreRead made open_ input reader.open_ left
 

@@ -1,34 +1,53 @@
 -- A session: one text after another, to EXIT, the end of the input, or the end of the budget.
 use Rattle.std.specs.Prelude.{◌≡◌, ℕ, zero, suc, ◌+◌, ◌-◌, Bool, List, [], ◌∷◌, ◌++◌, length, drop, codes, Ok, Err, if◌then◌else◌}
-use Rattle.observations.specs.Observations.{Observation, Prints, Reads, Trace, after_made}
+use Rattle.observations.specs.Observations.{Observation, Prints, Reads, Trace, after_made, map_made}
+use Rattle.fault_notes.specs.Notes.{CommandNote, Note, handed}
 use Rattle.scp_parser.specs.Reading.{reading}
 use Rattle.scp_commands.specs.declared.next.Next.TheVariants.{Go, Ran, Exit}
-use Rattle.scp_commands.specs.Live.{Live}
+use Rattle.scp_commands.specs.Live.{Live, Standing}
 use Rattle.scp_commands.specs.Reply.{Answer, Reply}
 use Rattle.scp_commands.specs.FaultText.{fault_text}
+use Rattle.scp_commands.specs.FileEffects.{detached_all, all_closings}
 use Rattle.scp_commands.specs.Effect.{Asked, does}
 use Rattle.scp_script.specs.Lines.{Arrival, InputEnds, Unpaid, LineComes, first_line, line_cost, has_lf, arrival, line_reads}
 
+-- what an early end of a session shows: what commands work on, and the failing calls that are still to come
+pub record State : Type 0 where
+  pub live : Live
+  pub notes : List Note
+
 -- What the future of a session depends on: what commands work on, how many instructions a run may execute, the units of
--- budget left, whether the prompt is printed, the rest of the input, and whether its end is still to be read.
+-- budget left, whether the prompt is printed, the rest of the input, and whether its end is still to be read. Beside that it
+-- is handed the failing calls that are still to come, each with the number of its command, which is how many units of the
+-- budget are spent, those of the command included.
 pub record Session : Type 0 where
   pub live : Live
+  pub notes : List Note
+  pub spent : ℕ
   pub limit : ℕ
   pub budget : ℕ
   pub prompt : Bool
   pub input : List ℕ
   pub open_ : Bool
 
+abbrev pub state_of : Session → State
+state_of s = record { live = s.live; notes = s.notes }
+
+-- a place within a command that was handed the first of these notes
+abbrev pub state_at : List Note → Standing → State
+state_at notes at = record { live = at.live; notes = drop at.used notes }
+
 abbrev pub prompt_text : Bool → List ℕ
 prompt_text on = if on then codes "sim> " else []
 
 -- what is made before the next text is there: the prompt, where it is on, and the reads of a line
-unfoldable pub asking : Session → List (Observation Live)
-asking s = Prints (prompt_text s.prompt) s.live ∷ Reads (line_reads s.budget s.open_ s.input) s.live ∷ []
+unfoldable pub asking : Session → List (Observation State)
+asking s = Prints (prompt_text s.prompt) (state_of s) ∷ Reads (line_reads s.budget s.open_ s.input) (state_of s) ∷ []
 
 -- the session behind its next line, which was read and paid
 unfoldable pub behind_line : Session → Session
 behind_line s = record s {
+  spent = s.spent + line_cost (length (first_line s.input));
   budget = s.budget - line_cost (length (first_line s.input));
   input = drop (length (first_line s.input) + 1) s.input;
   open_ = has_lf s.input;
@@ -61,42 +80,51 @@ unfoldable pub upcoming : Session → Upcoming
 upcoming s = upcoming_of s (arrival s.budget s.open_ s.input)
 
 -- the text of a fault is printed behind what its command has made
-abbrev pub complaint : Answer → Live → List (Observation Live)
-complaint (Ok next) live = []
-complaint (Err fault) live = Prints (fault_text fault) live ∷ []
+abbrev pub complaint : Answer → Standing → List (Observation Standing)
+complaint (Ok next) at = []
+complaint (Err fault) at = Prints (fault_text fault) at ∷ []
 
 abbrev pub with_complaint : Reply → Reply
 with_complaint reply = record reply { made = reply.made ++ complaint reply.answer reply.after }
 
--- what a text does
-unfoldable pub text_reply : ℕ → Live → Asked → Reply
-text_reply limit live asked = with_complaint (does limit live asked)
+-- what a text does, where these calls on files fail
+unfoldable pub text_reply : ℕ → List CommandNote → Live → Asked → Reply
+text_reply limit notes live asked = with_complaint (does limit notes live asked)
 
 -- what comes behind a text: the session goes on, or is over by that, in that state
 pub data Following : Type 0 where
   Going : Session → Following
-  Over : SessionEnd → Live → Following
+  Over : SessionEnd → State → Following
 
 abbrev pub following : Answer → Session → Following
-following (Ok (Exit status)) s = Over (ExitDone status) s.live
+following (Ok (Exit status)) s = Over (ExitDone status) (state_of s)
 following (Ok Go) s = Going s
 following (Ok (Ran stop)) s = Going s
 following (Err fault) s = Going s
 
 -- what one text of a session comes to
 pub record Step : Type 0 where
-  pub made : List (Observation Live)
+  pub made : List (Observation State)
   pub next : Following
 
--- a text is done in the session behind it
-unfoldable pub text_step : List (Observation Live) → Session → Asked → Step
-text_step asked_first behind asked = let reply = text_reply behind.limit behind.live asked in record {
-  made = asked_first ++ reply.made;
-  next = following reply.answer (record behind { live = reply.after });
+-- a text is done in the session behind it: it is handed the leading notes that have its number, and leaves those that it
+-- has not used
+unfoldable pub text_step : List (Observation State) → Session → Asked → Step
+text_step asked_first behind asked = let reply = text_reply behind.limit (handed behind.spent behind.notes) behind.live asked in record {
+  made = asked_first ++ map_made (state_at behind.notes) reply.made;
+  next = following reply.answer (record behind { live = reply.after.live; notes = drop reply.after.used behind.notes });
 }
 
+-- where the input ends, all files are closed, with the notes that have the number of the last command
+unfoldable pub closed : Session → State
+closed s = record { live = detached_all s.live; notes = drop (all_closings (handed s.spent s.notes) s.live) s.notes }
+
+abbrev pub end_state : SessionEnd → Session → State
+end_state InputEnded s = closed s
+end_state end s = state_of s
+
 abbrev pub step_upcoming : Session → Upcoming → Step
-step_upcoming s (Ends end) = record { made = asking s; next = Over end s.live }
+step_upcoming s (Ends end) = record { made = asking s; next = Over end (end_state end s) }
 step_upcoming s (Comes text behind) = text_step (asking s) behind (reading text)
 
 unfoldable pub step : Session → Step
@@ -104,20 +132,20 @@ step s = step_upcoming s (upcoming s)
 
 -- the course of a session: what it does where nothing fails, and by what it is over
 pub record Course : Type 0 where
-  pub trace : Trace Live
+  pub trace : Trace State
   pub end : SessionEnd
 
 -- a session that made this is over by that, and so with its status
-abbrev pub over_by : List (Observation Live) → SessionEnd → Live → Course
-over_by made end live = record { trace = record { made = made; ended = record { status = end_status end; state = live } }; end = end }
+abbrev pub over_by : List (Observation State) → SessionEnd → State → Course
+over_by made end state = record { trace = record { made = made; ended = record { status = end_status end; state = state } }; end = end }
 
-abbrev pub after_step : List (Observation Live) → Following → (Session → Course) → Course
+abbrev pub after_step : List (Observation State) → Following → (Session → Course) → Course
 after_step made (Going s) goes_on = record { trace = after_made made (goes_on s).trace; end = (goes_on s).end }
-after_step made (Over end live) goes_on = over_by made end live
+after_step made (Over end state) goes_on = over_by made end state
 
 -- so many texts at the most
 unfoldable pub texts : ℕ → Session → Course
-texts zero s = over_by [] BudgetSpent s.live
+texts zero s = over_by [] BudgetSpent (state_of s)
 texts (suc count) s = after_step (step s).made (step s).next (λ t. texts count t)
 
 -- all that a session does: each text after which it goes on has cost a unit of the budget at least, so that the bound
@@ -125,10 +153,10 @@ texts (suc count) s = after_step (step s).made (step s).next (λ t. texts count 
 unfoldable pub course : Session → Course
 course s = texts (suc s.budget) s
 
-unfoldable pub trace : Session → Trace Live
+unfoldable pub trace : Session → Trace State
 trace s = (course s).trace
 
 -- the session s comes to t by that many texts, with these observations
-abbrev pub ComesTo : ℕ → Session → List (Observation Live) → Session → Type 0
+abbrev pub ComesTo : ℕ → Session → List (Observation State) → Session → Type 0
 ComesTo zero s made t = (made ≡ []) × (s ≡ t)
-ComesTo (suc count) s made t = (mid : Session) × (more : List (Observation Live)) × ((step s).next ≡ Going mid) × (made ≡ (step s).made ++ more) × ComesTo count mid more t
+ComesTo (suc count) s made t = (mid : Session) × (more : List (Observation State)) × ((step s).next ≡ Going mid) × (made ≡ (step s).made ++ more) × ComesTo count mid more t

@@ -1,12 +1,17 @@
-ghost use Rattle.std.specs.Prelude.{◌≡◌, ◌≤◌, ◌^◌, IsTrue};
-ghost use Rattle.scp_script.specs.Loop.{FinishCause};
-ghost use Rattle.scp_script.specs.Perform.{beginning, IsSession};
+ghost use Rattle.std.specs.Prelude.{◌≡◌, ◌≤◌, ◌^◌, List, IsTrue};
+ghost use Rattle.host_files.specs.State.{Opened};
+ghost use Rattle.unit_files.specs.Open.{AllOpen, Around};
+ghost use Rattle.fault_notes.specs.Notes.{notes_said};
+ghost use Rattle.scp_commands.specs.Live.{live_in};
+ghost use Rattle.scp_script.specs.Loop.{FinishCause, AreKept};
+ghost use Rattle.scp_script.specs.Perform.{beginning, Performed};
 
 use crate::command_loop::next_line;
 use crate::line_reader::LineReader;
 use crate::progress::{CommandLoop, Finish, Progress};
-use host_files::{Sink, Source};
+use host_files::{Files, Sink, Source};
 use scp_commands::Session;
+use std::alloc::Global;
 use unit_trait::Unit;
 
 /// How a session begins.
@@ -19,20 +24,33 @@ pub struct Opening {
     pub budget: u64,
 }
 
-/// Does all lines of the input, until the session is over.
-pub fn perform<U: Unit, C: Source, S: Sink>(
+/// Does all lines of the input, until the session is over. Where the input ends, all files are closed.
+///
+/// The notes that it keeps are those of the calls on files that failed in it, one for each, but for the closing that a
+/// refused ATTACH makes. Memory is taken for those of a command before its line is read.
+pub fn perform<U: Unit, C: Source, F: Files, S: Sink>(
+    alloc: Global,
     session: &mut Session<U>,
     opening: &Opening,
     input: &mut C,
+    files: &mut F,
     out: &mut S,
 ) -> Finish
-    requires { opening.now.budget ≤ 2 ^ 32 }
-    ensures told { IsTrue C.tells → IsTrue S.tells
-        → IsSession (beginning session.old opening.now (C.left input.old)) result session.new.live (C.left input.new)
-        (S.written out.old) (S.written out.new) }
+    requires budget { opening.now.budget ≤ 2 ^ 32 }
+    requires command { session.old.command ≤ 2 ^ 32 }
+    requires open { AllOpen session.old.machine.slots (F.state files.old).opened }
+    ensures told { IsTrue C.tells → IsTrue F.tells → IsTrue S.tells
+        → Performed (λ notes. beginning session.old (F.state files.old).files opening.now (C.left input.old) notes) result
+        (live_in session.new (F.state files.new).files) (C.left input.new) (S.written out.old) (S.written out.new)
+        (notes_said session.old.notes) (notes_said session.new.notes) }
     ensures cause { FinishCause result (S.fault_count out.old) (S.fault_count out.new) (C.fault_count input.old)
         (C.fault_count input.new) }
+    ensures keeps { AreKept session.old.notes session.new.notes (F.state files.old) (F.state files.new) }
+    ensures keys { session.new.keys ≡ session.old.keys }
     ensures limit { session.new.limit ≡ session.old.limit }
+    ensures open { AllOpen session.new.machine.slots (F.state files.new).opened }
+    ensures around { (base : List Opened) → Around session.old.machine.slots base (F.state files.old).opened
+        → Around session.new.machine.slots base (F.state files.new).opened }
 {
     let mut lines = CommandLoop {
         reader: LineReader::new(),
@@ -40,7 +58,7 @@ pub fn perform<U: Unit, C: Source, S: Sink>(
         prompt: opening.prompt,
     };
     'lines: loop {
-        match next_line(session, &mut lines, input, out) {
+        match next_line(alloc, session, &mut lines, input, files, out) {
             Progress::GoesOn => (),
             Progress::IsOver(finish) => return finish,
         }

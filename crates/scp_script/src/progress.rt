@@ -13,6 +13,8 @@ pub enum Finish {
     Console,
     /// The input failed.
     Input,
+    /// Memory ran out.
+    OutOfMemory,
 }
 
 impl Finish {
@@ -29,6 +31,7 @@ impl Finish {
             Finish::Commands => 104,
             Finish::Console => 102,
             Finish::Input => 106,
+            Finish::OutOfMemory => 103,
         }
     }
 }

@@ -1,6 +1,6 @@
 use super::*;
 use clock_unit::Clk;
-use host_files::{ByteSink, ByteSource};
+use host_files::{ByteSink, ByteSource, MemFiles};
 use paper_tape::{Lpt, Ptp, Ptr};
 use std::alloc::AllocError;
 use std::test::Fail;
@@ -19,7 +19,15 @@ fn code_of(alloc: Global, lines: &[u8], room: usize) -> Result<ExitCode, AllocEr
     units.push(Box::new(alloc, Tto::new())?)?;
     let mut input = ByteSource::new(alloc, lines)?;
     let mut output = ByteSink::with_room(alloc, room)?;
-    Ok(session(alloc, words.as_slice(), units, &mut input, &mut output))
+    let mut files = MemFiles::with_room(alloc, 0)?;
+    Ok(session(
+        alloc,
+        words.as_slice(),
+        units,
+        &mut input,
+        &mut output,
+        &mut files,
+    ))
 }
 
 #[test]

@@ -7,6 +7,7 @@ use unit_trait::CpuReg::{Ac0, Ac1, Ac2, C, Hold, Ion, Pc, StopDev};
 use unit_trait::Kind::{Clk, Tti, Tto};
 
 mod bursts;
+mod files;
 
 /// A run of that many instructions that is called no step.
 fn limit(count: u64) -> RunLimit {

@@ -2,10 +2,11 @@ ghost use Rattle.std.specs.Prelude.{map};
 ghost use Rattle.nova_top.specs.Standard.{IsStandard};
 
 mod counted;
+mod files;
 
 use super::*;
 use clock_unit::Clk;
-use host_files::{ByteSink, ByteSource};
+use host_files::{ByteSink, ByteSource, MemFiles};
 use paper_tape::{Lpt, Ptp, Ptr};
 use std::alloc::AllocError;
 use std::test::Fail;
@@ -58,7 +59,15 @@ fn run_with<U: Unit>(
         input.fail_call(number)?;
     }
     let mut output = ByteSink::with_room(alloc, room)?;
-    let ending = simulate(alloc, texts.as_slice(), units, &mut input, &mut output);
+    let mut files = MemFiles::with_room(alloc, 0)?;
+    let ending = simulate(
+        alloc,
+        texts.as_slice(),
+        units,
+        &mut input,
+        &mut output,
+        &mut files,
+    );
     let mut rest = [0; 4096];
     let left = input.read(&mut rest).unwrap_or(0);
     Ok(Seen {
@@ -96,7 +105,7 @@ fn sessions_print_and_end_as_the_tables_say(rt: HostRuntime) -> Result<(), Fail>
         (b"EXIT\nEXAMINE AC0\n", b"", 0),
         (
             b"FOO\nexamine ac0\nE\tAC0 \nSTEP -1\nATTACH\nE DSK BUSY\nE PTR\nSHOW CPU\nSHOW FOO\n",
-            b"Unknown command\nAC0:\t000000\nAC0:\t000000\nInvalid number at 5\nNot built\nNot built\nToo few arguments\nNot built\nInvalid name at 5\n",
+            b"Unknown command\nAC0:\t000000\nAC0:\t000000\nInvalid number at 5\nToo few arguments\nNot built\nToo few arguments\nNot built\nInvalid name at 5\n",
             0,
         ),
         (

@@ -1,143 +1,261 @@
 ghost use Rattle.std.specs.Prelude.{◌≡◌, [], ◌∷◌, map};
-ghost use Rattle.unit_trait.specs.declared.kind.Kind.TheVariants.{Clk as clock, Tti as keyboard, Tto as printer};
+ghost use Rattle.unit_trait.specs.declared.kind.Kind.TheVariants.{Lpt as printer, Ptr as reader, Ptp as punch};
+ghost use Rattle.unit_trait.specs.declared.kind.Kind.TheVariants.{Clk as clock, Tti as keyboard, Tto as teleprinter};
 ghost use Rattle.unit_trait.specs.Row.{initial_unit};
+ghost use Rattle.unit_files.specs.Open.{AllOpen};
 
 use super::*;
-use crate::fault::CommandFault;
-use crate::next::Next;
-use crate::session::Session;
 use clock_unit::Clk;
-use host_files::ByteSink;
-use nova_machine::{Machine, Stop};
+use expect_actions::Keys;
+use host_files::{ByteSink, FileCall, MemFiles};
+use nova_machine::Stop;
+use paper_tape::{Lpt, Ptp, Ptr};
 use scp_parser::read_command;
-use std::alloc::Global;
+use std::process::Abort;
 use std::test::Fail;
 use tty_units::{Tti, Tto};
 
-/// A line, the room of the console that it is done on, what it answers, and what it prints.
+/// A line, the room of the console that it is done on, what it answers, and what it prints. Where no answer is given, any
+/// will do.
 type Case = (
     &'static [u8],
     usize,
-    Result<Next, CommandFault>,
+    Option<Result<Next, CommandFault>>,
     &'static [u8],
 );
 
-/// Does lines in one session, one behind another. Answers the number of the first one that answers or prints something
-/// else, or how many there are.
-fn first_wrong<U: Unit>(alloc: Global, units: Vec<U>, cases: &[Case]) -> Result<usize, Fail>
-    requires { map U.unit_state units.items ≡ map initial_unit (clock ∷ keyboard ∷ printer ∷ []) }
-{
-    let mut session = Session {
-        machine: Machine::new(alloc, units)?,
-        limit: 1 << 48,
-    };
-    for (number, case) in cases.iter().enumerate() {
-        let (line, room, answer, text) = *case;
-        let mut command = Command::new();
-        let mut out = ByteSink::with_room(alloc, room)?;
-        if read_command(line, &mut command).is_err()
-            || execute(&mut session, &command, &mut out) != answer
-            || out.bytes() != text
-        {
-            return Ok(number);
-        }
-    }
-    Ok(cases.len())
+/// A note: its time, its call, and how many bytes were written.
+type Note = (u64, FileCall, u64);
+
+const GOES: Option<Result<Next, CommandFault>> = Some(Ok(Next::Go));
+
+fn refuses(fault: CommandFault) -> Option<Result<Next, CommandFault>> {
+    Some(Err(fault))
 }
 
-/// The same in a new session with the clock and the teletype, in boxes.
-fn first_wrong_in_boxes(alloc: Global, cases: &[Case]) -> Result<usize, Fail> {
+/// Does lines in one session, one behind another. Answers how many are left from the first one on that answers or prints
+/// something else.
+fn left<U: Unit, F: Files>(
+    alloc: Global,
+    session: &mut Session<U>,
+    files: &mut F,
+    cases: &[Case],
+) -> Result<usize, Fail>
+    requires open { AllOpen session.old.machine.slots (F.state files.old).opened }
+{
+    match cases.split_first() {
+        None => Ok(0),
+        Some((case, others)) => {
+            let (line, room, wanted, text) = *case;
+            let mut command = Command::new();
+            let mut out = ByteSink::with_room(alloc, room)?;
+            if read_command(line, &mut command).is_err() {
+                return Ok(cases.len());
+            }
+            let answer = execute(alloc, session, &command, files, &mut out);
+            if wanted.is_some_and(|wanted| wanted != answer) || out.bytes() != text {
+                return Ok(cases.len());
+            }
+            left(alloc, session, files, others)
+        }
+    }
+}
+
+/// Plays the lines in a new session with these units, and compares the notes that it keeps.
+fn plays<U: Unit, F: Files>(
+    rt: &impl Abort,
+    alloc: Global,
+    units: Vec<U>,
+    files: &mut F,
+    cases: &[Case],
+    notes: &[Note],
+) -> Result<(), Fail>
+    requires { map U.unit_state units.items
+        ≡ map initial_unit (printer ∷ reader ∷ punch ∷ clock ∷ keyboard ∷ teleprinter ∷ []) }
+{
+    let mut session = Session::new(alloc, units, Keys::none(alloc), 1 << 48)?;
+    session.command = 7;
+    assert_eq!(rt; left(alloc, &mut session, files, cases)?, 0);
+    assert_eq!(rt; session.notes.len(), notes.len());
+    for (kept, note) in session.notes.iter().zip(notes) {
+        assert_eq!(rt; (kept.time, kept.call, kept.done), *note);
+        assert_eq!(rt; kept.command, 7);
+    }
+    Ok(())
+}
+
+/// The same with the standard units, in boxes.
+fn session_of(
+    rt: &impl Abort,
+    alloc: Global,
+    files: &mut MemFiles,
+    cases: &[Case],
+    notes: &[Note],
+) -> Result<(), Fail> {
     let mut units: Vec<Box<dyn Unit>> = Vec::new(alloc);
+    units.push(Box::new(alloc, Lpt::new())?)?;
+    units.push(Box::new(alloc, Ptr::new())?)?;
+    units.push(Box::new(alloc, Ptp::new())?)?;
     units.push(Box::new(alloc, Clk::new())?)?;
     units.push(Box::new(alloc, Tti::new())?)?;
     units.push(Box::new(alloc, Tto::new())?)?;
-    first_wrong(alloc, units, cases)
+    plays(rt, alloc, units, files, cases, notes)
 }
 
 #[test]
 fn commands_answer_and_print(rt: HostRuntime) -> Result<(), Fail> {
-    let commands: [Case; 17] = [
-        (b"", 0, Ok(Next::Go), b""),
-        (b"D 0 7", 0, Ok(Next::Go), b""),
-        (
-            b"E 0,AC0",
-            100,
-            Ok(Next::Go),
-            b"00000:\t000007\nAC0:\t000000\n",
-        ),
-        (b"E 0,100000", 100, Err(CommandFault::OutOfRange), b""),
-        (b"D SIZE 1", 100, Err(CommandFault::ReadOnlyName), b""),
-        (b"E XYZ", 100, Err(CommandFault::NoSuchName), b""),
-        (b"E PTR BUSY", 100, Err(CommandFault::NotBuilt), b""),
-        (b"E CLK SEL", 100, Ok(Next::Go), b"SEL:\t0\n"),
+    let cases: [Case; 17] = [
+        (b"", 0, GOES, b""),
+        (b"D 0 7", 0, GOES, b""),
+        (b"E 0,AC0", 100, GOES, b"00000:\t000007\nAC0:\t000000\n"),
+        (b"E 0,100000", 100, refuses(CommandFault::OutOfRange), b""),
+        (b"D SIZE 1", 100, refuses(CommandFault::ReadOnlyName), b""),
+        (b"E XYZ", 100, refuses(CommandFault::NoSuchName), b""),
+        (b"E DSK BUSY", 100, refuses(CommandFault::NotBuilt), b""),
+        (b"E CLK SEL", 100, GOES, b"SEL:\t0\n"),
         (
             b"STEP",
             100,
-            Ok(Next::Ran(Stop::Stepped)),
+            Some(Ok(Next::Ran(Stop::Stepped))),
             b"\nStep expired, PC: 00007 (000000)\n",
         ),
-        (b"D 7 63077", 0, Ok(Next::Go), b""),
+        (b"D 7 63077", 0, GOES, b""),
         (
             b"CONT",
             100,
-            Ok(Next::Ran(Stop::Halt)),
+            Some(Ok(Next::Ran(Stop::Halt))),
             b"\nHALT instruction, PC: 00010 (000000)\n",
         ),
-        (b"GO 100000", 100, Err(CommandFault::OutOfRange), b""),
-        (b"SHOW TIME", 7, Err(CommandFault::Console), b"Time: 2"),
-        (b"SHOW TIME", 8, Ok(Next::Go), b"Time: 2\n"),
-        (b"SHOW CPU", 100, Err(CommandFault::NotBuilt), b""),
-        (b"EXIT 100", 100, Err(CommandFault::OutOfRange), b""),
-        (b"EXIT 99", 0, Ok(Next::Exit(99)), b""),
+        (b"GO 100000", 100, refuses(CommandFault::OutOfRange), b""),
+        (b"SHOW TIME", 7, refuses(CommandFault::Console), b"Time: 2"),
+        (b"SHOW TIME", 8, GOES, b"Time: 2\n"),
+        (b"SHOW CPU", 100, refuses(CommandFault::NotBuilt), b""),
+        (b"EXIT 100", 100, refuses(CommandFault::OutOfRange), b""),
+        (b"EXIT 99", 0, Some(Ok(Next::Exit(99))), b""),
     ];
-    // a program that prints the character in AC0, and waits until it is printed
-    let prints: [Case; 9] = [
-        (b"SHOW QUEUE", 100, Ok(Next::Go), b"TTI 100\n"),
-        (b"D 100 61111", 0, Ok(Next::Go), b""),
-        (b"D 101 63611", 0, Ok(Next::Go), b""),
-        (b"D 102 777", 0, Ok(Next::Go), b""),
-        (b"D 103 63077", 0, Ok(Next::Go), b""),
-        (b"D AC0 101", 0, Ok(Next::Go), b""),
+    let mut files = MemFiles::with_room(rt.alloc(), 0)?;
+    session_of(&rt, rt.alloc(), &mut files, &cases, &[])
+}
+
+#[test]
+fn a_guest_prints_and_waits(rt: HostRuntime) -> Result<(), Fail> {
+    let cases: [Case; 11] = [
+        (b"SHOW QUEUE", 100, GOES, b"TTI 100\n"),
+        (b"D 100 61111", 0, GOES, b""),
+        (b"D 101 63611", 0, GOES, b""),
+        (b"D 102 777", 0, GOES, b""),
+        (b"D 103 63077", 0, GOES, b""),
+        (b"D AC0 101", 0, GOES, b""),
         (
             b"GO 100",
             100,
-            Ok(Next::Ran(Stop::Halt)),
+            Some(Ok(Next::Ran(Stop::Halt))),
             b"A\nHALT instruction, PC: 00104 (000000)\n",
         ),
-        (b"SHOW TIME", 100, Ok(Next::Go), b"Time: 103\n"),
-        (b"SHOW QUEUE", 100, Ok(Next::Go), b"TTI 97\n"),
+        (b"SHOW TIME", 100, GOES, b"Time: 103\n"),
+        (b"SHOW QUEUE", 100, GOES, b"TTI 97\n"),
+        (b"GO 100", 0, refuses(CommandFault::Console), b""),
+        (b"SHOW TIME", 100, GOES, b"Time: 203\n"),
     ];
-    // the same on a console without room
-    let refused: [Case; 8] = [
-        (b"D 100 61111", 0, Ok(Next::Go), b""),
-        (b"D 101 63611", 0, Ok(Next::Go), b""),
-        (b"D 102 777", 0, Ok(Next::Go), b""),
-        (b"D 103 63077", 0, Ok(Next::Go), b""),
-        (b"D AC0 101", 0, Ok(Next::Go), b""),
-        (b"GO 100", 0, Err(CommandFault::Console), b""),
-        (b"SHOW TIME", 100, Ok(Next::Go), b"Time: 100\n"),
-        (b"SHOW QUEUE", 5, Err(CommandFault::Console), b"TTI 1"),
-    ];
-    let resets: [Case; 10] = [
-        (b"D PC 123", 0, Ok(Next::Go), b""),
-        (b"D TTO DONE 1", 0, Ok(Next::Go), b""),
-        (b"D ION 1", 0, Ok(Next::Go), b""),
-        (b"RESET", 0, Ok(Next::Go), b""),
-        (b"E PC,ION", 100, Ok(Next::Go), b"PC:\t00123\nION:\t0\n"),
-        (b"E TTO DONE", 100, Ok(Next::Go), b"DONE:\t0\n"),
-        (b"D STOP_DEV 1", 0, Ok(Next::Go), b""),
-        (b"D 200 60112", 0, Ok(Next::Go), b""),
+    let mut files = MemFiles::with_room(rt.alloc(), 0)?;
+    session_of(&rt, rt.alloc(), &mut files, &cases, &[])
+}
+
+#[test]
+fn files_are_attached_shown_and_detached(rt: HostRuntime) -> Result<(), Fail> {
+    let cases: [Case; 19] = [
+        (b"ATTACH -E PTR p", 0, refuses(CommandFault::NoFile), b""),
+        (b"SHOW PTR", 100, GOES, b"PTR, not attached\n"),
+        (b"ATTACH PTR p", 0, GOES, b""),
+        (b"SHOW PTR", 100, GOES, b"PTR, attached to p\n"),
         (
-            b"GO 200",
-            100,
-            Ok(Next::Ran(Stop::UnknownDevice)),
-            b"\nUnknown device, PC: 00200 (060112)\n",
+            b"ATTACH PTR q",
+            0,
+            refuses(CommandFault::AlreadyAttached),
+            b"",
         ),
-        (b"SHOW TIME", 100, Ok(Next::Go), b"Time: 0\n"),
+        (b"ATTACH -R PTP p", 0, refuses(CommandFault::ReadOnly), b""),
+        (b"DETACH LPT", 0, refuses(CommandFault::NotAttached), b""),
+        (b"ATTACH DSK d", 0, refuses(CommandFault::NotBuilt), b""),
+        (b"ATTACH TTI1 1", 0, refuses(CommandFault::NotBuilt), b""),
+        (b"DETACH DSK", 0, refuses(CommandFault::NotBuilt), b""),
+        (b"SHOW MTA3", 0, refuses(CommandFault::NotBuilt), b""),
+        (b"DETACH PTR", 0, GOES, b""),
+        (b"ATTACH -R PTR p", 0, GOES, b""),
+        (b"SHOW PTR", 9, refuses(CommandFault::Console), b"PTR, atta"),
+        (b"SHOW PTR", 100, GOES, b"PTR, attached to p, read only\n"),
+        (b"ATTACH LPT old", 0, GOES, b""),
+        (b"E LPT POS", 100, GOES, b"POS:\t000000003\n"),
+        (b"EXIT 3", 0, Some(Ok(Next::Exit(3))), b""),
+        (b"SHOW PTR", 100, GOES, b"PTR, not attached\n"),
     ];
-    let sessions: [&[Case]; 4] = [&commands, &prints, &refused, &resets];
-    for cases in sessions {
-        assert_eq!(rt; first_wrong_in_boxes(rt.alloc(), cases)?, cases.len());
+    let mut files = MemFiles::with_room(rt.alloc(), 8)?;
+    assert!(rt; files.add_file("old", b"abc").is_ok());
+    session_of(&rt, rt.alloc(), &mut files, &cases, &[])
+}
+
+/// The lines of a program that punches the character in AC0 again and again.
+const PUNCHES: [Case; 8] = [
+    (b"D AC0 101", 0, GOES, b""),
+    (b"D 100 61113", 0, GOES, b""),
+    (b"D 101 63613", 0, GOES, b""),
+    (b"D 102 777", 0, GOES, b""),
+    (b"D 103 100", 0, GOES, b""),
+    (b"ATTACH PTP out", 0, GOES, b""),
+    (
+        b"GO 100",
+        100,
+        None,
+        b"\nFile error on PTP, PC: 00102 (000777)\n",
+    ),
+    (b"E PTP BUSY,POS", 100, GOES, b"BUSY:\t1\nPOS:\t000000002\n"),
+];
+
+#[test]
+fn a_failed_write_stops_the_run_and_is_noted(rt: HostRuntime) -> Result<(), Fail> {
+    for done in [0usize, 1] {
+        let mut files = MemFiles::with_room(rt.alloc(), 8)?;
+        assert!(rt; files.fail_call(5, done).is_ok());
+        session_of(
+            &rt,
+            rt.alloc(),
+            &mut files,
+            &PUNCHES,
+            &[(606, FileCall::Write, done as u64)],
+        )?;
+        let punched: &[u8] = if done == 0 { b"AA" } else { b"AAA" };
+        assert!(rt; files.file_bytes("out") == Some(punched));
     }
     Ok(())
+}
+
+#[test]
+fn a_failed_opening_and_a_failed_closing_are_noted(rt: HostRuntime) -> Result<(), Fail> {
+    let opening: [Case; 2] = [
+        (b"ATTACH -N PTP out", 0, None, b""),
+        (b"SHOW PTP", 100, GOES, b"PTP, not attached\n"),
+    ];
+    let mut files = MemFiles::with_room(rt.alloc(), 8)?;
+    assert!(rt; files.fail_call(0, 0).is_ok());
+    session_of(
+        &rt,
+        rt.alloc(),
+        &mut files,
+        &opening,
+        &[(0, FileCall::Opening, 0)],
+    )?;
+    let closing: [Case; 3] = [
+        (b"ATTACH -N PTP out", 0, GOES, b""),
+        (b"DETACH PTP", 0, GOES, b""),
+        (b"SHOW PTP", 100, GOES, b"PTP, not attached\n"),
+    ];
+    let mut files = MemFiles::with_room(rt.alloc(), 8)?;
+    assert!(rt; files.fail_call(2, 0).is_ok());
+    session_of(
+        &rt,
+        rt.alloc(),
+        &mut files,
+        &closing,
+        &[(0, FileCall::Closing, 0)],
+    )
 }

@@ -1,7 +1,7 @@
 use super::*;
 use clock_unit::Clk;
-use host_files::{ByteSink, ByteSource};
-use nova_machine::Machine;
+use expect_actions::Keys;
+use host_files::{ByteSink, ByteSource, MemFiles};
 use std::test::Fail;
 
 #[test]
@@ -21,17 +21,25 @@ fn sessions_finish_by_their_input_console_and_budget(rt: HostRuntime) -> Result<
         (b"X\n", 9, 9, Finish::Console, b"sim> Unkn"),
     ];
     for (lines, budget, room, wanted, text) in cases {
-        let mut session = Session {
-            machine: Machine::<Clk>::new(rt.alloc(), Vec::new(rt.alloc()))?,
-            limit: 1 << 48,
-        };
+        let alloc = rt.alloc();
+        let units: Vec<Clk> = Vec::new(alloc);
+        let mut session = Session::new(alloc, units, Keys::none(alloc), 1 << 48)?;
         let opening = Opening {
             prompt: true,
             budget,
         };
-        let mut input = ByteSource::new(rt.alloc(), lines)?;
-        let mut out = ByteSink::with_room(rt.alloc(), room)?;
-        assert!(rt; perform(&mut session, &opening, &mut input, &mut out) == wanted);
+        let mut input = ByteSource::new(alloc, lines)?;
+        let mut files = MemFiles::with_room(alloc, 0)?;
+        let mut out = ByteSink::with_room(alloc, room)?;
+        let finish = perform(
+            alloc,
+            &mut session,
+            &opening,
+            &mut input,
+            &mut files,
+            &mut out,
+        );
+        assert!(rt; finish == wanted);
         assert!(rt; out.bytes() == text);
     }
     Ok(())
@@ -39,18 +47,26 @@ fn sessions_finish_by_their_input_console_and_budget(rt: HostRuntime) -> Result<
 
 #[test]
 fn a_failed_read_finishes_a_session(rt: HostRuntime) -> Result<(), Fail> {
-    let mut session = Session {
-        machine: Machine::<Clk>::new(rt.alloc(), Vec::new(rt.alloc()))?,
-        limit: 1 << 48,
-    };
+    let alloc = rt.alloc();
+    let units: Vec<Clk> = Vec::new(alloc);
+    let mut session = Session::new(alloc, units, Keys::none(alloc), 1 << 48)?;
     let opening = Opening {
         prompt: false,
         budget: 9,
     };
-    let mut input = ByteSource::new(rt.alloc(), b"\n\n")?;
+    let mut input = ByteSource::new(alloc, b"\n\n")?;
     input.fail_call(1)?;
-    let mut out = ByteSink::with_room(rt.alloc(), 0)?;
-    assert!(rt; perform(&mut session, &opening, &mut input, &mut out) == Finish::Input);
+    let mut files = MemFiles::with_room(alloc, 0)?;
+    let mut out = ByteSink::with_room(alloc, 0)?;
+    let finish = perform(
+        alloc,
+        &mut session,
+        &opening,
+        &mut input,
+        &mut files,
+        &mut out,
+    );
+    assert!(rt; finish == Finish::Input);
     assert!(rt; input.faults() == 1);
     Ok(())
 }

@@ -11,7 +11,7 @@ use event_queue::Events;
 use host_files::ByteSink;
 use nova_memory::Memory;
 use nova_word::{Addr, Word};
-use std::alloc::Global;
+use std::alloc::{AllocError, Global};
 use std::process::Abort;
 use std::test::Fail;
 use tty_units::{Tti, Tto};
@@ -110,8 +110,8 @@ fn go_on<U: Unit>(
     let count = u64::from(seed * 3);
     let mut run_console = ByteSink::with_room(alloc, 20)?;
     let mut turned_console = ByteSink::with_room(alloc, 20)?;
-    let stop = ran(run, count, &mut run_console);
-    let turns_stop = turns(turned, count, &mut turned_console);
+    let stop = ran(alloc, run, count, &mut run_console)?;
+    let turns_stop = turns(alloc, turned, count, &mut turned_console)?;
     assert_eq!(rt; stop, turns_stop, "{seed}");
     assert_eq!(rt; run_console.bytes(), turned_console.bytes(), "{seed}");
     same_registers(rt, run, turned, seed);
@@ -120,8 +120,13 @@ fn go_on<U: Unit>(
     Ok(())
 }
 
-fn ran<U: Unit>(machine: &mut Machine<U>, count: u64, console: &mut ByteSink) -> Stop {
-    machine.run_alone(RunLimit { count, step: true }, console)
+fn ran<U: Unit>(
+    alloc: Global,
+    machine: &mut Machine<U>,
+    count: u64,
+    console: &mut ByteSink,
+) -> Result<Stop, AllocError> {
+    machine.run_free(alloc, RunLimit { count, step: true }, console)
 }
 
 fn same_registers<U: Unit>(rt: &impl Abort, run: &Machine<U>, turned: &Machine<U>, seed: u32) {
@@ -147,17 +152,22 @@ fn same_events(rt: &impl Abort, run: &Events, turned: &Events, seed: u32) {
 }
 
 /// As many turns as that, up to one that stops.
-fn turns<U: Unit>(machine: &mut Machine<U>, count: u64, console: &mut ByteSink) -> Stop {
+fn turns<U: Unit>(
+    alloc: Global,
+    machine: &mut Machine<U>,
+    count: u64,
+    console: &mut ByteSink,
+) -> Result<Stop, AllocError> {
     for done in 0..count {
         if machine.time() >= 1 << 60 {
-            return Stop::Limit;
+            return Ok(Stop::Limit);
         }
-        match machine.turn_alone(done == 0, console) {
+        match machine.turn_alone(alloc, done == 0, console)? {
             Turn::Executed => (),
-            Turn::Stopped(stop) => return stop,
+            Turn::Stopped(stop) => return Ok(stop),
         }
     }
-    Stop::Stepped
+    Ok(Stop::Stepped)
 }
 
 fn set<U: Unit>(machine: &mut Machine<U>, mut chance: Chance) -> Result<(), Fail> {

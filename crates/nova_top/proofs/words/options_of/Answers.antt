@@ -1,15 +1,24 @@
-use Rattle.std.proofs.Common.{sym, ◌∙◌}
-use Rattle.nova_top.specs.Outside.{options_of, texts_of}
-use Rattle.nova_top.proofs.WordsLemmas.{word-refused, word-taken, words-all}
+use Rattle.std.proofs.Common.{sym, ◌∙◌, string_bytes}
+use Rattle.nova_top.specs.Words.{options_of, texts_of}
+use Rattle.nova_top.proofs.WordsLemmas.{word-refused, word-taken, words-all, next-below, all-named}
 use Rattle.nova_top.proofs.words.options_of.Goals as goal
 
-pub returns-in-None : goal.returns-in-None
-returns-in-None c =
-    word-refused c.loop-word.choices c.args.words.now c.loop-word.word-index c.word-item.result (options_of (texts_of c.args.words.now)) c.loop-word-test.true c.word-item.is c.loop-word.invariant c.in-None.ensures
+pub returns-in-None-clause-options : goal.returns-in-None-clause-options
+returns-in-None-clause-options c =
+    word-refused c.loop-place.choices c.args.words.now c.loop-place.place c.index-words-place.result (options_of (texts_of c.args.words.now)) c.loop-place-test.true c.index-words-place.is
+    c.loop-place.invariant.chosen c.in-None.ensures
 
-pub loop-word-preserved : goal.loop-word-preserved
-loop-word-preserved c =
-    word-taken c.loop-word.choices c.in-Some.next c.args.words.now c.loop-word.word-index c.word-item.result (options_of (texts_of c.args.words.now)) c.loop-word-test.true c.word-item.is c.loop-word.invariant c.in-Some.ensures
+pub loop-place-preserved : goal.loop-place-preserved
+loop-place-preserved c = record {
+  chosen = word-taken c.loop-place.choices c.in-Some.next c.args.words.now c.loop-place.place c.index-words-place.result (options_of (texts_of c.args.words.now)) c.loop-place-test.true c.index-words-place.is
+      c.loop-place.invariant.chosen c.in-Some.ensures;
+  below = next-below c.loop-place.place c.loop-place.choices c.in-Some.next (string_bytes c.index-words-place.result) c.loop-place.invariant.below c.in-Some.ensures;
+}
 
-pub returns : goal.returns
-returns c = c.all_chosen.ensures ∙ sym (words-all c.loop-word.choices c.args.words.now c.loop-word.word-index (options_of (texts_of c.args.words.now)) c.loop-word-test.false c.loop-word.invariant)
+pub returns-clause-options : goal.returns-clause-options
+returns-clause-options c =
+    c.all_chosen.ensures ∙ sym (words-all c.loop-place.choices c.args.words.now c.loop-place.place (options_of (texts_of c.args.words.now)) c.loop-place-test.false c.loop-place.invariant.chosen)
+
+pub returns-clause-named : goal.returns-clause-named
+returns-clause-named c =
+    all-named c.loop-place.choices c.args.words.now c.all_chosen.result c.loop-place.place c.loop-place.auto.place-end c.loop-place.invariant.below c.all_chosen.ensures

@@ -1,7 +1,11 @@
 use Rattle.std.proofs.Common.{◌≡◌, drop}
-use Rattle.nova_top.specs.Outside.{options_of, options_from, texts_of}
+use Rattle.nova_top.specs.Words.{options_of, options_from, texts_of}
+use Rattle.nova_top.proofs.WordsLemmas.{KeysBelow}
 use Rattle.nova_top.proofs.words.options_of.Given as goal
 
--- what is left of the words chooses what all of them choose
-abbrev pub invariant-loop-word : goal.invariant-loop-word
-invariant-loop-word l = options_of (texts_of l.words) ≡ options_from l.choices (texts_of (drop l.word-index l.words))
+-- what is left of the words chooses what all of them choose, and the keys' word stands before them
+abbrev pub invariant-loop-place : goal.invariant-loop-place
+invariant-loop-place l = record {
+  chosen : options_of (texts_of l.words) ≡ options_from l.place l.choices (texts_of (drop l.place l.words));
+  below : KeysBelow l.place l.choices;
+}

@@ -4,7 +4,7 @@ ghost use Rattle.nova_top.specs.Standard.{IsStandard};
 
 use crate::simulate;
 use clock_unit::Clk;
-use host_files::{ByteSink, ByteSource};
+use host_files::{ByteSink, ByteSource, MemFiles};
 use paper_tape::{Lpt, Ptp, Ptr};
 use std::alloc::{AllocError, Global};
 use std::cell::Cell;
@@ -124,7 +124,15 @@ fn printed_by<U: Unit>(alloc: Global, units: Vec<U>, lines: &[u8]) -> Result<Vec
     words.push(String::from_str(alloc, "-q")?)?;
     let mut input = ByteSource::new(alloc, lines)?;
     let mut output = ByteSink::with_room(alloc, 4096)?;
-    let _ending = simulate(alloc, words.as_slice(), units, &mut input, &mut output);
+    let mut files = MemFiles::with_room(alloc, 0)?;
+    let _ending = simulate(
+        alloc,
+        words.as_slice(),
+        units,
+        &mut input,
+        &mut output,
+        &mut files,
+    );
     Vec::from_slice(alloc, output.bytes())
 }
 

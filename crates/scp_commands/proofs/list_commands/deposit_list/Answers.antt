@@ -1,14 +1,17 @@
+use Rattle.std.proofs.Common.{[], sym, subst}
+use Rattle.scp_commands.specs.Live.{live_in, standing}
+use Rattle.scp_commands.specs.Reply.{Answer}
+use Rattle.scp_commands.specs.Doing.{IsPlain}
 use Rattle.scp_commands.specs.ListEffects.{deposit_reply}
-use Rattle.scp_commands.proofs.ReplyLemmas.{silent-does, own-counts}
+use Rattle.scp_commands.proofs.ReplyLemmas.{silent-does}
 use Rattle.scp_commands.proofs.OwnLemmas.{deposit-own}
 use Rattle.scp_commands.proofs.list_commands.deposit_list.Goals as goal
 
 pub returns-clause-told : goal.returns-clause-told
-returns-clause-told g c = λ tells text.
-    silent-does (deposit_reply c.args.session.now.live c.args.listing.now c.args.value) c.fill_list.result c.fill_list.new.session.live tells text
-    (deposit-own c.args.session.now.live c.args.listing.now c.args.value) c.fill_list.ensures.answer c.fill_list.ensures.live c.fill_list.ensures.silent
+returns-clause-told g c = λ files tells text.
+    silent-does (deposit_reply (live_in c.args.session.now files) c.args.listing.now c.args.value) c.fill_list.result (standing 0 (live_in c.fill_list.new.session files)) tells text
+    (deposit-own (live_in c.args.session.now files) c.args.listing.now c.args.value) (c.fill_list.ensures.answer files) (c.fill_list.ensures.after files) (c.fill_list.ensures.silent files)
 
-pub returns-clause-counts : goal.returns-clause-counts
-returns-clause-counts g c = λ count.
-    own-counts c.fill_list.result (deposit_reply c.args.session.now.live c.args.listing.now c.args.value).answer count
-    (deposit-own c.args.session.now.live c.args.listing.now c.args.value) c.fill_list.ensures.answer
+pub returns-clause-own : goal.returns-clause-own
+returns-clause-own g c =
+    subst (λ (a : Answer). IsPlain a) (sym (c.fill_list.ensures.answer [])) (deposit-own (live_in c.args.session.now []) c.args.listing.now c.args.value)

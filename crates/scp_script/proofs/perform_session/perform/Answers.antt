@@ -1,40 +1,61 @@
-use Rattle.std.proofs.Common.{refl, ◌∙◌, arith}
+use Rattle.std.proofs.Common.{true, [], refl, ◌∙◌, arith}
+use Rattle.fault_notes.specs.Notes.{notes_said}
 use Rattle.scp_script.specs.Perform.{beginning}
 use Rattle.scp_script.specs.Loop.{session_of}
-use Rattle.scp_script.proofs.WholeLemmas.{reached-none, reached-more, session-over, causes-behind}
+use Rattle.scp_script.proofs.WholeLemmas.{begun, further, over, kept-none, kept-both, causes-behind}
 use Rattle.scp_script.proofs.perform_session.perform.Goals as goal
 
 pub lines-init : goal.lines-init
 unfolding beginning
 lines-init g c = record {
-  enough = c.requires;
+  enough = c.requires.budget;
+  command = omega (arith, c.requires.budget, c.requires.command);
   limit = refl;
-  told = λ source sink. rw c.new.ensures (reached-none (beginning c.args.session.now c.args.opening.now (g.C.Source.left c.args.input.now)) (g.S.Sink.written c.args.out.now));
+  keys = refl;
+  told = λ source files sink. rw c.new.ensures (begun (session_of c.args.session.now (g.F.Files.state c.args.files.now).files (record { reader = record { line = []; open_ = true }; budget = c.args.opening.now.budget; prompt = c.args.opening.now.prompt }) (g.C.Source.left c.args.input.now)) (g.S.Sink.written c.args.out.now) (notes_said c.args.session.now.notes));
   source = refl;
   sink = refl;
+  keeps = kept-none c.args.session.now.notes (g.F.Files.state c.args.files.now);
+  is_open = c.requires.«open»;
+  around = λ base around. around;
 }
 
 pub lines-preserved : goal.lines-preserved
 lines-preserved g c = record {
   enough = omega (arith, c.lines.invariant.enough, c.in-GoesOn.ensures.pays);
+  command = omega (arith, c.lines.invariant.command, c.in-GoesOn.ensures.command);
   limit = c.in-GoesOn.ensures.limit ∙ c.lines.invariant.limit;
-  told = λ source sink. reached-more (beginning c.args.session.now c.args.opening.now (g.C.Source.left c.args.input.now))
-      (session_of c.lines.session c.lines.lines (g.C.Source.left c.lines.input)) (session_of c.next_line.new.session c.next_line.new.lines (g.C.Source.left c.next_line.new.input))
+  keys = c.in-GoesOn.ensures.keys ∙ c.lines.invariant.keys;
+  told = λ source files sink. further (λ notes. beginning c.args.session.now (g.F.Files.state c.args.files.now).files c.args.opening.now (g.C.Source.left c.args.input.now) notes)
+      (session_of c.lines.session (g.F.Files.state c.lines.files).files c.lines.lines (g.C.Source.left c.lines.input))
+      (session_of c.next_line.new.session (g.F.Files.state c.next_line.new.files).files c.next_line.new.lines (g.C.Source.left c.next_line.new.input))
       (g.S.Sink.written c.args.out.now) (g.S.Sink.written c.lines.out) (g.S.Sink.written c.next_line.new.out)
-      (c.lines.invariant.told source sink) (c.in-GoesOn.ensures.told source sink);
+      (notes_said c.args.session.now.notes) (notes_said c.lines.session.notes) (notes_said c.next_line.new.session.notes)
+      (c.lines.invariant.told source files sink) (c.in-GoesOn.ensures.told source files sink);
   source = c.in-GoesOn.ensures.cause.1 ∙ c.lines.invariant.source;
   sink = c.in-GoesOn.ensures.cause.0 ∙ c.lines.invariant.sink;
+  keeps = kept-both c.args.session.now.notes c.lines.session.notes c.next_line.new.session.notes (g.F.Files.state c.args.files.now) (g.F.Files.state c.lines.files)
+      (g.F.Files.state c.next_line.new.files) c.lines.invariant.keeps c.in-GoesOn.ensures.keeps;
+  is_open = c.in-GoesOn.ensures.«open»;
+  around = λ base around. c.in-GoesOn.ensures.around base (c.lines.invariant.around base around);
 }
 
 pub returns-in-IsOver-clause-told : goal.returns-in-IsOver-clause-told
-returns-in-IsOver-clause-told g c = λ source sink.
-    session-over (beginning c.args.session.now c.args.opening.now (g.C.Source.left c.args.input.now))
-    (session_of c.lines.session c.lines.lines (g.C.Source.left c.lines.input)) (session_of c.next_line.new.session c.next_line.new.lines (g.C.Source.left c.next_line.new.input))
+returns-in-IsOver-clause-told g c = λ source files sink.
+    over (λ notes. beginning c.args.session.now (g.F.Files.state c.args.files.now).files c.args.opening.now (g.C.Source.left c.args.input.now) notes)
+    (session_of c.lines.session (g.F.Files.state c.lines.files).files c.lines.lines (g.C.Source.left c.lines.input))
+    (session_of c.next_line.new.session (g.F.Files.state c.next_line.new.files).files c.next_line.new.lines (g.C.Source.left c.next_line.new.input) [])
     c.in-IsOver.finish (g.S.Sink.written c.args.out.now) (g.S.Sink.written c.lines.out) (g.S.Sink.written c.next_line.new.out)
-    (c.lines.invariant.told source sink) (c.in-IsOver.ensures.told source sink)
+    (notes_said c.args.session.now.notes) (notes_said c.lines.session.notes) (notes_said c.next_line.new.session.notes)
+    (c.lines.invariant.told source files sink) (c.in-IsOver.ensures.told source files sink)
 
 pub returns-in-IsOver-clause-cause : goal.returns-in-IsOver-clause-cause
 returns-in-IsOver-clause-cause g c =
     causes-behind c.in-IsOver.finish (g.S.Sink.fault_count c.args.out.now) (g.S.Sink.fault_count c.lines.out) (g.S.Sink.fault_count c.next_line.new.out)
     (g.C.Source.fault_count c.args.input.now) (g.C.Source.fault_count c.lines.input) (g.C.Source.fault_count c.next_line.new.input)
     c.lines.invariant.sink c.lines.invariant.source c.in-IsOver.ensures.cause
+
+pub returns-in-IsOver-clause-keeps : goal.returns-in-IsOver-clause-keeps
+returns-in-IsOver-clause-keeps g c =
+    kept-both c.args.session.now.notes c.lines.session.notes c.next_line.new.session.notes (g.F.Files.state c.args.files.now) (g.F.Files.state c.lines.files)
+    (g.F.Files.state c.next_line.new.files) c.lines.invariant.keeps c.in-IsOver.ensures.keeps

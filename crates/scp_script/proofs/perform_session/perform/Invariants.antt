@@ -1,19 +1,27 @@
-use Rattle.std.proofs.Common.{◌≡◌, ◌≤◌, IsTrue}
+use Rattle.std.proofs.Common.{◌≡◌, ◌≤◌, ◌+◌, List, IsTrue}
+use Rattle.host_files.specs.State.{Opened}
+use Rattle.unit_files.specs.Open.{AllOpen, Around}
+use Rattle.fault_notes.specs.Notes.{notes_said}
 use Rattle.scp_script.specs.Perform.{beginning}
-use Rattle.scp_script.specs.Loop.{session_of}
-use Rattle.scp_script.proofs.WholeLemmas.{Reached}
+use Rattle.scp_script.specs.Loop.{AreKept, session_of}
+use Rattle.scp_script.proofs.WholeLemmas.{ComesSoFar}
 use Rattle.scp_script.proofs.perform_session.perform.Given as goal
 
 abbrev pub invariant-lines : goal.invariant-lines
 invariant-lines g l = record {
   enough : l.lines.budget ≤ 4294967296;
+  command : l.session.command + l.lines.budget ≤ 8589934592;
   limit : l.session.limit ≡ l.fn.session.limit;
-  told : IsTrue g.C.Source.tells → IsTrue g.S.Sink.tells → Reached
-      (beginning l.fn.session l.fn.opening (g.C.Source.left l.fn.input))
-      (session_of l.session l.lines (g.C.Source.left l.input))
-      (g.S.Sink.written l.fn.out) (g.S.Sink.written l.out);
+  keys : l.session.keys ≡ l.fn.session.keys;
+  told : IsTrue g.C.Source.tells → IsTrue g.F.Files.tells → IsTrue g.S.Sink.tells → ComesSoFar
+      (λ notes. beginning l.fn.session (g.F.Files.state l.fn.files).files l.fn.opening (g.C.Source.left l.fn.input) notes)
+      (session_of l.session (g.F.Files.state l.files).files l.lines (g.C.Source.left l.input))
+      (g.S.Sink.written l.fn.out) (g.S.Sink.written l.out) (notes_said l.fn.session.notes) (notes_said l.session.notes);
   source : g.C.Source.fault_count l.input ≡ g.C.Source.fault_count l.fn.input;
   sink : g.S.Sink.fault_count l.out ≡ g.S.Sink.fault_count l.fn.out;
+  keeps : AreKept l.fn.session.notes l.session.notes (g.F.Files.state l.fn.files) (g.F.Files.state l.files);
+  is_open : AllOpen l.session.machine.slots (g.F.Files.state l.files).opened;
+  around : (base : List Opened) → Around l.fn.session.machine.slots base (g.F.Files.state l.fn.files).opened → Around l.session.machine.slots base (g.F.Files.state l.files).opened;
 }
 
 abbrev pub decreases-lines : goal.decreases-lines

@@ -1,0 +1,236 @@
+-- A file is opened for a unit: what ATTACH comes to.
+use Rattle.std.proofs.Common.{◌≡◌, ℕ, ◌≤◌, ◌==◌, ◌&&◌, ◌||◌, not, Bool, true, false, IsTrue, List, [], ◌∷◌, ◌++◌, length, Option, Some, None, IfSome, is_none, Result, Ok, Err, OnErr}
+use Rattle.std.proofs.Common.{refl, ap, sym, ◌∙◌, subst, if◌then◌else◌, append-nil, arith}
+use Rattle.std.proofs.Math.Path.{subst₃}
+use Rattle.host_files.specs.Lists.{NamedBytes, bytes_of}
+use Rattle.host_files.specs.declared.files.FileCall.{FileCall}
+use Rattle.host_files.specs.declared.files.FileCall.TheVariants.{Opening, Length, Closing}
+use Rattle.unit_trait.specs.declared.kind.Kind.{Kind}
+use Rattle.unit_trait.specs.declared.kind.Kind.TheVariants.{Lpt, Ptr, Ptp}
+use Rattle.unit_trait.specs.declared.kind.UnitName.{UnitName}
+use Rattle.unit_trait.specs.Kinds.{code_of}
+use Rattle.unit_list.specs.Bus.{unit_at, with_register_in}
+use Rattle.unit_files.specs.declared.modes.AttachMode.{AttachMode}
+use Rattle.unit_files.specs.declared.faults.UnitFault.{UnitFault}
+use Rattle.unit_files.specs.declared.faults.AttachFault.{AttachFault}
+use Rattle.unit_files.specs.declared.faults.AttachFault.TheVariants as attach
+use Rattle.unit_files.specs.Attachments.{Attachment, Held, attachments_of, attachment_at, is_paper, longest_file}
+use Rattle.unit_files.specs.Acts.{Failure, AttachSaid, Attached, UnitHasFile, OnlyWrites, NotThere, TooLong, CallFailed, failure_at, refused_first, opened_files}
+use Rattle.unit_files.specs.Acts.{measured, opened_said, opening_said, said_unless, attach_said, files_unless_opening, files_unless, attach_files, attached_by}
+use Rattle.unit_files.specs.Answers.{failure_in, said_of_attach}
+use Rattle.fault_notes.specs.declared.note.Subject.{Subject}
+use Rattle.fault_notes.specs.declared.note.Subject.TheVariants as subject
+use Rattle.fault_notes.specs.declared.note.FaultNote.{FaultNote}
+use Rattle.fault_notes.specs.Notes.{CommandNote, Note, same_subject, numbered, failure_now, notes_said}
+use Rattle.file_commands.specs.declared.stamp.Stamp.{Stamp}
+use Rattle.file_commands.specs.Notes.{IsAttachFault, fault_of_attach, kept_of, own_of, own_note}
+use Rattle.nova_machine.specs.Machine.{MachineState, with_slots}
+use Rattle.nova_machine.specs.Seen.{erased, seen, attached_in}
+use Rattle.scp_commands.specs.declared.next.Next.TheVariants.{Go}
+use Rattle.scp_commands.specs.declared.fault.CommandFault.TheVariants.{AlreadyAttached, ReadOnly, NoFile, FileTooLong, NotBuilt, FileFailed}
+use Rattle.scp_commands.specs.Live.{Live, standing, with_machine}
+use Rattle.scp_commands.specs.Reply.{Answer, Reply, refused}
+use Rattle.scp_commands.specs.FaultText.{attach_fault}
+use Rattle.scp_commands.specs.FileEffects.{lacks_unit, mode_of, attach_answer, attach_used, first_place, position_number, attached_machine, attach_with, attach_reply}
+use Rattle.scp_commands.specs.Doing.{Does, Did, ComeBehind, IsSaid}
+use Rattle.scp_commands.proofs.SeenLemmas.{attached-erased, erased-with}
+use Rattle.scp_commands.proofs.DidLemmas.{refused-did}
+use Rattle.scp_commands.proofs.BehindLemmas.{kept-said}
+
+-- the files of paper tapes and of the printer
+paper-bytes : (kind : Kind) → is_paper kind ≡ true → longest_file kind ≤ 16777216
+unfolding longest_file
+paper-bytes Lpt is = omega arith
+paper-bytes Ptr is = omega arith
+paper-bytes Ptp is = omega arith
+paper-bytes kind is = absurd (cc)
+
+not-lacking : (b c : Bool) → (not b || c) ≡ false → b ≡ true
+not-lacking true c is = refl
+not-lacking false c is = absurd (cc)
+
+pub longest-paper : (m : MachineState) (unit : UnitName) → lacks_unit m unit ≡ false → longest_file unit.kind ≤ 16777216
+longest-paper m unit has = paper-bytes unit.kind (not-lacking (is_paper unit.kind) (is_none (unit_at (code_of unit.kind) m.units)) has)
+
+-- ---- an attaching makes no closing
+
+record IsNoFailure (f : Option Failure) : Type 0 where
+  opening : failure_at Opening f ≡ None
+  measuring : failure_at Length f ≡ None
+
+said-same : (f : Option Failure) (mode : AttachMode) (unit : UnitName) (name : List ℕ) (attached : List (Option Attachment)) (files : List NamedBytes) → IsNoFailure f
+    → attach_said f mode unit name attached files ≡ attach_said None mode unit name attached files
+unfolding attach_said
+said-same f mode unit name attached files clear = unless (refused_first (attachment_at attached unit) unit mode)
+  where
+    opened : (o : Option (List NamedBytes)) → opened_said f unit name o ≡ opened_said None unit name o
+    opened None = refl
+    opened (Some fs) = ap (λ (x : Option Failure). measured x unit (length (bytes_of fs name))) clear.measuring
+
+    unless : (o : Option AttachSaid) → said_unless o f mode unit name files ≡ said_unless o None mode unit name files
+    unless (Some refusal) = refl
+    unless None = ap (λ (x : Option Failure). opening_said x f mode unit name files) clear.opening ∙ opened (opened_files mode name files)
+
+files-same : (f : Option Failure) (mode : AttachMode) (unit : UnitName) (name : List ℕ) (attached : List (Option Attachment)) (files : List NamedBytes) → IsNoFailure f
+    → attach_files f mode unit name attached files ≡ attach_files None mode unit name attached files
+unfolding attach_files
+files-same f mode unit name attached files clear = unless (refused_first (attachment_at attached unit) unit mode)
+  where
+    unless : (o : Option AttachSaid) → files_unless o f mode name files ≡ files_unless o None mode name files
+    unless (Some refusal) = refl
+    unless None = ap (λ (x : Option Failure). files_unless_opening x mode name files) clear.opening
+
+closing-if : (b : Bool) (f : Failure) → f.call ≡ Closing → IsNoFailure (if b then Some f else None)
+closing-if false f is = record { opening = refl; measuring = refl }
+closing-if true f is =
+    subst (λ (c : FileCall). IsNoFailure (Some (record { call = c; done = f.done }))) (sym is) (record { opening = refl; measuring = refl })
+
+no-failure-behind : (live : Live) (time : ℕ) (s : Subject) (behind : List CommandNote) → ComeBehind live behind → IsNoFailure (failure_now time s behind)
+no-failure-behind live time s [] come = record { opening = refl; measuring = refl }
+no-failure-behind live time s (n ∷ behind) come = closing-if ((n.time == time) && same_subject n.subject s) n.failure come.0.call
+
+-- ---- the reply, by what was said
+
+abbrev said_reply : AttachSaid → AttachMode → UnitName → List ℕ → List NamedBytes → Live → Reply
+said_reply said mode unit name files live = record {
+  made = [];
+  answer = attach_answer unit said;
+  after = standing (attach_used said) (record live { machine = attached_machine said mode unit name live.machine; files = files });
+}
+
+reply-is : (notes : List CommandNote) (live : Live) (option : ℕ) (unit : UnitName) (name : List ℕ) (said : AttachSaid) (files : List NamedBytes) → lacks_unit live.machine unit ≡ false
+    → said ≡ attach_said (failure_now live.machine.time (subject.Unit unit) notes) (mode_of option) unit name (attached_in live.machine) live.files
+    → files ≡ attach_files (failure_now live.machine.time (subject.Unit unit) notes) (mode_of option) unit name (attached_in live.machine) live.files
+    → attach_reply notes live option unit name ≡ said_reply said (mode_of option) unit name files live
+unfolding attach_reply
+reply-is notes live option unit name said files has is left =
+    ap (λ (b : Bool). if b then refused NotBuilt live else attach_with (failure_now live.machine.time (subject.Unit unit) notes) (mode_of option) unit name live) has
+    ∙ (λ i. said_reply (sym is i) (mode_of option) unit name (sym left i) live)
+
+-- what is answered
+abbrev pub attach_result : Result ℕ AttachFault → Answer
+attach_result (Ok count) = Ok Go
+attach_result (Err fault) = Err (attach_fault fault)
+
+-- what it says, what it leaves of the files, and what of the machine
+abbrev Says : Live → AttachMode → UnitName → List ℕ → Option UnitFault → AttachSaid → Type 0
+Says live mode unit name fault said =
+    said ≡ attach_said (failure_now live.machine.time (subject.Unit unit) (own_of live.machine.time fault)) mode unit name (attached_in live.machine) live.files
+
+abbrev Leaves : Live → AttachMode → UnitName → List ℕ → Option UnitFault → List NamedBytes → Type 0
+Leaves live mode unit name fault files =
+    files ≡ attach_files (failure_now live.machine.time (subject.Unit unit) (own_of live.machine.time fault)) mode unit name (attached_in live.machine) live.files
+
+abbrev pub Becomes : Live → Live → AttachMode → UnitName → List ℕ → AttachSaid → Type 0
+Becomes live new mode unit name said = new ≡ record live { machine = attached_machine said mode unit name live.machine; files = new.files }
+
+pub attach-did : (number : ℕ) (live new : Live) (option : ℕ) (unit : UnitName) (name : List ℕ) (r : Result ℕ AttachFault) (tells : Bool) (text : List ℕ) (notes notes' : List Note)
+    → lacks_unit live.machine unit ≡ false → IfSome (said_of_attach r) (λ said. Says live (mode_of option) unit name (fault_of_attach r) said)
+    → IfSome (said_of_attach r) (λ said. Leaves live (mode_of option) unit name (fault_of_attach r) new.files)
+    → IfSome (said_of_attach r) (λ said. Becomes live new (mode_of option) unit name said)
+    → IfSome (fault_of_attach r) (IsAttachFault unit) → notes' ≡ notes ++ numbered number (own_of live.machine.time (fault_of_attach r))
+    → Did (λ (own : List CommandNote). attach_reply own live option unit name) number (attach_result r) new tells text text notes notes'
+attach-did number live new option unit name r tells text notes notes' has said left after of_unit noted = record {
+  own = own_of live.machine.time (fault_of_attach r);
+  kept = noted;
+  does = λ behind come. by-answer r said left after of_unit behind (no-failure-behind new live.machine.time (subject.Unit unit) behind come);
+}
+  where
+    reply-behind : (said : AttachSaid) (behind : List CommandNote) → Says live (mode_of option) unit name None said → Leaves live (mode_of option) unit name None new.files
+        → IsNoFailure (failure_now live.machine.time (subject.Unit unit) behind)
+        → attach_reply behind live option unit name ≡ said_reply said (mode_of option) unit name new.files live
+    reply-behind said behind says leaves clear =
+        let f = failure_now live.machine.time (subject.Unit unit) behind in
+        let attached = attached_in live.machine in
+        reply-is behind live option unit name said new.files has
+        (says ∙ sym (said-same f (mode_of option) unit name attached live.files clear))
+        (leaves ∙ sym (files-same f (mode_of option) unit name attached live.files clear))
+
+    said-at : (said : AttachSaid) (used : ℕ) → used ≡ attach_used said → Becomes live new (mode_of option) unit name said
+        → IsSaid (said_reply said (mode_of option) unit name new.files live) (standing used new) tells text text
+    said-at said used uses after = record { after_is = λ i. standing (uses i) (after i); written = λ _. sym (append-nil text) }
+
+    by-answer : (r : Result ℕ AttachFault) → IfSome (said_of_attach r) (λ said. Says live (mode_of option) unit name (fault_of_attach r) said)
+        → IfSome (said_of_attach r) (λ said. Leaves live (mode_of option) unit name (fault_of_attach r) new.files)
+        → IfSome (said_of_attach r) (λ said. Becomes live new (mode_of option) unit name said)
+        → IfSome (fault_of_attach r) (IsAttachFault unit) → (behind : List CommandNote) → IsNoFailure (failure_now live.machine.time (subject.Unit unit) behind)
+        → Does (attach_reply (own_of live.machine.time (fault_of_attach r) ++ behind) live option unit name) (attach_result r)
+        (standing (length (own_of live.machine.time (fault_of_attach r))) new) tells text text
+    by-answer (Ok count) said left after of_unit behind clear =
+        subst (λ (x : Reply). Does x (Ok Go) (standing 0 new) tells text text) (sym (reply-behind (Attached count) behind said left clear))
+        (refl, said-at (Attached count) 0 refl after)
+    by-answer (Err attach.AlreadyAttached) said left after of_unit behind clear =
+        subst (λ (x : Reply). Does x (Err AlreadyAttached) (standing 0 new) tells text text) (sym (reply-behind UnitHasFile behind said left clear))
+        (refl, said-at UnitHasFile 0 refl after)
+    by-answer (Err attach.ReadOnly) said left after of_unit behind clear =
+        subst (λ (x : Reply). Does x (Err ReadOnly) (standing 0 new) tells text text) (sym (reply-behind OnlyWrites behind said left clear))
+        (refl, said-at OnlyWrites 0 refl after)
+    by-answer (Err attach.NoFile) said left after of_unit behind clear =
+        subst (λ (x : Reply). Does x (Err NoFile) (standing 0 new) tells text text) (sym (reply-behind NotThere behind said left clear))
+        (refl, said-at NotThere 0 refl after)
+    by-answer (Err attach.TooLong) said left after of_unit behind clear =
+        subst (λ (x : Reply). Does x (Err FileTooLong) (standing 0 new) tells text text) (sym (reply-behind TooLong behind said left clear))
+        (refl, said-at TooLong 0 refl after)
+    by-answer (Err (attach.Failed f)) said left after of_unit behind clear =
+        subst (λ (x : Reply). Does x (Err (FileFailed (subject.Unit f.unit))) (standing 1 new) tells text text)
+        (sym (reply-is (own_note live.machine.time f ∷ behind) live option unit name (CallFailed (failure_in f)) new.files has said left))
+        (ap (λ (u : UnitName). Err (FileFailed (subject.Unit u))) of_unit.unit_is, said-at (CallFailed (failure_in f)) 1 refl after)
+    by-answer (Err attach.OutOfMemory) said left after of_unit behind clear = tt
+
+-- what its calls say
+pub record Calls (stamp : Stamp) (mode : AttachMode) (held : List (Option Attachment)) (live new : Live) (unit : UnitName) (name : List ℕ) (r : Result ℕ AttachFault) (before after : List FaultNote) : Type 0 where
+  pub said : IfSome (said_of_attach r) (λ said. said ≡ attach_said (failure_now stamp.time (subject.Unit unit) (own_of stamp.time (fault_of_attach r))) mode unit name held live.files)
+  pub left : IfSome (said_of_attach r) (λ said. new.files ≡ attach_files (failure_now stamp.time (subject.Unit unit) (own_of stamp.time (fault_of_attach r))) mode unit name held live.files)
+  pub becomes : IfSome (said_of_attach r) (λ said. Becomes live new mode unit name said)
+  pub noted : after ≡ before ++ kept_of stamp (fault_of_attach r)
+
+pub attach-done : (number : ℕ) (stamp : Stamp) (mode : AttachMode) (live new : Live) (held : List (Option Attachment)) (option : ℕ) (unit : UnitName) (name : List ℕ) (r : Result ℕ AttachFault)
+    (answer : Answer) (tells : Bool) (text : List ℕ) (before after : List FaultNote) → stamp ≡ record { command = number; time = live.machine.time }
+    → mode ≡ mode_of option → held ≡ attached_in live.machine → answer ≡ attach_result r → lacks_unit live.machine unit ≡ false
+    → IfSome (fault_of_attach r) (IsAttachFault unit) → Calls stamp mode held live new unit name r before after
+    → Did (λ (own : List CommandNote). attach_reply own live option unit name) number answer new tells text text (notes_said before) (notes_said after)
+attach-done number stamp mode live new held option unit name r answer tells text before after stamped moded are answered has of_unit calls =
+    let own : Stamp = record { command = number; time = live.machine.time } in
+    let here : Calls own (mode_of option) (attached_in live.machine) live new unit name r before after =
+    subst₃ (λ (s : Stamp) (m : AttachMode) (l : List (Option Attachment)). Calls s m l live new unit name r before after) stamped moded are calls in
+    subst (λ (a : Answer). Did (λ (own : List CommandNote). attach_reply own live option unit name) number a new tells text text (notes_said before) (notes_said after)) (sym answered)
+    (attach-did number live new option unit name r tells text (notes_said before) (notes_said after) has here.said here.left here.becomes of_unit
+    (kept-said own (fault_of_attach r) before after here.noted))
+
+-- ---- the machine that is left
+
+pub becomes-attached : (keys : List (ℕ × ℕ)) (files files' : List NamedBytes) (m m' : MachineState) (slots held : List (Option Held)) (mode : AttachMode) (unit : UnitName) (name : List ℕ) (count place : ℕ)
+    → held ≡ m.slots → attachments_of slots ≡ attached_by (Attached count) mode unit name (attachments_of held) → place ≡ first_place unit.kind count
+    → m' ≡ record (with_slots m slots) { units = with_register_in unit.kind position_number place m.units }
+    → Becomes (seen keys files m) (seen keys files' m') mode unit name (Attached count)
+becomes-attached keys files files' m m' slots held mode unit name count place was are begins is =
+    let attached = attached_by (Attached count) mode unit name (attached_in (erased m)) in
+    let with_units = λ (x : MachineState) (p : ℕ). seen keys files' (record x { units = with_register_in unit.kind position_number p m.units }) in
+    ap (λ (x : MachineState). seen keys files' x) is
+    ∙ ap (λ (p : ℕ). seen keys files' (record (with_slots m slots) { units = with_register_in unit.kind position_number p m.units })) begins
+    ∙ ap (λ (x : MachineState). record { machine = record x { units = with_register_in unit.kind position_number (first_place unit.kind count) m.units }; keys = keys; files = files' })
+    (erased-with m slots attached
+    (are ∙ ap (λ (l : List (Option Attachment)). attached_by (Attached count) mode unit name l) (ap attachments_of was ∙ sym (attached-erased m))))
+
+pub becomes-refused : (keys : List (ℕ × ℕ)) (files files' : List NamedBytes) (m : MachineState) (slots held : List (Option Held)) (mode : AttachMode) (unit : UnitName) (name : List ℕ) (fault : AttachFault)
+    → held ≡ m.slots → slots ≡ held → IfSome (said_of_attach (Err fault)) (λ said. Becomes (seen keys files m) (seen keys files' (with_slots m slots)) mode unit name said)
+becomes-refused keys files files' m slots held mode unit name fault was stays = by-fault fault
+  where
+    same : seen keys files' (with_slots m slots) ≡ seen keys files' m
+    same = ap (λ (l : List (Option Held)). seen keys files' (with_slots m l)) (stays ∙ was)
+
+    by-fault : (fault : AttachFault) → IfSome (said_of_attach (Err fault)) (λ said. Becomes (seen keys files m) (seen keys files' (with_slots m slots)) mode unit name said)
+    by-fault attach.AlreadyAttached = same
+    by-fault attach.ReadOnly = same
+    by-fault attach.NoFile = same
+    by-fault attach.TooLong = same
+    by-fault (attach.Failed f) = same
+    by-fault attach.OutOfMemory = tt
+
+-- there is no such unit
+pub attach-not-built : (number : ℕ) (live : Live) (option : ℕ) (unit : UnitName) (name : List ℕ) (tells : Bool) (text : List ℕ) (notes : List Note) → lacks_unit live.machine unit ≡ true
+    → Did (λ (own : List CommandNote). attach_reply own live option unit name) number (Err NotBuilt) live tells text text notes notes
+unfolding attach_reply
+attach-not-built number live option unit name tells text notes lacks =
+    refused-did (λ (own : List CommandNote). attach_reply own live option unit name) NotBuilt number live tells text notes tt
+    (λ own. ap (λ (b : Bool). if b then refused NotBuilt live else attach_with (failure_now live.machine.time (subject.Unit unit) own) (mode_of option) unit name live) lacks)

@@ -1,0 +1,77 @@
+-- SHOW speaks of no file's number.
+use Rattle.std.proofs.Common.{◌≡◌, ◌∙◌, ℕ, Bool, true, false, IsTrue, List, [], ◌∷◌, ◌++◌, codes, map, option_map, append_assoc, Option, Some, None, Result, Err, refl, ap, sym, subst, if◌then◌else◌}
+use Rattle.std.proofs.Math.ListN.{get_or-map}
+use Rattle.host_files.specs.Lists.{NamedBytes}
+use Rattle.host_files.specs.Streams.{Puts}
+use Rattle.unit_trait.specs.declared.kind.UnitName.{UnitName}
+use Rattle.unit_files.specs.Attachments.{Attachment, Held, file_place, held_at, read_only_of, read_only_at, attachments_of, attachment_at}
+use Rattle.nova_machine.specs.Machine.{MachineState}
+use Rattle.nova_machine.specs.Seen.{seen, unnumbered}
+use Rattle.scp_parser.specs.declared.command.Shown.TheVariants.{Time, Queue, Unit as AUnit}
+use Rattle.scp_commands.specs.declared.next.Next.TheVariants.{Go}
+use Rattle.scp_commands.specs.declared.fault.CommandFault.TheVariants.{NotBuilt}
+use Rattle.scp_commands.specs.Live.{standing}
+use Rattle.scp_commands.specs.Reply.{Answer, says, refused}
+use Rattle.scp_commands.specs.FileEffects.{lacks_unit, attachment_text, unit_line, unit_text}
+use Rattle.scp_commands.specs.ShowEffects.{time_text, queue_text, show_reply}
+use Rattle.scp_commands.specs.Doing.{Does, told_or_console}
+use Rattle.scp_commands.proofs.ReplyLemmas.{says-does, refused-said}
+
+-- attachments have no numbers
+pub unnumbered-attachments : (slots : List (Option Held)) → attachments_of (map unnumbered slots) ≡ attachments_of slots
+unnumbered-attachments [] = refl
+unnumbered-attachments (None ∷ slots) = ap (λ (l : List (Option Attachment)). None ∷ l) (unnumbered-attachments slots)
+unnumbered-attachments (Some h ∷ slots) = ap (λ (l : List (Option Attachment)). Some h.attachment ∷ l) (unnumbered-attachments slots)
+
+-- a unit's attachment, by the name of its file and whether it is only read
+pub attachment-is : (slots : List (Option Held)) (unit : UnitName) (name : List ℕ) (read_only : Bool) → Some name ≡ option_map (λ (h : Held). h.attachment.name) (held_at slots unit)
+    → read_only ≡ read_only_at slots unit → attachment_at (attachments_of slots) unit ≡ Some (record { name = name; read_only = read_only })
+attachment-is slots unit name read_only named reads =
+    get_or-map (λ (slot : Option Held). option_map (λ (h : Held). h.attachment) slot) slots (file_place unit) None ∙ by-slot (held_at slots unit) named reads
+  where
+    by-slot : (slot : Option Held) → Some name ≡ option_map (λ (h : Held). h.attachment.name) slot → read_only ≡ read_only_of slot
+        → option_map (λ (h : Held). h.attachment) slot ≡ Some (record { name = name; read_only = read_only })
+    by-slot None named reads = absurd (cc)
+    by-slot (Some h) named reads =
+        let same : name ≡ h.attachment.name = cc in
+        ap (λ (n : List ℕ). Some (record { name = n; read_only = h.attachment.read_only })) (sym same) ∙ ap (λ (b : Bool). Some (record { name = name; read_only = b })) (sym reads)
+
+-- the line of a file that is only read, as it is put together
+pub read_only-line : (name file : List ℕ) → name ++ (codes ", attached to " ++ (file ++ (codes ", read only" ++ 10 ∷ [])))
+    ≡ name ++ attachment_text (Some (record { name = file; read_only = true })) ++ 10 ∷ []
+read_only-line name file =
+    let words = codes ", attached to " in
+    let end = codes ", read only" in
+    ap (λ (t : List ℕ). name ++ (words ++ t)) (sym (append_assoc file end (10 ∷ []))) ∙ ap (λ (t : List ℕ). name ++ t) (sym (append_assoc words (file ++ end) (10 ∷ [])))
+    ∙ sym (append_assoc name (words ++ (file ++ end)) (10 ∷ []))
+
+pub time-does : {T E : Type 0} (m : MachineState) (keys : List (ℕ × ℕ)) (files : List NamedBytes) (printed : Result T E) (answer : Answer) (tells : Bool) (before after : List ℕ)
+    → answer ≡ told_or_console printed Go → (IsTrue tells → Puts before (time_text m) printed after)
+    → Does (show_reply (seen keys files m) Time) answer (standing 0 (seen keys files m)) tells before after
+unfolding show_reply
+time-does m keys files printed answer tells before after is puts = says-does (time_text m) (seen keys files m) printed answer tells before after is puts
+
+pub queue-does : {T E : Type 0} (m : MachineState) (keys : List (ℕ × ℕ)) (files : List NamedBytes) (printed : Result T E) (answer : Answer) (tells : Bool) (before after : List ℕ)
+    → answer ≡ told_or_console printed Go → (IsTrue tells → Puts before (queue_text m.events) printed after)
+    → Does (show_reply (seen keys files m) Queue) answer (standing 0 (seen keys files m)) tells before after
+unfolding show_reply
+queue-does m keys files printed answer tells before after is puts = says-does (queue_text m.events) (seen keys files m) printed answer tells before after is puts
+
+-- a unit that can have no file here
+pub unit-refused : (m : MachineState) (keys : List (ℕ × ℕ)) (files : List NamedBytes) (unit : UnitName) (tells : Bool) (text : List ℕ) → lacks_unit m unit ≡ true
+    → Does (show_reply (seen keys files m) (AUnit unit)) (Err NotBuilt) (standing 0 (seen keys files m)) tells text text
+unfolding show_reply
+unit-refused m keys files unit tells text lacks =
+    let live = seen keys files m in
+    subst (λ (b : Bool). Does (if b then refused NotBuilt live else says (unit_text live.machine unit) live) (Err NotBuilt) (standing 0 live) tells text text)
+    (sym lacks) (refl, refused-said NotBuilt live tells text)
+
+pub unit-does : {T E : Type 0} (m : MachineState) (keys : List (ℕ × ℕ)) (files : List NamedBytes) (unit : UnitName) (printed : Result T E) (answer : Answer) (tells : Bool) (before after : List ℕ)
+    → lacks_unit m unit ≡ false → answer ≡ told_or_console printed Go → (IsTrue tells → Puts before (unit_line unit (attachment_at (attachments_of m.slots) unit)) printed after)
+    → Does (show_reply (seen keys files m) (AUnit unit)) answer (standing 0 (seen keys files m)) tells before after
+unfolding show_reply
+unit-does m keys files unit printed answer tells before after has is puts =
+    let live = seen keys files m in
+    subst (λ (b : Bool). Does (if b then refused NotBuilt live else says (unit_text live.machine unit) live) answer (standing 0 live) tells before after) (sym has)
+    (subst (λ (l : List (Option Attachment)). Does (says (unit_line unit (attachment_at l unit)) live) answer (standing 0 live) tells before after) (sym (unnumbered-attachments m.slots))
+    (says-does (unit_line unit (attachment_at (attachments_of m.slots) unit)) live printed answer tells before after is puts))

@@ -1,0 +1,78 @@
+-- What stands before a run, and RESET.
+use Rattle.std.proofs.Common.{◌≡◌, ◌∙◌, ℕ, ◌&&◌, ◌^◌, nat_le, Bool, true, false, List, Option, Some, None, Ok, refl, ap, sym, subst, if◌then◌else◌}
+use Rattle.host_files.specs.Lists.{NamedBytes}
+use Rattle.fault_notes.specs.Notes.{CommandNote, Note, notes_said}
+use Rattle.nova_machine.specs.Machine.{MachineState, reset_machine, reset_devices}
+use Rattle.nova_machine.specs.Seen.{erased, seen}
+use Rattle.scp_commands.specs.declared.next.Next.TheVariants.{Go}
+use Rattle.scp_commands.specs.declared.fault.CommandFault.TheVariants.{OutOfRange}
+use Rattle.scp_commands.specs.Live.{Live, standing, CommandState, live_in}
+use Rattle.scp_commands.specs.Reply.{Answer, goes, refused}
+use Rattle.scp_commands.specs.RunEffects.{running, address_fits, starting_at, reset_where, started, run_from, stepped, step_of, reset_reply}
+use Rattle.scp_commands.specs.Doing.{Does, Did}
+use Rattle.scp_commands.proofs.ReplyLemmas.{goes-said, did-same}
+
+erased-reset_machine : (m : MachineState) → reset_machine (erased m) ≡ erased (reset_machine m)
+unfolding reset_machine reset_devices
+erased-reset_machine m = refl
+
+erased-reset_where : (resets : Bool) (m : MachineState) → reset_where resets (erased m) ≡ erased (reset_where resets m)
+erased-reset_where true m = erased-reset_machine m
+erased-reset_where false m = refl
+
+erased-starting : (address : Option ℕ) (m : MachineState) → starting_at address (erased m) ≡ erased (starting_at address m)
+erased-starting None m = refl
+erased-starting (Some a) m = refl
+
+reset-slots : (resets : Bool) (m : MachineState) → (reset_where resets m).slots ≡ m.slots
+unfolding reset_machine reset_devices
+reset-slots true m = refl
+reset-slots false m = refl
+
+starting-slots : (address : Option ℕ) (m : MachineState) → (starting_at address m).slots ≡ m.slots
+starting-slots None m = refl
+starting-slots (Some a) m = refl
+
+-- what is attached stands where a machine is readied for a run
+pub started-slots : (resets : Bool) (address : Option ℕ) (m : MachineState) → (starting_at address (reset_where resets m)).slots ≡ m.slots
+started-slots resets address m = starting-slots address (reset_where resets m) ∙ reset-slots resets m
+
+-- RESET prints nothing
+pub reset-does : (keys : List (ℕ × ℕ)) (files : List NamedBytes) (m new : MachineState) (tells : Bool) (text : List ℕ) → new ≡ reset_machine m
+    → Does (reset_reply (seen keys files m)) (Ok Go) (standing 0 (seen keys files new)) tells text text
+unfolding reset_reply
+reset-does keys files m new tells text is =
+    subst (λ (x : MachineState). Does (goes (record { machine = x; keys = keys; files = files })) (Ok Go) (standing 0 (seen keys files new)) tells text text)
+    (ap erased is ∙ sym (erased-reset_machine m)) (refl, goes-said (seen keys files new) tells text)
+
+-- ---- an address, and a count, that is out of range
+
+pub run_from-refused : (limit : ℕ) (resets : Bool) (address : Option ℕ) (live : Live) → address_fits address ≡ false → (given : List CommandNote)
+    → run_from limit given resets address live ≡ refused OutOfRange live
+unfolding run_from
+run_from-refused limit resets address live fits given = ap (λ (b : Bool). if b then running limit given (started resets address live) else refused OutOfRange live) fits
+
+pub step-refused : (limit count : ℕ) (live : Live) → (nat_le 1 count && nat_le count (2 ^ 48)) ≡ false → (given : List CommandNote) → step_of limit given count live ≡ refused OutOfRange live
+unfolding step_of
+step-refused limit count live fits given = ap (λ (b : Bool). if b then stepped limit given count live else refused OutOfRange live) fits
+
+-- ---- a run from an address
+
+run_from-runs : (limit : ℕ) (resets : Bool) (address : Option ℕ) (keys : List (ℕ × ℕ)) (files : List NamedBytes) (m : MachineState) → address_fits address ≡ true → (given : List CommandNote)
+    → run_from limit given resets address (seen keys files m) ≡ running limit given (seen keys files (starting_at address (reset_where resets m)))
+unfolding run_from
+run_from-runs limit resets address keys files m fits given =
+    ap (λ (b : Bool). if b then running limit given (started resets address (seen keys files m)) else refused OutOfRange (seen keys files m)) fits
+    ∙ ap (λ (x : MachineState). running limit given (record { machine = starting_at address x; keys = keys; files = files })) (erased-reset_where resets m)
+    ∙ ap (λ (x : MachineState). running limit given (record { machine = x; keys = keys; files = files })) (erased-starting address (reset_where resets m))
+
+-- a run of the machine that was readied
+pub started-did : (old at : CommandState) (resets : Bool) (address : Option ℕ) (files : List NamedBytes) (answer : Answer) (new : Live) (tells : Bool) (before after : List ℕ) (notes' : List Note)
+    → at ≡ record old { machine = starting_at address (reset_where resets old.machine) } → address_fits address ≡ true
+    → Did (λ given. running at.limit given (live_in at files)) at.command answer new tells before after (notes_said at.notes) notes'
+    → Did (λ given. run_from old.limit given resets address (live_in old files)) old.command answer new tells before after (notes_said old.notes) notes'
+started-did old at resets address files answer new tells before after notes' is fits did =
+    let readied = starting_at address (reset_where resets old.machine) in
+    did-same (λ given. running old.limit given (seen old.keys files readied)) (λ given. run_from old.limit given resets address (live_in old files)) old.command answer new tells before after
+    (notes_said old.notes) notes' (run_from-runs old.limit resets address old.keys files old.machine fits)
+    (subst (λ (s : CommandState). Did (λ given. running s.limit given (live_in s files)) s.command answer new tells before after (notes_said s.notes) notes') is did)

@@ -1,0 +1,19 @@
+use Rattle.std.proofs.Common.{ap}
+use Rattle.fault_notes.specs.Notes.{notes_said}
+use Rattle.scp_commands.specs.Live.{CommandState, live_in}
+use Rattle.scp_commands.specs.Effect.{effect}
+use Rattle.scp_commands.proofs.DidLemmas.{did-want}
+use Rattle.scp_commands.proofs.ObeyLemmas.{may-want}
+use Rattle.scp_commands.proofs.execute_command.execute.Goals as goal
+
+pub returns-in-Err-clause-told : goal.returns-in-Err-clause-told
+returns-in-Err-clause-told g c = λ told.
+    let s = c.args.session.now in
+    let new = c.take_room.new.self in
+    let files = (g.F.Files.state c.args.files.now).files in
+    let text = g.S.Sink.written c.args.out.now in
+    did-want (λ own. effect s.limit own (live_in s files) c.args.command.now) s.command (live_in new files) g.S.Sink.tells text text (notes_said s.notes) (notes_said new.notes)
+    (ap (λ (x : CommandState). notes_said x.notes) c.in-Err.ensures.rest)
+
+pub returns-in-Err-clause-want : goal.returns-in-Err-clause-want
+returns-in-Err-clause-want g c = λ is. may-want c.args.session.now.spare c.args.command.now c.in-Err.ensures.refused

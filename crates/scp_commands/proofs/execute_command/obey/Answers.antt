@@ -1,0 +1,197 @@
+use Rattle.std.proofs.Common.{Ok, Err, ◌≡◌, refl, ap, sym, ◌∙◌, subst, arith}
+use Rattle.host_files.specs.State.{Opened}
+use Rattle.unit_files.specs.Open.{AllOpen, Around}
+use Rattle.unit_files.specs.Attachments.{Held}
+use Rattle.fault_notes.specs.Notes.{notes_said}
+use Rattle.scp_parser.specs.Command.{Request, Nothing, Examine, Deposit, Reset, Attach, Detach, Show, Exit, request_of, file_name_of}
+use Rattle.scp_commands.specs.declared.next.Next.TheVariants.{Go}
+use Rattle.scp_commands.specs.declared.fault.CommandFault.TheVariants.{NotBuilt}
+use Rattle.scp_commands.specs.Live.{CommandState, live_in}
+use Rattle.scp_commands.specs.Reply.{goes, refused}
+use Rattle.scp_commands.specs.RunEffects.{reset_reply}
+use Rattle.scp_commands.specs.ListEffects.{examine_reply, deposit_reply}
+use Rattle.scp_commands.specs.FileEffects.{attach_reply, detach_one_or_all}
+use Rattle.scp_commands.specs.ShowEffects.{show_reply}
+use Rattle.scp_commands.specs.ExitEffects.{exit_reply}
+use Rattle.scp_commands.specs.Effect.{effect}
+use Rattle.scp_commands.specs.Doing.{IsTold}
+use Rattle.scp_commands.proofs.ObeyLemmas.{plain-did, noted-did, goes-does, keeps-none, does-of-no-file, examine-no-file, deposit-no-file, show-no-file, reset-no-file, reset-slots, IsOther, other-is}
+use Rattle.scp_commands.proofs.DidLemmas.{refused-does}
+use Rattle.scp_commands.proofs.execute_command.obey.Goals as goal
+
+pub returns-in-Nothing-clause-told : goal.returns-in-Nothing-clause-told
+unfolding effect
+returns-in-Nothing-clause-told g c = λ told.
+    let s = c.args.session.now in
+    let live = live_in s (g.F.Files.state c.args.files.now).files in
+    let text = g.S.Sink.written c.args.out.now in
+    plain-did s.limit s.command live live c.args.command.now Nothing (goes live) (Ok Go) g.S.Sink.tells text text (notes_said s.notes) (notes_said s.notes)
+    (sym c.command.view_is ∙ ap (request_of _) c.in-Nothing.is) (λ own. refl) refl (goes-does live g.S.Sink.tells text)
+
+pub returns-in-Examine-clause-told : goal.returns-in-Examine-clause-told
+unfolding effect
+returns-in-Examine-clause-told g c = λ told.
+    let s = c.args.session.now in
+    let files = (g.F.Files.state c.args.files.now).files in
+    let live = live_in s files in
+    plain-did s.limit s.command live live c.args.command.now (Examine c.in-Examine.listing) (examine_reply live c.in-Examine.listing) c.examine_list.result g.S.Sink.tells
+    (g.S.Sink.written c.args.out.now) (g.S.Sink.written c.examine_list.new.out) (notes_said s.notes) (notes_said s.notes)
+    (sym c.command.view_is ∙ ap (request_of _) c.in-Examine.is) (λ own. refl) refl (c.examine_list.ensures.told files)
+
+pub returns-in-Examine-clause-keeps : goal.returns-in-Examine-clause-keeps
+returns-in-Examine-clause-keeps g c =
+    let s = c.args.session.now in
+    let state = g.F.Files.state c.args.files.now in
+    let live = live_in s state.files in
+    keeps-none s.command s.machine.time g.F.Files.tells c.examine_list.result s.notes s.notes state refl
+    (does-of-no-file (examine_reply live c.in-Examine.listing) c.examine_list.result _ _ _ _ (c.examine_list.ensures.told state.files) (examine-no-file live c.in-Examine.listing))
+
+pub returns-in-Deposit-clause-told : goal.returns-in-Deposit-clause-told
+unfolding effect
+returns-in-Deposit-clause-told g c = λ told.
+    let s = c.args.session.now in
+    let new = c.deposit_list.new.session in
+    let files = (g.F.Files.state c.args.files.now).files in
+    let live = live_in s files in
+    let text = g.S.Sink.written c.args.out.now in
+    let what = c.in-Deposit in
+    plain-did s.limit s.command live (live_in new files) c.args.command.now (Deposit what.listing what.value) (deposit_reply live what.listing what.value) c.deposit_list.result g.S.Sink.tells
+    text text (notes_said s.notes) (notes_said new.notes)
+    (sym c.command.view_is ∙ ap (request_of _) what.is) (λ own. refl) (ap (λ (x : CommandState). notes_said x.notes) c.deposit_list.ensures.rest) (c.deposit_list.ensures.told files g.S.Sink.tells text)
+
+pub returns-in-Deposit-clause-keeps : goal.returns-in-Deposit-clause-keeps
+returns-in-Deposit-clause-keeps g c =
+    let s = c.args.session.now in
+    let new = c.deposit_list.new.session in
+    let state = g.F.Files.state c.args.files.now in
+    let live = live_in s state.files in
+    let what = c.in-Deposit in
+    let text = g.S.Sink.written c.args.out.now in
+    keeps-none s.command new.machine.time g.F.Files.tells c.deposit_list.result s.notes new.notes state (ap (λ (x : CommandState). x.notes) c.deposit_list.ensures.rest)
+    (does-of-no-file (deposit_reply live what.listing what.value) c.deposit_list.result _ _ _ _ (c.deposit_list.ensures.told state.files g.S.Sink.tells text) (deposit-no-file live what.listing what.value))
+
+pub returns-in-Reset-clause-told : goal.returns-in-Reset-clause-told
+unfolding effect
+returns-in-Reset-clause-told g c = λ told.
+    let s = c.args.session.now in
+    let new = c.reset.new.session in
+    let files = (g.F.Files.state c.args.files.now).files in
+    let live = live_in s files in
+    let text = g.S.Sink.written c.args.out.now in
+    plain-did s.limit s.command live (live_in new files) c.args.command.now Reset (reset_reply live) c.reset.result g.S.Sink.tells
+    text text (notes_said s.notes) (notes_said new.notes)
+    (sym c.command.view_is ∙ ap (request_of _) c.in-Reset.is) (λ own. refl) (ap (λ (x : CommandState). notes_said x.notes) c.reset.ensures.rest) (c.reset.ensures.told files g.S.Sink.tells text)
+
+pub returns-in-Reset-clause-keeps : goal.returns-in-Reset-clause-keeps
+returns-in-Reset-clause-keeps g c =
+    let s = c.args.session.now in
+    let new = c.reset.new.session in
+    let state = g.F.Files.state c.args.files.now in
+    let live = live_in s state.files in
+    let text = g.S.Sink.written c.args.out.now in
+    keeps-none s.command new.machine.time g.F.Files.tells c.reset.result s.notes new.notes state (ap (λ (x : CommandState). x.notes) c.reset.ensures.rest)
+    (does-of-no-file (reset_reply live) c.reset.result _ _ _ _ (c.reset.ensures.told state.files g.S.Sink.tells text) (reset-no-file live))
+
+pub returns-in-Reset-clause-open : goal.returns-in-Reset-clause-open
+returns-in-Reset-clause-open g c =
+    subst (λ l. AllOpen l (g.F.Files.state c.args.files.now).opened) (sym (ap (λ (x : CommandState). x.machine.slots) c.reset.ensures.rest ∙ reset-slots c.args.session.now.machine)) c.requires.«open»
+
+pub returns-in-Reset-clause-around : goal.returns-in-Reset-clause-around
+returns-in-Reset-clause-around g c = λ base around.
+    subst (λ l. Around l base (g.F.Files.state c.args.files.now).opened) (sym (ap (λ (x : CommandState). x.machine.slots) c.reset.ensures.rest ∙ reset-slots c.args.session.now.machine)) around
+
+pub returns-in-Attach-clause-told : goal.returns-in-Attach-clause-told
+unfolding effect
+returns-in-Attach-clause-told g c = λ told.
+    let s = c.args.session.now in
+    let new = c.attach.new.session in
+    let live = live_in s (g.F.Files.state c.args.files.now).files in
+    let text = g.S.Sink.written c.args.out.now in
+    let what = c.in-Attach in
+    let name = c.file_name.result.now in
+    let read = sym c.command.view_is ∙ ap (request_of _) what.is in
+    let is : c.args.command.now ≡ Attach what.option what.unit name = read ∙ ap (Attach what.option what.unit) (sym (c.file_name.ensures.name ∙ ap file_name_of read)) in
+    noted-did s.limit s.command live (live_in new (g.F.Files.state c.attach.new.files).files) c.args.command.now (Attach what.option what.unit name)
+    (λ own. attach_reply own live what.option what.unit name) c.attach.result g.S.Sink.tells text text (notes_said s.notes) (notes_said new.notes) is (λ own. refl)
+    (c.attach.ensures.told g.S.Sink.tells text (subst (λ (r : Request). IsTold g.F.Files.tells s.machine.slots r) is told))
+
+pub returns-in-Attach-clause-undone : goal.returns-in-Attach-clause-undone
+returns-in-Attach-clause-undone g c = λ is. c.attach.ensures.undone (g.S.Sink.written c.args.out.now) is
+
+pub returns-in-Detach-clause-told : goal.returns-in-Detach-clause-told
+unfolding effect
+returns-in-Detach-clause-told g c = λ told.
+    let s = c.args.session.now in
+    let new = c.detach_one_or_every.new.session in
+    let live = live_in s (g.F.Files.state c.args.files.now).files in
+    let text = g.S.Sink.written c.args.out.now in
+    noted-did s.limit s.command live (live_in new (g.F.Files.state c.detach_one_or_every.new.files).files) c.args.command.now (Detach c.in-Detach.unit)
+    (λ own. detach_one_or_all own live c.in-Detach.unit) c.detach_one_or_every.result g.S.Sink.tells text text (notes_said s.notes) (notes_said new.notes)
+    (sym c.command.view_is ∙ ap (request_of _) c.in-Detach.is) (λ own. refl) (c.detach_one_or_every.ensures.told g.S.Sink.tells text)
+
+pub returns-in-Show-clause-told : goal.returns-in-Show-clause-told
+unfolding effect
+returns-in-Show-clause-told g c = λ told.
+    let s = c.args.session.now in
+    let files = (g.F.Files.state c.args.files.now).files in
+    let live = live_in s files in
+    plain-did s.limit s.command live live c.args.command.now (Show c.in-Show.subject) (show_reply live c.in-Show.subject) c.show.result g.S.Sink.tells
+    (g.S.Sink.written c.args.out.now) (g.S.Sink.written c.show.new.out) (notes_said s.notes) (notes_said s.notes)
+    (sym c.command.view_is ∙ ap (request_of _) c.in-Show.is) (λ own. refl) refl (c.show.ensures.told files)
+
+pub returns-in-Show-clause-keeps : goal.returns-in-Show-clause-keeps
+returns-in-Show-clause-keeps g c =
+    let s = c.args.session.now in
+    let state = g.F.Files.state c.args.files.now in
+    let live = live_in s state.files in
+    keeps-none s.command s.machine.time g.F.Files.tells c.show.result s.notes s.notes state refl
+    (does-of-no-file (show_reply live c.in-Show.subject) c.show.result _ _ _ _ (c.show.ensures.told state.files) (show-no-file live c.in-Show.subject))
+
+pub returns-in-Exit-clause-told : goal.returns-in-Exit-clause-told
+unfolding effect
+returns-in-Exit-clause-told g c = λ told.
+    let s = c.args.session.now in
+    let new = c.exit.new.session in
+    let live = live_in s (g.F.Files.state c.args.files.now).files in
+    let text = g.S.Sink.written c.args.out.now in
+    noted-did s.limit s.command live (live_in new (g.F.Files.state c.exit.new.files).files) c.args.command.now (Exit c.in-Exit.status)
+    (λ own. exit_reply own live c.in-Exit.status) c.exit.result g.S.Sink.tells text text (notes_said s.notes) (notes_said new.notes)
+    (sym c.command.view_is ∙ ap (request_of _) c.in-Exit.is) (λ own. refl) (c.exit.ensures.told g.S.Sink.tells text)
+
+pub returns-in_default : goal.returns-in_default
+returns-in_default g c =
+    let s = c.args.session.now in
+    let state = g.F.Files.state c.args.files.now in
+    let live = live_in s state.files in
+    let text = g.S.Sink.written c.args.out.now in
+    let v = c.command.inside.verb in
+    let others : IsOther v = record {
+      nothing = c.in_default.not-Nothing;
+      examine = c.in_default.not-Examine;
+      deposit = c.in_default.not-Deposit;
+      run = c.in_default.not-Run;
+      go = c.in_default.not-Go;
+      cont = c.in_default.not-Cont;
+      step = c.in_default.not-Step;
+      reset = c.in_default.not-Reset;
+      attach = c.in_default.not-Attach;
+      detach = c.in_default.not-Detach;
+      show = c.in_default.not-Show;
+      exit = c.in_default.not-Exit;
+    } in
+    record {
+      told = λ told.
+          plain-did s.limit s.command live live c.args.command.now (request_of _ v) (refused NotBuilt live) (Err NotBuilt) g.S.Sink.tells text text (notes_said s.notes) (notes_said s.notes)
+          (sym c.command.view_is) (λ own. other-is s.limit own live _ v others) refl (refused-does NotBuilt live g.S.Sink.tells text tt);
+      undone = λ is. absurd (cc);
+      want = λ is. absurd (cc);
+      keeps = keeps-none s.command s.machine.time g.F.Files.tells (Err NotBuilt) s.notes s.notes state refl tt;
+      keys = refl;
+      limit = refl;
+      command = refl;
+      counts = refl;
+      stop = λ is. absurd (cc);
+      exit = tt;
+      «open» = c.requires.«open»;
+      around = λ base around. around;
+    }

@@ -1,0 +1,65 @@
+use Rattle.std.proofs.Common.{Ok, Err, ◌≡◌, refl, ap, sym, ◌∙◌, arith}
+use Rattle.unit_files.specs.Attachments.{attachments_of}
+use Rattle.fault_notes.specs.Notes.{notes_said}
+use Rattle.nova_machine.specs.Machine.{with_slots}
+use Rattle.nova_machine.specs.Seen.{seen}
+use Rattle.scp_commands.specs.declared.next.Next.TheVariants.{Go}
+use Rattle.scp_commands.proofs.SeenLemmas.{attached-erased}
+use Rattle.scp_commands.proofs.BehindLemmas.{stamp_in}
+use Rattle.scp_commands.proofs.AttachLemmas.{longest-paper, attach-not-built, attach-done, becomes-attached, becomes-refused}
+use Rattle.scp_commands.proofs.unit_commands.attach.Goals as goal
+
+pub returns-then-lacks_unit-clause-told : goal.returns-then-lacks_unit-clause-told
+returns-then-lacks_unit-clause-told g c = λ tells text told.
+    let s = c.session.inside in
+    rw (← c.session.view_is)
+    (attach-not-built s.command (seen s.keys (g.F.Files.state c.args.files.now).files s.machine) c.args.option c.args.unit c.args.name.now tells text
+    (notes_said s.notes.items) (sym c.lacks_unit.ensures ∙ c.if-lacks_unit.true))
+
+pub set_position-requires-clause-place : goal.set_position-requires-clause-place
+set_position-requires-clause-place g c =
+    let long = longest-paper c.session.inside.machine c.args.unit (sym c.lacks_unit.ensures ∙ c.if-lacks_unit.false) in
+    let low = c.in-Ok.ensures.bound in
+    omega (arith, long, low)
+
+pub returns-in-Ok-clause-told : goal.returns-in-Ok-clause-told
+returns-in-Ok-clause-told g c = λ tells text told.
+    let s = c.session.inside in
+    let before = g.F.Files.state c.args.files.now in
+    let after = g.F.Files.state c.attach_unit.new.files in
+    let new = c.attach_unit.new in
+    let held = c.attached_mut.result.now in
+    let done = c.in-Ok.ensures in
+    rw (← c.session.view_is)
+    (attach-done s.command c.stamp_of-stamp.result c.mode_of-mode.result (seen s.keys before.files s.machine) (seen s.keys after.files c.set_position.new.machine) (attachments_of held)
+    c.args.option c.args.unit c.args.name.now (Ok c.in-Ok.count) (Ok Go) tells text s.notes.items new.notes.items
+    (c.stamp_of-stamp.ensures ∙ ap stamp_in (sym c.session.view_is)) c.mode_of-mode.ensures (ap attachments_of c.attached_mut.ensures.value ∙ sym (attached-erased s.machine))
+    refl (sym c.lacks_unit.ensures ∙ c.if-lacks_unit.false) tt
+    (record {
+      said = done.said told;
+      left = done.files told;
+      becomes = becomes-attached s.keys before.files after.files s.machine c.set_position.new.machine new.attached held c.mode_of-mode.result c.args.unit c.args.name.now c.in-Ok.count c.first_place.result
+          c.attached_mut.ensures.value done.attached c.first_place.ensures.place c.set_position.ensures;
+      noted = done.notes;
+    }))
+
+pub returns-in-Err-clause-told : goal.returns-in-Err-clause-told
+returns-in-Err-clause-told g c = λ tells text told.
+    let s = c.session.inside in
+    let before = g.F.Files.state c.args.files.now in
+    let after = g.F.Files.state c.attach_unit.new.files in
+    let new = c.attach_unit.new in
+    let held = c.attached_mut.result.now in
+    let done = c.in-Err.ensures in
+    rw (← c.session.view_is)
+    (attach-done s.command c.stamp_of-stamp.result c.mode_of-mode.result (seen s.keys before.files s.machine) (seen s.keys after.files (with_slots s.machine new.attached)) (attachments_of held)
+    c.args.option c.args.unit c.args.name.now (Err c.in-Err.fault) (Err c.of_attach.result) tells text s.notes.items new.notes.items
+    (c.stamp_of-stamp.ensures ∙ ap stamp_in (sym c.session.view_is)) c.mode_of-mode.ensures (ap attachments_of c.attached_mut.ensures.value ∙ sym (attached-erased s.machine))
+    (ap Err c.of_attach.ensures) (sym c.lacks_unit.ensures ∙ c.if-lacks_unit.false) done.own
+    (record {
+      said = done.said told;
+      left = done.files told;
+      becomes = becomes-refused s.keys before.files after.files s.machine new.attached held c.mode_of-mode.result c.args.unit c.args.name.now c.in-Err.fault
+          c.attached_mut.ensures.value done.refused;
+      noted = done.notes;
+    }))

@@ -1,0 +1,36 @@
+use Rattle.std.proofs.Common.{Err, ◌≡◌, ap, sym, ◌∙◌}
+use Rattle.unit_files.specs.Attachments.{attachments_of}
+use Rattle.fault_notes.specs.Notes.{notes_said}
+use Rattle.nova_machine.specs.Machine.{with_slots}
+use Rattle.nova_machine.specs.Seen.{seen}
+use Rattle.scp_commands.proofs.SeenLemmas.{attached-erased}
+use Rattle.scp_commands.proofs.BehindLemmas.{stamp_in}
+use Rattle.scp_commands.proofs.DetachLemmas.{detach_result, detached-live, detach-done, detach-not-built}
+use Rattle.scp_commands.proofs.unit_commands.detach.Goals as goal
+use Rattle.scp_commands.proofs.unit_commands.detach.Goals.{in-Ok, in-Err}
+
+pub returns-then-lacks_unit-clause-told : goal.returns-then-lacks_unit-clause-told
+returns-then-lacks_unit-clause-told g c = λ tells text.
+    rw (← c.session.view_is)
+    (detach-not-built c.session.inside.command (seen c.session.inside.keys (g.F.Files.state c.args.files.now).files c.session.inside.machine) c.args.unit tells text
+    (notes_said c.session.inside.notes.items) (sym c.lacks_unit.ensures ∙ c.if-lacks_unit.true))
+
+pub returns-clause-told : goal.returns-clause-told
+returns-clause-told g c = λ tells text.
+    let answered : c.match-detach_unit.result ≡ detach_result c.detach_unit.result = elim c.match-detach_unit.branch [
+      | in-Ok w ↦ w.result-is ∙ sym (ap detach_result w.in-Ok.is)
+      | in-Err w ↦ w.result-is ∙ ap Err w.of_detach.ensures ∙ sym (ap detach_result w.in-Err.is)
+    ] in
+    let s = c.session.inside in
+    let before = g.F.Files.state c.args.files.now in
+    let after = g.F.Files.state c.detach_unit.new.files in
+    let new = c.detach_unit.new in
+    let held = c.attached_mut.result.now in
+    rw (← c.session.view_is)
+    (detach-done s.command c.stamp_of-stamp.result (seen s.keys before.files s.machine) (seen s.keys after.files (with_slots s.machine new.attached)) (attachments_of held)
+    c.args.unit c.detach_unit.result c.match-detach_unit.result tells text s.notes.items new.notes.items
+    (c.stamp_of-stamp.ensures ∙ ap stamp_in (sym c.session.view_is)) (ap attachments_of c.attached_mut.ensures.value ∙ sym (attached-erased s.machine)) answered (sym c.lacks_unit.ensures ∙ c.if-lacks_unit.false)
+    c.detach_unit.ensures.said
+    (detached-live s.keys before.files after.files s.machine new.attached held c.args.unit c.detach_unit.result c.attached_mut.ensures.value
+    c.detach_unit.ensures.attached c.detach_unit.ensures.refused c.detach_unit.ensures.files)
+    c.detach_unit.ensures.nothing c.detach_unit.ensures.notes)

@@ -1,0 +1,138 @@
+-- ATTACH, DETACH, and SHOW of a unit (SIMH Users' Guide, "Attaching Devices").
+use Rattle.std.specs.Prelude.{ℕ, ◌==◌, ◌||◌, Bool, not, is_none, List, [], ◌∷◌, ◌++◌, codes, Option, Some, None, Ok, Err, if◌then◌else◌}
+use Rattle.unit_trait.specs.declared.kind.Kind.{Kind}
+use Rattle.unit_trait.specs.declared.kind.UnitName.{UnitName}
+use Rattle.unit_trait.specs.Kinds.{code_of, unit_name}
+use Rattle.unit_list.specs.Bus.{unit_at, with_register_in}
+use Rattle.unit_files.specs.declared.modes.AttachMode.{AttachMode}
+use Rattle.unit_files.specs.declared.modes.AttachMode.TheVariants.{Any, MustExist, New, ReadOnly as Reading}
+use Rattle.unit_files.specs.Attachments.{Attachment, attachment_at, is_paper, only_writes}
+use Rattle.unit_files.specs.Acts.{AttachSaid, Attached, UnitHasFile, OnlyWrites, NotThere, TooLong, CallFailed, attach_said, attach_files, attached_by}
+use Rattle.unit_files.specs.Acts.{Failure, DetachSaid, HadNone, Detached, detach_said, detached}
+use Rattle.fault_notes.specs.declared.note.Subject.TheVariants as subject
+use Rattle.fault_notes.specs.Notes.{CommandNote, failure_now}
+use Rattle.file_commands.specs.AllUnits.{attachable, detached_each, closings}
+use Rattle.nova_machine.specs.Machine.{MachineState}
+use Rattle.nova_machine.specs.Seen.{attached_in}
+use Rattle.scp_commands.specs.declared.next.Next.TheVariants.{Go}
+use Rattle.scp_commands.specs.declared.fault.CommandFault.TheVariants.{AlreadyAttached, NotAttached, ReadOnly, NoFile, FileTooLong, FileFailed, NotBuilt}
+use Rattle.scp_commands.specs.Live.{Live, standing, with_machine, with_attached}
+use Rattle.scp_commands.specs.Reply.{Answer, Reply, refused}
+
+-- this version has no file for the unit, or the machine has no unit of its kind
+abbrev pub lacks_unit : MachineState → UnitName → Bool
+lacks_unit m unit = not (is_paper unit.kind) || is_none (unit_at (code_of unit.kind) m.units)
+
+-- ---- ATTACH
+
+-- how a file is attached, by the letter of the option
+abbrev pub mode_of : ℕ → AttachMode
+mode_of option = if option == 69 then MustExist else if option == 78 then New else if option == 82 then Reading else Any
+
+abbrev pub attach_answer : UnitName → AttachSaid → Answer
+attach_answer unit (Attached count) = Ok Go
+attach_answer unit UnitHasFile = Err AlreadyAttached
+attach_answer unit OnlyWrites = Err ReadOnly
+attach_answer unit NotThere = Err NoFile
+attach_answer unit TooLong = Err FileTooLong
+attach_answer unit (CallFailed f) = Err (FileFailed (subject.Unit unit))
+
+-- it uses a note where its call failed
+abbrev pub attach_used : AttachSaid → ℕ
+attach_used (CallFailed f) = 1
+attach_used said = 0
+
+-- where a unit goes on in its file: one that only writes at its end, and one that reads at its beginning
+abbrev pub first_place : Kind → ℕ → ℕ
+first_place kind count = if only_writes kind then count else 0
+
+-- the number of the register POS
+abbrev pub position_number : ℕ
+position_number = 5
+
+-- the unit has its file, and POS is the place where it goes on
+abbrev pub attached_machine : AttachSaid → AttachMode → UnitName → List ℕ → MachineState → MachineState
+attached_machine (Attached count) mode unit name m =
+    record (with_attached m (attached_by (Attached count) mode unit name (attached_in m))) { units = with_register_in unit.kind position_number (first_place unit.kind count) m.units }
+attached_machine said mode unit name m = m
+
+abbrev pub attach_with : Option Failure → AttachMode → UnitName → List ℕ → Live → Reply
+attach_with fault mode unit name live =
+    let said = attach_said fault mode unit name (attached_in live.machine) live.files in
+    record {
+      made = [];
+      answer = attach_answer unit said;
+      after = standing (attach_used said) (record live {
+        machine = attached_machine said mode unit name live.machine;
+        files = attach_files fault mode unit name (attached_in live.machine) live.files;
+      });
+    }
+
+-- ATTACH opens a file for a unit. A call on it fails where the first of the command's notes says so.
+unfoldable pub attach_reply : List CommandNote → Live → ℕ → UnitName → List ℕ → Reply
+attach_reply notes live option unit name =
+    if lacks_unit live.machine unit then refused NotBuilt live
+    else attach_with (failure_now live.machine.time (subject.Unit unit) notes) (mode_of option) unit name live
+
+-- ---- DETACH
+
+abbrev pub detach_answer : DetachSaid → Answer
+detach_answer HadNone = Err NotAttached
+detach_answer (Detached fault) = Ok Go
+
+-- it uses a note where the closing failed
+abbrev pub detach_used : DetachSaid → ℕ
+detach_used (Detached (Some f)) = 1
+detach_used said = 0
+
+abbrev pub detached_machine : DetachSaid → UnitName → MachineState → MachineState
+detached_machine HadNone unit m = m
+detached_machine (Detached fault) unit m = with_attached m (detached unit (attached_in m))
+
+abbrev pub detach_with : Option Failure → UnitName → Live → Reply
+detach_with fault unit live =
+    let said = detach_said fault unit (attached_in live.machine) in
+    record {
+      made = [];
+      answer = detach_answer said;
+      after = standing (detach_used said) (with_machine live (detached_machine said unit live.machine));
+    }
+
+-- DETACH closes a unit's file. Where the closing fails, the unit has none all the same.
+unfoldable pub detach_reply : List CommandNote → Live → UnitName → Reply
+detach_reply notes live unit =
+    if lacks_unit live.machine unit then refused NotBuilt live
+    else detach_with (failure_now live.machine.time (subject.Unit unit) notes) unit live
+
+-- all files are closed, in bus order
+abbrev pub detached_all : Live → Live
+detached_all live = with_machine live (with_attached live.machine (detached_each attachable (attached_in live.machine)))
+
+-- how many of the notes that uses
+abbrev pub all_closings : List CommandNote → Live → ℕ
+all_closings notes live = closings notes live.machine.time attachable (attached_in live.machine)
+
+-- DETACH ALL closes all files
+unfoldable pub detach_all_reply : List CommandNote → Live → Reply
+detach_all_reply notes live = record { made = []; answer = Ok Go; after = standing (all_closings notes live) (detached_all live) }
+
+abbrev pub detach_one_or_all : List CommandNote → Live → Option UnitName → Reply
+detach_one_or_all notes live None = detach_all_reply notes live
+detach_one_or_all notes live (Some unit) = detach_reply notes live unit
+
+-- ---- SHOW
+
+abbrev pub read_only_text : Bool → List ℕ
+read_only_text read_only = if read_only then codes ", read only" else []
+
+abbrev pub attachment_text : Option Attachment → List ℕ
+attachment_text None = codes ", not attached"
+attachment_text (Some a) = codes ", attached to " ++ a.name ++ read_only_text a.read_only
+
+-- the line of a unit with that attachment
+abbrev pub unit_line : UnitName → Option Attachment → List ℕ
+unit_line unit a = unit_name unit ++ attachment_text a ++ 10 ∷ []
+
+-- what SHOW prints of a unit
+abbrev pub unit_text : MachineState → UnitName → List ℕ
+unit_text m unit = unit_line unit (attachment_at (attached_in m) unit)

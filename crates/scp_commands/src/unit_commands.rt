@@ -1,0 +1,235 @@
+// ATTACH and DETACH.
+ghost use Rattle.std.specs.Prelude.{◌≡◌, ◌≤◌, ◌<◌, ◌^◌, ℕ, Bool, List, IsTrue, IfSome, is_some, Err};
+ghost use Rattle.host_files.specs.State.{Opened};
+ghost use Rattle.unit_trait.specs.Kinds.{units_of, code_of};
+ghost use Rattle.unit_list.specs.Bus.{unit_at, with_register_in};
+ghost use Rattle.unit_files.specs.Attachments.{IsFileName, is_paper};
+ghost use Rattle.unit_files.specs.Open.{AllOpen, Around};
+ghost use Rattle.fault_notes.specs.Notes.{notes_said};
+ghost use Rattle.scp_commands.specs.declared.fault.CommandFault.TheVariants.{OutOfMemory};
+ghost use Rattle.scp_commands.specs.Live.{live_in};
+ghost use Rattle.scp_commands.specs.FileEffects.{lacks_unit, mode_of, first_place, position_number};
+ghost use Rattle.scp_commands.specs.FileEffects.{attach_reply, detach_reply, detach_all_reply, detach_one_or_all};
+ghost use Rattle.scp_commands.specs.Doing.{Did, Keeps, IsUndone, IsOwn, IsPlain, IsExitAnswer};
+
+use crate::fault::CommandFault;
+use crate::next::Next;
+use crate::session::Session;
+use file_commands::{Stamp, attach_unit, detach_unit};
+use host_files::Files;
+use nova_machine::Machine;
+use std::alloc::Global;
+use unit_files::AttachMode;
+use unit_trait::{Kind, Unit, UnitName};
+
+/// The number of the register POS of the units whose files are attached.
+const POSITION: u8 = 5;
+
+/// ATTACH opens a file for a unit, and sets POS to the place where the unit goes on in it. It prints nothing.
+#[tactic(auto, unfolding(crate::specs::FileEffects::attach_reply))]
+pub fn attach<U: Unit, F: Files>(
+    alloc: Global,
+    session: &mut Session<U>,
+    option: u8,
+    unit: UnitName,
+    name: &str,
+    files: &mut F,
+) -> Result<Next, CommandFault>
+    requires room { 16 ≤ session.old.spare }
+    requires unit { unit.unit < units_of unit.kind }
+    requires name { IsFileName name.now }
+    requires open { AllOpen session.old.machine.slots (F.state files.old).opened }
+    ensures told { (tells : Bool) (text : List ℕ) → IsTrue F.tells
+        → Did (λ notes. attach_reply notes (live_in session.old (F.state files.old).files) option unit name.now)
+        session.old.command result (live_in session.new (F.state files.new).files) tells text text
+        (notes_said session.old.notes) (notes_said session.new.notes) }
+    ensures undone { (text : List ℕ) → result ≡ Err OutOfMemory
+        → IsUndone session.old session.new text text (F.state files.old) (F.state files.new) }
+    ensures keeps { Keeps session.old.command session.new.machine.time F.tells result session.old.notes
+        session.new.notes (F.state files.old) (F.state files.new) }
+    ensures own { IsOwn result }
+    ensures exit { IsExitAnswer result }
+    ensures keys { session.new.keys ≡ session.old.keys }
+    ensures limit { session.new.limit ≡ session.old.limit }
+    ensures command { session.new.command ≡ session.old.command }
+    ensures open { AllOpen session.new.machine.slots (F.state files.new).opened }
+    ensures around { (base : List Opened) → Around session.old.machine.slots base (F.state files.old).opened
+        → Around session.new.machine.slots base (F.state files.new).opened }
+{
+    if lacks_unit(&session.machine, unit) {
+        return Err(CommandFault::NotBuilt);
+    }
+    let stamp = stamp_of(session);
+    let mode = mode_of(option);
+    match attach_unit(
+        alloc,
+        session.machine.attached_mut(),
+        unit,
+        name,
+        mode,
+        files,
+        &mut session.notes,
+        stamp,
+    ) {
+        Ok(count) => {
+            set_position(
+                &mut session.machine,
+                unit.kind,
+                first_place(unit.kind, count),
+            );
+            Ok(Next::Go)
+        }
+        Err(fault) => Err(CommandFault::of_attach(fault)),
+    }
+}
+
+/// DETACH closes a unit's file, or those of all units where none is named. It prints nothing.
+pub fn detach_one_or_every<U: Unit, F: Files>(
+    session: &mut Session<U>,
+    unit: Option<UnitName>,
+    files: &mut F,
+) -> Result<Next, CommandFault>
+    requires room { 16 ≤ session.old.spare }
+    requires unit { IfSome unit (λ u. u.unit < units_of u.kind) }
+    requires open { AllOpen session.old.machine.slots (F.state files.old).opened }
+    ensures told { (tells : Bool) (text : List ℕ)
+        → Did (λ notes. detach_one_or_all notes (live_in session.old (F.state files.old).files) unit)
+        session.old.command result (live_in session.new (F.state files.new).files) tells text text
+        (notes_said session.old.notes) (notes_said session.new.notes) }
+    ensures keeps { Keeps session.old.command session.new.machine.time F.tells result session.old.notes
+        session.new.notes (F.state files.old) (F.state files.new) }
+    ensures own { IsPlain result }
+    ensures exit { IsExitAnswer result }
+    ensures keys { session.new.keys ≡ session.old.keys }
+    ensures limit { session.new.limit ≡ session.old.limit }
+    ensures command { session.new.command ≡ session.old.command }
+    ensures open { AllOpen session.new.machine.slots (F.state files.new).opened }
+    ensures around { (base : List Opened) → Around session.old.machine.slots base (F.state files.old).opened
+        → Around session.new.machine.slots base (F.state files.new).opened }
+{
+    match unit {
+        None => detach_every(session, files),
+        Some(unit) => detach(session, unit, files),
+    }
+}
+
+// DETACH of a unit closes its file.
+#[tactic(auto, unfolding(crate::specs::FileEffects::detach_reply))]
+fn detach<U: Unit, F: Files>(
+    session: &mut Session<U>,
+    unit: UnitName,
+    files: &mut F,
+) -> Result<Next, CommandFault>
+    requires room { 16 ≤ session.old.spare }
+    requires unit { unit.unit < units_of unit.kind }
+    requires open { AllOpen session.old.machine.slots (F.state files.old).opened }
+    ensures told { (tells : Bool) (text : List ℕ)
+        → Did (λ notes. detach_reply notes (live_in session.old (F.state files.old).files) unit)
+        session.old.command result (live_in session.new (F.state files.new).files) tells text text
+        (notes_said session.old.notes) (notes_said session.new.notes) }
+    ensures keeps { Keeps session.old.command session.new.machine.time F.tells result session.old.notes
+        session.new.notes (F.state files.old) (F.state files.new) }
+    ensures own { IsPlain result }
+    ensures exit { IsExitAnswer result }
+    ensures keys { session.new.keys ≡ session.old.keys }
+    ensures limit { session.new.limit ≡ session.old.limit }
+    ensures command { session.new.command ≡ session.old.command }
+    ensures open { AllOpen session.new.machine.slots (F.state files.new).opened }
+    ensures around { (base : List Opened) → Around session.old.machine.slots base (F.state files.old).opened
+        → Around session.new.machine.slots base (F.state files.new).opened }
+{
+    if lacks_unit(&session.machine, unit) {
+        return Err(CommandFault::NotBuilt);
+    }
+    let stamp = stamp_of(session);
+    match detach_unit(
+        session.machine.attached_mut(),
+        unit,
+        files,
+        &mut session.notes,
+        stamp,
+    ) {
+        Ok(_) => Ok(Next::Go),
+        Err(fault) => Err(CommandFault::of_detach(fault)),
+    }
+}
+
+// DETACH ALL closes all files.
+#[tactic(auto, unfolding(crate::specs::FileEffects::detach_all_reply))]
+fn detach_every<U: Unit, F: Files>(
+    session: &mut Session<U>,
+    files: &mut F,
+) -> Result<Next, CommandFault>
+    requires room { 16 ≤ session.old.spare }
+    requires open { AllOpen session.old.machine.slots (F.state files.old).opened }
+    ensures told { (tells : Bool) (text : List ℕ)
+        → Did (λ notes. detach_all_reply notes (live_in session.old (F.state files.old).files))
+        session.old.command result (live_in session.new (F.state files.new).files) tells text text
+        (notes_said session.old.notes) (notes_said session.new.notes) }
+    ensures keeps { Keeps session.old.command session.new.machine.time F.tells result session.old.notes
+        session.new.notes (F.state files.old) (F.state files.new) }
+    ensures own { IsPlain result }
+    ensures exit { IsExitAnswer result }
+    ensures keys { session.new.keys ≡ session.old.keys }
+    ensures limit { session.new.limit ≡ session.old.limit }
+    ensures command { session.new.command ≡ session.old.command }
+    ensures open { AllOpen session.new.machine.slots (F.state files.new).opened }
+    ensures around { (base : List Opened) → Around session.old.machine.slots base (F.state files.old).opened
+        → Around session.new.machine.slots base (F.state files.new).opened }
+{
+    session.detach_files(files);
+    Ok(Next::Go)
+}
+
+/// Whether this version has no file for a unit, or a machine has no unit of its kind.
+pub fn lacks_unit<U: Unit>(machine: &Machine<U>, unit: UnitName) -> bool
+    ensures { result ≡ lacks_unit machine.now unit }
+{
+    match unit.kind {
+        Kind::Lpt | Kind::Ptr | Kind::Ptp => !machine.has_unit(unit.kind),
+        _ => true,
+    }
+}
+
+// How a file is attached, by the letter of the option.
+fn mode_of(option: u8) -> AttachMode
+    ensures { result ≡ mode_of option }
+{
+    match option {
+        b'E' => AttachMode::MustExist,
+        b'N' => AttachMode::New,
+        b'R' => AttachMode::ReadOnly,
+        _ => AttachMode::Any,
+    }
+}
+
+// Where a unit goes on in its file: one that only writes at its end, and one that reads at its beginning.
+fn first_place(kind: Kind, count: u64) -> u64
+    ensures place { result ≡ first_place kind count }
+    ensures bound { result ≤ count }
+{
+    match kind {
+        Kind::Lpt | Kind::Ptp => count,
+        _ => 0,
+    }
+}
+
+// Sets POS of a unit that reads or writes its file byte by byte.
+fn set_position<U: Unit>(machine: &mut Machine<U>, kind: Kind, place: u64)
+    requires paper { IsTrue (is_paper kind) }
+    requires there { IsTrue (is_some (unit_at (code_of kind) machine.old.units)) }
+    requires place { place ≤ 8 ^ 8 }
+    ensures { machine.new ≡ record machine.old { units = with_register_in kind position_number place machine.old.units } }
+{
+    let _fits = machine.set_unit_reg(kind, POSITION, place as u32);
+}
+
+/// What stands on the notes of the command that is done.
+pub fn stamp_of<U: Unit>(session: &Session<U>) -> Stamp
+    ensures { result ≡ record { command = session.now.command; time = session.now.machine.time } }
+{
+    Stamp {
+        command: session.command,
+        time: session.machine.time(),
+    }
+}

@@ -1,0 +1,207 @@
+// ATTACH and DETACH: their options and units, and the file name up to the end of the line.
+ghost use Rattle.std.specs.Prelude.{◌≡◌, false};
+ghost use Rattle.std.specs.Str.{is_utf8};
+ghost use Rattle.scp_parser.specs.Operands.{option_of, file_unit, target_of, detached_of, is_file_name};
+ghost use Rattle.scp_parser.specs.Grammar.{option_letter};
+ghost use Rattle.scp_parser.specs.Reading.{maybe, needed, inside_of, last_name, piece_before};
+ghost use Rattle.scp_parser.specs.Reading.{attach_file, attach_port, attach, detach};
+ghost use Rattle.scp_parser.specs.Views.{Gives};
+
+use crate::command::{LONGEST_FILE_NAME, Piece, Verb};
+use crate::fault::ParseFault;
+use crate::operands::{bad_operand, ended, needed_decimal, next_word};
+use crate::subject::unit_of;
+use line_words::{is_spelled, past_blanks, trimmed};
+use std::str::from_utf8;
+use unit_trait::{Kind, UnitName, takes_file};
+
+// The option of a word, as the capital of its letter.
+#[tactic(auto, unfolding(crate::specs::Operands::option_of))]
+fn option_of(word: &[u8]) -> Option<u8>
+    ensures { result ≡ option_of word.now }
+{
+    if is_spelled(word, b"-E") {
+        Some(b'E')
+    } else if is_spelled(word, b"-N") {
+        Some(b'N')
+    } else if is_spelled(word, b"-R") {
+        Some(b'R')
+    } else {
+        None
+    }
+}
+
+// An option, which may be left out.
+fn maybe_option(text: &[u8]) -> (Option<u8>, &[u8])
+    ensures { (result.0, result.1.now) ≡ maybe option_of text.now }
+{
+    let (word, rest) = next_word(text);
+    match option_of(word) {
+        Some(letter) => (Some(letter), rest),
+        None => (None, text),
+    }
+}
+
+fn option_letter(option: Option<u8>) -> u8
+    ensures { result ≡ option_letter option }
+{
+    match option {
+        Some(letter) => letter,
+        None => 0,
+    }
+}
+
+// A unit, if it takes a file.
+fn file_unit(unit: Option<UnitName>) -> Option<UnitName>
+    ensures { result ≡ file_unit unit }
+{
+    match unit {
+        Some(unit) if takes_file(unit.kind) => Some(unit),
+        _ => None,
+    }
+}
+
+// The unit of a word that ATTACH names: behind an option it takes a file.
+#[tactic(auto, unfolding(crate::specs::Operands::target_of))]
+fn target_of(option: Option<u8>, word: &[u8]) -> Option<UnitName>
+    ensures { result ≡ target_of option word.now }
+{
+    match option {
+        Some(_) => file_unit(unit_of(word)),
+        None => unit_of(word),
+    }
+}
+
+// A unit for ATTACH, which must be there.
+fn needed_target(option: Option<u8>, text: &[u8]) -> Result<(UnitName, &[u8]), ParseFault>
+    ensures { Gives (λ x. (x.0, x.1.now)) result (needed false (target_of option) text.now) }
+{
+    let (word, rest) = next_word(text);
+    match target_of(option, word) {
+        Some(unit) => Ok((unit, rest)),
+        None => Err(bad_operand(false, word, rest)),
+    }
+}
+
+// What DETACH names: a unit, or `None` for all of them.
+#[tactic(auto, unfolding(crate::specs::Operands::detached_of))]
+fn detached_of(word: &[u8]) -> Option<Option<UnitName>>
+    ensures { result ≡ detached_of word.now }
+{
+    if is_spelled(word, b"ALL") {
+        return Some(None);
+    }
+    match unit_of(word) {
+        Some(unit) => Some(Some(unit)),
+        None => None,
+    }
+}
+
+// What DETACH names, which must be there.
+fn needed_detached(text: &[u8]) -> Result<(Option<UnitName>, &[u8]), ParseFault>
+    ensures { Gives (λ x. (x.0, x.1.now)) result (needed false detached_of text.now) }
+{
+    let (word, rest) = next_word(text);
+    match detached_of(word) {
+        Some(unit) => Ok((unit, rest)),
+        None => Err(bad_operand(false, word, rest)),
+    }
+}
+
+// Whether a file can have that name: 1 to 255 bytes in UTF-8.
+#[tactic(auto, unfolding(crate::specs::Operands::is_file_name))]
+fn is_file_name(text: &[u8]) -> bool
+    ensures { result ≡ is_file_name text.now }
+{
+    !text.is_empty() && text.len() <= LONGEST_FILE_NAME && is_utf8(text)
+}
+
+#[tactic(auto, using(crate::proofs::FileNameLemmas::are_utf8, crate::proofs::FileNameLemmas::not_utf8))]
+fn is_utf8(text: &[u8]) -> bool
+    ensures { result ≡ is_utf8 text.now }
+{
+    match from_utf8(text) {
+        Ok(_) => true,
+        Err(_) => false,
+    }
+}
+
+// The rest of a line without the blanks round it, and the blanks behind it.
+#[tactic(auto, using(crate::proofs::InsideLemmas::trimmed_within, crate::proofs::InsideLemmas::trimmed_front), unfolding(crate::specs::Reading::inside_of))]
+fn inside_of(text: &[u8]) -> (&[u8], &[u8])
+    ensures { (result.0.now, result.1.now) ≡ inside_of text.now }
+{
+    let text = past_blanks(text);
+    text.split_at(trimmed(text).len())
+}
+
+// The name of a file, which goes up to the end of the line, and the blanks behind it.
+#[tactic(auto, unfolding(crate::specs::Reading::last_name))]
+fn last_name(text: &[u8]) -> Result<(&[u8], &[u8]), ParseFault>
+    ensures { Gives (λ x. (x.0.now, x.1.now)) result (last_name text.now) }
+{
+    let (name, rest) = inside_of(text);
+    if is_file_name(name) {
+        Ok((name, rest))
+    } else {
+        Err(bad_operand(false, name, rest))
+    }
+}
+
+// A word of a line of so many bytes, by what follows it up to the end of the line.
+fn piece_before(bytes: usize, word: &[u8], rest: &[u8]) -> Piece
+    ensures { result ≡ piece_before bytes word.now rest.now }
+{
+    Piece {
+        from: bytes.saturating_sub(word.len() + rest.len()),
+        to: bytes.saturating_sub(rest.len()),
+    }
+}
+
+fn attach_file(bytes: usize, option: u8, unit: UnitName, text: &[u8]) -> Result<Verb, ParseFault>
+    ensures { result ≡ attach_file bytes option unit text.now }
+{
+    let (name, rest) = last_name(text)?;
+    Ok(Verb::Attach {
+        option,
+        unit,
+        name: piece_before(bytes, name, rest),
+    })
+}
+
+fn attach_port(text: &[u8]) -> Result<Verb, ParseFault>
+    ensures { result ≡ attach_port text.now }
+{
+    let (port, rest) = needed_decimal(text)?;
+    let verb = Verb::AttachPort {
+        kind: Kind::Tti1,
+        port,
+    };
+    ended(verb, rest)
+}
+
+/// What an ATTACH asks for, by what stands behind its name in a line of so many bytes.
+#[tactic(auto, unfolding(crate::specs::Reading::attach))]
+pub fn attach(bytes: usize, text: &[u8]) -> Result<Verb, ParseFault>
+    ensures { result ≡ attach bytes text.now }
+{
+    let (option, rest) = maybe_option(text);
+    let (unit, rest) = needed_target(option, rest)?;
+    if takes_file(unit.kind) {
+        attach_file(bytes, option_letter(option), unit, rest)
+    } else {
+        attach_port(rest)
+    }
+}
+
+/// What a DETACH asks for, by what stands behind its name.
+#[tactic(auto, unfolding(crate::specs::Reading::detach))]
+pub fn detach(text: &[u8]) -> Result<Verb, ParseFault>
+    ensures { result ≡ detach text.now }
+{
+    let (unit, rest) = needed_detached(text)?;
+    ended(Verb::Detach(unit), rest)
+}
+
+#[cfg(test)]
+mod tests;
