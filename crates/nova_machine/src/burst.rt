@@ -1,7 +1,6 @@
 // Bursts of the processor, as turns of the machine.
 ghost use Rattle.std.specs.Prelude.{◌≡◌, ◌+◌, ◌≤◌, ◌<◌, ◌^◌};
 ghost use Rattle.event_queue.specs.EventList.{IsClear};
-ghost use Rattle.nova_processor.specs.Burst.{IsBurst};
 ghost use Rattle.nova_machine.specs.Run.{last_time};
 
 use crate::machine::Machine;

@@ -1,5 +1,5 @@
-ghost use Rattle.std.specs.Prelude.{◌≡◌, Some, None};
-ghost use Rattle.nova_machine.specs.Comes.{IsOwn, bare};
+ghost use Rattle.std.specs.Prelude.{◌≡◌, Some};
+ghost use Rattle.nova_machine.specs.Comes.{IsOwn};
 ghost use Rattle.nova_machine.specs.Notes.{run_note};
 ghost use Rattle.nova_machine.specs.Wants.{HasUnit};
 
@@ -31,7 +31,7 @@ impl RunLimit {
 
 impl<U: Unit> Machine<U> {
     ghost use Rattle.nova_machine.specs.Seen.{seen};
-    ghost use Rattle.nova_machine.specs.Comes.{Comes, AreTold, AreFree, StopCounts, FileCause};
+    ghost use Rattle.nova_machine.specs.Comes.{Comes, AreTold, StopCounts, FileCause};
     ghost use Rattle.unit_files.specs.Open.{AllOpen};
     ghost use Rattle.nova_machine.specs.Run.{run};
 

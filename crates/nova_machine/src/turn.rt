@@ -1,4 +1,4 @@
-ghost use Rattle.std.specs.Prelude.{◌≡◌, ◌<◌, ◌≤◌, ◌+◌, ◌^◌, true, None, IfSome};
+ghost use Rattle.std.specs.Prelude.{◌≡◌, ◌<◌, ◌+◌, true, None, IfSome};
 ghost use Rattle.event_queue.specs.EventList.{due};
 ghost use Rattle.nova_machine.specs.Comes.{IsOwn};
 ghost use Rattle.nova_machine.specs.Notes.{unit_note};

@@ -1,6 +1,7 @@
 -- The memory of a Nova: a list of 32768 words and a size. A place at or past the size reads 0, and a write there does
 -- nothing.
-use Rattle.std.specs.Prelude.{◌≡◌, ℕ, ◌^◌, ◌<◌, ◌≤◌, List, All, length, replicate, slice_index, slice_set, nat_lt, if◌then◌else◌}
+use Rattle.std.specs.Prelude.{◌≡◌, ℕ, ◌-◌, ◌%◌, ◌^◌, ◌<◌, ◌≤◌, ◌==◌, ◌&&◌, Bool, List, All, ◌++◌, length, take, replicate}
+use Rattle.std.specs.Prelude.{slice_index, slice_set, nat_lt, nat_le, if◌then◌else◌}
 
 -- the words, and how many of them the machine has
 pub record MemoryState : Type 0 where
@@ -29,3 +30,17 @@ blank_words = replicate (2 ^ 15) 0
 -- what a new machine holds: 32768 words of 0
 abbrev pub blank : MemoryState
 blank = record { words = blank_words; size = 2 ^ 15 }
+
+-- a size that a machine may be given: 4096 words or a multiple of that, up to 32768
+pub record IsSize (words : ℕ) : Type 0 where
+  pub step : words % 4096 ≡ 0
+  pub least : 4096 ≤ words
+  pub most : words ≤ 32768
+
+-- the same of a number of K, which are 1024 words each: 4, 8 and so on up to 32
+abbrev pub fits_size : ℕ → Bool
+fits_size k = nat_le 4 k && nat_le k 32 && k % 4 == 0
+
+-- the memory with that size: the words below it stay, and all others are 0
+abbrev pub resized : MemoryState → ℕ → MemoryState
+resized m words = record { words = take words m.words ++ replicate (2 ^ 15 - words) 0; size = words }

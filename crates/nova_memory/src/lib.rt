@@ -8,4 +8,4 @@ pub mod words;
 pub use address::{ChainLimit, indexed};
 pub use memory::Memory;
 pub use std::alloc::AllocError as OutOfMemory;
-pub use words::Words;
+pub use words::{Words, is_size};

@@ -1,4 +1,4 @@
-ghost use Rattle.std.specs.Prelude.{◌≡◌, ℕ, ◌<◌, ◌≤◌, ◌^◌, IfOk};
+ghost use Rattle.std.specs.Prelude.{◌≡◌, ℕ, ◌<◌, ◌≤◌, ◌^◌, IfOk, nat_lt, if◌then◌else◌};
 ghost use Rattle.std.specs.Result.{result_ok};
 ghost use Rattle.std.specs.Borrow.{sem};
 ghost use Rattle.nova_memory.specs.Lending.{LendsWords};
@@ -25,7 +25,7 @@ impl Model for Memory {
 }
 
 impl Memory {
-    ghost use Rattle.nova_memory.specs.Memory.{IsMemory, get, put, blank};
+    ghost use Rattle.nova_memory.specs.Memory.{IsMemory, IsSize, get, put, blank, resized};
 
     /// A memory of 32768 words of 0.
     pub fn new(alloc: Global) -> Result<Memory, AllocError>
@@ -58,6 +58,17 @@ impl Memory {
         ensures { self.new ≡ put self.old at w }
     {
         self.inside.write(at, w);
+    }
+
+    /// Gives the machine that many words, a multiple of 4096 from 4096 to 32768.
+    ///
+    /// The words below that stay. All others are lost, and 0 from then on, also where the machine is given more again.
+    pub fn set_size(&mut self, words: u16)
+        requires { IsSize words }
+        ensures resized { self.new ≡ resized self.old words }
+        ensures words { (a : ℕ) → get self.new a ≡ (if nat_lt a words then get self.old a else 0) }
+    {
+        self.inside.set_size(words);
     }
 
     /// The effective address of the memory reference `word`, which stands at `pc`.

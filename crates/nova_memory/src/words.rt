@@ -1,5 +1,5 @@
-ghost use Rattle.std.specs.Prelude.{◌≡◌, ℕ, ◌<◌, ◌^◌};
-ghost use Rattle.nova_memory.specs.Memory.{blank_words};
+ghost use Rattle.std.specs.Prelude.{◌≡◌, ◌↔◌, ℕ, ◌*◌, ◌<◌, ◌^◌, IsTrue, nat_lt, if◌then◌else◌};
+ghost use Rattle.nova_memory.specs.Memory.{blank_words, IsSize, fits_size};
 
 use nova_word::{Addr, Word};
 use std::marker::Model;
@@ -23,7 +23,7 @@ impl Model for Words {
 }
 
 impl Words {
-    ghost use Rattle.nova_memory.specs.Memory.{IsMemory, get, put, blank};
+    ghost use Rattle.nova_memory.specs.Memory.{IsMemory, get, put, blank, resized};
 
     /// 32768 words of 0.
     pub(crate) fn new() -> Words
@@ -64,6 +64,24 @@ impl Words {
             self.words[usize::from(place)] = w.0;
         }
     }
+
+    /// Gives the machine that many words. The words below that stay, and all others are 0 from then on.
+    pub(crate) fn set_size(&mut self, words: u16)
+        requires { IsSize words }
+        ensures resized { self.new ≡ resized self.old words }
+        ensures words { (a : ℕ) → get self.new a ≡ (if nat_lt a words then get self.old a else 0) }
+    {
+        self.words[usize::from(words)..].fill(0);
+        self.size = words;
+    }
+}
+
+/// Whether a machine may have that many K of memory, each of 1024 words: 4, 8 and so on up to 32.
+pub fn is_size(k: u64) -> bool
+    ensures test { result ≡ fits_size k }
+    ensures size { IsTrue result ↔ IsSize (1024 * k) }
+{
+    k >= 4 && k <= 32 && k % 4 == 0
 }
 
 /// 32768 words of 0.

@@ -1,4 +1,6 @@
 pub mod OutsideLemmas
 pub mod WordsLemmas
+pub mod WordFileLemmas
+pub mod ReadingLemmas
 pub mod StandardLemmas
 pub mod ProgramLemmas

@@ -1,6 +1,5 @@
 -- The whole program against its outcome.
-use Rattle.std.proofs.Common.{◌≡◌, ◌≢◌, inl, inr, ℕ, ◌+◌, ◌<◌, ◌≤◌, List, [], ◌∷◌, ◌++◌, length, take, drop, refl, ap, sym, ◌∙◌, subst, arith, append-nil, length-take-le, Option, Some, None}
-use Rattle.fault_counts.specs.Faults.{raised, Rose}
+use Rattle.std.proofs.Common.{◌≡◌, ◌≢◌, inl, inr, ℕ, ◌+◌, ◌<◌, ◌≤◌, List, [], ◌++◌, length, take, drop, refl, ap, sym, ◌∙◌, arith, append-nil, length-take-le, Option, Some, None}
 use Rattle.host_files.specs.Lists.{NamedBytes}
 use Rattle.observations.specs.Observations.{text_of, Trace}
 use Rattle.observations.specs.Cut.{ends, cut_trace, map_outcome}
@@ -14,7 +13,7 @@ use Rattle.scp_script.specs.declared.progress.Finish.TheVariants.{Exit, EndOfInp
 use Rattle.scp_script.specs.Lines.{reads_left}
 use Rattle.scp_script.specs.Session.{State, trace}
 use Rattle.scp_script.specs.Loop.{IsExitStatus, LetsThrough, status_of}
-use Rattle.scp_script.specs.Perform.{beginning, IsSession}
+use Rattle.scp_script.specs.Perform.{beginning_with, IsSession}
 use Rattle.nova_top.specs.declared.options.Options.{Options}
 use Rattle.nova_top.specs.Words.{options_of}
 use Rattle.nova_top.specs.Outside.{Outside, Left, left_by, Start, Refused, Begins, start_of, session_with, opening, trace_from, whole_trace, outcome}
@@ -25,24 +24,24 @@ use Rattle.nova_top.specs.Laws.{IsWholeOutcome}
 -- the outcome by how it starts
 outcome-start : (words : List (List ℕ)) (input : List ℕ) (files : List NamedBytes) (notes : List Note) (takes gives : ℕ) (start : Start) (used : ℕ) (own : List Note)
     → start_of (options_of words) words files notes ≡ (start, used) → drop used notes ≡ own
-    → outcome (record { words = words; input = input; files = files; notes = notes; takes = takes; gives = gives }) ≡ cut_trace takes gives (trace_from start files input own)
+    → outcome (record { words = words; input = input; files = files; notes = notes; takes = takes; gives = gives }) ≡ cut_trace takes gives (trace_from words start files input own)
 unfolding outcome whole_trace
 outcome-start words input files notes takes gives start used own is rest =
-    ap (λ (p : Start × ℕ). cut_trace takes gives (trace_from p.0 files input (drop p.1 notes))) is
-    ∙ ap (λ (n : List Note). cut_trace takes gives (trace_from start files input n)) rest
+    ap (λ (p : Start × ℕ). cut_trace takes gives (trace_from words p.0 files input (drop p.1 notes))) is
+    ∙ ap (λ (n : List Note). cut_trace takes gives (trace_from words start files input n)) rest
 
 -- ---- a text that refuses
 
-text-cut : (status : ℕ) (text : List ℕ) (files : List NamedBytes) (input : List ℕ) (gives : ℕ)
-    → cut_trace (length text) gives (trace_from (Refused status text) files input []) ≡ ends status text 0 (record { machine = None; files = files; notes = [] })
-text-cut status text files input gives =
+text-cut : (words : List (List ℕ)) (status : ℕ) (text : List ℕ) (files : List NamedBytes) (input : List ℕ) (gives : ℕ)
+    → cut_trace (length text) gives (trace_from words (Refused status text) files input []) ≡ ends status text 0 (record { machine = None; files = files; notes = [] })
+text-cut words status text files input gives =
     let left : Left = record { machine = None; files = files; notes = [] } in
     cut-printed text left [] (record { status = status; state = left }) (length text) gives (omega arith)
     ∙ ap (λ (t : List ℕ). ends status t 0 left) (append-nil text)
 
-text-refused : (status : ℕ) (text : List ℕ) (files : List NamedBytes) (input : List ℕ) (n gives : ℕ) → n < length text
-    → cut_trace n gives (trace_from (Refused status text) files input []) ≡ ends 102 (take n text) 0 (record { machine = None; files = files; notes = [] })
-text-refused status text files input n gives short =
+text-refused : (words : List (List ℕ)) (status : ℕ) (text : List ℕ) (files : List NamedBytes) (input : List ℕ) (n gives : ℕ) → n < length text
+    → cut_trace n gives (trace_from words (Refused status text) files input []) ≡ ends 102 (take n text) 0 (record { machine = None; files = files; notes = [] })
+text-refused words status text files input n gives short =
     let left : Left = record { machine = None; files = files; notes = [] } in
     cut-refused text left [] (record { status = status; state = left }) n gives short
 
@@ -63,7 +62,7 @@ refused-outcome words input before after files files' status_there status text m
       written = h.1;
       rest = refl;
       is = outcome-start words input files notes (length text) (length input + 1) (Refused status_there text) used [] start rest
-          ∙ text-cut status_there text files input (length input + 1)
+          ∙ text-cut words status_there text files input (length input + 1)
           ∙ left-same files files' machine status_there text none same
           ∙ ap (λ (s : ℕ). ends {S = Left} s text 0 (record { machine = machine_left machine; files = files'; notes = [] })) (sym h.0);
     }
@@ -78,8 +77,8 @@ refused-outcome words input before after files files' status_there status text m
       written = h.1.2;
       rest = refl;
       is = outcome-start words input files notes (length (take n text)) (length input + 1) (Refused status_there text) used [] start rest
-          ∙ ap (λ (k : ℕ). cut_trace k (length input + 1) (trace_from (Refused status_there text) files input [])) (length-take-le n text (omega (arith, h.1.1)))
-          ∙ text-refused status_there text files input n (length input + 1) h.1.1
+          ∙ ap (λ (k : ℕ). cut_trace k (length input + 1) (trace_from words (Refused status_there text) files input [])) (length-take-le n text (omega (arith, h.1.1)))
+          ∙ text-refused words status_there text files input n (length input + 1) h.1.1
           ∙ left-same files files' machine 102 (take n text) none same
           ∙ ap (λ (s : ℕ). ends {S = Left} s (take n text) 0 (record { machine = machine_left machine; files = files'; notes = [] })) (sym h.0);
     }
@@ -87,11 +86,11 @@ refused-outcome words input before after files files' status_there status text m
 -- ---- a session
 
 -- a session's cut, with what is left in each place
-session-cut : (options : Options) (keys : List Key) (files : List NamedBytes) (input : List ℕ) (own : List Note) (takes gives status made : ℕ) (taken : List ℕ) (state : State)
-    → cut_trace takes gives (trace (opening keys options files input own)) ≡ ends status taken made state
-    → cut_trace takes gives (trace_from (Begins options keys) files input own) ≡ ends status taken made (left_by state)
-session-cut options keys files input own takes gives status made taken state e =
-    let t : Trace State = trace (opening keys options files input own) in
+session-cut : (words : List (List ℕ)) (options : Options) (keys : List Key) (script : Option (List ℕ)) (files : List NamedBytes) (input : List ℕ) (own : List Note) (takes gives status made : ℕ) (taken : List ℕ) (state : State)
+    → cut_trace takes gives (trace (opening words options keys script files input own)) ≡ ends status taken made state
+    → cut_trace takes gives (trace_from words (Begins options keys script) files input own) ≡ ends status taken made (left_by state)
+session-cut words options keys script files input own takes gives status made taken state e =
+    let t : Trace State = trace (opening words options keys script files input own) in
     cut-map left_by t.made t.ended takes gives ∙ ap (map_outcome left_by) e
 
 failed-lets : (finish : Finish) (gives made all : ℕ) → LetsThrough finish gives made all → IsExitStatus finish → status_of finish ≡ 106 → gives ≡ made
@@ -110,29 +109,29 @@ other-lets Console gives made all h s = h
 other-lets Input gives made all h s = absurd (s refl)
 other-lets OutOfMemory gives made all h s = h
 
-opening-input : (keys : List Key) (options : Options) (files : List NamedBytes) (input : List ℕ) (own : List Note) → (opening keys options files input own).input ≡ input
-unfolding session_with beginning
-opening-input keys options files input own = refl
+opening-input : (words : List (List ℕ)) (options : Options) (keys : List Key) (script : Option (List ℕ)) (files : List NamedBytes) (input : List ℕ) (own : List Note) → (opening words options keys script files input own).input ≡ input
+unfolding session_with beginning_with
+opening-input words options keys script files input own = refl
 
-opening-reads : (keys : List Key) (options : Options) (files : List NamedBytes) (input : List ℕ) (own : List Note)
-    → reads_left (opening keys options files input own).open_ (opening keys options files input own).input ≡ length input + 1
-unfolding session_with beginning
-opening-reads keys options files input own = refl
+opening-reads : (words : List (List ℕ)) (options : Options) (keys : List Key) (script : Option (List ℕ)) (files : List NamedBytes) (input : List ℕ) (own : List Note)
+    → reads_left (opening words options keys script files input own).open_ (opening words options keys script files input own).input ≡ length input + 1
+unfolding session_with beginning_with
+opening-reads words options keys script files input own = refl
 
-pub session-outcome : (words : List (List ℕ)) (options : Options) (keys keys' : List Key) (input left before after : List ℕ) (files files' : List NamedBytes) (finish : Finish) (now : MachineState) (notes own : List Note) (used : ℕ)
-    → start_of (options_of words) words files notes ≡ (Begins options keys, used) → drop used notes ≡ own → IsExitStatus finish
-    → IsSession (opening keys options files input own) finish (seen keys' files' now) left before after → IsOutcome words input left before after files files' (status_of finish) (Some now) notes
-session-outcome words options keys keys' input left before after files files' finish now notes own used start rest small s =
+pub session-outcome : (words : List (List ℕ)) (options : Options) (keys keys' : List Key) (script : Option (List ℕ)) (input left before after : List ℕ) (files files' : List NamedBytes) (finish : Finish) (now : MachineState) (notes own : List Note) (used : ℕ)
+    → start_of (options_of words) words files notes ≡ (Begins options keys script, used) → drop used notes ≡ own → IsExitStatus finish
+    → IsSession (opening words options keys script files input own) finish (seen keys' files' now) left before after → IsOutcome words input left before after files files' (status_of finish) (Some now) notes
+session-outcome words options keys keys' script input left before after files files' finish now notes own used start rest small s =
     record {
       taken = s.end.taken;
       gives = s.gives;
       made = s.made;
       failed_read = failed-lets finish s.gives s.made _ s.lets_through small;
-      no_failed_read = λ other. other-lets finish s.gives s.made _ s.lets_through other ∙ opening-reads keys options files input own;
+      no_failed_read = λ other. other-lets finish s.gives s.made _ s.lets_through other ∙ opening-reads words options keys script files input own;
       written = s.end.written;
-      rest = s.rest ∙ ap (drop s.made) (opening-input keys options files input own);
-      is = outcome-start words input files notes (length s.end.taken) s.gives (Begins options keys) used own start rest
-          ∙ session-cut options keys files input own (length s.end.taken) s.gives (status_of finish) s.made s.end.taken (record { live = seen keys' files' now; notes = [] }) s.end.outcome;
+      rest = s.rest ∙ ap (drop s.made) (opening-input words options keys script files input own);
+      is = outcome-start words input files notes (length s.end.taken) s.gives (Begins options keys script) used own start rest
+          ∙ session-cut words options keys script files input own (length s.end.taken) s.gives (status_of finish) s.made s.end.taken (record { live = seen keys' files' now; notes = [] }) s.end.outcome;
     }
 
 -- ---- the laws, at the outcome

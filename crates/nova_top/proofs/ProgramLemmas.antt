@@ -1,10 +1,12 @@
 -- How the program starts and what its session comes to.
-use Rattle.std.proofs.Common.{◌≡◌, ◌≢◌, ◌⊎◌, inl, inr, ℕ, zero, suc, ◌+◌, ◌-◌, ◌^◌, ◌<◌, ◌≤◌, Bool, true, false, IsTrue, List, [], ◌∷◌, ◌++◌, length, drop, get_or, map, replicate, refl, ap, sym, ◌∙◌, subst, arith, append-nil, Option, Some, None, IfSome, IsSome, is_some, option_map, string_bytes, String, Global, Result, Ok, Err}
-use Rattle.std.proofs.lemmas.List.{get_or-map, length-map}
+use Rattle.std.proofs.Common.{◌≡◌, ◌≢◌, ◌⊎◌, inl, inr, ℕ, zero, suc, ◌<◌, ◌≤◌, Bool, true, false, IsTrue, List, [], ◌∷◌, ◌++◌, length, get_or, replicate, refl, ap, sym, ◌∙◌, subst, arith, append-nil, Option, Some, None, IfSome, is_some, string_bytes, String, Global, Result, Ok, Err}
+use Rattle.std.proofs.lemmas.List.{length-map}
 use Rattle.std.proofs.Math.Seq.{drop-append_seam, drop-length}
 use Rattle.std.proofs.lemmas.Bool.{eq-eqb}
 use Rattle.fault_counts.specs.Faults.{raised, Rose}
+use Rattle.host_files.specs.declared.streams.Failed.{Failed}
 use Rattle.host_files.specs.Lists.{NamedBytes}
+use Rattle.host_files.specs.Streams.{Puts}
 use Rattle.host_files.specs.State.{FileState, Opened}
 use Rattle.host_files.specs.declared.files.FileId.{FileId}
 use Rattle.unit_trait.specs.declared.kind.UnitName.{UnitName}
@@ -14,7 +16,7 @@ use Rattle.unit_files.specs.Open.{AllOpen, Around}
 use Rattle.fault_notes.specs.declared.note.FaultNote.{FaultNote}
 use Rattle.fault_notes.specs.Notes.{CommandNote, Note, numbered, Follow, notes_said}
 use Rattle.fault_notes.specs.Counts.{one_if, is_of, is_opening, noted, openings_noted, RoseBy, AreCounted}
-use Rattle.fault_notes.proofs.Adding.{counted-none, counted-both}
+use Rattle.fault_notes.proofs.Adding.{counted-both}
 use Rattle.expect_actions.specs.KeysFile.{Key}
 use Rattle.nova_machine.specs.Machine.{MachineState, new_machine, reset_machine, reset_devices}
 use Rattle.nova_machine.specs.Seen.{seen, erased, attached_in}
@@ -24,44 +26,19 @@ use Rattle.scp_script.specs.declared.progress.Finish.{Finish}
 use Rattle.scp_script.specs.declared.progress.Finish.TheVariants.{Exit, EndOfInput, Commands, Console, Input, OutOfMemory}
 use Rattle.scp_script.specs.Session.{Session}
 use Rattle.scp_script.specs.Loop.{IsExitStatus, FinishCause, AreKept, MayFollow, status_of}
-use Rattle.scp_script.specs.Perform.{beginning, IsSession, RunsShort, IsPerformed, Performed}
+use Rattle.scp_script.specs.declared.perform_session.Opening.{Opening}
+use Rattle.scp_script.specs.Perform.{beginning, beginning_with, IsSession, RunsShort, IsPerformed, Performed}
 use Rattle.nova_top.specs.declared.options.Options.{Options}
 use Rattle.nova_top.specs.Standard.{IsStandard, standard_units}
-use Rattle.nova_top.specs.Words.{options_of, keys_name, texts_of, KeysAreNamed}
-use Rattle.nova_top.specs.Outside.{Start, Begins, Refused, start_of, session_with, opening, whole_budget, usage_text, unopened_text, bad_keys_text}
-use Rattle.nova_top.specs.Ends.{IsOutcome, StopsInside, IsCutShort, StatusCause, NoneFailed, IsComplete, machine_left}
-use Rattle.nova_top.specs.declared.keys.Refusal.{Refusal}
-use Rattle.nova_top.specs.declared.keys.Refusal.TheVariants.{Unopened, BadKeys}
-use Rattle.nova_top.specs.declared.keys.Refusal.TheVariants as refusal
-use Rattle.nova_top.specs.Program.{StartsWith, TakesKeys, IsRefused, RefusedCause, KeysAreRefused, KeysRefusedCause}
+use Rattle.nova_top.specs.Words.{options_of, texts_of}
+use Rattle.nova_top.specs.Outside.{Denial, Begins, Refused, denied, start_of, session_with, opening, usage_text, unopened_text}
+use Rattle.nova_top.specs.Ends.{IsOutcome, IsCutShort, HasKeysFile, HasScript, StatusCause, NoneFailed, IsComplete}
+use Rattle.nova_top.specs.declared.word_files.Refusal.{Refusal}
+use Rattle.nova_top.specs.declared.word_files.Refusal.TheVariants.{Unopened, BadKeys}
+use Rattle.nova_top.specs.declared.word_files.Refusal.TheVariants as refusal
+use Rattle.nova_top.specs.Program.{StartsWith, RefusalCause, OpensAs, script_text, denial_of, IsRefused, RefusedCause, status_printed, IsDenied, DeniedCause}
+use Rattle.nova_top.proofs.WordFileLemmas.{name-at}
 use Rattle.nova_top.proofs.OutsideLemmas.{refused-outcome, session-outcome, complete}
-
--- ---- the start
-
--- without a keys file there are no keys, and no note is used
-pub no-keys : (words : List (List ℕ)) (options : Options) (files : List NamedBytes) → options.keys ≡ None → StartsWith words options files [] (Begins options [])
-no-keys words options files none more follow = rw none refl
-
--- the name of the keys file, by its place among the words
-pub name-is : (words : List (String Global)) (options : Options) (place : ℕ) (word : String Global) → options.keys ≡ Some place → place < length words → word ≡ get_or words place word
-    → keys_name (texts_of words) options ≡ Some (string_bytes word)
-name-is words options place word some within is =
-    ap (option_map (λ (p : ℕ). get_or (texts_of words) p [])) some
-    ∙ ap (λ (n : List ℕ). Some n) (get_or-map (λ (w : String Global). string_bytes w) words place word [] within ∙ ap (λ (w : String Global). string_bytes w) (sym is))
-
--- the place of the keys' word is that of a word
-pub named-within : (words : List (String Global)) (options : Options) (place : ℕ) → KeysAreNamed (texts_of words) options → options.keys ≡ Some place → place < length words
-named-within words options place named some =
-    let within = subst (λ (k : Option ℕ). IfSome k (λ (p : ℕ). p < length (texts_of words))) some named in
-    let many = length-map words (λ (w : String Global). string_bytes w) in
-    omega (arith, within, many)
-
--- two readings of that word are of one name
-pub same-name : (words : List (String Global)) (options : Options) (place : ℕ) (one other : String Global) → options.keys ≡ Some place → place < length words → one ≡ get_or words place one → other ≡ get_or words place other
-    → string_bytes one ≡ string_bytes other
-same-name words options place one other some within is is_too =
-    let both = sym (name-is words options place one some within is) ∙ name-is words options place other some within is_too in
-    cc
 
 -- ---- a new machine has no file
 
@@ -85,94 +62,44 @@ no-behind units live [] new come = refl
 no-behind units live (n ∷ behind) new come = absurd (no-closing units live n new come.0)
 
 -- so no closing comes behind its start, and the notes are those of its commands
-pub follows : (keys : List Key) (options : Options) (files : List NamedBytes) (input : List ℕ) (own : List Note)
-    → MayFollow (opening keys options files input []).spent (opening keys options files input []).live own → Follow 0 own
-unfolding session_with beginning
-follows keys options files input own h =
-    let none = no-behind standard_units (opening keys options files input []).live h.behind refl h.closings in
+pub follows : (words : List (List ℕ)) (options : Options) (keys : List Key) (script : Option (List ℕ)) (files : List NamedBytes) (input : List ℕ) (own : List Note)
+    → MayFollow (opening words options keys script files input []).spent (opening words options keys script files input []).live own → Follow 0 own
+unfolding session_with beginning_with
+follows words options keys script files input own h =
+    let none = no-behind standard_units (opening words options keys script files input []).live h.behind refl h.closings in
     subst (λ (n : List Note). Follow 0 n) (sym (h.are ∙ ap (λ (b : List CommandNote). numbered 0 b ++ h.later) none)) h.follows
-
--- ---- a session from where it begins
-
-same-start : (s : CommandState) (options : Options) (files : List NamedBytes) (input : List ℕ) (notes : List Note) → s.command ≡ 0 → s.limit ≡ options.limit
-    → beginning s files (record { prompt = options.prompt; budget = whole_budget }) input notes ≡ session_with s.machine s.keys options files input notes
-unfolding beginning session_with
-same-start s options files input notes command limit = λ i. record {
-  live = live_in s files;
-  notes = notes;
-  spent = command i;
-  limit = limit i;
-  budget = whole_budget;
-  prompt = options.prompt;
-  input = input;
-  open_ = true;
-}
-
--- what came of a session, seen as the program lets it go
-pub lines-told : (s t v : CommandState) (options : Options) (files files' : List NamedBytes) (input left before after : List ℕ) (finish : Finish) → s.command ≡ 0 → s.limit ≡ options.limit
-    → v ≡ t → t.keys ≡ s.keys
-    → Performed (λ (n : List Note). beginning s files (record { prompt = options.prompt; budget = whole_budget }) input n) finish (live_in t files') left before after (notes_said s.notes) (notes_said t.notes)
-    → Performed (λ (n : List Note). session_with s.machine s.keys options files input n) finish (seen s.keys files' v.machine) left before after (notes_said s.notes) (notes_said v.notes)
-lines-told s t v options files files' input left before after finish command limit view keys p =
-    let begun : (List Note → Session) → Type 0 = λ start. Performed start finish (live_in t files') left before after (notes_said s.notes) (notes_said t.notes) in
-    let start = subst begun (λ i (n : List Note). same-start s options files input n command limit i) p in
-    let left_off : CommandState → Type 0 =
-    λ u. Performed (λ (n : List Note). session_with s.machine s.keys options files input n) finish (live_in u files') left before after (notes_said s.notes) (notes_said u.notes) in
-    let seen_keys : List Key → Type 0 =
-    λ k. Performed (λ (n : List Note). session_with s.machine s.keys options files input n) finish (seen k files' v.machine) left before after (notes_said s.notes) (notes_said v.notes) in
-    subst seen_keys (ap (λ (u : CommandState). u.keys) view ∙ keys) (subst left_off (sym view) start)
 
 -- ---- what stands before the first line
 
--- A session that is begun: with a new machine, and with keys of which the notes so far are all that was used.
-pub record Begun (tells : Bool) (words : List (List ℕ)) (options : Options) (s : CommandState) (old new : FileState) : Type 0 where
+-- A session that is begun: with a new machine, with keys and a script of which the notes so far are all that was used, and
+-- opened as the words say.
+pub record Begun (tells : Bool) (words : List (List ℕ)) (options : Options) (s : CommandState) (o : Opening) (old new : FileState) : Type 0 where
   pub command : s.command ≡ 0
   pub limit : s.limit ≡ options.limit
   pub machine : s.machine ≡ new_machine standard_units
   pub open_ : AllOpen s.machine.slots new.opened
   pub around : Around s.machine.slots old.opened new.opened
   pub files : IsTrue tells → new.files ≡ old.files
-  pub starts : IsTrue tells → StartsWith words options old.files (notes_said s.notes) (Begins options s.keys)
+  pub opens : OpensAs words options o
+  pub starts : IsTrue tells → StartsWith words options old.files (notes_said s.notes) (Begins options s.keys (script_text o))
   pub keeps : AreKept [] s.notes old new
 
 -- a session as it was made
 pub record Made (units : List UnitState) (options : Options) (s : CommandState) : Type 0 where
   pub standard : IsStandard units
   pub machine : s.machine ≡ new_machine units
-  pub keys : s.keys ≡ []
   pub limit : s.limit ≡ options.limit
   pub notes : s.notes ≡ []
   pub command : s.command ≡ 0
   pub open_ : (opened : List Opened) → AllOpen s.machine.slots opened
   pub around : (opened : List Opened) → Around s.machine.slots opened opened
 
-starts-same : (words : List (List ℕ)) (options : Options) (files : List NamedBytes) (notes notes' : List FaultNote) (keys keys' : List Key) → notes ≡ notes' → keys ≡ keys'
-    → StartsWith words options files (notes_said notes) (Begins options keys) → StartsWith words options files (notes_said notes') (Begins options keys')
-starts-same words options files notes notes' keys keys' same_notes same_keys h =
-    let by_keys : List Key → Type 0 = λ k. StartsWith words options files (notes_said notes') (Begins options k) in
-    let by_notes : List FaultNote → Type 0 = λ n. StartsWith words options files (notes_said n) (Begins options keys) in
-    subst by_keys same_keys (subst by_notes same_notes h)
-
--- without a keys file
-pub begun-bare : (tells : Bool) (words : List (List ℕ)) (options : Options) (units : List UnitState) (s : CommandState) (old : FileState) → Made units options s → options.keys ≡ None
-    → Begun tells words options s old old
-begun-bare tells words options units s old made none = record {
-  command = made.command;
-  limit = made.limit;
-  machine = made.machine ∙ ap new_machine made.standard;
-  open_ = made.open_ old.opened;
-  around = made.around old.opened;
-  files = λ _. refl;
-  starts = λ _. starts-same words options old.files [] s.notes [] s.keys (sym made.notes) (sym made.keys) (no-keys words options old.files none);
-  keeps = record { kept = []; added = made.notes; counted = counted-none old };
-}
-
--- with the keys of a keys file
-pub begun-keys : (tells : Bool) (words : List (List ℕ)) (options : Options) (units : List UnitState) (i s : CommandState) (keys : List Key) (notes : List FaultNote) (spare : ℕ) (old new : FileState)
-    → Made units options s → i ≡ s → (IsTrue tells → StartsWith words options old.files (notes_said notes) (Begins options keys)) → (IsTrue tells → new.files ≡ old.files) → new.opened ≡ old.opened
-    → AreKept i.notes notes old new
-    → Begun tells words options (record { machine = i.machine; keys = keys; limit = i.limit; notes = notes; command = i.command; spare = spare }) old new
-begun-keys tells words options units i s keys notes spare old new made same starts files opened keeps =
+-- with what the files of the words say
+pub begun-files : (tells : Bool) (words : List (List ℕ)) (options : Options) (units : List UnitState) (i s : CommandState) (keys : List Key) (o : Opening) (notes : List FaultNote) (spare : ℕ) (old new : FileState)
+    → Made units options s → i ≡ s → (IsTrue tells → StartsWith words options old.files (notes_said notes) (Begins options keys (script_text o))) → OpensAs words options o
+    → (IsTrue tells → new.files ≡ old.files) → new.opened ≡ old.opened → AreKept [] notes old new
+    → Begun tells words options (record { machine = i.machine; keys = keys; limit = i.limit; notes = notes; command = i.command; spare = spare }) o old new
+begun-files tells words options units i s keys o notes spare old new made same starts opens files opened keeps =
     let slots = sym (ap (λ (u : CommandState). u.machine.slots) same) in
     record {
       command = ap (λ (u : CommandState). u.command) same ∙ made.command;
@@ -181,16 +108,38 @@ begun-keys tells words options units i s keys notes spare old new made same star
       open_ = subst (λ (h : List (Option Held)). AllOpen h new.opened) slots (made.open_ new.opened);
       around = subst (λ (h : List (Option Held)). Around h old.opened new.opened) slots (subst (λ (o : List Opened). Around s.machine.slots old.opened o) (sym opened) (made.around old.opened));
       files = files;
+      opens = opens;
       starts = starts;
-      keeps = subst (λ (n : List FaultNote). AreKept n notes old new) (ap (λ (u : CommandState). u.notes) same ∙ made.notes) keeps;
+      keeps = keeps;
     }
 
--- the same, of what stands where the branches join
-pub begun-along : (tells : Bool) (words : List (List ℕ)) (options : Options) (s v : CommandState) (old m n : FileState) → s ≡ v → m ≡ n → Begun tells words options v old n → Begun tells words options s old m
-begun-along tells words options s v old m n same_session same_files b =
-    let by_session : CommandState → Type 0 = λ u. Begun tells words options u old m in
-    let by_files : FileState → Type 0 = λ f. Begun tells words options v old f in
-    subst by_session (sym same_session) (subst by_files (sym same_files) b)
+-- ---- a session from where it begins
+
+same-start : (tells : Bool) (words : List (List ℕ)) (options : Options) (s : CommandState) (o : Opening) (old mid : FileState) (input : List ℕ) (notes : List Note)
+    → Begun tells words options s o old mid → IsTrue tells → beginning s mid.files o input notes ≡ opening words options s.keys (script_text o) old.files input notes
+unfolding beginning beginning_with session_with
+same-start tells words options s o old mid input notes begun told = λ i. record {
+  live = record { machine = erased (begun.machine i); keys = s.keys; files = begun.files told i };
+  notes = notes;
+  spent = begun.command i;
+  limit = begun.limit i;
+  budget = begun.opens.budget i;
+  scripts = begun.opens.scripts i;
+  prompt = begun.opens.prompt i;
+  input = input;
+  open_ = true;
+}
+
+-- what came of a session, seen as the program lets it go
+pub lines-told : (s t v : CommandState) (o : Opening) (files files' : List NamedBytes) (input left before after : List ℕ) (finish : Finish) → v ≡ t → t.keys ≡ s.keys
+    → Performed (λ (n : List Note). beginning s files o input n) finish (live_in t files') left before after (notes_said s.notes) (notes_said t.notes)
+    → Performed (λ (n : List Note). beginning s files o input n) finish (seen s.keys files' v.machine) left before after (notes_said s.notes) (notes_said v.notes)
+lines-told s t v o files files' input left before after finish view keys p =
+    let left_off : CommandState → Type 0 =
+    λ u. Performed (λ (n : List Note). beginning s files o input n) finish (live_in u files') left before after (notes_said s.notes) (notes_said u.notes) in
+    let seen_keys : List Key → Type 0 =
+    λ k. Performed (λ (n : List Note). beginning s files o input n) finish (seen k files' v.machine) left before after (notes_said s.notes) (notes_said v.notes) in
+    subst seen_keys (ap (λ (u : CommandState). u.keys) view ∙ keys) (subst left_off (sym view) p)
 
 -- ---- what the session comes to
 
@@ -213,70 +162,68 @@ performed-short start Input live left before after small s h = absurd (omega (ar
 performed-short start OutOfMemory live left before after small s h = h
 
 -- the session that was begun is the one that the definition opens
-at-opening : (tells : Bool) (words : List (List ℕ)) (options : Options) (s : CommandState) (old mid : FileState) (input left before after : List ℕ) (finish : Finish) (live : Live) (notes' : List Note)
-    → Begun tells words options s old mid → IsTrue tells
-    → Performed (λ (n : List Note). session_with s.machine s.keys options mid.files input n) finish live left before after (notes_said s.notes) notes'
-    → Performed (λ (n : List Note). opening s.keys options old.files input n) finish live left before after (notes_said s.notes) notes'
-at-opening tells words options s old mid input left before after finish live notes' begun told p =
-    let by_machine : MachineState → Type 0 =
-    λ m. Performed (λ (n : List Note). session_with m s.keys options old.files input n) finish live left before after (notes_said s.notes) notes' in
-    let by_files : List NamedBytes → Type 0 =
-    λ f. Performed (λ (n : List Note). session_with s.machine s.keys options f input n) finish live left before after (notes_said s.notes) notes' in
-    subst by_machine begun.machine (subst by_files (begun.files told) p)
+at-opening : (tells : Bool) (words : List (List ℕ)) (options : Options) (s : CommandState) (o : Opening) (old mid : FileState) (input left before after : List ℕ) (finish : Finish) (live : Live) (notes' : List Note)
+    → Begun tells words options s o old mid → IsTrue tells
+    → Performed (λ (n : List Note). beginning s mid.files o input n) finish live left before after (notes_said s.notes) notes'
+    → Performed (λ (n : List Note). opening words options s.keys (script_text o) old.files input n) finish live left before after (notes_said s.notes) notes'
+at-opening tells words options s o old mid input left before after finish live notes' begun told p =
+    let by_start : (List Note → Session) → Type 0 = λ start. Performed start finish live left before after (notes_said s.notes) notes' in
+    subst by_start (λ i (n : List Note). same-start tells words options s o old mid input n begun told i) p
 
-pub performed-outcome : (tells : Bool) (words : List (List ℕ)) (options : Options) (s : CommandState) (old mid : FileState) (files' : List NamedBytes) (input left before after : List ℕ) (finish : Finish) (now : MachineState) (notes' : List Note)
-    → options_of words ≡ Some options → Begun tells words options s old mid → IsTrue tells → IsExitStatus finish → status_of finish ≢ 103
-    → Performed (λ (n : List Note). session_with s.machine s.keys options mid.files input n) finish (seen s.keys files' now) left before after (notes_said s.notes) notes'
+pub performed-outcome : (tells : Bool) (words : List (List ℕ)) (options : Options) (s : CommandState) (o : Opening) (old mid : FileState) (files' : List NamedBytes) (input left before after : List ℕ) (finish : Finish) (now : MachineState) (notes' : List Note)
+    → options_of words ≡ Some options → Begun tells words options s o old mid → IsTrue tells → IsExitStatus finish → status_of finish ≢ 103
+    → Performed (λ (n : List Note). beginning s mid.files o input n) finish (seen s.keys files' now) left before after (notes_said s.notes) notes'
     → IsOutcome words input left before after old.files files' (status_of finish) (Some now) notes'
-performed-outcome tells words options s old mid files' input left before after finish now notes' chosen begun told small other performed =
-    let p = at-opening tells words options s old mid input left before after finish (seen s.keys files' now) notes' begun told performed in
-    let follow = follows s.keys options old.files input p.own p.first in
-    let start = ap (λ (o : Option Options). start_of o words old.files (notes_said s.notes ++ p.own)) chosen ∙ begun.starts told p.own follow in
-    let session = performed-session (opening s.keys options old.files input p.own) finish (seen s.keys files' now) left before after other p.is in
+performed-outcome tells words options s o old mid files' input left before after finish now notes' chosen begun told small other performed =
+    let p = at-opening tells words options s o old mid input left before after finish (seen s.keys files' now) notes' begun told performed in
+    let follow = follows words options s.keys (script_text o) old.files input p.own p.first in
+    let start = ap (λ (c : Option Options). start_of c words old.files (notes_said s.notes ++ p.own)) chosen ∙ begun.starts told p.own follow in
+    let session = performed-session (opening words options s.keys (script_text o) old.files input p.own) finish (seen s.keys files' now) left before after other p.is in
     subst (λ (n : List Note). IsOutcome words input left before after old.files files' (status_of finish) (Some now) n) (sym p.kept)
-    (session-outcome words options s.keys s.keys input left before after old.files files' finish now (notes_said s.notes ++ p.own) p.own (length (notes_said s.notes)) start
+    (session-outcome words options s.keys s.keys (script_text o) input left before after old.files files' finish now (notes_said s.notes ++ p.own) p.own (length (notes_said s.notes)) start
     (drop-append_seam (notes_said s.notes) p.own) small session)
 
-pub performed-cut : (tells : Bool) (words : List (List ℕ)) (options : Options) (s : CommandState) (old mid : FileState) (files' : List NamedBytes) (input left before after : List ℕ) (finish : Finish) (now : MachineState) (notes' : List Note)
-    → options_of words ≡ Some options → Begun tells words options s old mid → IsTrue tells → IsExitStatus finish → status_of finish ≡ 103
-    → Performed (λ (n : List Note). session_with s.machine s.keys options mid.files input n) finish (seen s.keys files' now) left before after (notes_said s.notes) notes'
+pub performed-cut : (tells : Bool) (words : List (List ℕ)) (options : Options) (s : CommandState) (o : Opening) (old mid : FileState) (files' : List NamedBytes) (input left before after : List ℕ) (finish : Finish) (now : MachineState) (notes' : List Note)
+    → options_of words ≡ Some options → Begun tells words options s o old mid → IsTrue tells → IsExitStatus finish → status_of finish ≡ 103
+    → Performed (λ (n : List Note). beginning s mid.files o input n) finish (seen s.keys files' now) left before after (notes_said s.notes) notes'
     → IsCutShort words input left before after old.files files' (Some now) notes'
-performed-cut tells words options s old mid files' input left before after finish now notes' chosen begun told small memory performed =
-    let p = at-opening tells words options s old mid input left before after finish (seen s.keys files' now) notes' begun told performed in
-    let follow = follows s.keys options old.files input p.own p.first in
-    let short = performed-short (opening s.keys options old.files input p.own) finish (seen s.keys files' now) left before after small memory p.is in
+performed-cut tells words options s o old mid files' input left before after finish now notes' chosen begun told small memory performed =
+    let p = at-opening tells words options s o old mid input left before after finish (seen s.keys files' now) notes' begun told performed in
+    let follow = follows words options s.keys (script_text o) old.files input p.own p.first in
+    let short = performed-short (opening words options s.keys (script_text o) old.files input p.own) finish (seen s.keys files' now) left before after small memory p.is in
     subst (λ (n : List Note). IsCutShort words input left before after old.files files' (Some now) n) (sym p.kept)
     (record {
       options = options;
       words_are = chosen;
       cut = inr (record {
         keys = s.keys;
+        script = script_text o;
         used = length (notes_said s.notes);
         starts = begun.starts told p.own follow;
         live = seen s.keys files' now;
         machine_is = refl;
         files_are = refl;
-        short = subst (λ (n : List Note). RunsShort (opening s.keys options old.files input n) (seen s.keys files' now) left before after) (sym (drop-append_seam (notes_said s.notes) p.own)) short;
+        short = subst (λ (n : List Note). RunsShort (opening words options s.keys (script_text o) old.files input n) (seen s.keys files' now) left before after) (sym (drop-append_seam (notes_said s.notes) p.own)) short;
       });
     })
 
 -- the same at the names of the code
-pub session-answer : (tells : Bool) (words : List (List ℕ)) (options : Options) (s : CommandState) (old mid : FileState) (files' : List NamedBytes) (input left before after : List ℕ) (finish : Finish) (now : MachineState) (status : ℕ) (machine : Option MachineState) (notes' : List Note)
-    → options_of words ≡ Some options → Begun tells words options s old mid → IsTrue tells → IsExitStatus finish → status ≡ status_of finish → machine ≡ Some now → status ≢ 103
-    → Performed (λ (n : List Note). session_with s.machine s.keys options mid.files input n) finish (seen s.keys files' now) left before after (notes_said s.notes) notes'
+pub session-answer : (tells : Bool) (words : List (List ℕ)) (options : Options) (s : CommandState) (o : Opening) (old mid : FileState) (files' : List NamedBytes) (input left before after : List ℕ) (finish : Finish) (now : MachineState) (status : ℕ) (machine : Option MachineState) (notes' : List Note)
+    → options_of words ≡ Some options → Begun tells words options s o old mid → IsTrue tells → IsExitStatus finish → status ≡ status_of finish → machine ≡ Some now → status ≢ 103
+    → Performed (λ (n : List Note). beginning s mid.files o input n) finish (seen s.keys files' now) left before after (notes_said s.notes) notes'
     → IsOutcome words input left before after old.files files' status machine notes'
-session-answer tells words options s old mid files' input left before after finish now status machine notes' chosen begun told small is there other performed =
+session-answer tells words options s o old mid files' input left before after finish now status machine notes' chosen begun told small is there other performed =
     subst (λ (m : Option MachineState). IsOutcome words input left before after old.files files' status m notes') (sym there)
     (subst (λ (n : ℕ). IsOutcome words input left before after old.files files' n (Some now) notes') (sym is)
-    (performed-outcome tells words options s old mid files' input left before after finish now notes' chosen begun told small (λ e. other (is ∙ e)) performed))
+    (performed-outcome tells words options s o old mid files' input left before after finish now notes' chosen begun told small (λ e. other (is ∙ e)) performed))
 
-pub memory-answer : (tells : Bool) (words : List (List ℕ)) (options : Options) (s : CommandState) (old mid : FileState) (files' : List NamedBytes) (input left before after : List ℕ) (finish : Finish) (now : MachineState) (status : ℕ) (machine : Option MachineState) (notes' : List Note)
-    → options_of words ≡ Some options → Begun tells words options s old mid → IsTrue tells → IsExitStatus finish → status ≡ status_of finish → machine ≡ Some now → status ≡ 103
-    → Performed (λ (n : List Note). session_with s.machine s.keys options mid.files input n) finish (seen s.keys files' now) left before after (notes_said s.notes) notes'
+pub memory-answer : (tells : Bool) (words : List (List ℕ)) (options : Options) (s : CommandState) (o : Opening) (old mid : FileState) (files' : List NamedBytes) (input left before after : List ℕ) (finish : Finish) (now : MachineState) (status : ℕ) (machine : Option MachineState) (notes' : List Note)
+    → options_of words ≡ Some options → Begun tells words options s o old mid → IsTrue tells → IsExitStatus finish → status ≡ status_of finish → machine ≡ Some now → status ≡ 103
+    → Performed (λ (n : List Note). beginning s mid.files o input n) finish (seen s.keys files' now) left before after (notes_said s.notes) notes'
     → IsCutShort words input left before after old.files files' machine notes'
-memory-answer tells words options s old mid files' input left before after finish now status machine notes' chosen begun told small is there memory performed =
+memory-answer tells words options s o old mid files' input left before after finish now status machine notes' chosen begun told small is there memory performed =
     subst (λ (m : Option MachineState). IsCutShort words input left before after old.files files' m notes') (sym there)
-    (performed-cut tells words options s old mid files' input left before after finish now notes' chosen begun told small (sym is ∙ memory) performed)
+    (performed-cut tells words options s o old mid files' input left before after finish now notes' chosen begun told small (sym is ∙ memory) performed)
 
 -- ---- causes
 
@@ -290,7 +237,8 @@ finish-cause : (words : List (List ℕ)) (options : Options) (finish : Finish) (
 finish-cause words options (Exit status) sink sink_now source source_now chosen c = record {
   usage = λ s. absurd (omega (arith, c.exit, s));
   bad_words = λ none. absurd (let both = sym chosen ∙ none in cc);
-  keys_file = λ s. absurd (elim s [ inl a ↦ omega (arith, c.exit, a) | inr b ↦ omega (arith, c.exit, b) ]);
+  unopened = λ s. absurd (omega (arith, c.exit, s));
+  bad_keys = λ s. absurd (omega (arith, c.exit, s));
   console = λ s. absurd (omega (arith, c.exit, s));
   input = λ s. absurd (omega (arith, c.exit, s));
   console_only = λ _. c.console_only (λ e. cc);
@@ -300,7 +248,8 @@ finish-cause words options (Exit status) sink sink_now source source_now chosen 
 finish-cause words options EndOfInput sink sink_now source source_now chosen c = record {
   usage = λ s. absurd (omega (arith, s));
   bad_words = λ none. absurd (let both = sym chosen ∙ none in cc);
-  keys_file = λ s. absurd (elim s [ inl a ↦ omega (arith, a) | inr b ↦ omega (arith, b) ]);
+  unopened = λ s. absurd (omega (arith, s));
+  bad_keys = λ s. absurd (omega (arith, s));
   console = λ s. absurd (omega (arith, s));
   input = λ s. absurd (omega (arith, s));
   console_only = λ _. c.console_only (λ e. cc);
@@ -310,7 +259,8 @@ finish-cause words options EndOfInput sink sink_now source source_now chosen c =
 finish-cause words options Commands sink sink_now source source_now chosen c = record {
   usage = λ s. absurd (omega (arith, s));
   bad_words = λ none. absurd (let both = sym chosen ∙ none in cc);
-  keys_file = λ s. absurd (elim s [ inl a ↦ omega (arith, a) | inr b ↦ omega (arith, b) ]);
+  unopened = λ s. absurd (omega (arith, s));
+  bad_keys = λ s. absurd (omega (arith, s));
   console = λ s. absurd (omega (arith, s));
   input = λ s. absurd (omega (arith, s));
   console_only = λ _. c.console_only (λ e. cc);
@@ -320,7 +270,8 @@ finish-cause words options Commands sink sink_now source source_now chosen c = r
 finish-cause words options Console sink sink_now source source_now chosen c = record {
   usage = λ s. absurd (omega (arith, s));
   bad_words = λ none. absurd (let both = sym chosen ∙ none in cc);
-  keys_file = λ s. absurd (elim s [ inl a ↦ omega (arith, a) | inr b ↦ omega (arith, b) ]);
+  unopened = λ s. absurd (omega (arith, s));
+  bad_keys = λ s. absurd (omega (arith, s));
   console = λ _. c.console refl;
   input = λ s. absurd (omega (arith, s));
   console_only = λ s. absurd (s refl);
@@ -330,7 +281,8 @@ finish-cause words options Console sink sink_now source source_now chosen c = re
 finish-cause words options Input sink sink_now source source_now chosen c = record {
   usage = λ s. absurd (omega (arith, s));
   bad_words = λ none. absurd (let both = sym chosen ∙ none in cc);
-  keys_file = λ s. absurd (elim s [ inl a ↦ omega (arith, a) | inr b ↦ omega (arith, b) ]);
+  unopened = λ s. absurd (omega (arith, s));
+  bad_keys = λ s. absurd (omega (arith, s));
   console = λ s. absurd (omega (arith, s));
   input = λ _. c.input refl;
   console_only = λ _. c.console_only (λ e. cc);
@@ -340,7 +292,8 @@ finish-cause words options Input sink sink_now source source_now chosen c = reco
 finish-cause words options OutOfMemory sink sink_now source source_now chosen c = record {
   usage = λ s. absurd (omega (arith, s));
   bad_words = λ none. absurd (let both = sym chosen ∙ none in cc);
-  keys_file = λ s. absurd (elim s [ inl a ↦ omega (arith, a) | inr b ↦ omega (arith, b) ]);
+  unopened = λ s. absurd (omega (arith, s));
+  bad_keys = λ s. absurd (omega (arith, s));
   console = λ s. absurd (omega (arith, s));
   input = λ s. absurd (omega (arith, s));
   console_only = λ _. c.console_only (λ e. cc);
@@ -358,7 +311,7 @@ pub refused-status : (there status sink sink_now : ℕ) → RefusedCause there s
 refused-status there status sink sink_now (inl h) a = h.0
 refused-status there status sink sink_now (inr h) a = absurd (a (rose sink sink_now h.1))
 
--- ---- a keys file that is refused
+-- ---- a file that is refused
 
 refused-at : (words : List (List ℕ)) (options : Options) (input before after : List ℕ) (files files' : List NamedBytes) (status_there status : ℕ) (text : List ℕ) (machine : Option MachineState) (kept : List Note)
     → options_of words ≡ Some options → StartsWith words options files kept (Refused status_there text) → machine ≡ None → files' ≡ files → status_there ≢ 106
@@ -368,28 +321,100 @@ refused-at words options input before after files files' status_there status tex
     ∙ ap (λ (n : List Note). start_of (Some options) words files n) (sym (append-nil kept)) ∙ starts [] tt in
     refused-outcome words input before after files files' status_there status text machine kept (length kept) start (drop-length kept) none same other refused
 
-keys-refused : (words : List (List ℕ)) (options : Options) (name input before after : List ℕ) (files files' : List NamedBytes) (refusal : Refusal) (status : ℕ) (machine : Option MachineState) (kept : List Note)
-    → options_of words ≡ Some options → TakesKeys words options name files kept (Err refusal) → machine ≡ None → files' ≡ files → status ≢ 103
-    → KeysAreRefused name refusal status before after → IsOutcome words input input before after files files' status machine kept
-keys-refused words options name input before after files files' Unopened status machine kept chosen takes none same other refused =
-    refused-at words options input before after files files' 101 status (unopened_text name) machine kept chosen takes none same (λ e. omega (arith, e)) refused
-keys-refused words options name input before after files files' (BadKeys place) status machine kept chosen takes none same other refused =
-    refused-at words options input before after files files' 105 status (bad_keys_text place) machine kept chosen takes none same (λ e. omega (arith, e)) refused
-keys-refused words options name input before after files files' refusal.OutOfMemory status machine kept chosen takes none same other refused = absurd (other refused.0)
+-- the text of a file that was not read, as the code prints it
+refused-by : {T : Type 0} (result : Result T Failed) (there : ℕ) (text : List ℕ) (status : ℕ) (before after : List ℕ) → Puts before text result after → status ≡ status_printed result there → IsRefused there text status before after
+refused-by (Ok value) there text status before after puts is = inl (is, puts)
+refused-by (Err failed) there text status before after puts is = inr (is, puts)
 
-pub keys-status : (refusal : Refusal) (status sink sink_now : ℕ) → KeysRefusedCause refusal status sink sink_now → (Rose sink sink_now → ⊥) → (status ≢ 102) × (status ≢ 106)
-keys-status Unopened status sink sink_now cause quiet = let is = refused-status 101 status sink sink_now cause quiet in (λ s. omega (arith, is, s), λ s. omega (arith, is, s))
-keys-status (BadKeys place) status sink sink_now cause quiet = let is = refused-status 105 status sink sink_now cause quiet in (λ s. omega (arith, is, s), λ s. omega (arith, is, s))
-keys-status refusal.OutOfMemory status sink sink_now cause quiet = let is = cause.0 in (λ s. omega (arith, is, s), λ s. omega (arith, is, s))
+place-there : (words : List (List ℕ)) (options : Options) (refusal : Refusal) (place : ℕ) → RefusalCause words options refusal → refusal ≡ Unopened place → place < length words
+place-there words options refusal place cause is = (subst (λ (r : Refusal). RefusalCause words options r) is cause).0
+
+pub unopened-denied : {T : Type 0} (words : List (String Global)) (options : Options) (refusal : Refusal) (place : ℕ) (word : String Global) (result : Result T Failed) (status : ℕ) (before after : List ℕ)
+    → RefusalCause (texts_of words) options refusal → refusal ≡ Unopened place → word ≡ get_or words place word → Puts before (unopened_text (string_bytes word)) result after → status ≡ status_printed result 101
+    → IsDenied (denial_of (texts_of words) refusal) status before after
+unopened-denied words options refusal place word result status before after cause refused is puts printed =
+    let many = length-map words (λ (w : String Global). string_bytes w) in
+    let there = place-there (texts_of words) options refusal place cause refused in
+    let within : place < length words = omega (arith, many, there) in
+    let name = name-at words place word within is in
+    subst (λ (r : Refusal). IsDenied (denial_of (texts_of words) r) status before after) (sym refused)
+    (subst (λ (n : List ℕ). IsRefused 101 (unopened_text n) status before after) (sym name) (refused-by result 101 (unopened_text (string_bytes word)) status before after puts printed))
+
+files-refused : (words : List (List ℕ)) (options : Options) (input before after : List ℕ) (files files' : List NamedBytes) (refusal : Refusal) (status : ℕ) (machine : Option MachineState) (kept : List Note)
+    → options_of words ≡ Some options → IfSome (denial_of words refusal) (λ (d : Denial). StartsWith words options files kept (denied d)) → machine ≡ None → files' ≡ files → status ≢ 103
+    → IsDenied (denial_of words refusal) status before after → IsOutcome words input input before after files files' status machine kept
+files-refused words options input before after files files' (Unopened place) status machine kept chosen starts none same other refused =
+    refused-at words options input before after files files' 101 status _ machine kept chosen starts none same (λ e. omega (arith, e)) refused
+files-refused words options input before after files files' (BadKeys place) status machine kept chosen starts none same other refused =
+    refused-at words options input before after files files' 105 status _ machine kept chosen starts none same (λ e. omega (arith, e)) refused
+files-refused words options input before after files files' refusal.OutOfMemory status machine kept chosen starts none same other refused = absurd (other refused.0)
+
+pub files-status : (words : List (List ℕ)) (refusal : Refusal) (status sink sink_now : ℕ) → DeniedCause (denial_of words refusal) status sink sink_now → (Rose sink sink_now → ⊥) → (status ≢ 102) × (status ≢ 106)
+files-status words (Unopened place) status sink sink_now cause quiet = let is = refused-status 101 status sink sink_now cause quiet in (λ s. omega (arith, is, s), λ s. omega (arith, is, s))
+files-status words (BadKeys place) status sink sink_now cause quiet = let is = refused-status 105 status sink sink_now cause quiet in (λ s. omega (arith, is, s), λ s. omega (arith, is, s))
+files-status words refusal.OutOfMemory status sink sink_now cause quiet = let is = cause.0 in (λ s. omega (arith, is, s), λ s. omega (arith, is, s))
 
 -- the same at the names of the code
-pub keys-answer : (words : List (List ℕ)) (options : Options) (name name' input before after : List ℕ) (files files' : List NamedBytes) (refusal : Refusal) (status : ℕ) (machine : Option MachineState) (items items' : List FaultNote)
-    → options_of words ≡ Some options → TakesKeys words options name files (notes_said items) (Err refusal) → machine ≡ None → files' ≡ files → status ≢ 103
-    → KeysAreRefused name' refusal status before after → name' ≡ name → items' ≡ items → IsOutcome words input input before after files files' status machine (notes_said items')
-keys-answer words options name name' input before after files files' refusal status machine items items' chosen takes none same other refused same_name same_items =
+pub files-answer : (words : List (List ℕ)) (options : Options) (input before after : List ℕ) (files files' : List NamedBytes) (refusal : Refusal) (status : ℕ) (machine : Option MachineState) (items items' : List FaultNote)
+    → options_of words ≡ Some options → IfSome (denial_of words refusal) (λ (d : Denial). StartsWith words options files (notes_said items) (denied d)) → machine ≡ None → files' ≡ files → status ≢ 103
+    → IsDenied (denial_of words refusal) status before after → items' ≡ items → IsOutcome words input input before after files files' status machine (notes_said items')
+files-answer words options input before after files files' refusal status machine items items' chosen starts none same other refused same_items =
     subst (λ (l : List FaultNote). IsOutcome words input input before after files files' status machine (notes_said l)) (sym same_items)
-    (keys-refused words options name input before after files files' refusal status machine (notes_said items) chosen takes none same other
-    (subst (λ (n : List ℕ). KeysAreRefused n refusal status before after) same_name refused))
+    (files-refused words options input before after files files' refusal status machine (notes_said items) chosen starts none same other refused)
+
+-- whose fault it was
+denied-cause : (words : List (List ℕ)) (there status sink sink_now source : ℕ) → (there ≡ 101) ⊎ (there ≡ 105) → (there ≡ 101 → HasKeysFile words ⊎ HasScript words) → (there ≡ 105 → HasKeysFile words)
+    → (options_of words ≡ None → ⊥) → RefusedCause there status sink sink_now → StatusCause words status sink sink_now source source
+denied-cause words there status sink sink_now source which unopened bad_keys chosen (inl h) = record {
+  usage = λ s. absurd (elim which [ inl a ↦ omega (arith, a, s, h.0) | inr b ↦ omega (arith, b, s, h.0) ]);
+  bad_words = λ none. absurd (chosen none);
+  unopened = λ s. unopened (sym h.0 ∙ s);
+  bad_keys = λ s. bad_keys (sym h.0 ∙ s);
+  console = λ s. absurd (elim which [ inl a ↦ omega (arith, a, s, h.0) | inr b ↦ omega (arith, b, s, h.0) ]);
+  input = λ s. absurd (elim which [ inl a ↦ omega (arith, a, s, h.0) | inr b ↦ omega (arith, b, s, h.0) ]);
+  console_only = λ _. h.1;
+  input_only = λ _. refl;
+  listed = elim which [ inl a ↦ inr (inr (inl (h.0 ∙ a))) | inr b ↦ inr (inr (inr (inr (inr (inr (inl (h.0 ∙ b))))))) ];
+}
+denied-cause words there status sink sink_now source which unopened bad_keys chosen (inr h) = record {
+  usage = λ s. absurd (omega (arith, s, h.0));
+  bad_words = λ none. absurd (chosen none);
+  unopened = λ s. absurd (omega (arith, s, h.0));
+  bad_keys = λ s. absurd (omega (arith, s, h.0));
+  console = λ _. h.1;
+  input = λ s. absurd (omega (arith, s, h.0));
+  console_only = λ s. absurd (s h.0);
+  input_only = λ _. refl;
+  listed = inr (inr (inr (inl h.0)));
+}
+
+no-cause : (words : List (List ℕ)) (status sink sink_now source : ℕ) → (options_of words ≡ None → ⊥) → (status ≡ 103) × (sink_now ≡ sink) → StatusCause words status sink sink_now source source
+no-cause words status sink sink_now source chosen h = record {
+  usage = λ s. absurd (omega (arith, s, h.0));
+  bad_words = λ none. absurd (chosen none);
+  unopened = λ s. absurd (omega (arith, s, h.0));
+  bad_keys = λ s. absurd (omega (arith, s, h.0));
+  console = λ s. absurd (omega (arith, s, h.0));
+  input = λ s. absurd (omega (arith, s, h.0));
+  console_only = λ _. h.1;
+  input_only = λ _. refl;
+  listed = inr (inr (inr (inr (inl h.0))));
+}
+
+pub files-cause : (words : List (List ℕ)) (options : Options) (refusal : Refusal) (status sink sink_now source : ℕ) → options_of words ≡ Some options → RefusalCause words options refusal
+    → DeniedCause (denial_of words refusal) status sink sink_now → StatusCause words status sink sink_now source source
+files-cause words options (Unopened place) status sink sink_now source chosen cause denied =
+    denied-cause words 101 status sink sink_now source (inl refl)
+    (λ _. elim cause.1 [
+      | inl k ↦ inl (record { options = options; words_are = chosen; named = k })
+      | inr k ↦ inr (record { options = options; words_are = chosen; named = k })
+    ])
+    (λ e. absurd (omega (arith, e))) (λ none. let both = sym chosen ∙ none in cc) denied
+files-cause words options (BadKeys place) status sink sink_now source chosen cause denied =
+    denied-cause words 105 status sink sink_now source (inr refl) (λ e. absurd (omega (arith, e))) (λ _. record { options = options; words_are = chosen; named = cause })
+    (λ none. let both = sym chosen ∙ none in cc) denied
+files-cause words options refusal.OutOfMemory status sink sink_now source chosen cause denied =
+    no-cause words status sink sink_now source (λ none. let both = sym chosen ∙ none in cc) denied
 
 -- words outside their grammar
 pub usage-answer : (words : List (List ℕ)) (input before after : List ℕ) (files : List NamedBytes) (status : ℕ) (machine : Option MachineState) (items : List FaultNote) → options_of words ≡ None → machine ≡ None → items ≡ []
@@ -422,7 +447,7 @@ kept-counted notes items old mid new first second =
     let all = counted-both first.kept second.kept old mid new first.counted second.counted in
     subst (λ (l : List FaultNote). AreCounted l old new) (sym (second.added ∙ ap (λ (l : List FaultNote). l ++ second.kept) first.added)) all
 
--- those of a keys file that was refused
+-- those of a file that was refused
 pub refused-counted : (before notes items : List FaultNote) (old new : FileState) → before ≡ [] → items ≡ notes → AreKept before notes old new → AreCounted items old new
 refused-counted before notes items old new none same kept =
     subst (λ (l : List FaultNote). AreCounted l old new) (sym (same ∙ kept.added ∙ ap (λ (l : List FaultNote). l ++ kept.kept) none)) kept.counted

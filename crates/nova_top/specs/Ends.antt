@@ -15,7 +15,7 @@ use Rattle.scp_commands.specs.Live.{Live}
 use Rattle.scp_script.specs.Perform.{RunsShort}
 use Rattle.nova_top.specs.declared.options.Options.{Options}
 use Rattle.nova_top.specs.Words.{options_of}
-use Rattle.nova_top.specs.Outside.{Left, Begins, start_of, opening, outcome, whole_trace}
+use Rattle.nova_top.specs.Outside.{Begins, start_of, opening, outcome, whole_trace}
 
 -- a machine without the numbers of open files, where there is one
 abbrev pub machine_left : Option MachineState → Option MachineState
@@ -45,12 +45,13 @@ pub record StopsBefore (input left before after : List ℕ) (files files' : List
 -- Memory ran out in the session, which stopped short: what the commands that were done have left stands.
 pub record StopsInside (words : List (List ℕ)) (options : Options) (input left before after : List ℕ) (files files' : List NamedBytes) (machine : Option MachineState) (notes : List Note) : Type 0 where
   pub keys : List Key
+  pub script : Option (List ℕ)
   pub used : ℕ
-  pub starts : start_of (Some options) words files notes ≡ (Begins options keys, used)
+  pub starts : start_of (Some options) words files notes ≡ (Begins options keys script, used)
   pub live : Live
   pub machine_is : machine_left machine ≡ Some live.machine
   pub files_are : files' ≡ live.files
-  pub short : RunsShort (opening keys options files input (drop used notes)) live left before after
+  pub short : RunsShort (opening words options keys script files input (drop used notes)) live left before after
 
 -- memory ran out, with words that are in their grammar
 pub record IsCutShort (words : List (List ℕ)) (input left before after : List ℕ) (files files' : List NamedBytes) (machine : Option MachineState) (notes : List Note) : Type 0 where
@@ -64,27 +65,34 @@ pub record HasKeysFile (words : List (List ℕ)) : Type 0 where
   pub words_are : options_of words ≡ Some options
   pub named : IsSome options.keys
 
+-- a script is among the words
+pub record HasScript (words : List (List ℕ)) : Type 0 where
+  pub options : Options
+  pub words_are : options_of words ≡ Some options
+  pub named : IsSome options.script
+
 -- Each status has its cause, told or not: 100 comes exactly where the words are outside their grammar, yielding only to
--- 102; 101 and 105 come only where there is a keys file; 102 comes only where the console's count rose by one (at the end
+-- 102; 101 comes only where there is a keys file or a script, and 105 only where there is a keys file; 102 comes only where the console's count rose by one (at the end
 -- of its type by none), and at any other status that count stands still; so it is with 106 and the input's; and there is no
 -- other status than these.
 pub record StatusCause (words : List (List ℕ)) (status sink sink_now source source_now : ℕ) : Type 0 where
   pub usage : status ≡ 100 → options_of words ≡ None
   pub bad_words : options_of words ≡ None → (status ≡ 100) ⊎ (status ≡ 102)
-  pub keys_file : (status ≡ 101) ⊎ (status ≡ 105) → HasKeysFile words
+  pub unopened : status ≡ 101 → HasKeysFile words ⊎ HasScript words
+  pub bad_keys : status ≡ 105 → HasKeysFile words
   pub console : status ≡ 102 → sink_now ≡ raised sink
   pub input : status ≡ 106 → source_now ≡ raised source
   pub console_only : status ≢ 102 → sink_now ≡ sink
   pub input_only : status ≢ 106 → source_now ≡ source
   pub listed : (status ≤ 99) ⊎ (status ≡ 100) ⊎ (status ≡ 101) ⊎ (status ≡ 102) ⊎ (status ≡ 103) ⊎ (status ≡ 104) ⊎ (status ≡ 105) ⊎ (status ≡ 106)
 
--- There is no machine where the words are outside their grammar or the keys file was refused. Else there may be none only
--- where memory ran out, or where there is a keys file and the console refused a byte.
+-- There is no machine where the words are outside their grammar, or where the keys file or the script was refused. Else there
+-- may be none only where memory ran out, or where there is a keys file or a script and the console refused a byte.
 pub record MachineThere (words : List (List ℕ)) (status : ℕ) (machine : Option MachineState) : Type 0 where
   pub none : options_of words ≡ None → machine ≡ None
   pub refused : (status ≡ 101) ⊎ (status ≡ 105) → machine ≡ None
-  pub some : (options : Options) → options_of words ≡ Some options → options.keys ≡ None → status ≢ 103 → IsSome machine
-  pub with_keys : (options : Options) → options_of words ≡ Some options → status ≢ 101 → status ≢ 102 → status ≢ 103 → status ≢ 105 → IsSome machine
+  pub some : (options : Options) → options_of words ≡ Some options → options.keys ≡ None → options.script ≡ None → status ≢ 103 → IsSome machine
+  pub with_files : (options : Options) → options_of words ≡ Some options → status ≢ 101 → status ≢ 102 → status ≢ 103 → status ≢ 105 → IsSome machine
 
 -- The files of the machine's units are open, and beside them those that were open before, and no others; without a machine
 -- these alone.

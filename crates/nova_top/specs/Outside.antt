@@ -1,20 +1,22 @@
 -- All that is handed to the program, and what it comes to.
-use Rattle.std.specs.Prelude.{ℕ, ◌+◌, ◌^◌, ◌==◌, ◌&&◌, Bool, List, [], ◌∷◌, ◌++◌, codes, decimal, drop, map, take_while, Option, Some, None, Result, Ok, Err}
+use Rattle.std.specs.Prelude.{ℕ, ◌+◌, ◌==◌, ◌&&◌, Bool, List, [], ◌∷◌, ◌++◌, codes, decimal, drop, take, map, take_while, false, Option, Some, None, Result, Ok, Err}
 use Rattle.observations.specs.Observations.{Prints, Trace, map_trace}
 use Rattle.observations.specs.Cut.{Outcome, cut_trace}
 use Rattle.host_files.specs.declared.files.FileCall.{FileCall}
 use Rattle.host_files.specs.Lists.{NamedBytes}
+use Rattle.fault_notes.specs.declared.note.Subject.{Subject}
 use Rattle.fault_notes.specs.declared.note.Subject.TheVariants as subject
 use Rattle.fault_notes.specs.Notes.{CommandNote, Note, same_subject, handed}
 use Rattle.whole_files.specs.Whole.{WholeSaid, WholeIs, whole_act}
 use Rattle.expect_actions.specs.KeysFile.{Key, keys_read}
 use Rattle.nova_machine.specs.Machine.{MachineState, new_machine}
 use Rattle.scp_commands.specs.Live.{CommandState}
+use Rattle.scp_script.specs.Scripts.{Script, begun}
 use Rattle.scp_script.specs.Session.{State, Session, trace}
-use Rattle.scp_script.specs.Perform.{beginning}
+use Rattle.scp_script.specs.Perform.{beginning_with}
 use Rattle.nova_top.specs.declared.options.Options.{Options}
 use Rattle.nova_top.specs.Standard.{standard_units}
-use Rattle.nova_top.specs.Words.{options_of, keys_name}
+use Rattle.nova_top.specs.Words.{options_of, keys_name, script_name, script_words}
 
 -- The words and the input; all files by their names; the calls on files that fail, in order; how many bytes the console
 -- takes; and how many reads the input lets through before one fails, where to find its end counts as one.
@@ -36,7 +38,7 @@ pub record Left : Type 0 where
 abbrev pub left_by : State → Left
 left_by s = record { machine = Some s.live.machine; files = s.live.files; notes = s.notes }
 
--- ---- the texts of words, keys files and their names that are none
+-- ---- the texts of words, names and keys files that are none
 
 abbrev pub usage_text : List ℕ
 usage_text = codes "usage: nova [-q] [-k keys] [-l instructions] [-m commands] [-g number] [script [arguments]]" ++ 10 ∷ []
@@ -47,69 +49,110 @@ unopened_text name = codes "Cannot open " ++ name ++ 10 ∷ []
 abbrev pub bad_keys_text : ℕ → List ℕ
 bad_keys_text place = codes "Bad keys file at " ++ decimal place ++ 10 ∷ []
 
+-- ---- the files of the words
+
+-- a failing call on the file of that subject: it comes at time 0, before the first command
+abbrev pub is_call_on : Subject → CommandNote → Bool
+is_call_on whose n = (n.time == 0) && same_subject n.subject whose
+
+-- those of them that stand first
+abbrev pub calls_on : Subject → List Note → List FileCall
+calls_on whose notes = map (λ (n : CommandNote). n.failure.call) (take_while (is_call_on whose) (handed 0 notes))
+
+-- what is read of the file of a word, and how many notes that uses
+abbrev pub word_file : Subject → List ℕ → List NamedBytes → List Note → WholeSaid × ℕ
+word_file whose name files notes = whole_act (calls_on whose notes) name files
+
+-- why there is no session: a status and its text
+pub record Denial : Type 0 where
+  pub status : ℕ
+  pub text : List ℕ
+
+abbrev pub unopened : List ℕ → Denial
+unopened name = record { status = 101; text = unopened_text name }
+
+abbrev pub or_bad_keys : Result (List Key) ℕ → Result (List Key) Denial
+or_bad_keys (Ok keys) = Ok keys
+or_bad_keys (Err place) = Err (record { status = 105; text = bad_keys_text place })
+
+-- the keys of a keys file, by what was read of it
+abbrev pub keys_from : List ℕ → WholeSaid → Result (List Key) Denial
+keys_from name (WholeIs bytes) = or_bad_keys (keys_read bytes)
+keys_from name said = Err (unopened name)
+
+-- the keys, without a keys file none, and how many notes their taking uses
+abbrev pub taken_keys : Option (List ℕ) → List NamedBytes → List Note → Result (List Key) Denial × ℕ
+taken_keys None files notes = (Ok [], 0)
+taken_keys (Some name) files notes = let read = word_file subject.Keys name files notes in (keys_from name read.0, read.1)
+
+-- the text of a script, by what was read of it
+abbrev pub script_from : List ℕ → WholeSaid → Result (Option (List ℕ)) Denial
+script_from name (WholeIs text) = Ok (Some text)
+script_from name said = Err (unopened name)
+
+-- the script, where there is one, and how many notes its taking uses
+abbrev pub taken_script : Option (List ℕ) → List NamedBytes → List Note → Result (Option (List ℕ)) Denial × ℕ
+taken_script None files notes = (Ok None, 0)
+taken_script (Some name) files notes = let read = word_file subject.Script name files notes in (script_from name read.0, read.1)
+
 -- ---- how it starts
 
--- a text with a status, or a session with those keys
+-- a text with a status, or a session with those keys and that script
 pub data Start : Type 0 where
   Refused : ℕ → List ℕ → Start
-  Begins : Options → List Key → Start
+  Begins : Options → List Key → Option (List ℕ) → Start
 
-abbrev pub with_keys : Options → Result (List Key) ℕ → Start
-with_keys options (Ok keys) = Begins options keys
-with_keys options (Err place) = Refused 105 (bad_keys_text place)
+abbrev pub denied : Denial → Start
+denied d = Refused d.status d.text
 
--- by what was read of the keys file
-abbrev pub with_file : Options → List ℕ → WholeSaid → Start
-with_file options name (WholeIs bytes) = with_keys options (keys_read bytes)
-with_file options name said = Refused 101 (unopened_text name)
+-- the keys come first, and the script is taken where they were
+abbrev pub start_by : Options → Result (List Key) Denial × ℕ → Result (Option (List ℕ)) Denial × ℕ → Start × ℕ
+start_by options (Err denial, used) script = (denied denial, used)
+start_by options (Ok keys, used) (Err denial, more) = (denied denial, used + more)
+start_by options (Ok keys, used) (Ok script, more) = (Begins options keys script, used + more)
 
--- a failing call on the keys file: it comes at time 0, before the first command
-abbrev pub is_of_keys : CommandNote → Bool
-is_of_keys n = (n.time == 0) && same_subject n.subject subject.Keys
-
-abbrev pub keys_calls : List Note → List FileCall
-keys_calls notes = map (λ (n : CommandNote). n.failure.call) (take_while is_of_keys (handed 0 notes))
-
--- how it starts, and how many of the notes that uses
+-- how it starts, and how many of the notes that uses: first the keys', and then the script's
 abbrev pub start_of : Option Options → List (List ℕ) → List NamedBytes → List Note → Start × ℕ
 start_of None words files notes = (Refused 100 usage_text, 0)
-start_of (Some options) words files notes = elim (keys_name words options) [
-  | None ↦ (Begins options [], 0)
-  | Some name ↦ let read = whole_act (keys_calls notes) name files in (with_file options name read.0, read.1)
-]
+start_of (Some options) words files notes =
+    let keys = taken_keys (keys_name words options) files notes in
+    start_by options keys (taken_script (script_name words options) files (drop keys.1 notes))
 
 -- ---- what it does
-
--- the budget of a session
-abbrev pub whole_budget : ℕ
-whole_budget = 2 ^ 32
 
 -- what commands stand in before a session's first line
 abbrev pub state_with : MachineState → List Key → ℕ → CommandState
 state_with m keys limit = record { machine = m; keys = keys; limit = limit; notes = []; command = 0; spare = 0 }
 
--- a session with that machine and those keys, before its first line
-unfoldable pub session_with : MachineState → List Key → Options → List NamedBytes → List ℕ → List Note → Session
-session_with m keys options files input notes =
-    beginning (state_with m keys options.limit) files (record { prompt = options.prompt; budget = whole_budget }) input notes
+-- the script with which a session begins, and these words for its name and its arguments: its lines are not printed, and of
+-- failed commands only ASSERT ends it
+abbrev pub first_scripts : Option (List ℕ) → List (List ℕ) → List Script
+first_scripts None words = []
+first_scripts (Some text) words = begun (take 10 words) (record { text = text; echo = false; strict = false }) ∷ []
 
--- a new session, with a new machine of the standard units
-abbrev pub opening : List Key → Options → List NamedBytes → List ℕ → List Note → Session
-opening keys options files input notes = session_with (new_machine standard_units) keys options files input notes
+-- a session with that machine, those keys and those scripts, before its first line
+unfoldable pub session_with : MachineState → List Key → Options → List Script → List NamedBytes → List ℕ → List Note → Session
+session_with m keys options scripts files input notes =
+    beginning_with (state_with m keys options.limit) files options.prompt options.budget scripts input notes
 
--- What it does from there on, with the notes that are left. A text that refuses the words or the keys file is all that is
--- printed then, there is no machine, and the input is unread.
-abbrev pub trace_from : Start → List NamedBytes → List ℕ → List Note → Trace Left
-trace_from (Refused status text) files input notes =
+-- a new session, with a new machine of the standard units, and with the script whose name and arguments are among the words
+abbrev pub opening : List (List ℕ) → Options → List Key → Option (List ℕ) → List NamedBytes → List ℕ → List Note → Session
+opening words options keys script files input notes =
+    session_with (new_machine standard_units) keys options (first_scripts script (script_words words options)) files input notes
+
+-- What it does from there on, with the notes that are left. A text that refuses the words, the keys file or the script is all
+-- that is printed then, there is no machine, and the input is unread.
+abbrev pub trace_from : List (List ℕ) → Start → List NamedBytes → List ℕ → List Note → Trace Left
+trace_from words (Refused status text) files input notes =
     let left : Left = record { machine = None; files = files; notes = notes } in
     record { made = Prints text left ∷ []; ended = record { status = status; state = left } }
-trace_from (Begins options keys) files input notes = map_trace left_by (trace (opening keys options files input notes))
+trace_from words (Begins options keys script) files input notes = map_trace left_by (trace (opening words options keys script files input notes))
 
 -- all that the program does with those words, input and files, and those failing calls on files, where nothing else fails
 unfoldable pub whole_trace : List (List ℕ) → List ℕ → List NamedBytes → List Note → Trace Left
 whole_trace words input files notes =
     let start = start_of (options_of words) words files notes in
-    trace_from start.0 files input (drop start.1 notes)
+    trace_from words start.0 files input (drop start.1 notes)
 
 -- what all that is handed in comes to: the status, what the console has, how many reads were made, and what is left
 unfoldable pub outcome : Outside → Outcome Left

@@ -2,11 +2,11 @@
 #![tactic(auto)]
 
 mod counts;
-mod keys;
 pub mod laws;
 mod options;
 pub mod program;
 pub mod standard;
+pub mod word_files;
 mod words;
 
 pub use laws::{console_takes_first_part, more_room_same_end, whole_without_faults};

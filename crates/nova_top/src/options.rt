@@ -5,8 +5,12 @@ pub struct Options {
     pub prompt: bool,
     /// How many instructions a run may execute, from 1 to 2^48.
     pub limit: u64,
+    /// The units to pay for lines, from 1 to 2^32.
+    pub budget: u64,
     /// Which of the words, counted from 0, names the keys file.
     pub keys: Option<usize>,
+    /// Which of them names the script. Those behind it are its arguments.
+    pub script: Option<usize>,
 }
 
 /// What the word before asks the next one to be.
@@ -16,6 +20,8 @@ pub enum Wanted {
     Option,
     /// The limit of `-l`.
     Limit,
+    /// The budget of `-m`.
+    Budget,
     /// The file of `-k`.
     Keys,
 }
@@ -25,6 +31,7 @@ pub enum Wanted {
 pub struct Choices {
     pub quiet: bool,
     pub limit: Option<u64>,
+    pub budget: Option<u64>,
     pub keys: Option<usize>,
     pub wanted: Wanted,
 }

@@ -1,4 +1,4 @@
-ghost use Rattle.std.specs.Prelude.{◌≡◌, ◌≢◌, List, [], map, None, IsTrue, IsSome, string_bytes};
+ghost use Rattle.std.specs.Prelude.{◌≡◌, ◌≢◌, ◌≤◌, ◌^◌, List, [], map, None, IsTrue, IsSome, string_bytes};
 ghost use Rattle.fault_counts.specs.Faults.{Rose, CountsFault};
 ghost use Rattle.host_files.specs.Streams.{Puts};
 ghost use Rattle.host_files.specs.State.{Opened};
@@ -7,16 +7,17 @@ ghost use Rattle.fault_notes.specs.Notes.{notes_said};
 ghost use Rattle.fault_notes.specs.Counts.{AreCounted};
 ghost use Rattle.nova_machine.specs.Seen.{seen};
 ghost use Rattle.scp_script.specs.Loop.{FinishCause, AreKept};
-ghost use Rattle.scp_script.specs.Perform.{Performed};
+ghost use Rattle.scp_script.specs.Perform.{beginning, Performed};
 ghost use Rattle.nova_top.specs.Standard.{IsStandard};
 ghost use Rattle.nova_top.specs.Words.{texts_of};
-ghost use Rattle.nova_top.specs.Outside.{session_with, usage_text, bad_keys_text};
-ghost use Rattle.nova_top.specs.Ends.{IsOutcome, IsCutShort, StatusCause, MachineThere, IsComplete, FilesAtEnd, NoneFailed};
-ghost use Rattle.nova_top.specs.Program.{IsRefused, RefusedCause, SessionEnds};
-ghost use Rattle.nova_top.specs.Program.{KeysAreRefused, KeysRefusedCause, status_printed};
+ghost use Rattle.nova_top.specs.Outside.{usage_text, unopened_text, bad_keys_text};
+ghost use Rattle.nova_top.specs.Ends.{IsOutcome, IsCutShort, StatusCause, MachineThere, IsComplete, FilesAtEnd};
+ghost use Rattle.nova_top.specs.Ends.{NoneFailed};
+ghost use Rattle.nova_top.specs.Program.{IsRefused, RefusedCause, RefusalCause, SessionEnds};
+ghost use Rattle.nova_top.specs.Program.{denial_of, IsDenied, DeniedCause, status_printed};
 
-use crate::keys::{Refusal, take_keys};
 use crate::options::Options;
+use crate::word_files::{Beginning, Refusal, begin};
 use crate::words::options_of;
 use expect_actions::Keys;
 use host_files::{Failed, Files, Sink, Source, put_all, put_pieces};
@@ -26,9 +27,6 @@ use scp_commands::{FaultNote, Session};
 use scp_script::{Opening, perform};
 use std::alloc::Global;
 use unit_trait::Unit;
-
-/// How many units a session has to pay for its lines.
-const WHOLE_BUDGET: u64 = 1 << 32;
 
 /// The line that answers words outside their grammar.
 const USAGE: &[u8] =
@@ -45,11 +43,11 @@ pub struct Ending<U: Unit> {
     pub faults: Vec<FaultNote>,
 }
 
-/// The whole program, over the words, the units, the input, the console and the files that are handed in. The units are the
-/// standard ones (`is_standard`); the program is the same over whichever types they have, so they may be boxes.
+/// The whole program, over the words, the units, the input, the console and the files that are handed in. The units are
+/// the standard ones (`is_standard`); the program is the same over whichever types they have, so they may be boxes.
 ///
-/// The keys file of `-k` is read before the session begins. Files that are attached at the end of the input, or at EXIT, are
-/// closed; at any other end they stay open.
+/// The keys file of `-k` and then the script are read before the session begins. Files that are attached at the end of
+/// the input, or at EXIT, are closed; at any other end they stay open.
 pub fn simulate<U: Unit, C: Source, S: Sink, F: Files>(
     alloc: Global,
     words: &[String],
@@ -90,13 +88,13 @@ pub fn simulate<U: Unit, C: Source, S: Sink, F: Files>(
             faults: Vec::new(alloc),
         };
     };
-    if let Some(place) = options.keys {
-        match take_keys(alloc, &words[place], files, &mut session.notes) {
-            Ok(keys) => session.keys = keys,
-            Err(refusal) => return refuse_keys(&words[place], refusal, session.notes, output),
+    match begin(alloc, words, options, files, &mut session.notes) {
+        Ok(Beginning { keys, opening }) => {
+            session.keys = keys;
+            lines(alloc, session, &opening, input, output, files)
         }
+        Err(refusal) => refuse_files(words, refusal, session.notes, output),
     }
-    lines(alloc, session, options, input, output, files)
 }
 
 /// Answers words outside their grammar.
@@ -111,22 +109,24 @@ fn usage<U: Unit, S: Sink>(alloc: Global, output: &mut S) -> Ending<U>
     refused(printed, 100, Vec::new(alloc))
 }
 
-/// Answers a keys file that was refused.
-fn refuse_keys<U: Unit, S: Sink>(
-    name: &String,
+/// Answers a keys file or a script that was refused.
+fn refuse_files<U: Unit, S: Sink>(
+    words: &[String],
     refusal: Refusal,
     notes: Vec<FaultNote>,
     output: &mut S,
 ) -> Ending<U>
-    ensures told { IsTrue S.tells → KeysAreRefused (string_bytes name.now) refusal result.status (S.written output.old)
-        (S.written output.new) }
-    ensures cause { KeysRefusedCause refusal result.status (S.fault_count output.old) (S.fault_count output.new) }
+    requires { (options : Options) × RefusalCause (texts_of words.now) options refusal }
+    ensures told { IsTrue S.tells → IsDenied (denial_of (texts_of words.now) refusal) result.status
+        (S.written output.old) (S.written output.new) }
+    ensures cause { DeniedCause (denial_of (texts_of words.now) refusal) result.status (S.fault_count output.old)
+        (S.fault_count output.new) }
     ensures machine { result.machine ≡ None }
     ensures notes { result.faults.items ≡ notes.items }
 {
     match refusal {
-        Refusal::Unopened => {
-            let printed = put_pieces(output, &[b"Cannot open ", name.as_bytes(), b"\n"]);
+        Refusal::Unopened(place) => {
+            let printed = put_unopened(&words[place], output);
             refused(printed, 101, notes)
         }
         Refusal::BadKeys(place) => {
@@ -139,6 +139,15 @@ fn refuse_keys<U: Unit, S: Sink>(
             faults: notes,
         },
     }
+}
+
+/// Prints the name of a file that was not read.
+fn put_unopened<S: Sink>(name: &String, output: &mut S) -> Result<(), Failed>
+    ensures told { IsTrue S.tells
+        → Puts (S.written output.old) (unopened_text (string_bytes name.now)) result (S.written output.new) }
+    ensures counts { CountsFault (S.fault_count output.old) (S.fault_count output.new) result }
+{
+    put_pieces(output, &[b"Cannot open ", name.as_bytes(), b"\n"])
 }
 
 /// Prints the place of the first faulty line of a keys file, in decimal.
@@ -172,21 +181,20 @@ fn refused<U: Unit>(printed: Result<(), Failed>, status: u8, notes: Vec<FaultNot
 }
 
 /// The lines of a session.
-#[tactic(auto, unfolding(crate::specs::Outside::session_with))]
 fn lines<U: Unit, C: Source, S: Sink, F: Files>(
     alloc: Global,
     session: Session<U>,
-    options: Options,
+    opening: &Opening,
     input: &mut C,
     output: &mut S,
     files: &mut F,
 ) -> Ending<U>
     requires command { session.command ≡ 0 }
-    requires limit { session.limit ≡ options.limit }
+    requires budget { opening.now.budget ≤ 2 ^ 32 }
     requires open { AllOpen session.machine.slots (F.state files.old).opened }
     ensures ended { SessionEnds result.status result.machine
         (λ finish now. IsTrue C.tells → IsTrue F.tells → IsTrue S.tells → Performed
-        (λ notes. session_with session.machine session.keys options (F.state files.old).files (C.left input.old) notes)
+        (λ notes. beginning session (F.state files.old).files opening.now (C.left input.old) notes)
         finish (seen session.keys (F.state files.new).files now) (C.left input.new) (S.written output.old)
         (S.written output.new) (notes_said session.notes) (notes_said result.faults.items))
         (λ finish. FinishCause finish (S.fault_count output.old) (S.fault_count output.new) (C.fault_count input.old)
@@ -197,11 +205,7 @@ fn lines<U: Unit, C: Source, S: Sink, F: Files>(
     ensures there { IsSome result.machine }
 {
     let mut session = session;
-    let opening = Opening {
-        prompt: options.prompt,
-        budget: WHOLE_BUDGET,
-    };
-    let finish = perform(alloc, &mut session, &opening, input, files, output);
+    let finish = perform(alloc, &mut session, opening, input, files, output);
     let Session { machine, notes, .. } = session;
     Ending {
         status: finish.status(),

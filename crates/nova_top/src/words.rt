@@ -1,34 +1,91 @@
-ghost use Rattle.std.specs.Prelude.{◌≡◌, ◌+◌, ◌<◌, ◌^◌, nat_eq, slice_index, codes, bytes_eq, string_bytes, length, IfSome};
-ghost use Rattle.nova_top.specs.Words.{limit_of, is_file_name, next_choice, chosen_option, all_chosen, options_of, texts_of};
-ghost use Rattle.nova_top.specs.Words.{KeysAreNamed};
+ghost use Rattle.std.specs.Prelude.{◌≡◌, ◌≤◌, ◌^◌, ◌&&◌, nat_eq, nat_le, slice_index, codes, bytes_eq, string_bytes};
+ghost use Rattle.std.specs.Prelude.{length, IfSome};
+ghost use Rattle.std.specs.List.{list_all};
+ghost use Rattle.nova_top.specs.Words.{limit_of, budget_of, is_file_name, next_choice, chosen_option, all_chosen};
+ghost use Rattle.nova_top.specs.Words.{wants_option, names_script, are_arguments, with_script, options_of, texts_of};
+ghost use Rattle.nova_top.specs.Words.{FilesAreNamed};
 
 use crate::counts::read_count;
 use crate::options::{Choices, Options, Wanted};
 use scp_commands::MOST_INSTRUCTIONS;
 
+/// How many units a session has to pay for its lines where the words don't say. They can't say more.
+const USUAL_BUDGET: u64 = 1 << 32;
+
 /// How many bytes the name of a file has at most.
 const LONGEST_NAME: usize = 255;
 
-/// What the words choose, where they are in their grammar: `-q`, `-l instructions` and `-k keysfile`, in any order, each
-/// at most once.
+/// How many arguments a script has at most.
+const MOST_ARGUMENTS: usize = 9;
+
+/// What the words choose, where they are in their grammar: `-q`, `-l instructions`, `-m commands` and `-k keysfile`, in
+/// any order, each at most once, and then perhaps a script and its arguments.
 #[tactic(auto, unfolding(crate::specs::Words::options_of))]
 pub fn options_of(words: &[String]) -> Option<Options>
     ensures options { result ≡ options_of (texts_of words.now) }
-    ensures named { IfSome result (KeysAreNamed (texts_of words.now)) }
+    ensures named { IfSome result (FilesAreNamed (texts_of words.now)) }
+    ensures budget { IfSome result (λ options. options.budget ≤ 2 ^ 32) }
 {
     let mut choices = Choices {
         quiet: false,
         limit: None,
+        budget: None,
         keys: None,
         wanted: Wanted::Option,
     };
     for place in 0..words.len() {
-        match next_choice(choices, place, &words[place]) {
+        let word = &words[place];
+        if is_script(choices, word) {
+            return with_script(choices, place, word, &words[place + 1..]);
+        }
+        match next_choice(choices, place, word) {
             Some(next) => choices = next,
             None => return None,
         }
     }
     all_chosen(choices)
+}
+
+/// Whether a word behind those choices is the name of a script.
+fn is_script(choices: Choices, word: &String) -> bool
+    ensures { result ≡ (wants_option choices.wanted && names_script (string_bytes word.now)) }
+{
+    matches!(choices.wanted, Wanted::Option) && names_script(word.as_bytes())
+}
+
+/// What all words chose, with a script of that name at that place and these arguments.
+fn with_script(
+    choices: Choices,
+    place: usize,
+    name: &String,
+    arguments: &[String],
+) -> Option<Options>
+    ensures { result ≡ with_script place choices (string_bytes name.now) (texts_of arguments.now) }
+{
+    if !(is_file_name(name) && are_arguments(arguments)) {
+        return None;
+    }
+    match all_chosen(choices) {
+        Some(options) => Some(Options {
+            script: Some(place),
+            ..options
+        }),
+        None => None,
+    }
+}
+
+/// Whether these words can be the arguments of a script.
+fn are_arguments(words: &[String]) -> bool
+    ensures { result ≡ are_arguments (texts_of words.now) }
+{
+    words.len() <= MOST_ARGUMENTS && have_bytes(words)
+}
+
+/// Whether none of the words is empty.
+fn have_bytes(words: &[String]) -> bool
+    ensures { result ≡ list_all (λ word. nat_le 1 (length (string_bytes word))) words.now }
+{
+    words.iter().all(|word| word.as_bytes().len() >= 1)
 }
 
 /// What the words chose, with one more, which stands at that place.
@@ -41,6 +98,14 @@ fn next_choice(choices: Choices, place: usize, word: &String) -> Option<Choices>
         Wanted::Limit => match limit_of(word) {
             Some(limit) => Some(Choices {
                 limit: Some(limit),
+                wanted: Wanted::Option,
+                ..choices
+            }),
+            None => None,
+        },
+        Wanted::Budget => match budget_of(word) {
+            Some(budget) => Some(Choices {
+                budget: Some(budget),
                 wanted: Wanted::Option,
                 ..choices
             }),
@@ -75,6 +140,11 @@ fn chosen_option(choices: Choices, word: &String) -> Option<Choices>
             wanted: Wanted::Limit,
             ..choices
         })
+    } else if is_word(word, b"-m") && choices.budget.is_none() {
+        Some(Choices {
+            wanted: Wanted::Budget,
+            ..choices
+        })
     } else if is_word(word, b"-k") && choices.keys.is_none() {
         Some(Choices {
             wanted: Wanted::Keys,
@@ -94,9 +164,11 @@ fn all_chosen(choices: Choices) -> Option<Options>
         Wanted::Option => Some(Options {
             prompt: !choices.quiet,
             limit: choices.limit.unwrap_or(MOST_INSTRUCTIONS),
+            budget: choices.budget.unwrap_or(USUAL_BUDGET),
             keys: choices.keys,
+            script: None,
         }),
-        Wanted::Limit | Wanted::Keys => None,
+        Wanted::Limit | Wanted::Budget | Wanted::Keys => None,
     }
 }
 
@@ -128,8 +200,25 @@ fn limit_of(word: &String) -> Option<u64>
     }
 }
 
+/// A budget of lines, from 1 to 2^32, without a leading zero.
+#[tactic(auto, unfolding(crate::specs::Words::budget_of))]
+fn budget_of(word: &String) -> Option<u64>
+    ensures { result ≡ budget_of (string_bytes word.now) }
+{
+    match limit_of(word) {
+        Some(budget) if budget <= USUAL_BUDGET => Some(budget),
+        _ => None,
+    }
+}
+
 fn begins_with_zero(text: &[u8]) -> bool
     ensures { result ≡ nat_eq (slice_index text.now 0) 48 }
 {
     !text.is_empty() && text[0] == b'0'
+}
+
+fn names_script(word: &[u8]) -> bool
+    ensures { result ≡ names_script word.now }
+{
+    word.is_empty() || word[0] != b'-'
 }

@@ -1,8 +1,10 @@
 -- A file is opened for a unit: what ATTACH comes to.
 use Rattle.std.proofs.Common.{◌≡◌, ℕ, ◌≤◌, ◌==◌, ◌&&◌, ◌||◌, not, Bool, true, false, IsTrue, List, [], ◌∷◌, ◌++◌, length, Option, Some, None, IfSome, is_none, Result, Ok, Err, OnErr}
-use Rattle.std.proofs.Common.{refl, ap, sym, ◌∙◌, subst, if◌then◌else◌, append-nil, arith}
+use Rattle.std.proofs.Common.{inl, inr, refl, ap, sym, ◌∙◌, subst, if◌then◌else◌, append-nil, arith}
+use Rattle.std.specs.List.{AllByRecursion}
 use Rattle.std.proofs.Math.Path.{subst₃}
 use Rattle.host_files.specs.Lists.{NamedBytes, bytes_of}
+use Rattle.host_files.specs.State.{FileState}
 use Rattle.host_files.specs.declared.files.FileCall.{FileCall}
 use Rattle.host_files.specs.declared.files.FileCall.TheVariants.{Opening, Length, Closing}
 use Rattle.unit_trait.specs.declared.kind.Kind.{Kind}
@@ -22,8 +24,9 @@ use Rattle.fault_notes.specs.declared.note.Subject.{Subject}
 use Rattle.fault_notes.specs.declared.note.Subject.TheVariants as subject
 use Rattle.fault_notes.specs.declared.note.FaultNote.{FaultNote}
 use Rattle.fault_notes.specs.Notes.{CommandNote, Note, same_subject, numbered, failure_now, notes_said}
+use Rattle.fault_notes.specs.Counts.{AreCounted}
 use Rattle.file_commands.specs.declared.stamp.Stamp.{Stamp}
-use Rattle.file_commands.specs.Notes.{IsAttachFault, fault_of_attach, kept_of, own_of, own_note}
+use Rattle.file_commands.specs.Notes.{IsAttachFault, MissingCause, fault_of_attach, kept_of, own_of, own_note}
 use Rattle.nova_machine.specs.Machine.{MachineState, with_slots}
 use Rattle.nova_machine.specs.Seen.{erased, seen, attached_in}
 use Rattle.scp_commands.specs.declared.next.Next.TheVariants.{Go}
@@ -32,7 +35,7 @@ use Rattle.scp_commands.specs.Live.{Live, standing, with_machine}
 use Rattle.scp_commands.specs.Reply.{Answer, Reply, refused}
 use Rattle.scp_commands.specs.FaultText.{attach_fault}
 use Rattle.scp_commands.specs.FileEffects.{lacks_unit, mode_of, attach_answer, attach_used, first_place, position_number, attached_machine, attach_with, attach_reply}
-use Rattle.scp_commands.specs.Doing.{Does, Did, ComeBehind, IsSaid}
+use Rattle.scp_commands.specs.Doing.{Does, Did, ComeBehind, IsSaid, IsStamped, FileCause, Keeps}
 use Rattle.scp_commands.proofs.SeenLemmas.{attached-erased, erased-with}
 use Rattle.scp_commands.proofs.DidLemmas.{refused-did}
 use Rattle.scp_commands.proofs.BehindLemmas.{kept-said}
@@ -234,3 +237,43 @@ unfolding attach_reply
 attach-not-built number live option unit name tells text notes lacks =
     refused-did (λ (own : List CommandNote). attach_reply own live option unit name) NotBuilt number live tells text notes tt
     (λ own. ap (λ (b : Bool). if b then refused NotBuilt live else attach_with (failure_now live.machine.time (subject.Unit unit) own) (mode_of option) unit name live) lacks)
+
+-- ---- the notes that are kept
+
+one-note : (fault : Option UnitFault) (stamp : Stamp) → length (kept_of stamp fault) ≤ 16
+one-note None stamp = omega arith
+one-note (Some f) stamp = omega arith
+
+stamped-note : (number time : ℕ) (fault : Option UnitFault) → AllByRecursion (IsStamped number time) (kept_of (record { command = number; time = time }) fault)
+stamped-note number time None = tt
+stamped-note number time (Some f) = ((refl, refl), tt)
+
+no-closing : (unit : UnitName) (f : UnitFault) → IsAttachFault unit f → f.call ≡ Closing → ⊥
+no-closing unit f of_unit is = elim of_unit.call_is [
+  | inl opening ↦ absurd (let both = sym is ∙ opening in cc)
+  | inr measuring ↦ absurd (let both = sym is ∙ measuring in cc)
+]
+
+attach-cause : (stamp : Stamp) (tells : Bool) (unit : UnitName) (r : Result ℕ AttachFault) (old new : FileState) → IfSome (fault_of_attach r) (IsAttachFault unit) → MissingCause tells r old new
+    → FileCause stamp tells (attach_result r) (kept_of stamp (fault_of_attach r)) old new
+attach-cause stamp tells unit (Ok count) old new of_unit missing = tt
+attach-cause stamp tells unit (Err attach.AlreadyAttached) old new of_unit missing = refl
+attach-cause stamp tells unit (Err attach.ReadOnly) old new of_unit missing = refl
+attach-cause stamp tells unit (Err attach.NoFile) old new of_unit missing = (refl, missing)
+attach-cause stamp tells unit (Err attach.TooLong) old new of_unit missing = tt
+attach-cause stamp tells unit (Err (attach.Failed f)) old new of_unit missing = ((refl, no-closing unit f of_unit), tt)
+attach-cause stamp tells unit (Err attach.OutOfMemory) old new of_unit missing = refl
+
+pub attach-keeps : (number time : ℕ) (stamp : Stamp) (tells : Bool) (unit : UnitName) (r : Result ℕ AttachFault) (answer : Answer) (notes notes' : List FaultNote) (old new : FileState)
+    → stamp ≡ record { command = number; time = time } → answer ≡ attach_result r → notes' ≡ notes ++ kept_of stamp (fault_of_attach r) → AreCounted (kept_of stamp (fault_of_attach r)) old new
+    → IfSome (fault_of_attach r) (IsAttachFault unit) → MissingCause tells r old new → Keeps number time tells answer notes notes' old new
+attach-keeps number time stamp tells unit r answer notes notes' old new stamped answered added counted of_unit missing =
+    let own : Stamp = record { command = number; time = time } in
+    record {
+      kept = kept_of own (fault_of_attach r);
+      added = added ∙ ap (λ (s : Stamp). notes ++ kept_of s (fault_of_attach r)) stamped;
+      few = one-note (fault_of_attach r) own;
+      stamped = stamped-note number time (fault_of_attach r);
+      counted = subst (λ (s : Stamp). AreCounted (kept_of s (fault_of_attach r)) old new) stamped counted;
+      cause = subst (λ (a : Answer). FileCause own tells a (kept_of own (fault_of_attach r)) old new) (sym answered) (attach-cause own tells unit r old new of_unit missing);
+    }

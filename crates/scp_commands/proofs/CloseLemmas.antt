@@ -22,11 +22,11 @@ use Rattle.file_commands.specs.AllUnits.{attachable, detached_each, closing_fail
 use Rattle.nova_machine.specs.Machine.{MachineState}
 use Rattle.nova_machine.specs.Seen.{attached_in}
 use Rattle.scp_commands.specs.declared.next.Next.{Next}
-use Rattle.scp_commands.specs.declared.next.Next.TheVariants.{Go}
+use Rattle.scp_commands.specs.declared.next.Next.TheVariants.{Go, Exit}
 use Rattle.scp_commands.specs.Live.{Live, standing}
 use Rattle.scp_commands.specs.Reply.{Reply, bare_answer}
 use Rattle.scp_commands.specs.FileEffects.{detached_all, all_closings}
-use Rattle.scp_commands.specs.Doing.{IsClosing, ComeBehind, IsStamped, Closes, Keeps, Did}
+use Rattle.scp_commands.specs.Doing.{IsClosing, ComeBehind, IsStamped, AllClosings, Closes, Keeps, Did}
 use Rattle.scp_commands.proofs.SeenLemmas.{attached-erased, attached-numberless}
 
 -- ---- units with one name are one
@@ -203,6 +203,15 @@ stamped number time us attached (k ∷ kept) (n ∷ own) said all =
     let rest : notes_said kept ≡ numbered number own = cc in
     ((ap (λ (x : Note). x.command) first, ap (λ (x : Note). x.note.time) first ∙ all.0.time_is), stamped number time us attached kept own rest all.1)
 
+all-closings : (number time : ℕ) (us : List UnitName) (attached : List (Option Attachment)) (kept : List FaultNote) (own : List CommandNote)
+    → notes_said kept ≡ numbered number own → AllByRecursion (IsOneOf time us attached) own → AllClosings kept
+all-closings number time us attached [] own said all = tt
+all-closings number time us attached (k ∷ kept) [] said all = absurd (cc)
+all-closings number time us attached (k ∷ kept) (n ∷ own) said all =
+    let first : said_of k ≡ record { command = number; note = n } = cc in
+    let rest : notes_said kept ≡ numbered number own = cc in
+    (ap (λ (x : Note). x.note.failure.call) first ∙ all.0.call, all-closings number time us attached kept own rest all.1)
+
 come-behind : (live : Live) (own : List CommandNote) → AllByRecursion (IsOneOf live.machine.time attachable (attached_in live.machine)) own → ComeBehind live own
 come-behind live [] all = tt
 come-behind live (n ∷ own) all =
@@ -248,8 +257,14 @@ keeps-of number time now tells attached before after old new at closed = record 
   stamped = subst (λ (t : ℕ). AllByRecursion (IsStamped number t) closed.kept) at
       (stamped number time attachable attached closed.kept closed.own closed.said (are-of time attachable attached closed.own closed.used));
   counted = closed.counted;
-  cause = tt;
+  cause = all-closings number time attachable attached closed.kept closed.own closed.said (are-of time attachable attached closed.own closed.used);
 }
+
+-- the same where the session ends then
+pub keeps-exit : (number time status : ℕ) (tells : Bool) (before after : List FaultNote) (old new : FileState) → Keeps number time tells (Ok Go) before after old new
+    → Keeps number time tells (Ok (Exit status)) before after old new
+keeps-exit number time status tells before after old new k =
+    record { kept = k.kept; added = k.added; few = k.few; stamped = k.stamped; counted = k.counted; cause = k.cause }
 
 -- ---- behind that nothing is attached, so no closing comes behind
 

@@ -1,14 +1,20 @@
 -- A unit's file is closed: what DETACH comes to.
-use Rattle.std.proofs.Common.{◌≡◌, ℕ, Bool, true, false, IsTrue, List, [], ◌∷◌, ◌++◌, length, Option, Some, None, is_some, Result, Ok, Err, OnErr}
-use Rattle.std.proofs.Common.{refl, ap, sym, ◌∙◌, subst, if◌then◌else◌, append-nil}
+use Rattle.std.proofs.Common.{◌≡◌, ℕ, ◌≤◌, ◌==◌, ◌&&◌, Bool, true, false, IsTrue, List, [], ◌∷◌, ◌++◌, length, Option, Some, None, IfSome, is_some, Result, Ok, Err, OnErr}
+use Rattle.std.proofs.Common.{refl, ap, sym, ◌∙◌, subst, if◌then◌else◌, append-nil, arith}
+use Rattle.std.proofs.lemmas.Bool.{eq-eqb}
+use Rattle.std.specs.List.{AllByRecursion}
+use Rattle.host_files.specs.declared.files.FileCall.TheVariants.{Closing}
+use Rattle.host_files.specs.State.{FileState}
+use Rattle.unit_trait.specs.Kinds.{same_unit}
+use Rattle.fault_notes.specs.Counts.{AreCounted}
 use Rattle.host_files.specs.Lists.{NamedBytes}
 use Rattle.unit_trait.specs.declared.kind.UnitName.{UnitName}
 use Rattle.unit_files.specs.declared.faults.UnitFault.{UnitFault}
 use Rattle.unit_files.specs.declared.faults.DetachFault.{DetachFault}
 use Rattle.unit_files.specs.declared.faults.DetachFault.TheVariants as detach
 use Rattle.unit_files.specs.Attachments.{Attachment, Held, attachments_of, attachment_at}
-use Rattle.unit_files.specs.Acts.{Failure, DetachSaid, HadNone, Detached, detach_said, detached}
-use Rattle.unit_files.specs.Answers.{said_of_detach}
+use Rattle.unit_files.specs.Acts.{Failure, DetachSaid, HadNone, Detached, same_call, detach_said, detached}
+use Rattle.unit_files.specs.Answers.{failure_in, said_of_detach}
 use Rattle.fault_notes.specs.declared.note.Subject.TheVariants as subject
 use Rattle.fault_notes.specs.declared.note.FaultNote.{FaultNote}
 use Rattle.fault_notes.specs.Notes.{CommandNote, Note, numbered, failure_now, notes_said}
@@ -22,9 +28,9 @@ use Rattle.scp_commands.specs.Live.{Live, standing, with_machine}
 use Rattle.scp_commands.specs.Reply.{Answer, Reply, refused}
 use Rattle.scp_commands.specs.FaultText.{detach_fault}
 use Rattle.scp_commands.specs.FileEffects.{lacks_unit, detach_answer, detach_used, detached_machine, detach_with, detach_reply}
-use Rattle.scp_commands.specs.Doing.{Does, Did, ComeBehind, IsSaid}
+use Rattle.scp_commands.specs.Doing.{Does, Did, ComeBehind, IsSaid, IsStamped, FileCause, Keeps}
 use Rattle.scp_commands.proofs.SeenLemmas.{attached-erased, attached-with, seen-with}
-use Rattle.scp_commands.proofs.CloseLemmas.{detached-none}
+use Rattle.scp_commands.proofs.CloseLemmas.{same-self, closing-call, detached-none}
 use Rattle.scp_commands.proofs.DidLemmas.{refused-did}
 use Rattle.scp_commands.proofs.BehindLemmas.{kept-said, none-behind, handed-own}
 
@@ -124,3 +130,54 @@ detach-done number stamp live new held unit r answer tells text before after is 
     (said ∙ ap (λ (l : List (Option Attachment)). detach_said (failure_now live.machine.time (subject.Unit unit) (own_of live.machine.time (fault_of_detach r))) unit l) are)
     left nothing (kept-said (record { command = number; time = live.machine.time }) (fault_of_detach r) before after noted)))
     said noted
+
+-- ---- the notes that are kept
+
+one-note : (fault : Option UnitFault) (stamp : Stamp) → length (kept_of stamp fault) ≤ 16
+one-note None stamp = omega arith
+one-note (Some f) stamp = omega arith
+
+stamped-note : (number time : ℕ) (fault : Option UnitFault) → AllByRecursion (IsStamped number time) (kept_of (record { command = number; time = time }) fault)
+stamped-note number time None = tt
+stamped-note number time (Some f) = ((refl, refl), tt)
+
+-- the call that failed was the closing
+failed-closing : (there same : Bool) (f g : Failure) → Detached (Some g) ≡ (if there then Detached (if same then Some f else None) else HadNone) → same ≡ true
+failed-closing true true f g is = refl
+failed-closing true false f g is = absurd (cc)
+failed-closing false same f g is = absurd (cc)
+
+-- the first of the command's notes is that call
+handed-first : (time : ℕ) (unit : UnitName) (f : UnitFault) → f.unit ≡ unit → failure_now time (subject.Unit unit) (own_of time (Some f)) ≡ Some (failure_in f)
+handed-first time unit f is =
+    ap (λ (b : Bool). if b then Some (failure_in f) else None)
+    ((λ i. eq-eqb time time refl i && same_unit f.unit (sym is i)) ∙ same-self f.unit)
+
+detach-cause : (stamp : Stamp) (tells : Bool) (unit : UnitName) (attached : List (Option Attachment)) (r : Result (Option UnitFault) DetachFault) (old new : FileState)
+    → said_of_detach r ≡ detach_said (failure_now stamp.time (subject.Unit unit) (own_of stamp.time (fault_of_detach r))) unit attached
+    → IfSome (fault_of_detach r) (λ (f : UnitFault). f.unit ≡ unit) → HoldsNothing r → FileCause stamp tells (detach_result r) (kept_of stamp (fault_of_detach r)) old new
+detach-cause stamp tells unit attached (Ok None) old new said of_unit nothing = tt
+detach-cause stamp tells unit attached (Ok (Some f)) old new said of_unit nothing =
+    let handed = said ∙ ap (λ (o : Option Failure). detach_said o unit attached) (handed-first stamp.time unit f of_unit) in
+    (closing-call f.call (failed-closing (is_some (attachment_at attached unit)) (same_call f.call Closing) (failure_in f) (failure_in f) handed), tt)
+detach-cause stamp tells unit attached (Err detach.NotAttached) old new said of_unit nothing = refl
+detach-cause stamp tells unit attached (Err (detach.Failed f)) old new said of_unit nothing = absurd nothing
+
+pub detach-keeps : (number time : ℕ) (stamp : Stamp) (tells : Bool) (unit : UnitName) (attached : List (Option Attachment)) (r : Result (Option UnitFault) DetachFault) (answer : Answer)
+    (notes notes' : List FaultNote) (old new : FileState) → stamp ≡ record { command = number; time = time } → answer ≡ detach_result r → notes' ≡ notes ++ kept_of stamp (fault_of_detach r)
+    → AreCounted (kept_of stamp (fault_of_detach r)) old new
+    → said_of_detach r ≡ detach_said (failure_now stamp.time (subject.Unit unit) (own_of stamp.time (fault_of_detach r))) unit attached
+    → IfSome (fault_of_detach r) (λ (f : UnitFault). f.unit ≡ unit) → HoldsNothing r → Keeps number time tells answer notes notes' old new
+detach-keeps number time stamp tells unit attached r answer notes notes' old new stamped answered added counted said of_unit nothing =
+    let own : Stamp = record { command = number; time = time } in
+    let cause = detach-cause stamp tells unit attached r old new said of_unit nothing in
+    record {
+      kept = kept_of own (fault_of_detach r);
+      added = added ∙ ap (λ (s : Stamp). notes ++ kept_of s (fault_of_detach r)) stamped;
+      few = one-note (fault_of_detach r) own;
+      stamped = stamped-note number time (fault_of_detach r);
+      counted = subst (λ (s : Stamp). AreCounted (kept_of s (fault_of_detach r)) old new) stamped counted;
+      cause =
+          subst (λ (a : Answer). FileCause own tells a (kept_of own (fault_of_detach r)) old new) (sym answered)
+          (subst (λ (s : Stamp). FileCause s tells (detach_result r) (kept_of s (fault_of_detach r)) old new) stamped cause);
+    }

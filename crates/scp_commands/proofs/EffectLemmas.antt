@@ -1,6 +1,6 @@
 -- What holds of every command: it reads nothing, the status of an exit is small, and one that is refused has changed
 -- nothing but files.
-use Rattle.std.proofs.Common.{◌≡◌, ℕ, Bool, true, false, List, [], ◌∷◌, refl, sym, subst, ◌∙◌, Option, Some, None, Ok, Err, if◌then◌else◌, nat_le, ◌&&◌, ◌^◌, min, unwrap_or, arith}
+use Rattle.std.proofs.Common.{◌≡◌, ℕ, Bool, true, false, List, [], ◌∷◌, refl, sym, subst, ◌∙◌, Option, Some, None, Result, Ok, Err, if◌then◌else◌, nat_le, ◌&&◌, ◌^◌, min, unwrap_or, arith}
 use Rattle.std.proofs.lemmas.Bool.{leb-true}
 use Rattle.observations.specs.Observations.{Prints, reads_of, map_made}
 use Rattle.observations.proofs.MadeLemmas.{reads_of-append, reads_of-map}
@@ -9,21 +9,25 @@ use Rattle.unit_files.specs.declared.modes.AttachMode.{AttachMode}
 use Rattle.unit_files.specs.Acts.{Failure, AttachSaid, Attached, UnitHasFile, OnlyWrites, NotThere, TooLong, CallFailed, DetachSaid, HadNone, Detached}
 use Rattle.unit_files.specs.Acts.{attach_said, detach_said}
 use Rattle.fault_notes.specs.declared.note.Subject.TheVariants as subject
+use Rattle.whole_files.specs.Whole.{WholeSaid, WholeIs, whole_act}
+use Rattle.whole_files.specs.Whole as whole
 use Rattle.fault_notes.specs.Notes.{CommandNote, failure_now}
+use Rattle.nova_memory.specs.Memory.{fits_size}
 use Rattle.nova_machine.specs.Seen.{attached_in}
 use Rattle.nova_machine.specs.Run.{run}
 use Rattle.nova_machine.proofs.NoReads.{run-reads}
 use Rattle.nova_machine.specs.declared.machine.Stop.{Stop}
 use Rattle.scp_parser.specs.declared.command.Shown.{Shown}
 use Rattle.scp_parser.specs.declared.command.Shown.TheVariants as shown
-use Rattle.scp_parser.specs.declared.listing.Listing.{Listing}
+use Rattle.operand_forms.specs.declared.listing.Listing.{Listing}
+use Rattle.operand_forms.specs.declared.listing.Test.{Test}
 use Rattle.scp_parser.specs.Command.{Request}
 use Rattle.scp_parser.specs.Command as request
 use Rattle.scp_examine.specs.declared.fault.ExamineFault.{ExamineFault}
-use Rattle.scp_examine.specs.Effect.{examine_fault, fault_of_deposit}
-use Rattle.scp_commands.specs.declared.next.Next.TheVariants.{Go, Ran, Exit}
+use Rattle.scp_examine.specs.Effect.{examine_fault, fault_of_deposit, tested}
+use Rattle.scp_commands.specs.declared.next.Next.TheVariants.{Go, Ran, Do, Goto, Exit}
 use Rattle.scp_commands.specs.declared.fault.CommandFault.{CommandFault}
-use Rattle.scp_commands.specs.declared.fault.CommandFault.TheVariants.{OutOfRange}
+use Rattle.scp_commands.specs.declared.fault.CommandFault.TheVariants.{OutOfRange, NotBuilt}
 use Rattle.scp_commands.specs.Live.{Live, Standing, standing, with_machine}
 use Rattle.scp_commands.specs.Reply.{Answer, Reply, goes, says, refused}
 use Rattle.scp_commands.specs.Doing.{Does, IsExitAnswer}
@@ -33,6 +37,8 @@ use Rattle.scp_commands.specs.FileEffects.{lacks_unit, mode_of, attach_answer, a
 use Rattle.scp_commands.specs.FileEffects.{detach_answer, detach_used, detached_machine, detach_with, detach_reply, detach_all_reply, detach_one_or_all, all_closings, detached_all}
 use Rattle.scp_commands.specs.ShowEffects.{show_reply}
 use Rattle.scp_commands.specs.ExitEffects.{exit_reply}
+use Rattle.scp_commands.specs.SetEffects.{set_size_reply}
+use Rattle.scp_commands.specs.ScriptEffects.{test_answer, assert_answer, echo_reply, assert_reply, script_calls, do_answer, do_reply, goto_reply}
 use Rattle.scp_commands.specs.Effect.{effect, Asked, does}
 use Rattle.scp_commands.specs.Laws.{LeavesTraces, IsUntouched, RefusalsChangeNothing}
 use Rattle.scp_commands.proofs.TraceLemmas.{files-kept}
@@ -189,7 +195,9 @@ fair-detach_where notes live (Some unit) = fair-detach notes live unit
 fair-show : {W : CommandFault → Type 0} (live : Live) (subject : Shown) → Fair W live (show_reply live subject)
 unfolding show_reply
 fair-show live shown.Time = fair-says _ live live
+fair-show live shown.Cpu = fair-says _ live live
 fair-show live shown.Queue = fair-says _ live live
+fair-show live shown.Version = fair-says _ live live
 fair-show live (shown.Unit unit) = fair-if (lacks_unit live.machine unit) live _ _ (fair-refused _ live) (fair-says _ live live)
 fair-show live subject = fair-refused _ live
 
@@ -207,6 +215,53 @@ fair-exit {W} notes live status = exit-if (nat_le (unwrap_or status 0) 99) refl
     }
     exit-if false is = fair-refused OutOfRange live
 
+-- ---- SET
+
+fair-set_size : {W : CommandFault → Type 0} (live : Live) (k : ℕ) → Fair W live (set_size_reply live k)
+unfolding set_size_reply
+fair-set_size live k = fair-if (fits_size k) live _ _ (fair-goes live _) (fair-refused _ live)
+
+-- ---- ECHO and ASSERT
+
+fair-echo : {W : CommandFault → Type 0} (live : Live) (text : List ℕ) → Fair W live (echo_reply live text)
+unfolding echo_reply
+fair-echo live text = fair-says _ live live
+
+assert-exit : (lacks : Bool) (r : Result Bool ExamineFault) → IsExitAnswer (if lacks then Err NotBuilt else test_answer r)
+assert-exit true r = tt
+assert-exit false (Ok true) = tt
+assert-exit false (Ok false) = tt
+assert-exit false (Err fault) = tt
+
+fair-assert : {W : CommandFault → Type 0} (live : Live) (test : Test) → Fair W live (assert_reply live test)
+unfolding assert_reply
+fair-assert live test = record {
+  reads = refl;
+  exit = assert-exit (lacks_device live.machine test.device) (tested live.machine test);
+  untouched = λ fault h. record { machine = refl; keys = refl; text = refl };
+  files = λ fault h none. refl;
+}
+
+-- ---- DO and GOTO
+
+fair-do : {W : CommandFault → Type 0} (notes : List CommandNote) (live : Live) (echo strict : Bool) (name : List ℕ) → Fair W live (do_reply notes live echo strict name)
+unfolding do_reply
+fair-do notes live echo strict name = record {
+  reads = refl;
+  exit = do-exit (whole_act (script_calls live.machine.time notes) name live.files).0;
+  untouched = λ fault h. record { machine = refl; keys = refl; text = refl };
+  files = λ fault h none. refl;
+}
+  where
+    do-exit : (said : WholeSaid) → IsExitAnswer (do_answer echo strict said)
+    do-exit (WholeIs bytes) = tt
+    do-exit whole.NotThere = tt
+    do-exit whole.TooLong = tt
+    do-exit whole.CallFailed = tt
+
+fair-goto : {W : CommandFault → Type 0} (live : Live) → Fair W live (goto_reply live)
+fair-goto live = record { reads = refl; exit = tt; untouched = λ fault h. absurd (cc); files = λ fault h none. absurd (cc) }
+
 pub fair-effect : (limit : ℕ) (notes : List CommandNote) (live : Live) (r : Request) → Fair (LeavesTraces r) live (effect limit notes live r)
 unfolding effect
 fair-effect limit notes live request.Nothing = fair-goes live live
@@ -219,7 +274,12 @@ fair-effect limit notes live (request.Step count) = fair-step_of limit notes (un
 fair-effect limit notes live request.Reset = fair-reset live
 fair-effect limit notes live (request.Attach option unit name) = fair-attach notes live option unit name
 fair-effect limit notes live (request.Detach unit) = fair-detach_where notes live unit
+fair-effect limit notes live (request.SetSize k) = fair-set_size live k
 fair-effect limit notes live (request.Show subject) = fair-show live subject
+fair-effect limit notes live (request.Do echo strict name arguments) = fair-do notes live echo strict name
+fair-effect limit notes live (request.Goto label) = fair-goto live
+fair-effect limit notes live (request.Assert test) = fair-assert live test
+fair-effect limit notes live (request.Echo text) = fair-echo live text
 fair-effect limit notes live (request.Exit status) = fair-exit notes live status
 fair-effect limit notes live r = fair-refused _ live
 
@@ -235,6 +295,8 @@ pub does-exit : (limit : ℕ) (notes : List CommandNote) (live : Live) (r : Requ
 does-exit limit notes live r (Ok (Exit status)) at tells before after h = subst (λ (a : Answer). IsExitAnswer a) (sym h.0) (fair-effect limit notes live r).exit
 does-exit limit notes live r (Ok Go) at tells before after h = tt
 does-exit limit notes live r (Ok (Ran stop)) at tells before after h = tt
+does-exit limit notes live r (Ok (Do file)) at tells before after h = tt
+does-exit limit notes live r (Ok Goto) at tells before after h = tt
 does-exit limit notes live r (Err fault) at tells before after h = tt
 
 pub refusals-change-nothing : RefusalsChangeNothing

@@ -17,3 +17,7 @@ pub mod BehindLemmas
 pub mod DetachLemmas
 pub mod AttachLemmas
 pub mod ObeyLemmas
+pub mod DoLemmas
+pub mod ScriptLemmas
+pub mod SetLemmas
+pub mod AskedLemmas

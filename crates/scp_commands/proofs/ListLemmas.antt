@@ -7,10 +7,10 @@ use Rattle.unit_trait.specs.declared.processor.CpuReg.TheVariants.{Ac0, Ac1, Ac2
 use Rattle.nova_machine.specs.Machine.{MachineState}
 use Rattle.nova_machine.specs.Registers.{register_of, with_register}
 use Rattle.nova_machine.specs.Seen.{erased, seen}
-use Rattle.scp_parser.specs.declared.listing.Name.{Name}
-use Rattle.scp_parser.specs.declared.listing.Name.TheVariants as whose
-use Rattle.scp_parser.specs.declared.listing.Condition.{Condition}
-use Rattle.scp_parser.specs.declared.listing.Listing.{Listing}
+use Rattle.operand_forms.specs.declared.listing.Name.{Name}
+use Rattle.operand_forms.specs.declared.listing.Name.TheVariants as whose
+use Rattle.operand_forms.specs.declared.listing.Condition.{Condition}
+use Rattle.operand_forms.specs.declared.listing.Listing.{Listing}
 use Rattle.scp_examine.specs.declared.fault.ExamineFault.{ExamineFault}
 use Rattle.scp_examine.specs.declared.fault.ExamineFault.TheVariants as list
 use Rattle.scp_examine.specs.Shape.{shape_of}
@@ -45,7 +45,7 @@ erased-register m Sr = refl
 erased-register m StopDev = refl
 erased-register m Size = refl
 
-erased-value : (m : MachineState) (p : Place) → value_at (erased m) p ≡ value_at m p
+pub erased-value : (m : MachineState) (p : Place) → value_at (erased m) p ≡ value_at m p
 erased-value m (Cell a) = refl
 erased-value m (Register r) = erased-register m r
 erased-value m (UnitRegister kind i) = refl

@@ -1,29 +1,34 @@
 -- What a command comes to, by what it asks for.
-use Rattle.std.proofs.Common.{◌≡◌, ◌≢◌, ℕ, ◌<◌, Bool, true, false, IsTrue, List, [], ◌∷◌, ◌++◌, Option, Some, None, Ok, Err, refl, ap, sym, ◌∙◌, subst, append-nil, if◌then◌else◌, arith}
+use Rattle.std.proofs.Common.{◌≡◌, ◌≢◌, ℕ, ◌<◌, Bool, true, false, IsTrue, List, [], ◌∷◌, ◌++◌, Option, Some, None, Result, Ok, Err, refl, ap, sym, ◌∙◌, subst, append-nil, if◌then◌else◌, arith}
 use Rattle.host_files.specs.State.{FileState}
 use Rattle.unit_trait.specs.declared.kind.UnitName.{UnitName}
 use Rattle.fault_notes.specs.declared.note.FaultNote.{FaultNote}
 use Rattle.fault_notes.specs.Notes.{CommandNote, Note}
 use Rattle.fault_notes.proofs.Adding.{counted-none}
+use Rattle.nova_memory.specs.Memory.{fits_size}
+use Rattle.nova_machine.specs.declared.machine.Stop.TheVariants.{ConsoleFault, FileFault}
 use Rattle.nova_machine.specs.Machine.{MachineState, reset_devices, reset_machine}
 use Rattle.scp_parser.specs.declared.command.Shown.{Shown}
 use Rattle.scp_parser.specs.declared.command.Shown.TheVariants as shown
-use Rattle.scp_parser.specs.declared.listing.Listing.{Listing}
+use Rattle.operand_forms.specs.declared.listing.Listing.{Listing}
+use Rattle.operand_forms.specs.declared.listing.Test.{Test}
 use Rattle.scp_parser.specs.declared.command.Piece.{Piece}
 use Rattle.scp_parser.specs.declared.command.Verb.{Verb}
 use Rattle.scp_parser.specs.declared.command.Verb.TheVariants as verb
-use Rattle.scp_parser.specs.Command.{Request, Attach, request_of}
+use Rattle.scp_parser.specs.Command.{Request, Attach, Do, piece_of, request_of, file_name_of}
 use Rattle.scp_examine.specs.declared.fault.ExamineFault.{ExamineFault}
 use Rattle.scp_examine.specs.declared.fault.ExamineFault.TheVariants as list
-use Rattle.scp_examine.specs.Effect.{examine_fault, fault_of_deposit}
-use Rattle.scp_commands.specs.declared.next.Next.TheVariants.{Go}
-use Rattle.scp_commands.specs.declared.fault.CommandFault.TheVariants.{Console, OutOfMemory, NoFile, FileFailed, NotBuilt}
+use Rattle.scp_examine.specs.Effect.{examine_fault, fault_of_deposit, tested}
+use Rattle.scp_commands.specs.declared.next.Next.TheVariants.{Go, Goto, Ran}
+use Rattle.scp_commands.specs.declared.fault.CommandFault.TheVariants.{Console, OutOfMemory, NoFile, FileTooLong, FileFailed, NotBuilt}
 use Rattle.scp_commands.specs.Live.{Live, Standing, standing}
 use Rattle.scp_commands.specs.Reply.{Answer, Reply, bare_answer, goes, refused}
 use Rattle.scp_commands.specs.RunEffects.{reset_reply}
 use Rattle.scp_commands.specs.ListEffects.{lacks_device, examine_after, examine_reply, handed, deposit_after, deposit_reply}
 use Rattle.scp_commands.specs.FileEffects.{lacks_unit}
 use Rattle.scp_commands.specs.ShowEffects.{show_reply}
+use Rattle.scp_commands.specs.SetEffects.{set_size_reply}
+use Rattle.scp_commands.specs.ScriptEffects.{test_answer, echo_reply, assert_reply, goto_reply}
 use Rattle.scp_commands.specs.Effect.{effect}
 use Rattle.scp_commands.specs.Doing.{Does, Did, FileCause, Keeps, MayWant}
 use Rattle.scp_commands.proofs.DidLemmas.{did-of}
@@ -44,15 +49,26 @@ noted-did limit number live new request other reply answer tells before after no
     subst (λ (r : List CommandNote → Reply). Did r number answer new tells before after notes notes')
     (λ i own. sym (ap (λ (x : Request). effect limit own live x) is ∙ comes own) i) did
 
+-- a DO, by the name of its file
+pub do-named : (line : List ℕ) (v : Verb) (echo strict : Bool) (file rest : Piece) (r : Request) (name : List ℕ) → r ≡ request_of line v → v ≡ verb.Do echo strict file rest → name ≡ file_name_of r
+    → (arguments : List ℕ) × (r ≡ Do echo strict name arguments)
+do-named line v echo strict file rest r name read is named =
+    let asks = read ∙ ap (request_of line) is in
+    (piece_of line rest, asks ∙ ap (λ (n : List ℕ). Do echo strict n (piece_of line rest)) (sym (named ∙ ap file_name_of asks)))
+
 -- nothing is done
 pub goes-does : (live : Live) (tells : Bool) (text : List ℕ) → Does (goes live) (Ok Go) (standing 0 live) tells text text
 goes-does live tells text = (refl, record { after_is = refl; written = λ _. sym (append-nil text) })
+
+pub goto-does : (live : Live) (tells : Bool) (text : List ℕ) → Does (goto_reply live) (Ok Goto) (standing 0 live) tells text text
+goto-does live tells text = (refl, record { after_is = refl; written = λ _. sym (append-nil text) })
 
 -- ---- an answer that speaks of no file
 
 abbrev pub IsOfNoFile : Answer → Type 0
 IsOfNoFile (Err NoFile) = ⊥
 IsOfNoFile (Err (FileFailed who)) = ⊥
+IsOfNoFile (Ok (Ran (FileFault f))) = ⊥
 IsOfNoFile answer = Unit {0}
 
 of-no-file : (answer other : Answer) → answer ≡ other → IsOfNoFile other → IsOfNoFile answer
@@ -69,16 +85,22 @@ keeps-none number time tells answer notes notes' state none own = record {
   cause = cause answer own;
 }
   where
-    cause : (answer : Answer) → IsOfNoFile answer → FileCause tells answer [] state state
+    cause : (answer : Answer) → IsOfNoFile answer → FileCause (record { command = number; time = time }) tells answer [] state state
     cause (Err NoFile) own = absurd own
     cause (Err (FileFailed who)) own = absurd own
-    cause answer own = tt
+    cause (Err FileTooLong) own = tt
+    cause (Err Console) own = (ConsoleFault, refl)
+    cause (Err fault) own = refl
+    cause (Ok (Ran (FileFault f))) own = absurd own
+    cause (Ok (Ran stop)) own = refl
+    cause (Ok next) own = tt
 
 -- what was done answers for no file where its reply does not
 pub does-of-no-file : (reply : Reply) (answer : Answer) (at : Standing) (tells : Bool) (before after : List ℕ) → Does reply answer at tells before after
     → IsOfNoFile reply.answer → IsOfNoFile answer
 does-of-no-file reply (Err NoFile) at tells before after does own = of-no-file (Err NoFile) reply.answer does.0 own
 does-of-no-file reply (Err (FileFailed who)) at tells before after does own = of-no-file (Err (FileFailed who)) reply.answer does.0 own
+does-of-no-file reply (Ok (Ran (FileFault f))) at tells before after does own = of-no-file (Ok (Ran (FileFault (record f { file = None })))) reply.answer does.0 own
 does-of-no-file reply answer at tells before after does own = tt
 
 no-file-if : (b : Bool) (x y : Reply) → IsOfNoFile x.answer → IsOfNoFile y.answer → IsOfNoFile (if b then x else y).answer
@@ -110,9 +132,32 @@ deposit-no-file live l value = no-file-if (lacks_device live.machine l.device) _
 pub show-no-file : (live : Live) (subject : Shown) → IsOfNoFile (show_reply live subject).answer
 unfolding show_reply
 show-no-file live shown.Time = tt
+show-no-file live shown.Cpu = tt
 show-no-file live shown.Queue = tt
+show-no-file live shown.Version = tt
 show-no-file live (shown.Unit unit) = no-file-if (lacks_unit live.machine unit) _ _ tt tt
 show-no-file live subject = tt
+
+pub set_size-no-file : (live : Live) (k : ℕ) → IsOfNoFile (set_size_reply live k).answer
+unfolding set_size_reply
+set_size-no-file live k = no-file-if (fits_size k) _ _ tt tt
+
+pub echo-no-file : (live : Live) (text : List ℕ) → IsOfNoFile (echo_reply live text).answer
+unfolding echo_reply
+echo-no-file live text = tt
+
+pub assert-no-file : (live : Live) (test : Test) → IsOfNoFile (assert_reply live test).answer
+unfolding assert_reply
+assert-no-file live test = by-answer (lacks_device live.machine test.device) (tested live.machine test)
+  where
+    by-answer : (lacks : Bool) (r : Result Bool ExamineFault) → IsOfNoFile (if lacks then Err NotBuilt else test_answer r)
+    by-answer true r = tt
+    by-answer false (Ok true) = tt
+    by-answer false (Ok false) = tt
+    by-answer false (Err list.NoSuchName) = tt
+    by-answer false (Err list.OutOfRange) = tt
+    by-answer false (Err list.ReadOnlyName) = tt
+    by-answer false (Err list.Console) = tt
 
 pub reset-no-file : (live : Live) → IsOfNoFile (reset_reply live).answer
 unfolding reset_reply
@@ -126,6 +171,7 @@ reset-slots m = refl
 -- memory may be wanted where the room is not there yet
 pub may-want : (spare : ℕ) (request : Request) → spare < 16 → MayWant spare request
 may-want spare (Attach option unit name) few = tt
+may-want spare (Do echo strict name arguments) few = tt
 may-want spare request few = few
 
 -- ---- what is not built
@@ -141,7 +187,12 @@ pub record IsOther (v : Verb) : Type 0 where
   pub reset : v ≡ verb.Reset → ⊥
   pub attach : (option : ℕ) (unit : UnitName) (name : Piece) → v ≡ verb.Attach option unit name → ⊥
   pub detach : (unit : Option UnitName) → v ≡ verb.Detach unit → ⊥
+  pub set_size : (k : ℕ) → v ≡ verb.SetSize k → ⊥
   pub show : (subject : Shown) → v ≡ verb.Show subject → ⊥
+  pub do_ : (echo strict : Bool) (name arguments : Piece) → v ≡ verb.Do echo strict name arguments → ⊥
+  pub goto : (label : Piece) → v ≡ verb.Goto label → ⊥
+  pub assert : (test : Test) → v ≡ verb.Assert test → ⊥
+  pub echo : (text : Piece) → v ≡ verb.Echo text → ⊥
   pub exit : (status : Option ℕ) → v ≡ verb.Exit status → ⊥
 
 pub other-is : (limit : ℕ) (own : List CommandNote) (live : Live) (line : List ℕ) (v : Verb) → IsOther v → effect limit own live (request_of line v) ≡ refused NotBuilt live
@@ -156,6 +207,11 @@ other-is limit own live line (verb.Step count) o = absurd (o.step count refl)
 other-is limit own live line verb.Reset o = absurd (o.reset refl)
 other-is limit own live line (verb.Attach option unit name) o = absurd (o.attach option unit name refl)
 other-is limit own live line (verb.Detach unit) o = absurd (o.detach unit refl)
+other-is limit own live line (verb.SetSize k) o = absurd (o.set_size k refl)
 other-is limit own live line (verb.Show subject) o = absurd (o.show subject refl)
+other-is limit own live line (verb.Do echo strict name arguments) o = absurd (o.do_ echo strict name arguments refl)
+other-is limit own live line (verb.Goto label) o = absurd (o.goto label refl)
+other-is limit own live line (verb.Assert test) o = absurd (o.assert test refl)
+other-is limit own live line (verb.Echo text) o = absurd (o.echo text refl)
 other-is limit own live line (verb.Exit status) o = absurd (o.exit status refl)
 other-is limit own live line v o = refl

@@ -1,11 +1,11 @@
 -- DEPOSIT never answers for the console.
 use Rattle.std.proofs.Common.{ℕ, Bool, true, false, List, [], ◌∷◌, Option, Some, None, if◌then◌else◌}
 use Rattle.unit_trait.specs.declared.processor.CpuReg.TheVariants.{Size}
-use Rattle.scp_parser.specs.declared.listing.Name.{Name}
-use Rattle.scp_parser.specs.declared.listing.Name.TheVariants as whose
-use Rattle.scp_parser.specs.declared.listing.Item.{Item}
-use Rattle.scp_parser.specs.declared.listing.Item.TheVariants.{At, Range, Count, All, Reg, State, Unknown}
-use Rattle.scp_parser.specs.declared.listing.Listing.{Listing}
+use Rattle.operand_forms.specs.declared.listing.Name.{Name}
+use Rattle.operand_forms.specs.declared.listing.Name.TheVariants as whose
+use Rattle.operand_forms.specs.declared.listing.Item.{Item}
+use Rattle.operand_forms.specs.declared.listing.Item.TheVariants.{At, Range, Count, All, Reg, State, Unknown}
+use Rattle.operand_forms.specs.declared.listing.Listing.{Listing}
 use Rattle.scp_examine.specs.declared.fault.ExamineFault.{ExamineFault}
 use Rattle.scp_examine.specs.declared.fault.ExamineFault.TheVariants as list
 use Rattle.scp_examine.specs.Shape.{Shape, shape_of}
@@ -18,7 +18,7 @@ use Rattle.scp_commands.specs.ListEffects.{lacks_device, handed, deposit_after, 
 use Rattle.scp_commands.specs.Doing.{IsPlain}
 
 -- a fault that is not the console's, or none
-abbrev IsListsOwn : Option ExamineFault → Type 0
+abbrev pub IsListsOwn : Option ExamineFault → Type 0
 IsListsOwn (Some list.Console) = ⊥
 IsListsOwn fault = Unit {0}
 
@@ -38,7 +38,7 @@ own-name : (there : Bool) → IsListsOwn (no_such_name_unless there)
 own-name true = tt
 own-name false = tt
 
-own-item : (shape : Shape) (device : Name) (item : Item) → IsListsOwn (item_fault shape device item)
+pub own-item : (shape : Shape) (device : Name) (item : Item) → IsListsOwn (item_fault shape device item)
 unfolding item_fault
 own-item shape device (At a) = own-memory device _
 own-item shape device (Range a b) = own-memory device _

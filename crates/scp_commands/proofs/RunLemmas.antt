@@ -230,10 +230,10 @@ stamped-stop : (number time : ℕ) (stop : Stop) → AllByRecursion (IsStamped n
 stamped-stop number time (FileFault f) = ((refl, refl), tt)
 stamped-stop number time stop = tt
 
--- an answer of a run is that of no file
-told-cause : {T E : Type 0} (tells : Bool) (printed : Result T E) (stop : Stop) (kept : List FaultNote) (old new : FileState) → FileCause tells (told_or_console printed (Ran stop)) kept old new
-told-cause tells (Ok x) stop kept old new = tt
-told-cause tells (Err e) stop kept old new = tt
+-- the notes of a run are those of its stop
+told-cause : {T E : Type 0} (stamp : Stamp) (tells : Bool) (printed : Result T E) (stop : Stop) (old new : FileState) → FileCause stamp tells (told_or_console printed (Ran stop)) (stop_notes stamp stop) old new
+told-cause stamp tells (Ok x) stop old new = refl
+told-cause stamp tells (Err e) stop old new = (stop, refl)
 
 pub run-keeps : {T E : Type 0} (number time : ℕ) (tells : Bool) (stop : Stop) (printed : Result T E) (answer : Answer) (slots : List (Option Held)) (notes notes' : List FaultNote) (old new : FileState)
     → answer ≡ told_or_console printed (Ran stop) → notes' ≡ notes ++ stop_notes (record { command = number; time = time }) stop → coming.FileCause (Some stop) slots old new
@@ -246,7 +246,7 @@ run-keeps number time tells stop printed answer slots notes notes' old new is ad
       few = few-stop stamp stop;
       stamped = stamped-stop number time stop;
       counted = counted-stop stamp stop slots old new cause;
-      cause = subst (λ (a : Answer). FileCause tells a (stop_notes stamp stop) old new) (sym is) (told-cause tells printed stop (stop_notes stamp stop) old new);
+      cause = subst (λ (a : Answer). FileCause stamp tells a (stop_notes stamp stop) old new) (sym is) (told-cause stamp tells printed stop old new);
     }
 
 -- a run that ended since the console refused a byte keeps no note
@@ -258,5 +258,5 @@ cut-keeps number time tells stop slots notes old new is cause = record {
   few = omega arith;
   stamped = tt;
   counted = counted-quiet old new (subst (λ (x : Stop). coming.FileCause (Some x) slots old new) is cause);
-  cause = tt;
+  cause = (ConsoleFault, refl);
 }

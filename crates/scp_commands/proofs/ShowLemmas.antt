@@ -7,13 +7,13 @@ use Rattle.unit_trait.specs.declared.kind.UnitName.{UnitName}
 use Rattle.unit_files.specs.Attachments.{Attachment, Held, file_place, held_at, read_only_of, read_only_at, attachments_of, attachment_at}
 use Rattle.nova_machine.specs.Machine.{MachineState}
 use Rattle.nova_machine.specs.Seen.{seen, unnumbered}
-use Rattle.scp_parser.specs.declared.command.Shown.TheVariants.{Time, Queue, Unit as AUnit}
+use Rattle.scp_parser.specs.declared.command.Shown.TheVariants.{Time, Cpu, Queue, Version, Unit as AUnit}
 use Rattle.scp_commands.specs.declared.next.Next.TheVariants.{Go}
 use Rattle.scp_commands.specs.declared.fault.CommandFault.TheVariants.{NotBuilt}
 use Rattle.scp_commands.specs.Live.{standing}
 use Rattle.scp_commands.specs.Reply.{Answer, says, refused}
 use Rattle.scp_commands.specs.FileEffects.{lacks_unit, attachment_text, unit_line, unit_text}
-use Rattle.scp_commands.specs.ShowEffects.{time_text, queue_text, show_reply}
+use Rattle.scp_commands.specs.ShowEffects.{time_text, cpu_text, version_text, queue_text, show_reply}
 use Rattle.scp_commands.specs.Doing.{Does, told_or_console}
 use Rattle.scp_commands.proofs.ReplyLemmas.{says-does, refused-said}
 
@@ -50,6 +50,18 @@ pub time-does : {T E : Type 0} (m : MachineState) (keys : List (ℕ × ℕ)) (fi
     → Does (show_reply (seen keys files m) Time) answer (standing 0 (seen keys files m)) tells before after
 unfolding show_reply
 time-does m keys files printed answer tells before after is puts = says-does (time_text m) (seen keys files m) printed answer tells before after is puts
+
+pub cpu-does : {T E : Type 0} (m : MachineState) (keys : List (ℕ × ℕ)) (files : List NamedBytes) (printed : Result T E) (answer : Answer) (tells : Bool) (before after : List ℕ)
+    → answer ≡ told_or_console printed Go → (IsTrue tells → Puts before (cpu_text m) printed after)
+    → Does (show_reply (seen keys files m) Cpu) answer (standing 0 (seen keys files m)) tells before after
+unfolding show_reply
+cpu-does m keys files printed answer tells before after is puts = says-does (cpu_text m) (seen keys files m) printed answer tells before after is puts
+
+pub version-does : {T E : Type 0} (m : MachineState) (keys : List (ℕ × ℕ)) (files : List NamedBytes) (printed : Result T E) (answer : Answer) (tells : Bool) (before after : List ℕ)
+    → answer ≡ told_or_console printed Go → (IsTrue tells → Puts before version_text printed after)
+    → Does (show_reply (seen keys files m) Version) answer (standing 0 (seen keys files m)) tells before after
+unfolding show_reply
+version-does m keys files printed answer tells before after is puts = says-does version_text (seen keys files m) printed answer tells before after is puts
 
 pub queue-does : {T E : Type 0} (m : MachineState) (keys : List (ℕ × ℕ)) (files : List NamedBytes) (printed : Result T E) (answer : Answer) (tells : Bool) (before after : List ℕ)
     → answer ≡ told_or_console printed Go → (IsTrue tells → Puts before (queue_text m.events) printed after)

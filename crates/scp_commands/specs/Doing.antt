@@ -1,5 +1,5 @@
 -- What a call comes to that does a command: on a console that had and has these bytes, and with the notes that it kept.
-use Rattle.std.specs.Prelude.{◌≡◌, ◌⊎◌, ℕ, ◌≤◌, ◌<◌, Bool, IsTrue, List, [], ◌∷◌, ◌++◌, length, Option, None, is_some, Result, Ok, Err}
+use Rattle.std.specs.Prelude.{◌≡◌, ◌⊎◌, ℕ, ◌≤◌, ◌<◌, Bool, true, IsTrue, List, [], ◌∷◌, ◌++◌, length, Option, None, is_some, Result, Ok, Err}
 use Rattle.std.specs.List.{AllByRecursion, list_any}
 use Rattle.fault_counts.specs.Faults.{raised, Rose}
 use Rattle.observations.specs.Observations.{text_of, StandsAt}
@@ -21,10 +21,10 @@ use Rattle.nova_machine.specs.declared.machine.Stop.{Stop}
 use Rattle.nova_machine.specs.declared.machine.Stop.TheVariants.{ConsoleFault, FileFault}
 use Rattle.nova_machine.specs.Comes.{AreFree}
 use Rattle.nova_machine.specs.Seen.{attached_in}
-use Rattle.scp_parser.specs.Command.{Request, Attach}
+use Rattle.scp_parser.specs.Command.{Request, Attach, Do}
 use Rattle.scp_commands.specs.declared.next.Next.{Next}
 use Rattle.scp_commands.specs.declared.next.Next.TheVariants.{Exit, Ran}
-use Rattle.scp_commands.specs.declared.fault.CommandFault.TheVariants.{Console, OutOfMemory, NoFile, FileFailed}
+use Rattle.scp_commands.specs.declared.fault.CommandFault.TheVariants.{Console, OutOfMemory, NoFile, FileTooLong, FileFailed}
 use Rattle.scp_commands.specs.Live.{Live, Standing, standing, CommandState}
 use Rattle.scp_commands.specs.Reply.{Answer, Reply, bare_answer}
 use Rattle.scp_commands.specs.FileEffects.{all_closings}
@@ -79,6 +79,7 @@ pub record Did (reply : List CommandNote → Reply) (number : ℕ) (answer : Ans
 -- what is done is told where the names and bytes of files are told, or where no file is attached
 abbrev pub IsTold : Bool → List (Option Held) → Request → Type 0
 IsTold tells slots (Attach option unit name) = IsTrue tells
+IsTold tells slots (Do echo strict name arguments) = IsTrue tells
 IsTold tells slots request = IsTrue tells ⊎ AreFree slots
 
 -- ---- causes, whether anything is told or not
@@ -87,12 +88,36 @@ IsTold tells slots request = IsTrue tells ⊎ AreFree slots
 abbrev pub IsRefusalOf : Subject → FaultNote → Type 0
 IsRefusalOf who n = (n.subject ≡ who) × (n.call ≡ Closing → ⊥)
 
--- A file was missing only where the count of openings rose, if names are not told, and a call on it failed only where that
--- is the one note that was kept.
-abbrev pub FileCause : Bool → Answer → List FaultNote → FileState → FileState → Type 0
-FileCause tells (Err NoFile) kept old new = (kept ≡ []) × ((IsTrue tells → ⊥) → Rose old.open_faults new.open_faults)
-FileCause tells (Err (FileFailed who)) kept old new = (n : FaultNote) × (kept ≡ n ∷ []) × IsRefusalOf who n
-FileCause tells answer kept old new = Unit {0}
+-- a note of a closing of that subject
+abbrev pub IsClosingOf : Subject → FaultNote → Type 0
+IsClosingOf who n = (n.subject ≡ who) × (n.call ≡ Closing)
+
+-- the note of the call for which it was refused is the first, and behind it may come those of closings
+abbrev pub AreRefusalOf : Subject → List FaultNote → Type 0
+AreRefusalOf who [] = ⊥
+AreRefusalOf who (n ∷ notes) = IsRefusalOf who n × AllByRecursion (IsClosingOf who) notes
+
+-- notes of closings, if there are any
+abbrev pub AllClosings : List FaultNote → Type 0
+AllClosings notes = AllByRecursion (λ (n : FaultNote). n.call ≡ Closing) notes
+
+-- the notes that are kept for a stop
+abbrev pub stop_notes : Stamp → Stop → List FaultNote
+stop_notes stamp (FileFault f) = fault_note stamp f ∷ []
+stop_notes stamp stop = []
+
+-- Why an answer comes, by the notes that were kept. A file was missing only where none was kept and, if names are not told,
+-- the count of openings rose. A call on a file failed only where its note is the first. A run keeps the note of the call
+-- for which it stopped, if it did for one, also where the console refused a byte of the stop's text. What was done
+-- otherwise, and a file that is too long, has only notes of closings, and what was refused otherwise has none.
+abbrev pub FileCause : Stamp → Bool → Answer → List FaultNote → FileState → FileState → Type 0
+FileCause stamp tells (Err NoFile) kept old new = (kept ≡ []) × ((IsTrue tells → ⊥) → Rose old.open_faults new.open_faults)
+FileCause stamp tells (Err (FileFailed who)) kept old new = AreRefusalOf who kept
+FileCause stamp tells (Err FileTooLong) kept old new = AllClosings kept
+FileCause stamp tells (Err Console) kept old new = (stop : Stop) × (kept ≡ stop_notes stamp stop)
+FileCause stamp tells (Err fault) kept old new = kept ≡ []
+FileCause stamp tells (Ok (Ran stop)) kept old new = kept ≡ stop_notes stamp stop
+FileCause stamp tells (Ok next) kept old new = AllClosings kept
 
 -- what stands on a note
 abbrev pub IsStamped : ℕ → ℕ → FaultNote → Type 0
@@ -106,7 +131,7 @@ pub record Keeps (number time : ℕ) (tells : Bool) (answer : Answer) (notes not
   pub few : length kept ≤ 16
   pub stamped : AllByRecursion (IsStamped number time) kept
   pub counted : AreCounted kept old new
-  pub cause : FileCause tells answer kept old new
+  pub cause : FileCause (record { command = number; time = time }) tells answer kept old new
 
 -- The console's count of faults rises by one where the answer is that it refused a byte, and stands still with every
 -- other answer.
@@ -141,24 +166,25 @@ IsRunAnswer (Ok (Exit status)) = ⊥
 IsRunAnswer (Err OutOfMemory) = ⊥
 IsRunAnswer answer = Unit {0}
 
--- the notes that are kept for a stop
-abbrev pub stop_notes : Stamp → Stop → List FaultNote
-stop_notes stamp (FileFault f) = fault_note stamp f ∷ []
-stop_notes stamp stop = []
-
 -- ---- want of memory
 
--- memory may be wanted where the room of 16 notes is not there yet, and by ATTACH
+-- memory may be wanted where the room of 16 notes is not there yet, and by ATTACH and DO
 abbrev pub MayWant : ℕ → Request → Type 0
 MayWant spare (Attach option unit name) = Unit {0}
+MayWant spare (Do echo strict name arguments) = Unit {0}
 MayWant spare request = spare < 16
 
+-- Whether it is said of all files that they are as they were: of those that DO was reading only where they are told.
+abbrev pub says_files : Bool → Request → Bool
+says_files tells (Do echo strict name arguments) = tells
+says_files tells request = true
+
 -- nothing was done
-pub record IsUndone (old new : CommandState) (before after : List ℕ) (files files' : FileState) : Type 0 where
+pub record IsUndone (says : Bool) (old new : CommandState) (before after : List ℕ) (files files' : FileState) : Type 0 where
   pub machine : new.machine ≡ old.machine
   pub notes : new.notes ≡ old.notes
   pub written : after ≡ before
-  pub files_are : files'.files ≡ files.files
+  pub files_are : IsTrue says → files'.files ≡ files.files
 
 -- ---- the end of the input
 

@@ -1,17 +1,21 @@
 -- What each command does.
-use Rattle.std.specs.Prelude.{ℕ, List, unwrap_or, true, false, Result, Ok, Err}
+use Rattle.std.specs.Prelude.{ℕ, List, unwrap_or, true, false, Result, Ok, Err, if◌then◌else◌}
 use Rattle.fault_notes.specs.Notes.{CommandNote}
 use Rattle.scp_parser.specs.declared.fault.ParseFault.{ParseFault}
-use Rattle.scp_parser.specs.Command.{Request, Nothing, Examine, Deposit, Run, Go, Cont, Step, Reset, Attach, Detach, Show, Exit}
-use Rattle.scp_commands.specs.declared.fault.CommandFault.TheVariants.{NotBuilt}
+use Rattle.scp_parser.specs.Command.{Request, Nothing, Examine, Deposit, Run, Go, Cont, Step, Reset, Attach, Detach, SetSize, Show, Do, Goto, Assert, Echo, Exit}
+use Rattle.scp_parser.specs.Reading.{reading}
+use Rattle.scp_commands.specs.declared.fault.CommandFault.{CommandFault}
+use Rattle.scp_commands.specs.declared.fault.CommandFault.TheVariants.{Parse, NotBuilt}
 use Rattle.scp_commands.specs.Live.{Live}
 use Rattle.scp_commands.specs.Reply.{Reply, goes, refused}
-use Rattle.scp_commands.specs.FaultText.{line_fault}
 use Rattle.scp_commands.specs.RunEffects.{running, run_from, step_of, reset_reply}
 use Rattle.scp_commands.specs.ListEffects.{examine_reply, deposit_reply}
 use Rattle.scp_commands.specs.FileEffects.{attach_reply, detach_one_or_all}
 use Rattle.scp_commands.specs.ShowEffects.{show_reply}
 use Rattle.scp_commands.specs.ExitEffects.{exit_reply}
+use Rattle.scp_commands.specs.ScriptEffects.{do_reply, goto_reply, echo_reply, assert_reply}
+use Rattle.scp_commands.specs.SetEffects.{set_size_reply}
+use Rattle.scp_commands.specs.Unbuilt.{names_unbuilt}
 
 -- a command, where a run may execute so many instructions, and where these calls on files fail
 unfoldable pub effect : ℕ → List CommandNote → Live → Request → Reply
@@ -25,15 +29,30 @@ effect limit notes live (Step count) = step_of limit notes (unwrap_or count 1) l
 effect limit notes live Reset = reset_reply live
 effect limit notes live (Attach option unit name) = attach_reply notes live option unit name
 effect limit notes live (Detach unit) = detach_one_or_all notes live unit
+effect limit notes live (SetSize k) = set_size_reply live k
 effect limit notes live (Show subject) = show_reply live subject
+effect limit notes live (Assert test) = assert_reply live test
+effect limit notes live (Echo text) = echo_reply live text
+effect limit notes live (Do echo strict name arguments) = do_reply notes live echo strict name
+effect limit notes live (Goto label) = goto_reply live
 effect limit notes live (Exit status) = exit_reply notes live status
 effect limit notes live request = refused NotBuilt live
 
--- what a line was read as: a command, or the fault of a line that is none
+-- what a line asks for: a command, or the fault by which it is refused before any command
 abbrev pub Asked : Type 0
-Asked = Result Request ParseFault
+Asked = Result Request CommandFault
+
+-- the same of a line that was read
+abbrev pub read_as : Result Request ParseFault → Asked
+read_as (Ok request) = Ok request
+read_as (Err fault) = Err (Parse fault)
+
+-- A line is refused as not built where it names a command that this version does not have, whatever follows; every other
+-- line is read.
+unfoldable pub asked : List ℕ → Asked
+asked line = if names_unbuilt line then Err NotBuilt else read_as (reading line)
 
 -- what a line does
 unfoldable pub does : ℕ → List CommandNote → Live → Asked → Reply
 does limit notes live (Ok request) = effect limit notes live request
-does limit notes live (Err fault) = refused (line_fault fault) live
+does limit notes live (Err fault) = refused fault live

@@ -11,12 +11,7 @@ use Rattle.scp_examine.specs.declared.fault.ExamineFault.{ExamineFault}
 use Rattle.scp_examine.specs.declared.fault.ExamineFault.TheVariants as list
 use Rattle.scp_commands.specs.declared.fault.CommandFault.{CommandFault}
 use Rattle.scp_commands.specs.declared.fault.CommandFault.TheVariants.{Parse, NoSuchName, OutOfRange, ReadOnlyName, Console, NotBuilt}
-use Rattle.scp_commands.specs.declared.fault.CommandFault.TheVariants.{AlreadyAttached, NotAttached, ReadOnly, NoFile, FileTooLong, FileFailed, OutOfMemory}
-
--- the fault of a line that is no command
-abbrev pub line_fault : ParseFault → CommandFault
-line_fault parse.NotBuilt = NotBuilt
-line_fault fault = Parse fault
+use Rattle.scp_commands.specs.declared.fault.CommandFault.TheVariants.{AlreadyAttached, NotAttached, ReadOnly, NoFile, FileTooLong, FileFailed, AssertFailed, TooDeep, NoLabel, NotInDo, OutOfMemory}
 
 -- the fault of a list
 abbrev pub list_fault : ExamineFault → CommandFault
@@ -43,7 +38,6 @@ abbrev pub parse_words : ParseFault → List ℕ
 parse_words parse.Unknown = codes "Unknown command"
 parse_words parse.Missing = codes "Too few arguments"
 parse_words parse.TooLong = codes "Line too long"
-parse_words parse.NotBuilt = codes "Not built"
 parse_words (parse.BadNumber place) = codes "Invalid number at "
 parse_words (parse.BadName place) = codes "Invalid name at "
 parse_words (parse.BadSymbol place) = codes "Invalid instruction at "
@@ -69,6 +63,10 @@ fault_words ReadOnly = Some (codes "Read only not allowed")
 fault_words NoFile = Some (codes "File not found")
 fault_words FileTooLong = Some (codes "File too long")
 fault_words (FileFailed who) = Some (codes "File error")
+fault_words AssertFailed = Some (codes "Assertion failed")
+fault_words TooDeep = Some (codes "DO nested too deeply")
+fault_words NoLabel = Some (codes "Label not found")
+fault_words NotInDo = Some (codes "Not in a DO file")
 fault_words Console = None
 fault_words OutOfMemory = None
 fault_words NotBuilt = Some (codes "Not built")

@@ -1,5 +1,5 @@
 -- What holds of every command, in a reader's words.
-use Rattle.std.specs.Prelude.{◌≡◌, ℕ, true, IsTrue, List, [], Option, is_some, Err}
+use Rattle.std.specs.Prelude.{◌≡◌, ℕ, ◌*◌, ◌<◌, ◌≤◌, true, IsTrue, List, [], Option, is_some, Err}
 use Rattle.unit_trait.specs.declared.kind.Kind.TheVariants.{Tti}
 use Rattle.unit_trait.specs.Kinds.{code_of}
 use Rattle.event_queue.specs.EventList.{waits}
@@ -7,8 +7,10 @@ use Rattle.unit_list.specs.Bus.{unit_at}
 use Rattle.unit_list.specs.Reset.{first_unit, reset_units, reset_events}
 use Rattle.fault_notes.specs.Notes.{CommandNote}
 use Rattle.nova_interrupts.specs.Interrupts.{no_interrupts}
+use Rattle.nova_memory.specs.Memory.{IsMemory, fits_size, get}
 use Rattle.nova_machine.specs.Machine.{MachineState}
-use Rattle.scp_parser.specs.Command.{Request, Reset, Run, Attach}
+use Rattle.nova_machine.specs.Turn.{with_memory}
+use Rattle.scp_parser.specs.Command.{Request, Reset, Run, Attach, SetSize}
 use Rattle.scp_commands.specs.declared.fault.CommandFault.{CommandFault}
 use Rattle.scp_commands.specs.declared.fault.CommandFault.TheVariants.{FileFailed}
 use Rattle.scp_commands.specs.Live.{Live, with_machine}
@@ -58,3 +60,17 @@ pub record ResetsLeaveTheProgram : Type 0 where
   pub reset : (limit : ℕ) (notes : List CommandNote) (live : Live) → IsReset live.machine (effect limit notes live Reset).after.live.machine
   pub run : (limit : ℕ) (notes : List CommandNote) (live : Live) (address : Option ℕ) → IsTrue (address_fits address)
       → (m : MachineState) × IsReset live.machine m × (effect limit notes live (Run address) ≡ running limit notes (with_machine live (starting_at address m)))
+
+-- A machine that was given so many K of memory: the words below that are as they were, all others are 0, and nothing else
+-- has changed.
+pub record IsSized (k : ℕ) (before after : MachineState) : Type 0 where
+  pub size : after.processor.memory.size ≡ 1024 * k
+  pub below : (a : ℕ) → a < 1024 * k → get after.processor.memory a ≡ get before.processor.memory a
+  pub others : (a : ℕ) → 1024 * k ≤ a → get after.processor.memory a ≡ 0
+  pub rest : after ≡ with_memory before after.processor.memory
+
+-- SET CPU leaves such a machine, where it is given 4, 8 and so on up to 32 K
+abbrev pub SetCpuLeavesTheRest : Type 0
+SetCpuLeavesTheRest =
+    (limit : ℕ) (notes : List CommandNote) (live : Live) (k : ℕ) → IsMemory live.machine.processor.memory → IsTrue (fits_size k)
+    → IsSized k live.machine (effect limit notes live (SetSize k)).after.live.machine

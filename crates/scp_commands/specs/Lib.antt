@@ -6,6 +6,10 @@ pub mod ListEffects
 pub mod FileEffects
 pub mod ShowEffects
 pub mod ExitEffects
+pub mod ScriptEffects
+pub mod ScriptCalls
+pub mod SetEffects
+pub mod Unbuilt
 pub mod Effect
 pub mod Doing
 pub mod Laws

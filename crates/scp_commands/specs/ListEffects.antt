@@ -3,9 +3,9 @@ use Rattle.std.specs.Prelude.{ℕ, ◌^◌, ◌-◌, min, Bool, false, Option, S
 use Rattle.unit_trait.specs.Kinds.{code_of}
 use Rattle.unit_list.specs.Bus.{unit_at}
 use Rattle.nova_machine.specs.Machine.{MachineState}
-use Rattle.scp_parser.specs.declared.listing.Name.{Name}
-use Rattle.scp_parser.specs.declared.listing.Name.TheVariants as whose
-use Rattle.scp_parser.specs.declared.listing.Listing.{Listing}
+use Rattle.operand_forms.specs.declared.listing.Name.{Name}
+use Rattle.operand_forms.specs.declared.listing.Name.TheVariants as whose
+use Rattle.operand_forms.specs.declared.listing.Listing.{Listing}
 use Rattle.scp_examine.specs.declared.fault.ExamineFault.{ExamineFault}
 use Rattle.scp_examine.specs.Effect.{examine_fault, examined, fault_of_deposit, deposited}
 use Rattle.scp_commands.specs.declared.fault.CommandFault.TheVariants.{NotBuilt}

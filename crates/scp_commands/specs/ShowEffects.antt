@@ -1,10 +1,10 @@
 -- SHOW.
-use Rattle.std.specs.Prelude.{ℕ, List, [], ◌∷◌, ◌++◌, codes, decimal, if◌then◌else◌}
+use Rattle.std.specs.Prelude.{ℕ, ◌/◌, List, [], ◌∷◌, ◌++◌, codes, decimal, if◌then◌else◌}
 use Rattle.unit_trait.specs.Kinds.{unit_name}
 use Rattle.event_queue.specs.EventList.{Event}
 use Rattle.nova_machine.specs.Machine.{MachineState}
 use Rattle.scp_parser.specs.declared.command.Shown.{Shown}
-use Rattle.scp_parser.specs.declared.command.Shown.TheVariants.{Time, Queue, Unit as AUnit}
+use Rattle.scp_parser.specs.declared.command.Shown.TheVariants.{Time, Cpu, Queue, Version, Unit as AUnit}
 use Rattle.scp_commands.specs.declared.fault.CommandFault.TheVariants.{NotBuilt}
 use Rattle.scp_commands.specs.Live.{Live}
 use Rattle.scp_commands.specs.Reply.{Reply, says, refused}
@@ -13,6 +13,14 @@ use Rattle.scp_commands.specs.FileEffects.{lacks_unit, unit_text}
 -- what SHOW TIME prints
 abbrev pub time_text : MachineState → List ℕ
 time_text m = codes "Time: " ++ decimal m.time ++ 10 ∷ []
+
+-- what SHOW CPU prints: the size of memory, in units of 1024 words
+abbrev pub cpu_text : MachineState → List ℕ
+cpu_text m = codes "CPU, " ++ decimal (m.processor.memory.size / 1024) ++ codes "K" ++ 10 ∷ []
+
+-- what SHOW VERSION prints
+abbrev pub version_text : List ℕ
+version_text = codes "Nova simulator, project version 1" ++ 10 ∷ []
 
 -- the line of an event: its unit, and in how many instructions it is due
 abbrev pub event_line : Event → List ℕ
@@ -23,9 +31,11 @@ unfoldable pub queue_text : List Event → List ℕ
 queue_text [] = []
 queue_text (e ∷ events) = event_line e ++ queue_text events
 
--- SHOW of anything but the time, the queue, and a unit with its file is not built
+-- SHOW of breakpoints, of EXPECT and SEND, and of a unit that has no file here is not built
 unfoldable pub show_reply : Live → Shown → Reply
 show_reply live Time = says (time_text live.machine) live
+show_reply live Cpu = says (cpu_text live.machine) live
 show_reply live Queue = says (queue_text live.machine.events) live
+show_reply live Version = says version_text live
 show_reply live (AUnit unit) = if lacks_unit live.machine unit then refused NotBuilt live else says (unit_text live.machine unit) live
 show_reply live subject = refused NotBuilt live

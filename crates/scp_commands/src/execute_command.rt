@@ -7,14 +7,17 @@ ghost use Rattle.scp_commands.specs.declared.next.Next.TheVariants.{Ran};
 ghost use Rattle.scp_commands.specs.declared.fault.CommandFault.TheVariants.{OutOfMemory};
 ghost use Rattle.scp_commands.specs.Live.{live_in};
 ghost use Rattle.scp_commands.specs.Effect.{effect};
-ghost use Rattle.scp_commands.specs.Doing.{Did, IsTold, Keeps, ConsoleCounts, MayWant, IsUndone, IsExitAnswer};
+ghost use Rattle.scp_commands.specs.Doing.{Did, IsTold, Keeps, ConsoleCounts, MayWant, IsUndone, says_files, IsExitAnswer};
 
+use crate::do_command::do_script;
 use crate::exit_command::exit;
 use crate::fault::CommandFault;
 use crate::list_commands::{deposit_list, examine_list};
 use crate::next::Next;
 use crate::run_commands::{reset, run, run_from, step};
+use crate::script_commands::{assert_condition, echo};
 use crate::session::Session;
+use crate::set_command::set_size;
 use crate::show_command::show;
 use crate::unit_commands::{attach, detach_one_or_every};
 use host_files::{Files, Sink};
@@ -27,7 +30,7 @@ use unit_trait::Unit;
 /// A command that is refused has printed nothing and changed nothing, but that ATTACH may have made or emptied its file;
 /// who called prints the text of its fault. `Console` means that the console refused a byte, also within a run: what comes
 /// before it was printed, and the session stands as it did when that byte was to be printed. `OutOfMemory` means that
-/// nothing was done: it comes where the room for 16 notes can't be taken, and from ATTACH.
+/// nothing was done: it comes where the room for 16 notes can't be taken, and from ATTACH and DO.
 pub fn execute<U: Unit, F: Files, S: Sink>(
     alloc: Global,
     session: &mut Session<U>,
@@ -40,8 +43,8 @@ pub fn execute<U: Unit, F: Files, S: Sink>(
         → Did (λ notes. effect session.old.limit notes (live_in session.old (F.state files.old).files) command.now)
         session.old.command result (live_in session.new (F.state files.new).files) S.tells (S.written out.old)
         (S.written out.new) (notes_said session.old.notes) (notes_said session.new.notes) }
-    ensures undone { result ≡ Err OutOfMemory → IsUndone session.old session.new (S.written out.old) (S.written out.new)
-        (F.state files.old) (F.state files.new) }
+    ensures undone { result ≡ Err OutOfMemory → IsUndone (says_files F.tells command.now) session.old session.new
+        (S.written out.old) (S.written out.new) (F.state files.old) (F.state files.new) }
     ensures want { result ≡ Err OutOfMemory → MayWant session.old.spare command.now }
     ensures keeps { Keeps session.old.command session.new.machine.time F.tells result session.old.notes
         session.new.notes (F.state files.old) (F.state files.new) }
@@ -76,8 +79,8 @@ fn obey<U: Unit, F: Files, S: Sink>(
         → Did (λ notes. effect session.old.limit notes (live_in session.old (F.state files.old).files) command.now)
         session.old.command result (live_in session.new (F.state files.new).files) S.tells (S.written out.old)
         (S.written out.new) (notes_said session.old.notes) (notes_said session.new.notes) }
-    ensures undone { result ≡ Err OutOfMemory → IsUndone session.old session.new (S.written out.old) (S.written out.new)
-        (F.state files.old) (F.state files.new) }
+    ensures undone { result ≡ Err OutOfMemory → IsUndone (says_files F.tells command.now) session.old session.new
+        (S.written out.old) (S.written out.new) (F.state files.old) (F.state files.new) }
     ensures want { result ≡ Err OutOfMemory → MayWant 16 command.now }
     ensures keeps { Keeps session.old.command session.new.machine.time F.tells result session.old.notes
         session.new.notes (F.state files.old) (F.state files.new) }
@@ -104,7 +107,14 @@ fn obey<U: Unit, F: Files, S: Sink>(
             attach(alloc, session, *option, *unit, command.file_name(), files)
         }
         Verb::Detach(unit) => detach_one_or_every(session, *unit, files),
+        Verb::SetSize(k) => set_size(session, *k),
         Verb::Show(subject) => show(session, *subject, out),
+        Verb::Do { echo, strict, .. } => {
+            do_script(alloc, session, *echo, *strict, command.file_name(), files)
+        }
+        Verb::Goto(_) => Ok(Next::Goto),
+        Verb::Assert(what) => assert_condition(session, what),
+        Verb::Echo(_) => echo(command.text(), out),
         Verb::Exit(status) => exit(session, *status, files),
         _ => Err(CommandFault::NotBuilt),
     }

@@ -1,7 +1,8 @@
 ghost use Rattle.std.specs.Prelude.{◌≡◌, IsTrue, option_map};
 ghost use Rattle.fault_counts.specs.Faults.{CountsFault};
 ghost use Rattle.host_files.specs.Streams.{Puts};
-ghost use Rattle.scp_commands.specs.FaultText.{line_fault, list_fault, attach_fault, detach_fault, parse_words, parse_place, fault_words};
+ghost use Rattle.scp_commands.specs.declared.fault.CommandFault.TheVariants.{Parse};
+ghost use Rattle.scp_commands.specs.FaultText.{list_fault, attach_fault, detach_fault, parse_words, parse_place, fault_words};
 ghost use Rattle.scp_commands.specs.FaultText.{fault_place, words_line, fault_text};
 
 use fault_notes::Subject;
@@ -34,6 +35,14 @@ pub enum CommandFault {
     FileTooLong,
     /// A call on a file failed; it may have been emptied or made before. A note says which call it was.
     FileFailed(Subject),
+    /// The condition of an ASSERT is false.
+    AssertFailed,
+    /// As many scripts are open as can be: ten.
+    TooDeep,
+    /// The innermost script has no such label.
+    NoLabel,
+    /// No script is open.
+    NotInDo,
     /// The console refused a byte, which ends the session. It has no text.
     Console,
     /// Memory ran out, which ends the session. It has no text.
@@ -45,12 +54,9 @@ pub enum CommandFault {
 impl CommandFault {
     /// The fault of a line that is no command.
     pub fn of_line(fault: ParseFault) -> CommandFault
-        ensures { result ≡ line_fault fault }
+        ensures { result ≡ Parse fault }
     {
-        match fault {
-            ParseFault::NotBuilt => CommandFault::NotBuilt,
-            _ => CommandFault::Parse(fault),
-        }
+        CommandFault::Parse(fault)
     }
 
     /// The fault of a list.
@@ -104,6 +110,10 @@ impl CommandFault {
             CommandFault::NoFile => b"File not found",
             CommandFault::FileTooLong => b"File too long",
             CommandFault::FileFailed(_) => b"File error",
+            CommandFault::AssertFailed => b"Assertion failed",
+            CommandFault::TooDeep => b"DO nested too deeply",
+            CommandFault::NoLabel => b"Label not found",
+            CommandFault::NotInDo => b"Not in a DO file",
             CommandFault::Console | CommandFault::OutOfMemory => return None,
             CommandFault::NotBuilt => b"Not built",
         };
@@ -140,7 +150,6 @@ fn parse_words(fault: ParseFault) -> &'static [u8]
         ParseFault::Unknown => b"Unknown command",
         ParseFault::Missing => b"Too few arguments",
         ParseFault::TooLong => b"Line too long",
-        ParseFault::NotBuilt => b"Not built",
         ParseFault::BadNumber(_) => b"Invalid number at ",
         ParseFault::BadName(_) => b"Invalid name at ",
         ParseFault::BadSymbol(_) => b"Invalid instruction at ",

@@ -1,4 +1,4 @@
-ghost use Rattle.scp_commands.specs.Laws.{RefusalsChangeNothing, ResetsLeaveTheProgram};
+ghost use Rattle.scp_commands.specs.Laws.{RefusalsChangeNothing, ResetsLeaveTheProgram, SetCpuLeavesTheRest};
 
 /// The law that a command that is refused prints nothing and leaves the machine and the keys as they were, and all files
 /// too, but for ATTACH where a call on its file failed: it may have made or emptied that file before.
@@ -11,4 +11,10 @@ pub fn refusals_change_nothing()
 /// are the events that the resets of the units wish.
 pub fn resets_leave_the_program()
     ensures { ResetsLeaveTheProgram }
+{}
+
+/// The law that SET CPU leaves the words below the size that it gives, makes all others 0, and changes nothing else of
+/// the machine.
+pub fn set_cpu_leaves_the_rest()
+    ensures { SetCpuLeavesTheRest }
 {}

@@ -1,7 +1,10 @@
 //! What each command does to a session: its effect, its answer, and the text of its fault.
 #![tactic(auto)]
 
+mod built_lines;
 pub mod counts;
+mod do_command;
+pub mod do_file;
 mod execute_command;
 mod exit_command;
 pub mod fault;
@@ -9,16 +12,20 @@ pub mod laws;
 mod list_commands;
 pub mod next;
 mod run_commands;
+mod script_commands;
 pub mod session;
+mod set_command;
 mod show_command;
 mod stop_line;
 mod unit_commands;
 mod unit_names;
 
+pub use built_lines::is_built;
 pub use counts::{MOST_INSTRUCTIONS, is_count};
+pub use do_file::{DoFile, ScriptText};
 pub use execute_command::execute;
 pub use fault::CommandFault;
 pub use fault_notes::{FaultNote, Subject};
-pub use laws::{refusals_change_nothing, resets_leave_the_program};
+pub use laws::{refusals_change_nothing, resets_leave_the_program, set_cpu_leaves_the_rest};
 pub use next::Next;
 pub use session::Session;

@@ -80,8 +80,8 @@ fn fill_list<U: Unit>(
     }
 }
 
-// Whether a list is of the registers of a device that the machine has no unit of.
-fn lacks_device<U: Unit>(machine: &Machine<U>, name: Name) -> bool
+/// Whether a list or a test is of the registers of a device that the machine has no unit of.
+pub fn lacks_device<U: Unit>(machine: &Machine<U>, name: Name) -> bool
     ensures { result ≡ lacks_device machine.now name }
 {
     match name {

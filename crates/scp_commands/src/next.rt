@@ -1,17 +1,22 @@
 ghost use Rattle.std.specs.Prelude.{◌≡◌};
 ghost use Rattle.scp_commands.specs.Doing.{told_or_console};
 
+use crate::do_file::DoFile;
 use crate::fault::CommandFault;
 use host_files::Failed;
 use nova_machine::Stop;
 
 /// What comes behind a command that was done.
-#[derive(Clone, Copy, Debug, PartialEq, Eq)]
+#[derive(Drop)]
 pub enum Next {
     /// The next line.
     Go,
     /// The next line, behind a run that ended so. It is never `ConsoleFault`: that is the answer `Console`.
     Ran(Stop),
+    /// The lines of a script, which was read whole.
+    Do(DoFile),
+    /// The line of a label: who asked for the command finds it.
+    Goto,
     /// The end of the session, with that status, from 0 to 99.
     Exit(u8),
 }

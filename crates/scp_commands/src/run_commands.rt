@@ -1,5 +1,5 @@
 // RUN, GO, CONT, STEP and RESET.
-ghost use Rattle.std.specs.Prelude.{◌≡◌, ◌≢◌, ◌≤◌, ◌^◌, ◌⊎◌, ℕ, Bool, List, [], nat_le, min, true, false, IsTrue, Ok, Err};
+ghost use Rattle.std.specs.Prelude.{◌≡◌, ◌≢◌, ◌≤◌, ◌++◌, ℕ, Bool, List, true, false, IsTrue};
 ghost use Rattle.host_files.specs.Lists.{NamedBytes};
 ghost use Rattle.unit_files.specs.Open.{AllOpen};
 ghost use Rattle.fault_notes.specs.Notes.{notes_said};
@@ -8,11 +8,10 @@ ghost use Rattle.nova_machine.specs.Run.{run};
 ghost use Rattle.nova_machine.specs.declared.machine.Stop.TheVariants.{ConsoleFault};
 ghost use Rattle.nova_machine.specs.Machine.{reset_machine};
 ghost use Rattle.scp_commands.specs.Live.{live_in, standing};
-ghost use Rattle.scp_commands.specs.Doing.{IsPlain, stop_notes, IsExitAnswer};
-ghost use Rattle.std.specs.Prelude.{◌++◌};
-ghost use Rattle.scp_commands.specs.RunEffects.{address_fits, starting_at, reset_where, started, running, run_from};
+ghost use Rattle.scp_commands.specs.RunEffects.{address_fits, starting_at, reset_where, running, run_from};
 ghost use Rattle.scp_commands.specs.RunEffects.{stepped, step_of, run_failure, ran, reset_reply};
-ghost use Rattle.scp_commands.specs.Doing.{Did, Does, Keeps, ConsoleCounts, IsRunAnswer};
+ghost use Rattle.scp_commands.specs.Doing.{Did, Does, Keeps, ConsoleCounts};
+ghost use Rattle.scp_commands.specs.Doing.{IsPlain, IsRunAnswer, IsExitAnswer, stop_notes};
 
 use crate::counts::is_count;
 use crate::fault::CommandFault;

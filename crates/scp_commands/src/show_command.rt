@@ -11,7 +11,7 @@ ghost use Rattle.scp_parser.specs.Command.{ShowsUnit};
 ghost use Rattle.scp_parser.specs.declared.command.Shown.TheVariants.{Unit as AUnit};
 ghost use Rattle.scp_commands.specs.Live.{standing, live_in};
 ghost use Rattle.scp_commands.specs.FileEffects.{attachment_text, unit_line};
-ghost use Rattle.scp_commands.specs.ShowEffects.{time_text, event_line, queue_text, show_reply};
+ghost use Rattle.scp_commands.specs.ShowEffects.{time_text, cpu_text, version_text, event_line, queue_text, show_reply};
 ghost use Rattle.scp_commands.specs.Doing.{Does, ConsoleCounts, IsShown, IsExitAnswer};
 
 use crate::fault::CommandFault;
@@ -20,7 +20,7 @@ use crate::session::Session;
 use crate::unit_commands::lacks_unit;
 use crate::unit_names::unit_name;
 use event_queue::Events;
-use host_files::{Failed, Sink, put_pieces};
+use host_files::{Failed, Sink, put_all, put_pieces};
 use itoa::Buffer;
 use nova_machine::Machine;
 use scp_parser::Shown;
@@ -44,6 +44,14 @@ pub fn show<U: Unit, S: Sink>(
     match subject {
         Shown::Time => {
             let printed = put_time(&session.machine, out);
+            told_or_console(printed, Next::Go)
+        }
+        Shown::Cpu => {
+            let printed = put_cpu(&session.machine, out);
+            told_or_console(printed, Next::Go)
+        }
+        Shown::Version => {
+            let printed = put_version(out);
             told_or_console(printed, Next::Go)
         }
         Shown::Queue => {
@@ -122,6 +130,24 @@ fn put_time<U: Unit, S: Sink>(machine: &Machine<U>, out: &mut S) -> Result<(), F
         out,
         &[b"Time: ", buffer.format(machine.time()).as_bytes(), b"\n"],
     )
+}
+
+// Prints the size of memory in units of 1024 words, in decimal.
+fn put_cpu<U: Unit, S: Sink>(machine: &Machine<U>, out: &mut S) -> Result<(), Failed>
+    ensures told { IsTrue S.tells → Puts (S.written out.old) (cpu_text machine.now) result (S.written out.new) }
+    ensures counts { CountsFault (S.fault_count out.old) (S.fault_count out.new) result }
+{
+    let size = machine.memory().size() / 1024;
+    let mut buffer = Buffer::new();
+    put_pieces(out, &[b"CPU, ", buffer.format(size).as_bytes(), b"K\n"])
+}
+
+// Prints the name and the version of the program.
+fn put_version<S: Sink>(out: &mut S) -> Result<(), Failed>
+    ensures told { IsTrue S.tells → Puts (S.written out.old) version_text result (S.written out.new) }
+    ensures counts { CountsFault (S.fault_count out.old) (S.fault_count out.new) result }
+{
+    put_all(out, b"Nova simulator, project version 1\n")
 }
 
 // Prints a line for each event that waits, in the order in which they are due.

@@ -1,5 +1,5 @@
 // ATTACH and DETACH.
-ghost use Rattle.std.specs.Prelude.{◌≡◌, ◌≤◌, ◌<◌, ◌^◌, ℕ, Bool, List, IsTrue, IfSome, is_some, Err};
+ghost use Rattle.std.specs.Prelude.{◌≡◌, ◌≤◌, ◌<◌, ◌^◌, ℕ, Bool, true, List, IsTrue, IfSome, is_some, Err};
 ghost use Rattle.host_files.specs.State.{Opened};
 ghost use Rattle.unit_trait.specs.Kinds.{units_of, code_of};
 ghost use Rattle.unit_list.specs.Bus.{unit_at, with_register_in};
@@ -44,7 +44,7 @@ pub fn attach<U: Unit, F: Files>(
         session.old.command result (live_in session.new (F.state files.new).files) tells text text
         (notes_said session.old.notes) (notes_said session.new.notes) }
     ensures undone { (text : List ℕ) → result ≡ Err OutOfMemory
-        → IsUndone session.old session.new text text (F.state files.old) (F.state files.new) }
+        → IsUndone true session.old session.new text text (F.state files.old) (F.state files.new) }
     ensures keeps { Keeps session.old.command session.new.machine.time F.tells result session.old.notes
         session.new.notes (F.state files.old) (F.state files.new) }
     ensures own { IsOwn result }

@@ -16,10 +16,10 @@ use Rattle.unit_trait.specs.Row.{takes_value}
 use Rattle.unit_trait.proofs.Codes.{same-code}
 use Rattle.unit_list.specs.Bus.{register_in, with_register_in, AllFit}
 use Rattle.nova_machine.specs.Machine.{MachineState}
-use Rattle.scp_parser.specs.declared.listing.Name.{Name}
-use Rattle.scp_parser.specs.declared.listing.Name.TheVariants as whose
-use Rattle.scp_parser.specs.declared.listing.Item.{Item}
-use Rattle.scp_parser.specs.declared.listing.Item.TheVariants as item
+use Rattle.operand_forms.specs.declared.listing.Name.{Name}
+use Rattle.operand_forms.specs.declared.listing.Name.TheVariants as whose
+use Rattle.operand_forms.specs.declared.listing.Item.{Item}
+use Rattle.operand_forms.specs.declared.listing.Item.TheVariants as item
 use Rattle.scp_examine.specs.Shape.{Shape, shape_of, has_kind, has_named}
 use Rattle.scp_examine.specs.Places.{Place, Cell, Register, UnitRegister, cells, numbered, registers_of, named_register, all_of, places_of, value_at}
 use Rattle.scp_examine.specs.Checks.{out_of_range_unless, no_such_name_unless, memory_fault, item_fault, items_fault, largest_word, value_fault, values_fault, deposit_fault}

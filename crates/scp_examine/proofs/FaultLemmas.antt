@@ -2,7 +2,7 @@
 use Rattle.std.proofs.Common.{◌≡◌, ℕ, ◌+◌, ◌<◌, zero, suc, List, [], ◌∷◌, ◌++◌, length, get_or, drop, Option, Some, None, ap, sym, ◌∙◌, refl, add-one, arith, Bool, true, false, nat_le}
 use Rattle.std.proofs.Math.Seq.{drop-cons, drop-length}
 use Rattle.unit_trait.specs.declared.processor.CpuReg.{CpuReg}
-use Rattle.scp_parser.specs.declared.listing.Item.{Item}
+use Rattle.operand_forms.specs.declared.listing.Item.{Item}
 use Rattle.scp_examine.specs.declared.fault.ExamineFault.{ExamineFault}
 use Rattle.unit_trait.specs.declared.kind.Kind.{Kind}
 use Rattle.scp_examine.specs.Places.{Place, Register, UnitRegister, cells, numbered, registers_of, unit_registers}

@@ -9,8 +9,8 @@ use Rattle.unit_trait.specs.Calls.{UnitState}
 use Rattle.unit_trait.specs.Row.{takes_value}
 use Rattle.unit_list.specs.Bus.{kinds_of, takes_value_in}
 use Rattle.nova_machine.specs.Machine.{MachineState}
-use Rattle.scp_parser.specs.declared.listing.Name.{Name}
-use Rattle.scp_parser.specs.declared.listing.Item.{Item}
+use Rattle.operand_forms.specs.declared.listing.Name.{Name}
+use Rattle.operand_forms.specs.declared.listing.Item.{Item}
 use Rattle.unit_trait.specs.Processor.{all_registers}
 use Rattle.scp_examine.specs.Shape.{Shape, has_kind, shape_of}
 use Rattle.scp_examine.specs.Places.{Place, Register, UnitRegister, cells, numbered, registers_of, unit_registers, places_of}

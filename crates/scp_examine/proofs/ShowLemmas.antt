@@ -5,9 +5,9 @@ use Rattle.std.proofs.lemmas.List.{take-append-drop, append-nil}
 use Rattle.host_files.specs.Streams.{AddsPart}
 use Rattle.nova_machine.specs.Machine.{MachineState}
 use Rattle.unit_trait.specs.declared.processor.CpuReg.{CpuReg}
-use Rattle.scp_parser.specs.declared.listing.Name.{Name}
-use Rattle.scp_parser.specs.declared.listing.Condition.{Condition}
-use Rattle.scp_parser.specs.declared.listing.Item.{Item}
+use Rattle.operand_forms.specs.declared.listing.Name.{Name}
+use Rattle.operand_forms.specs.declared.listing.Condition.{Condition}
+use Rattle.operand_forms.specs.declared.listing.Item.{Item}
 use Rattle.scp_examine.specs.declared.fault.ExamineFault.{ExamineFault}
 use Rattle.scp_examine.specs.Shape.{Shape}
 use Rattle.scp_examine.specs.Places.{Place, Register, numbered, registers_of, places_of}

@@ -14,7 +14,7 @@ use Rattle.unit_trait.specs.Row.{InRange, Fits, takes_value}
 use Rattle.unit_trait.proofs.Codes.{same-code}
 use Rattle.unit_list.specs.Bus.{unit_at, register_in, with_register, with_register_in, kinds_of, AllFit}
 use Rattle.unit_list.proofs.Calls.{changed-here, changed-elsewhere}
-use Rattle.scp_parser.specs.declared.listing.Name.TheVariants as whose
+use Rattle.operand_forms.specs.declared.listing.Name.TheVariants as whose
 use Rattle.scp_examine.specs.Shape.{has_kind}
 use Rattle.scp_examine.specs.Places.{Register, UnitRegister, numbered, registers_of, named_register, largest_or_0}
 

@@ -8,9 +8,9 @@ use Rattle.unit_trait.specs.declared.kind.Kind.TheVariants.{Dsk, Mta, Lpt, Ptr, 
 use Rattle.unit_trait.specs.Kinds.{kind_name}
 use Rattle.unit_trait.specs.Registers.{registers}
 use Rattle.unit_list.specs.Bus.{kinds_of, AllFit}
-use Rattle.scp_parser.specs.declared.listing.Name.{Name}
-use Rattle.scp_parser.specs.declared.listing.Listing.{Listing}
-use Rattle.scp_parser.specs.Names.{register_names}
+use Rattle.operand_forms.specs.declared.listing.Name.{Name}
+use Rattle.operand_forms.specs.declared.listing.Listing.{Listing}
+use Rattle.operand_forms.specs.Names.{register_names}
 use Rattle.scp_examine.specs.Shape.{shape_of}
 use Rattle.scp_examine.specs.Places.{Place, Cell, Register, UnitRegister, all_of, place_name, value_at}
 use Rattle.scp_examine.specs.Checks.{value_fault}

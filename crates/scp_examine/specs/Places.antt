@@ -10,13 +10,13 @@ use Rattle.unit_trait.specs.Processor.{all_registers, register_name, largest_of,
 use Rattle.unit_list.specs.Bus.{register_in}
 use Rattle.nova_machine.specs.Machine.{MachineState}
 use Rattle.nova_machine.specs.Registers.{register_of}
-use Rattle.scp_parser.specs.declared.listing.Name.{Name}
-use Rattle.scp_parser.specs.declared.listing.Name.TheVariants as whose
-use Rattle.scp_parser.specs.declared.listing.Rel.{Rel}
-use Rattle.scp_parser.specs.declared.listing.Rel.TheVariants.{Eq, Ne, Lt, Le, Gt, Ge}
-use Rattle.scp_parser.specs.declared.listing.Condition.{Condition}
-use Rattle.scp_parser.specs.declared.listing.Item.{Item}
-use Rattle.scp_parser.specs.declared.listing.Item.TheVariants.{At, Range, Count, All, Reg, State, Unknown}
+use Rattle.operand_forms.specs.declared.listing.Name.{Name}
+use Rattle.operand_forms.specs.declared.listing.Name.TheVariants as whose
+use Rattle.operand_forms.specs.declared.listing.Rel.{Rel}
+use Rattle.operand_forms.specs.declared.listing.Rel.TheVariants.{Eq, Ne, Lt, Le, Gt, Ge}
+use Rattle.operand_forms.specs.declared.listing.Condition.{Condition}
+use Rattle.operand_forms.specs.declared.listing.Item.{Item}
+use Rattle.operand_forms.specs.declared.listing.Item.TheVariants.{At, Range, Count, All, Reg, State, Unknown}
 use Rattle.scp_examine.specs.Shape.{Shape}
 
 -- a word of memory, a register of the processor, or a register of a device, by its number from 0

@@ -1,7 +1,7 @@
 ghost use Rattle.std.specs.Prelude.{◌≡◌, ◌<◌, ◌^◌, None, option_map, option_to_list};
-ghost use Rattle.scp_parser.specs.Command.{IsTested};
+ghost use Rattle.operand_forms.specs.Forms.{IsTested};
 ghost use Rattle.scp_examine.specs.Shape.{shape_of};
-ghost use Rattle.scp_parser.specs.declared.listing.Name.TheVariants.{Device};
+ghost use Rattle.operand_forms.specs.declared.listing.Name.TheVariants.{Device};
 ghost use Rattle.scp_examine.specs.Places.{Register, cells, named_register, places_of};
 ghost use Rattle.scp_examine.specs.Checks.{item_fault};
 ghost use Rattle.scp_examine.specs.Effect.{compared, test_of, tested};
@@ -11,7 +11,7 @@ use crate::fault::ExamineFault;
 use crate::place::{meets, unit_value, word_at};
 use crate::registers::{has_unit_register, largest_value, processor_register};
 use nova_machine::Machine;
-use scp_parser::{Condition, Item, Name, Test};
+use operand_forms::{Condition, Item, Name, Test};
 use unit_trait::{CpuReg, Kind, Unit};
 
 /// Whether what ASSERT names meets its condition (SIMH Users' Guide, "Executing Command Files").

@@ -15,7 +15,7 @@ use crate::fault::ExamineFault;
 use crate::item::{Named, named_by};
 use crate::registers::{has_named, has_register, register_count, takes_value};
 use nova_machine::Machine;
-use scp_parser::{Condition, Item, Name};
+use operand_forms::{Condition, Item, Name};
 use unit_trait::{CpuReg, Kind, Unit};
 
 /// The largest value of a word.

@@ -5,7 +5,7 @@ use crate::check::deposits_fault;
 use crate::fault::ExamineFault;
 use crate::fill::fill_items;
 use nova_machine::Machine;
-use scp_parser::Listing;
+use operand_forms::Listing;
 use unit_trait::Unit;
 
 /// DEPOSIT: puts a value into each place of a list, in order (SIMH Users' Guide, "Examining and Changing State").

@@ -8,7 +8,7 @@ use crate::fault::ExamineFault;
 use crate::show::show_items;
 use host_files::{Failed, Sink};
 use nova_machine::Machine;
-use scp_parser::Listing;
+use operand_forms::Listing;
 use unit_trait::Unit;
 
 /// EXAMINE: prints a line for each place of a list, in order (SIMH Users' Guide, "Examining and Changing State").

@@ -11,7 +11,7 @@ use crate::item::{Named, named_by};
 use crate::registers::register_count;
 use nova_machine::Machine;
 use nova_word::{Addr, Word};
-use scp_parser::{Item, Name};
+use operand_forms::{Item, Name};
 use unit_trait::{CpuReg, Kind, Unit};
 
 fn fill_cell<U: Unit>(machine: &mut Machine<U>, at: u16, value: u16)

@@ -7,7 +7,7 @@ ghost use Rattle.scp_examine.specs.Named.{places_in, IsWithin, IsThere};
 
 use crate::registers::{has_unit_register, processor_register};
 use nova_machine::Machine;
-use scp_parser::{Item, Name};
+use operand_forms::{Item, Name};
 use unit_trait::{CpuReg, Kind, Unit};
 
 /// What an item names.

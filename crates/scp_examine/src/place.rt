@@ -11,7 +11,7 @@ use line_text::Text;
 use nova_machine::Machine;
 use nova_symbols::print;
 use nova_word::{Addr, Word, octal_width};
-use scp_parser::{Condition, Rel};
+use operand_forms::{Condition, Rel};
 use unit_trait::{CpuReg, Kind, Unit, reg_text};
 
 /// What EXAMINE prints of a register of the processor, whether symbolic text is wanted or not.

@@ -7,7 +7,7 @@ ghost use Rattle.scp_examine.specs.Shape.{has_named, shape_of};
 ghost use Rattle.scp_examine.specs.Places.{largest_or_0, named_register};
 
 use nova_machine::Machine;
-use scp_parser::Name;
+use operand_forms::Name;
 use unit_trait::{CpuReg, Kind, Unit, reg_limit};
 
 /// Whether a machine has what is named: its processor, or a unit of that kind.

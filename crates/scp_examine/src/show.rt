@@ -14,7 +14,7 @@ use crate::place::{cell_line, is_chosen, register_line, unit_register_line, word
 use crate::registers::register_count;
 use host_files::{Failed, Sink, put_all};
 use nova_machine::Machine;
-use scp_parser::{Condition, Item, Name};
+use operand_forms::{Condition, Item, Name};
 use unit_trait::{CpuReg, Kind, Unit};
 
 // The line of a word of memory, where the condition chooses it.

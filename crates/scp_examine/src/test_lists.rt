@@ -3,7 +3,7 @@
 use clock_unit::Clk;
 use nova_machine::Machine;
 use nova_word::{Addr, Word};
-use scp_parser::{Item, Items, Listing, MOST_ITEMS, Name};
+use operand_forms::{Item, Items, Listing, MOST_ITEMS, Name};
 use std::alloc::{AllocError, Global};
 use unit_trait::{Kind, Unit};
 

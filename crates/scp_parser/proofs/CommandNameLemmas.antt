@@ -9,9 +9,10 @@ use Rattle.std.proofs.lemmas.List.{take-map, take-take}
 use Rattle.line_words.specs.Words.{IsSpelled, is_spelled}
 use Rattle.line_words.proofs.SpellingLemmas.{spelled_is, is_spelled_so, spelled_alike}
 use Rattle.scp_parser.specs.declared.names.CommandName.{CommandName}
-use Rattle.scp_parser.specs.Names.{CommandRow, command_rows, IsRowName, IsCommandName, is_row_name, first_of, command_named}
-use Rattle.scp_parser.proofs.ChoiceLemmas.{mapped}
-use Rattle.scp_parser.proofs.ListLemmas.{are_apart, first_found, first_is}
+use Rattle.operand_forms.specs.Names.{first_of}
+use Rattle.scp_parser.specs.Names.{CommandRow, command_rows, IsRowName, IsCommandName, is_row_name, command_named}
+use Rattle.operand_forms.proofs.ChoiceLemmas.{mapped}
+use Rattle.operand_forms.proofs.ListLemmas.{are_apart, first_found, first_is}
 
 row_is : (word : List ℕ) (of : CommandRow) → is_row_name word of ≡ true → IsRowName word of
 row_is word of h =

@@ -1,5 +1,6 @@
 -- Each form of a word is decided by its function.
-use Rattle.scp_parser.proofs.FormLemmas.{octal_decides, decimal_decides, items_decide, condition_decides, device_decides, subject_decides, symbolic_decides, option_decides, target_decides, detached_decides, command_decides}
+use Rattle.operand_forms.proofs.FormLemmas.{octal_decides, decimal_decides, items_decide, condition_decides, device_decides}
+use Rattle.scp_parser.proofs.FormLemmas.{subject_decides, symbolic_decides, option_decides, target_decides, detached_decides, flag_decides, no_break_decides, addresses_decide, set_decides, size_decides, script_decides, word_decides, command_decides}
 use Rattle.scp_parser.proofs.FormsDecided.{Forms_decided}
 
 pub decided : Forms_decided
@@ -14,5 +15,12 @@ decided = record {
   option = option_decides;
   target = target_decides;
   detached = detached_decides;
+  flag = flag_decides;
+  no_break = no_break_decides;
+  addresses = addresses_decide;
+  set = set_decides;
+  size = size_decides;
+  script = script_decides;
+  word = word_decides;
   command = command_decides;
 }

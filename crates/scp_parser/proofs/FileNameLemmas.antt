@@ -24,14 +24,14 @@ not_utf8 text never = false_from_ne_true (is_utf8 text) (λ is. never (IsUtf8-fr
 
 -- the test of a file name decides
 
-name_is : (text : List ℕ) → is_file_name text ≡ true → IsFileName text
+pub name_is : (text : List ℕ) → is_file_name text ≡ true → IsFileName text
 unfolding is_file_name
 name_is text h =
     let some = and_parts (nat_lt 0 (length text)) (nat_le (length text) 255 && is_utf8 text) h in
     let short = and_parts (nat_le (length text) 255) (is_utf8 text) some.1 in
     (ltb-true 0 (length text) some.0, leb-true (length text) 255 short.0, IsUtf8-from_is_utf8 text short.1)
 
-name_passes : (text : List ℕ) → IsFileName text → is_file_name text ≡ true
+pub name_passes : (text : List ℕ) → IsFileName text → is_file_name text ≡ true
 unfolding is_file_name
 name_passes text is = rw (lt-ltb 0 (length text) is.0, le-leb (length text) 255 is.1, are_utf8 text is.2) refl
 

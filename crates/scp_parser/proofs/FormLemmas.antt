@@ -1,37 +1,15 @@
 -- The forms of words are decided by their functions.
-use Rattle.std.proofs.Common.{◌≡◌, ℕ, true, Option}
-use Rattle.scp_parser.specs.declared.listing.Name.{Name}
+use Rattle.std.proofs.Common.{◌≡◌, ℕ, true, Option, List}
 use Rattle.scp_parser.specs.Names.{IsCommandName, command_named}
-use Rattle.scp_parser.specs.Forms.{IsOctal, IsDecimal, IsItem, IsList, IsCondition, IsDevice, IsUnit, IsSubject, IsSymbolic, IsOption, IsTarget, IsDetached}
-use Rattle.scp_parser.specs.Operands.{octal, decimal, item_of, items_of, condition_of, device_of, unit_of, subject_of, symbolic_of, option_of, target_of, detached_of}
-use Rattle.scp_parser.proofs.Decides.{Decides}
-use Rattle.scp_parser.proofs.NumberLemmas.{octal_found, octal_reads, decimal_found, decimal_reads}
-use Rattle.scp_parser.proofs.ItemLemmas.{item_found, item_reads, list_found, list_reads}
-use Rattle.scp_parser.proofs.ConditionLemmas.{condition_found, condition_reads}
-use Rattle.scp_parser.proofs.UnitLemmas.{device_found, device_reads, unit_found, unit_reads, subject_found, subject_reads, symbolic_found, symbolic_reads}
+use Rattle.scp_parser.specs.Forms.{IsSubject, IsSymbolic, IsOption, IsTarget, IsDetached, IsFlag, IsNoBreak, AreAddresses, IsSet, IsSize, IsScriptName, IsAnyWord}
+use Rattle.scp_parser.specs.Operands.{subject_of, symbolic_of, option_of, target_of, detached_of, flag_of, no_break_of, addresses_of, set_of, size_of, as_file_name, any_word}
+use Rattle.operand_forms.proofs.Decides.{Decides}
+use Rattle.scp_parser.proofs.SubjectLemmas.{subject_found, subject_reads, symbolic_found, symbolic_reads}
 use Rattle.scp_parser.proofs.TargetLemmas.{option_found, option_reads, target_found, target_reads, detached_found, detached_reads}
+use Rattle.scp_parser.proofs.FlagLemmas.{flag_found, flag_reads, no_break_found, no_break_reads, set_found, set_reads}
+use Rattle.scp_parser.proofs.SizeLemmas.{addresses_found, addresses_read, size_found, size_reads}
+use Rattle.scp_parser.proofs.LabelLemmas.{script_found, script_reads, word_found, word_reads}
 use Rattle.scp_parser.proofs.CommandNameLemmas.{name_found, name_reads}
-
-pub octal_decides : Decides IsOctal octal
-octal_decides text n = (octal_found text n, octal_reads text n)
-
-pub decimal_decides : Decides IsDecimal decimal
-decimal_decides text n = (decimal_found text n, decimal_reads text n)
-
-pub item_decides : (device : Name) → Decides (IsItem device) (item_of device)
-item_decides device text item = (item_found device text item, item_reads device text item)
-
-pub items_decide : (device : Name) → Decides (IsList device) (items_of device)
-items_decide device text items = (list_found device text items, list_reads device text items)
-
-pub condition_decides : Decides IsCondition condition_of
-condition_decides text condition = (condition_found text condition, condition_reads text condition)
-
-pub device_decides : Decides IsDevice device_of
-device_decides text kind = (device_found text kind, device_reads text kind)
-
-pub unit_decides : Decides IsUnit unit_of
-unit_decides text unit = (unit_found text unit, unit_reads text unit)
 
 pub subject_decides : Decides IsSubject subject_of
 subject_decides text shown = (subject_found text shown, subject_reads text shown)
@@ -47,6 +25,27 @@ target_decides option text u = (target_found option text u, target_reads option 
 
 pub detached_decides : Decides IsDetached detached_of
 detached_decides text unit = (detached_found text unit, detached_reads text unit)
+
+pub flag_decides : (flag : List ℕ) → Decides (IsFlag flag) (flag_of flag)
+flag_decides flag text on = (flag_found flag text on, flag_reads flag text on)
+
+pub no_break_decides : Decides IsNoBreak no_break_of
+no_break_decides text at = (no_break_found text at, no_break_reads text at)
+
+pub addresses_decide : Decides AreAddresses addresses_of
+addresses_decide text x = (addresses_found text x, addresses_read text x)
+
+pub set_decides : Decides IsSet set_of
+set_decides text what = (set_found text what, set_reads text what)
+
+pub size_decides : Decides IsSize size_of
+size_decides text n = (size_found text n, size_reads text n)
+
+pub script_decides : Decides IsScriptName as_file_name
+script_decides text name = (script_found text name, script_reads text name)
+
+pub word_decides : Decides IsAnyWord any_word
+word_decides text word = (word_found text word, word_reads text word)
 
 pub command_decides : Decides IsCommandName command_named
 command_decides word name = (name_found word name, name_reads word name)

@@ -1,5 +1,5 @@
 -- What a line asks for keeps the facts of commands.
-use Rattle.std.proofs.Common.{◌≡◌, ◌⊎◌, eqb, length, take, drop, codes, ◌-◌, ◌<◌, ℕ, Bool, true, false, cond, leb, ltb, ◌&&◌, Option, Some, None, Result, Ok, Err, List, [], ◌∷◌, ◌++◌, refl, ap, sym, ◌∙◌, inl, inr, arith, subst}
+use Rattle.std.proofs.Common.{◌≡◌, ◌⊎◌, length, take, drop, codes, ◌-◌, ◌<◌, ℕ, Bool, true, false, cond, leb, ltb, ◌&&◌, Option, Some, None, Result, Ok, List, [], ◌∷◌, ◌++◌, refl, ap, sym, ◌∙◌, inl, inr, arith, subst}
 use Rattle.std.specs.Option.{option_map}
 use Rattle.std.proofs.lemmas.Option.{cond_some, same_Some}
 use Rattle.std.proofs.lemmas.Bool.Decides.{nat_tests}
@@ -12,26 +12,33 @@ use Rattle.scp_parser.specs.declared.command.Shown.{Shown}
 use Rattle.scp_parser.specs.declared.command.Shown.TheVariants as shown
 use Rattle.scp_parser.specs.declared.command.Verb.{Verb}
 use Rattle.scp_parser.specs.declared.command.Verb.TheVariants as verb
-use Rattle.line_words.specs.Words.{past_blanks}
 use Rattle.scp_parser.specs.declared.fault.ParseFault.{ParseFault}
 use Rattle.scp_parser.specs.declared.names.CommandName.{CommandName}
 use Rattle.scp_parser.specs.declared.names.CommandName.TheVariants as name
 use Rattle.scp_parser.specs.Command.{IsNamedUnit, IsFileUnit, IsAttachOption, ShowsUnit, Keeps}
-use Rattle.scp_parser.specs.Forms.{IsUnit, IsOption, existing, new, read_only, IsTarget}
-use Rattle.scp_parser.specs.Grammar.{MayBegin, there, not_there, Takes, IsLastName, option_letter}
-use Rattle.scp_parser.specs.Faults.{WordFaults, NameFaults}
+use Rattle.operand_forms.specs.Forms.{IsUnit}
+use Rattle.scp_parser.specs.Forms.{IsOption, existing, new, read_only, IsTarget}
+use Rattle.scp_parser.specs.Grammar.{MayBegin, there, not_there, Takes, option_letter}
 use Rattle.line_words.specs.Words.{is_spelled}
-use Rattle.scp_parser.specs.Names.{unit_kinds, first_of, command_named}
-use Rattle.scp_parser.specs.Operands.{or_else, unit_alone, drive_at, drive_of, kind_named, octal, decimal, unit_of, subject_of, option_of, target_of, detached_of}
-use Rattle.scp_parser.specs.Reading.{◌>>=◌, next_word, needed, needed_found, ended, last_number, numbered, listing, examine, valued, instruction, deposit, show, operands, command_found, named, maybe, last_name, piece_before, attach_file, attach_port, attach_unit, attach_target, attach, detach}
+use Rattle.operand_forms.specs.Names.{unit_kinds, first_of}
+use Rattle.scp_parser.specs.Names.{command_named}
+use Rattle.operand_forms.specs.Operands.{or_else, unit_alone, drive_at, drive_of, kind_named, octal, decimal, unit_of}
+use Rattle.scp_parser.specs.Operands.{subject_of, option_of, target_of, detached_of}
+use Rattle.scp_parser.specs.Reading.{◌>>=◌, next_word, needed, ended, last_number, numbered, listing, examine, valued, instruction, deposit, show, operands, command_found, named, maybe, attach_file, attach_port, attach_unit, attach_target, attach, detach}
 use Rattle.scp_parser.proofs.Decided.{decided}
-use Rattle.scp_parser.proofs.Settles.{sound_of}
 use Rattle.scp_parser.proofs.WordLemmas.{first_word, blanks_next}
-use Rattle.scp_parser.proofs.UnitLemmas.{unit_reads}
+use Rattle.operand_forms.proofs.UnitLemmas.{unit_reads}
 use Rattle.scp_parser.proofs.TargetLemmas.{no_option, no_target}
-use Rattle.scp_parser.proofs.OperandLemmas.{needed_settles, maybe_begins}
-use Rattle.scp_parser.proofs.FileNameLemmas.{name_settles, name_piece}
-use Rattle.scp_parser.proofs.AttachLemmas.{IsEnd, behind_part, behind_word, behind_maybe}
+use Rattle.scp_parser.proofs.OperandLemmas.{maybe_begins}
+use Rattle.scp_parser.proofs.EndLemmas.{IsEnd, behind_word, behind_maybe}
+use Rattle.scp_parser.proofs.LastNameLemmas.{with_name_keeps}
+use Rattle.scp_parser.proofs.BreakLemmas.{break_keeps}
+use Rattle.scp_parser.proofs.WatchLemmas.{expect_keeps, send_keeps}
+use Rattle.scp_parser.proofs.AssertLemmas.{assert_keeps}
+use Rattle.scp_parser.proofs.StepLemmas.{bind_keeps, same_Ok, ended_keeps, cond_either, needed_some, needed_takes}
+use Rattle.scp_parser.proofs.MediaLemmas.{load_keeps, save_keeps, dump_keeps, restore_keeps}
+use Rattle.scp_parser.proofs.SettingLemmas.{set_keeps, no_break_keeps}
+use Rattle.scp_parser.proofs.ScriptLemmas.{do_keeps, goto_keeps, echo_keeps}
 
 -- what holds of each of a list holds of the first that passes
 abbrev pub Each : {T : Type 0} → (T → Type 0) → List T → Type 0
@@ -111,32 +118,6 @@ subject_of_keeps text s h =
     one_of_seven (is_spelled text (codes "TIME")) (is_spelled text (codes "CPU")) (is_spelled text (codes "QUEUE")) (is_spelled text (codes "BREAK")) (is_spelled text (codes "EXPECT")) (is_spelled text (codes "SEND")) (is_spelled text (codes "VERSION")) (option_map (λ u. shown.Unit u) (unit_of text)) s h
     (λ later. option_map_keeps ShowsUnit (λ u. shown.Unit u) (unit_of text) s later (λ u is. unit_of_keeps text u is))
 
--- a reader's value is that of its second part
-bind_keeps : {A : Type 0} (P : Verb → Type 0) (r : Result A ParseFault) (f : A → Result Verb ParseFault) (v : Verb) → (r >>= f) ≡ Ok v → ((a : A) → r ≡ Ok a → f a ≡ Ok v → P v) → P v
-bind_keeps P (Ok a) f v h holds = holds a refl h
-bind_keeps P (Err fault) f v h holds = absurd (cc h)
-
-same_Ok : (x y : Verb) → ◌≡◌ {A = Result Verb ParseFault} (Ok x) (Ok y) → x ≡ y
-same_Ok x y h = cc h
-
-cond_ok : (b : Bool) (what v : Verb) (fault : ParseFault) → ◌≡◌ {A = Result Verb ParseFault} (cond b (Ok what) (Err fault)) (Ok v) → what ≡ v
-cond_ok true what v fault h = same_Ok what v h
-cond_ok false what v fault h = absurd (cc h)
-
-ended_keeps : (P : Verb → Type 0) (what : Verb) (text : List ℕ) (v : Verb) → ended what text ≡ Ok v → P what → P v
-unfolding ended
-ended_keeps P what text v h holds = subst P (cond_ok (eqb (length (past_blanks text)) 0) what v _ h) holds
-
-cond_either : (P : Type 0) (b : Bool) (x y : Result Verb ParseFault) (v : Verb) → cond b x y ≡ Ok v → (x ≡ Ok v → P) → (y ≡ Ok v → P) → P
-cond_either P true x y v h first second = first h
-cond_either P false x y v h first second = second h
-
-needed_some : {V : Type 0} (only_number : Bool) (o : Option V) (word rest : List ℕ) (a : V × List ℕ) → needed_found only_number o word rest ≡ Ok a → o ≡ Some a.0
-needed_some {V} only_number (Some v) word rest a h =
-    let same : (v, rest) ≡ a = cc h in ap (λ (p : (V × List ℕ)). Some p.0) same
-needed_some only_number None [] rest a h = absurd (cc h)
-needed_some only_number None (b ∷ more) rest a h = absurd (cc h)
-
 numbered_keeps : (line : List ℕ) (make : Option ℕ → Verb) (number : Result (Option ℕ × List ℕ) ParseFault) (v : Verb) → ((n : Option ℕ) → Keeps line (make n)) → numbered make number ≡ Ok v → Keeps line v
 numbered_keeps line make number v holds h = bind_keeps (Keeps line) number (λ n. ended (make n.0) n.1) v h (λ n is last. ended_keeps (Keeps line) (make n.0) n.1 v last (holds n.0))
 
@@ -193,11 +174,7 @@ target_keeps None text u is = unit_keeps text u is
 target_keeps (Some letter) text u is = unit_keeps text u is.0
 
 file_keeps : (line text : List ℕ) (option : ℕ) (u : UnitName) (v : Verb) → IsEnd line text → IsAttachOption option → IsFileUnit u → attach_file (length line) option u text ≡ Ok v → Keeps line v
-file_keeps line text option u v end letter unit h =
-    bind_keeps (Keeps line) (last_name text) (λ name. Ok (verb.Attach option u (piece_before (length line) name.0 name.1))) v h (λ name is last.
-    let there : IsLastName text name = sound_of (IsLastName text) (NameFaults text) (last_name text) (Ok name) is (name_settles text).found in
-    let (start, spelled) = behind_part line text there.0.before (name.0 ++ name.1) end there.0.spelled in
-    subst (Keeps line) (same_Ok (verb.Attach option u (piece_before (length line) name.0 name.1)) v last) (letter, unit, name_piece line start name.0 name.1 spelled there.1))
+file_keeps line text option u v end letter unit h = with_name_keeps line (λ name. verb.Attach option u name) text v (λ p is. (letter, unit, is)) end h
 
 port_keeps : (line text : List ℕ) (v : Verb) → attach_port text ≡ Ok v → Keeps line v
 port_keeps line text v h =
@@ -211,9 +188,7 @@ unit_then_keeps line text false option u v is end letter unit h = port_keeps lin
 attach_target_keeps : (line text : List ℕ) (option : Option ℕ) (v : Verb) → IsEnd line text → IsAttachOption (option_letter option) → attach_target (length line) (option, text) ≡ Ok v → Keeps line v
 attach_target_keeps line text option v end letter h =
     bind_keeps (Keeps line) (needed false (target_of option) text) (attach_unit (length line) option) v h (λ u is last.
-    let there : Takes (IsTarget option) text u =
-    sound_of (Takes (IsTarget option) text) (WordFaults (IsTarget option) false text) (needed false (target_of option) text) (Ok u) is
-    (needed_settles (IsTarget option) (target_of option) (decided.target option) (no_target option) false text).found in
+    let there : Takes (IsTarget option) text u = needed_takes (IsTarget option) (target_of option) (decided.target option) (no_target option) false text u is in
     unit_then_keeps line u.1 (takes_file u.0.kind) (option_letter option) u.0 v refl (behind_word line text there.0 u.1 end there.1) letter (target_keeps option there.0 u.0 there.2) last)
 
 attach_keeps : (line text : List ℕ) (v : Verb) → IsEnd line text → attach (length line) text ≡ Ok v → Keeps line v
@@ -234,23 +209,23 @@ operands_keeps line name.Step text v end h = numbered_keeps line (λ n. verb.Ste
 operands_keeps line name.Reset text v end h = ended_keeps (Keeps line) verb.Reset text v h tt
 operands_keeps line name.Show text v end h = show_keeps line text v h
 operands_keeps line name.Exit text v end h = numbered_keeps line (λ n. verb.Exit n) (last_number decimal text) v (λ n. tt) h
-operands_keeps line name.NoExpect text v end h = absurd (cc h)
-operands_keeps line name.NoSend text v end h = absurd (cc h)
-operands_keeps line name.Break text v end h = absurd (cc h)
-operands_keeps line name.NoBreak text v end h = absurd (cc h)
-operands_keeps line name.Expect text v end h = absurd (cc h)
-operands_keeps line name.Send text v end h = absurd (cc h)
+operands_keeps line name.NoExpect text v end h = ended_keeps (Keeps line) verb.NoExpect text v h tt
+operands_keeps line name.NoSend text v end h = ended_keeps (Keeps line) verb.NoSend text v h tt
+operands_keeps line name.Break text v end h = break_keeps line text v end h
+operands_keeps line name.NoBreak text v end h = no_break_keeps decided line text v h
+operands_keeps line name.Expect text v end h = expect_keeps line text v end h
+operands_keeps line name.Send text v end h = send_keeps line text v end h
 operands_keeps line name.Attach text v end h = attach_keeps line text v end h
 operands_keeps line name.Detach text v end h = detach_keeps line text v h
-operands_keeps line name.Load text v end h = absurd (cc h)
-operands_keeps line name.Save text v end h = absurd (cc h)
-operands_keeps line name.Dump text v end h = absurd (cc h)
-operands_keeps line name.Restore text v end h = absurd (cc h)
-operands_keeps line name.Set text v end h = absurd (cc h)
-operands_keeps line name.Do text v end h = absurd (cc h)
-operands_keeps line name.Goto text v end h = absurd (cc h)
-operands_keeps line name.Assert text v end h = absurd (cc h)
-operands_keeps line name.Echo text v end h = absurd (cc h)
+operands_keeps line name.Load text v end h = load_keeps decided line text v end h
+operands_keeps line name.Save text v end h = save_keeps decided line text v end h
+operands_keeps line name.Dump text v end h = dump_keeps decided line text v end h
+operands_keeps line name.Restore text v end h = restore_keeps decided line text v end h
+operands_keeps line name.Set text v end h = set_keeps decided line text v h
+operands_keeps line name.Do text v end h = do_keeps decided line text v end h
+operands_keeps line name.Goto text v end h = goto_keeps decided line text v end h
+operands_keeps line name.Assert text v end h = assert_keeps line text v h
+operands_keeps line name.Echo text v end h = echo_keeps decided line text v end h
 
 found_keeps : (line : List ℕ) (found : Option CommandName) (rest : List ℕ) (v : Verb) → IsEnd line rest → command_found (length line) found rest ≡ Ok v → Keeps line v
 found_keeps line None rest v end h = absurd (cc h)

@@ -7,7 +7,7 @@ use Rattle.scp_parser.specs.Command.{Request}
 use Rattle.scp_parser.specs.Grammar.{Takes, Ends, HasNumber, IsLastNumber, left_out, given as given_form}
 use Rattle.scp_parser.specs.Faults.{WordFaults, missing, bad, EndFaults, LastNumberFaults, bad_number, behind_number}
 use Rattle.scp_parser.specs.Reading.{◌>>=◌, next_word, needed, ended, some_number, last_number, numbered, map_ok}
-use Rattle.scp_parser.proofs.Decides.{Decides}
+use Rattle.operand_forms.proofs.Decides.{Decides}
 use Rattle.scp_parser.proofs.WordLemmas.{first_word, begins_past, begins_not_blank, past_of_blanks}
 use Rattle.scp_parser.proofs.Settles.{Sound, Settles, sound_weaker, same_settles}
 use Rattle.scp_parser.proofs.OperandLemmas.{ended_settles, map_ended, needed_settles}

@@ -22,7 +22,7 @@ use Rattle.scp_parser.specs.Reading.{next_word, operands, is_mark, begins_with_m
 use Rattle.scp_parser.proofs.FormsDecided.{Forms_decided}
 use Rattle.scp_parser.proofs.WordLemmas.{first_word, begins_next, begins_past, begins_not_blank, past_blanks_split, past_of_blanks, blanks_from_past}
 use Rattle.scp_parser.proofs.Settles.{Sound, Settles}
-use Rattle.scp_parser.proofs.AttachLemmas.{IsEnd, behind_word}
+use Rattle.scp_parser.proofs.EndLemmas.{IsEnd, behind_word}
 use Rattle.scp_parser.proofs.OperatesLemmas.{operands_settle}
 
 -- a line that asks for nothing

@@ -2,18 +2,20 @@
 use Rattle.std.proofs.Common.{◌≡◌, ℕ, Bool, true, false, Option, Result, Ok, Err, List, refl, ap, sym, ◌∙◌}
 use Rattle.std.specs.Option.{is_some}
 use Rattle.unit_trait.specs.declared.kind.Kind.{Kind}
-use Rattle.scp_parser.specs.declared.listing.Name.{Name}
-use Rattle.scp_parser.specs.declared.listing.Condition.{Condition}
-use Rattle.scp_parser.specs.declared.listing.Item.{Item}
-use Rattle.scp_parser.specs.declared.listing.Listing.{Listing}
+use Rattle.operand_forms.specs.declared.listing.Name.{Name}
+use Rattle.operand_forms.specs.declared.listing.Condition.{Condition}
+use Rattle.operand_forms.specs.declared.listing.Item.{Item}
+use Rattle.operand_forms.specs.declared.listing.Listing.{Listing}
 use Rattle.scp_parser.specs.declared.fault.ParseFault.{ParseFault}
-use Rattle.scp_parser.specs.Forms.{IsCondition, IsDevice, IsList}
-use Rattle.scp_parser.specs.Operands.{condition_of, device_of, symbolic_of, items_of}
+use Rattle.operand_forms.specs.Forms.{IsCondition, IsDevice, IsList}
+use Rattle.operand_forms.specs.Operands.{condition_of, device_of, items_of}
+use Rattle.scp_parser.specs.Operands.{symbolic_of}
 use Rattle.scp_parser.specs.Grammar.{IsSymbolicOption, MayBeginCondition, Chooses, Lists, IsListing, Takes, name_of}
 use Rattle.scp_parser.specs.Faults.{WordFaults, ListFaults, at_list}
 use Rattle.scp_parser.specs.Reading.{◌>>=◌, maybe, maybe_condition, needed, Choice, choice, listing_with, listing}
 use Rattle.scp_parser.proofs.FormsDecided.{Forms_decided}
-use Rattle.scp_parser.proofs.NothingLemmas.{no_symbolic, no_device, no_condition, no_items}
+use Rattle.operand_forms.proofs.NothingLemmas.{no_device, no_condition, no_items}
+use Rattle.scp_parser.proofs.NothingLemmas.{no_symbolic}
 use Rattle.scp_parser.proofs.Settles.{Sound, Settles}
 use Rattle.scp_parser.proofs.OperandLemmas.{maybe_given, maybe_begins, needed_settles}
 

@@ -8,7 +8,7 @@ use Rattle.scp_parser.specs.Command.{Request}
 use Rattle.scp_parser.specs.Grammar.{MayBegin, there, not_there, Takes, Ends}
 use Rattle.scp_parser.specs.Faults.{bad_word, WordFaults, missing, bad, EndFaults, extra}
 use Rattle.scp_parser.specs.Reading.{next_word, maybe_found, maybe, needed_found, needed, ended, map_ok}
-use Rattle.scp_parser.proofs.Decides.{Decides}
+use Rattle.operand_forms.proofs.Decides.{Decides}
 use Rattle.scp_parser.proofs.WordLemmas.{first_word, begins_next, begins_past, blanks_next, past_of_blanks}
 use Rattle.scp_parser.proofs.Settles.{Sound, Settles, same_settles}
 

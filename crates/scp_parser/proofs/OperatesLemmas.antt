@@ -1,31 +1,37 @@
 -- What each command asks for, by the operands behind its name.
-use Rattle.std.proofs.Common.{◌≡◌, ℕ, Bool, true, false, cond, Option, Ok, Err, List, length, refl, ap, sym, inl, inr}
-use Rattle.scp_parser.specs.declared.listing.Listing.{Listing}
+use Rattle.std.proofs.Common.{◌≡◌, ℕ, Bool, true, false, cond, Option, Ok, List, length, inl, inr}
+use Rattle.operand_forms.specs.declared.listing.Listing.{Listing}
 use Rattle.scp_parser.specs.declared.command.Verb.{Verb}
 use Rattle.scp_parser.specs.declared.command.Verb.TheVariants as verb
 use Rattle.scp_parser.specs.declared.fault.ParseFault.{ParseFault}
-use Rattle.scp_parser.specs.declared.fault.ParseFault.TheVariants.{NotBuilt}
 use Rattle.scp_parser.specs.declared.names.CommandName.{CommandName}
 use Rattle.scp_parser.specs.declared.names.CommandName.TheVariants.{Examine, Deposit, Run, Go, Cont, Step, Reset, Attach, Detach, Show, Exit}
+use Rattle.scp_parser.specs.declared.names.CommandName.TheVariants.{NoExpect, NoSend, Break, NoBreak, Expect, Send, Load, Save, Dump, Restore, Set, Do, Goto, Assert, Echo}
 use Rattle.scp_parser.specs.Command.{Request, request_of}
 use Rattle.scp_parser.specs.Command as request
-use Rattle.scp_parser.specs.Forms.{IsOctal, IsDecimal, IsSubject}
-use Rattle.scp_parser.specs.Operands.{octal, decimal, subject_of}
+use Rattle.operand_forms.specs.Forms.{IsOctal, IsDecimal}
+use Rattle.scp_parser.specs.Forms.{IsSubject}
+use Rattle.operand_forms.specs.Operands.{octal, decimal}
+use Rattle.scp_parser.specs.Operands.{subject_of}
 use Rattle.scp_parser.specs.Grammar.{Takes, Ends, HasNumber, IsInstruction, HasValue, IsListing, Operates}
 use Rattle.scp_parser.specs.Faults.{WordFaults, EndFaults, LastNumberFaults, ListFaults, FaultThen, InstructionFaults, ValueFaults, OperandFaults}
 use Rattle.scp_parser.specs.Reading.{◌>>=◌, map_ok, needed, ended, last_number, numbered, listing, instruction, examine, valued, deposit, show, operands}
 use Rattle.scp_parser.proofs.FormsDecided.{Forms_decided}
-use Rattle.scp_parser.proofs.NothingLemmas.{no_octal, no_decimal, no_subject}
+use Rattle.operand_forms.proofs.NothingLemmas.{no_octal, no_decimal}
+use Rattle.scp_parser.proofs.NothingLemmas.{no_subject}
 use Rattle.scp_parser.proofs.Settles.{Settles, then_seen, restated, settled_value}
 use Rattle.scp_parser.proofs.OperandLemmas.{ended_seen, needed_settles}
 use Rattle.scp_parser.proofs.LastNumberLemmas.{number_seen}
 use Rattle.scp_parser.proofs.ListingLemmas.{listing_settles}
 use Rattle.scp_parser.proofs.ValueLemmas.{instruction_settles}
-use Rattle.scp_parser.proofs.AttachLemmas.{IsEnd, attach_settles, detach_settles}
-
--- a command that this version of the program does not have
-no_request : Settles {A = Request} (Err NotBuilt) (λ asked. ⊥) (λ fault. fault ≡ NotBuilt)
-no_request = record { reads = λ asked never. absurd never; faults = λ fault is. ap (λ (e : ParseFault). Err e) (sym is); found = refl }
+use Rattle.scp_parser.proofs.EndLemmas.{IsEnd}
+use Rattle.scp_parser.proofs.AttachLemmas.{attach_settles, detach_settles}
+use Rattle.scp_parser.proofs.MediaLemmas.{load_settles, save_settles, dump_settles, restore_settles}
+use Rattle.scp_parser.proofs.SettingLemmas.{set_settles, no_break_settles}
+use Rattle.scp_parser.proofs.ScriptLemmas.{do_settles, goto_settles, echo_settles}
+use Rattle.scp_parser.proofs.BreakLemmas.{break_settles}
+use Rattle.scp_parser.proofs.WatchLemmas.{expect_settles, send_settles}
+use Rattle.scp_parser.proofs.AssertLemmas.{assert_settles}
 
 module _ (d : Forms_decided) (line : List ℕ) where
   abbrev see : Verb → Request
@@ -97,4 +103,18 @@ module _ (d : Forms_decided) (line : List ℕ) where
   operands_settle Detach text end = detach_settles d line text
   operands_settle Show text end = show_settles text
   operands_settle Exit text end = decimal_settles (λ n. verb.Exit n) text
-  operands_settle name text end = no_request
+  operands_settle NoExpect text end = ended_seen see verb.NoExpect text
+  operands_settle NoSend text end = ended_seen see verb.NoSend text
+  operands_settle Break text end = break_settles line text end
+  operands_settle NoBreak text end = no_break_settles d line text
+  operands_settle Expect text end = expect_settles line text end
+  operands_settle Send text end = send_settles line text end
+  operands_settle Load text end = load_settles d line text end
+  operands_settle Save text end = save_settles d line text end
+  operands_settle Dump text end = dump_settles d line text end
+  operands_settle Restore text end = restore_settles d line text end
+  operands_settle Set text end = set_settles d line text
+  operands_settle Do text end = do_settles d line text end
+  operands_settle Goto text end = goto_settles d line text end
+  operands_settle Assert text end = assert_settles line text
+  operands_settle Echo text end = echo_settles d line text end

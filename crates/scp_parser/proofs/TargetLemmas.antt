@@ -8,10 +8,12 @@ use Rattle.unit_trait.specs.declared.kind.UnitName.{UnitName}
 use Rattle.unit_trait.specs.Kinds.{kind_name, takes_file, TakesFile}
 use Rattle.line_words.specs.Words.{IsSpelled, is_spelled}
 use Rattle.line_words.proofs.SpellingLemmas.{spelled_is}
-use Rattle.scp_parser.specs.Forms.{IsUnit, alone, drive, IsOption, existing, new, read_only, IsTarget, IsDetached, every, one}
-use Rattle.scp_parser.specs.Operands.{kind_named, drive_of, unit_of, option_of, file_unit, target_of, detached_of}
-use Rattle.scp_parser.proofs.ChoiceLemmas.{chosen, same_some, mapped}
-use Rattle.scp_parser.proofs.UnitLemmas.{unit_found, unit_reads}
+use Rattle.operand_forms.specs.Forms.{IsUnit, alone, drive}
+use Rattle.scp_parser.specs.Forms.{IsOption, existing, new, read_only, IsTarget, IsDetached, every, one}
+use Rattle.operand_forms.specs.Operands.{kind_named, drive_of, unit_of}
+use Rattle.scp_parser.specs.Operands.{option_of, file_unit, target_of, detached_of}
+use Rattle.operand_forms.proofs.ChoiceLemmas.{chosen, same_some, mapped}
+use Rattle.operand_forms.proofs.UnitLemmas.{unit_found, unit_reads}
 
 -- options
 

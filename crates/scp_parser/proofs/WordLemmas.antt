@@ -45,7 +45,7 @@ place_behind p (b ∷ more) rest none starts =
     let one : 1 + position_or_len p (more ++ rest) ≡ suc (length more) = omega (arith, further) in
     ap (λ (c : Bool). cond (not c) (1 + position_or_len p (more ++ rest)) 0) here ∙ one
 
-starts_at_place : (p : ℕ → Bool) (text : List ℕ) → StartsIn (λ b. p b ≡ true) (drop (position_or_len p text) text)
+pub starts_at_place : (p : ℕ → Bool) (text : List ℕ) → StartsIn (λ b. p b ≡ true) (drop (position_or_len p text) text)
 starts_at_place p [] = tt
 starts_at_place p (b ∷ more) =
     let n = position_or_len p more in

@@ -1,14 +1,14 @@
 -- What a command line asks for, and the facts that each command keeps.
-use Rattle.std.specs.Prelude.{◌≡◌, ◌⊎◌, ℕ, ◌-◌, ◌+◌, ◌*◌, ◌<◌, ◌≤◌, Bool, List, [], ◌∷◌, ◌++◌, length, take, drop, Option, Some}
+use Rattle.std.specs.Prelude.{◌≡◌, ◌⊎◌, ℕ, ◌-◌, ◌<◌, ◌≤◌, Bool, List, [], ◌∷◌, ◌++◌, length, take, drop, Option, Some}
 use Rattle.std.specs.Str.{IsUtf8}
 use Rattle.unit_trait.specs.declared.kind.Kind.{Kind}
 use Rattle.unit_trait.specs.declared.kind.Kind.TheVariants.{Mta, Tti1}
 use Rattle.unit_trait.specs.declared.kind.UnitName.{UnitName}
 use Rattle.unit_trait.specs.Kinds.{TakesFile}
-use Rattle.scp_parser.specs.declared.listing.Listing.{Listing}
-use Rattle.scp_parser.specs.declared.listing.Test.{Test}
-use Rattle.scp_parser.specs.declared.listing.Item.{Item}
-use Rattle.scp_parser.specs.declared.listing.Item.TheVariants.{At, Reg, Unknown}
+use Rattle.operand_forms.specs.declared.listing.Listing.{Listing}
+use Rattle.operand_forms.specs.declared.listing.Test.{Test}
+use Rattle.operand_forms.specs.Forms.{IsTested}
+use Rattle.nova_word.specs.Quoted.{StandFor}
 use Rattle.scp_parser.specs.declared.command.Piece.{Piece}
 use Rattle.scp_parser.specs.declared.command.Shown.{Shown}
 use Rattle.scp_parser.specs.declared.command.Shown.TheVariants as shown
@@ -88,21 +88,6 @@ request_of line (verb.Assert test) = Assert test
 request_of line (verb.Echo text) = Echo (piece_of line text)
 request_of line (verb.Exit status) = Exit status
 
--- the bytes that stand for one byte of a quoted text
-pub data Stands : List ℕ → ℕ → Type 0 where
-  itself : (b : ℕ) → 32 ≤ b → b ≤ 126 → (b ≡ 34 → ⊥) → (b ≡ 92 → ⊥) → Stands (b ∷ []) b
-  carriage_return : Stands (92 ∷ 114 ∷ []) 13
-  line_feed : Stands (92 ∷ 110 ∷ []) 10
-  tab : Stands (92 ∷ 116 ∷ []) 9
-  backslash : Stands (92 ∷ 92 ∷ []) 92
-  quote : Stands (92 ∷ 34 ∷ []) 34
-  octal : (a b c : ℕ) → a < 4 → b < 8 → c < 8 → Stands (92 ∷ (48 + a) ∷ (48 + b) ∷ (48 + c) ∷ []) (64 * a + 8 * b + c)
-
--- the bytes between the quotes, and the text that they stand for
-pub data StandFor : List ℕ → List ℕ → Type 0 where
-  none : StandFor [] []
-  more : (front rest text : List ℕ) (b : ℕ) → Stands front b → StandFor rest text → StandFor (front ++ rest) (b ∷ text)
-
 -- a quoted text, with its quotes
 pub record IsQuoted (bytes : List ℕ) : Type 0 where
   pub inside : List ℕ
@@ -135,13 +120,6 @@ IsNamedUnit u = (TakesFile u.kind ⊎ (u.kind ≡ Tti1)) × IsDrive u
 -- the option of ATTACH: none, or the letter E, N or R
 abbrev pub IsAttachOption : ℕ → Type 0
 IsAttachOption option = (option ≡ 0) ⊎ (option ≡ 69) ⊎ (option ≡ 78) ⊎ (option ≡ 82)
-
--- an item that can be tested is one address or one name
-abbrev pub IsTested : Item → Type 0
-IsTested (At address) = Unit {0}
-IsTested (Reg i) = Unit {0}
-IsTested Unknown = Unit {0}
-IsTested item = ⊥
 
 abbrev pub ShowsUnit : Shown → Type 0
 ShowsUnit (shown.Unit unit) = IsNamedUnit unit
@@ -183,6 +161,20 @@ file_name_of (Dump from to name) = name
 file_name_of (Restore force name) = name
 file_name_of (Do echo strict name arguments) = name
 file_name_of request = []
+
+-- a request that gives a text: what ECHO prints, the label that GOTO looks for, or the arguments of DO
+abbrev pub GivesText : Request → Type 0
+GivesText (Do echo strict name arguments) = Unit {0}
+GivesText (Goto label) = Unit {0}
+GivesText (Echo text) = Unit {0}
+GivesText request = ⊥
+
+-- the bytes of the text
+abbrev pub given_text : Request → List ℕ
+given_text (Do echo strict name arguments) = arguments
+given_text (Goto label) = label
+given_text (Echo text) = text
+given_text request = []
 
 -- what a verb keeps: each piece lies within the line and is what it is read as, and each unit can be named
 abbrev pub Keeps : List ℕ → Verb → Type 0

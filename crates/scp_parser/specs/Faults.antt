@@ -1,20 +1,24 @@
 -- The one fault of each line that is no command. The words are taken from the left: the first that is not as the
 -- grammar wants it is at fault. A place is said by how many bytes of the line are left there.
-use Rattle.std.specs.Prelude.{◌≡◌, ◌⊎◌, ℕ, ◌-◌, ◌<◌, ◌≤◌, Bool, true, false, ◌||◌, List, [], ◌∷◌, ◌++◌, length, Option, if◌then◌else◌}
+use Rattle.std.specs.Prelude.{◌≡◌, ◌⊎◌, ℕ, ◌-◌, ◌<◌, ◌≤◌, Bool, true, false, ◌||◌, List, [], ◌∷◌, ◌++◌, length, codes, Option, if◌then◌else◌}
 use Rattle.unit_trait.specs.Kinds.{takes_file}
-use Rattle.line_words.specs.Words.{IsBlanks, Begins}
+use Rattle.line_words.specs.Words.{IsBlanks, StartsIn, Begins}
 use Rattle.nova_word.specs.Numbers.{is_digit}
 use Rattle.nova_symbols.specs.Forms.{Reads}
-use Rattle.scp_parser.specs.declared.listing.Name.{Name}
-use Rattle.scp_parser.specs.declared.listing.Condition.{Condition}
+use Rattle.operand_forms.specs.declared.listing.Name.{Name}
+use Rattle.operand_forms.specs.declared.listing.Name.TheVariants as whose
+use Rattle.operand_forms.specs.declared.listing.Condition.{Condition}
 use Rattle.scp_parser.specs.declared.fault.ParseFault.{ParseFault}
-use Rattle.scp_parser.specs.declared.fault.ParseFault.TheVariants.{Unknown, Missing, BadNumber, BadName, BadSymbol, Extra, TooLong, NotBuilt}
+use Rattle.scp_parser.specs.declared.fault.ParseFault.TheVariants.{Unknown, Missing, BadNumber, BadName, BadSymbol, Extra, TooLong}
 use Rattle.scp_parser.specs.declared.names.CommandName.{CommandName}
 use Rattle.scp_parser.specs.declared.names.CommandName.TheVariants.{Examine, Deposit, Run, Go, Cont, Step, Reset, Attach, Detach, Show, Exit}
+use Rattle.scp_parser.specs.declared.names.CommandName.TheVariants.{NoExpect, NoSend, Break, NoBreak, Expect, Send, Load, Save, Dump, Restore, Set, Do, Goto, Assert, Echo}
 use Rattle.scp_parser.specs.Names.{IsCommandName}
 use Rattle.scp_parser.specs.Command.{IsFileName}
-use Rattle.scp_parser.specs.Forms.{IsOctal, IsDecimal, IsList, IsSubject, IsOption, IsTarget, IsDetached}
-use Rattle.scp_parser.specs.Grammar.{longest_line, Chooses, IsListing, Then, Takes, MayTake, IsInside, AsksNothing}
+use Rattle.operand_forms.specs.Forms.{IsOctal, IsDecimal, IsList, IsDevice}
+use Rattle.scp_parser.specs.Forms.{IsSubject, IsOption, IsTarget, IsDetached, IsFlag, IsCount, IsPoint, IsNoBreak, IsKeyed, IsTextAt}
+use Rattle.scp_parser.specs.Forms.{AreAddresses, IsSet, IsSize, IsScriptName, IsAnyWord, IsTest}
+use Rattle.scp_parser.specs.Grammar.{longest_line, name_of, BeginsAt, TakesAt, Chooses, IsListing, Then, Takes, MayTake, IsInside, AsksNothing}
 
 abbrev pub begins_with_digit : List ℕ → Bool
 begins_with_digit [] = false
@@ -29,6 +33,11 @@ bad_word only_number word left = if only_number || begins_with_digit word then B
 pub data WordFaults {V : Type 0} (Form : List ℕ → V → Type 0) (only_number : Bool) (text : List ℕ) : ParseFault → Type 0 where
   missing : IsBlanks text → WordFaults Form only_number text Missing
   bad : (word rest : List ℕ) → Begins text word rest → ((v : V) → Form word v → ⊥) → WordFaults Form only_number text (bad_word only_number word (length (word ++ rest)))
+
+-- the same of an operand that is more, or less, than a word
+pub data PartFaults {V : Type 0} (Form : List ℕ → V × List ℕ → Type 0) (only_number : Bool) (text : List ℕ) : ParseFault → Type 0 where
+  part_missing : IsBlanks text → PartFaults Form only_number text Missing
+  part_bad : (past : List ℕ) → BeginsAt text past → ((x : V × List ℕ) → Form past x → ⊥) → PartFaults Form only_number text (bad_word only_number past (length past))
 
 -- the fault of a line that goes on behind its last operand
 pub data EndFaults (text : List ℕ) : ParseFault → Type 0 where
@@ -71,7 +80,17 @@ AttachFaults false text fault = FaultThen (WordFaults IsDecimal true text) (Take
 abbrev pub TargetFaults : Option ℕ → List ℕ → ParseFault → Type 0
 TargetFaults option text fault = FaultThen (WordFaults (IsTarget option) false text) (Takes (IsTarget option) text) (λ u. AttachFaults (takes_file u.0.kind) u.1) fault
 
--- the faults of the operands of each command, and that of each that this version of the program does not have
+-- the fault of a BREAK that goes on behind its address with something other than actions
+pub data ActionFaults (text : List ℕ) : ParseFault → Type 0 where
+  no_mark : (past : List ℕ) → BeginsAt text past → StartsIn (λ b. b ≡ 59 → ⊥) past → ActionFaults text (Extra (length past))
+
+-- the faults behind what SET sets
+abbrev pub SetFaults : Name → List ℕ → ParseFault → Type 0
+SetFaults whose.Cpu text fault = FaultThen (WordFaults IsSize false text) (Takes IsSize text) (λ n. EndFaults n.1) fault
+SetFaults (whose.Device kind) text fault =
+    FaultThen (WordFaults (IsFlag (codes "DISCONNECT")) false text) (Takes (IsFlag (codes "DISCONNECT")) text) (λ d. EndFaults d.1) fault
+
+-- the faults of the operands of each command
 abbrev pub OperandFaults : CommandName → List ℕ → ParseFault → Type 0
 OperandFaults Examine text fault = FaultThen (ListFaults true text) (IsListing true text) (λ l. EndFaults l.1) fault
 OperandFaults Deposit text fault = FaultThen (ListFaults false text) (IsListing false text) (λ l. ValueFaults l.0.symbolic l.1) fault
@@ -84,7 +103,25 @@ OperandFaults Attach text fault = Then (MayTake IsOption text) (λ option. Targe
 OperandFaults Detach text fault = FaultThen (WordFaults IsDetached false text) (Takes IsDetached text) (λ u. EndFaults u.1) fault
 OperandFaults Show text fault = FaultThen (WordFaults IsSubject false text) (Takes IsSubject text) (λ s. EndFaults s.1) fault
 OperandFaults Exit text fault = LastNumberFaults IsDecimal text fault
-OperandFaults name text fault = fault ≡ NotBuilt
+OperandFaults NoExpect text fault = EndFaults text fault
+OperandFaults NoSend text fault = EndFaults text fault
+OperandFaults Break text fault = FaultThen (PartFaults IsPoint true text) (TakesAt IsPoint text) (λ point. ActionFaults point.1) fault
+OperandFaults NoBreak text fault = FaultThen (WordFaults IsNoBreak false text) (Takes IsNoBreak text) (λ at. EndFaults at.1) fault
+OperandFaults Expect text fault = Then (MayTake IsCount text) (λ count. PartFaults IsTextAt false count.1) fault
+OperandFaults Send text fault =
+    Then (MayTake (IsKeyed (codes "AFTER=")) text) (λ after f. Then (MayTake (IsKeyed (codes "DELAY=")) after.1) (λ delay.
+    FaultThen (PartFaults IsTextAt false delay.1) (TakesAt IsTextAt delay.1) (λ quoted. EndFaults quoted.1)) f) fault
+OperandFaults Load text fault = NameFaults text fault
+OperandFaults Save text fault = NameFaults text fault
+OperandFaults Dump text fault = FaultThen (WordFaults AreAddresses true text) (Takes AreAddresses text) (λ at. NameFaults at.1) fault
+OperandFaults Restore text fault = Then (MayTake (IsFlag (codes "-F")) text) (λ force. NameFaults force.1) fault
+OperandFaults Set text fault = FaultThen (WordFaults IsSet false text) (Takes IsSet text) (λ what. SetFaults what.0 what.1) fault
+OperandFaults Do text fault =
+    Then (MayTake (IsFlag (codes "-V")) text) (λ echo f. Then (MayTake (IsFlag (codes "-E")) echo.1) (λ strict. WordFaults IsScriptName false strict.1) f) fault
+OperandFaults Goto text fault = FaultThen (WordFaults IsAnyWord false text) (Takes IsAnyWord text) (λ label. EndFaults label.1) fault
+OperandFaults Assert text fault =
+    Then (MayTake IsDevice text) (λ kind. FaultThen (WordFaults (IsTest (name_of kind.0)) false kind.1) (Takes (IsTest (name_of kind.0)) kind.1) (λ t. EndFaults t.1)) fault
+OperandFaults Echo text fault = ⊥
 
 -- a fault by its place from the beginning of a line of that length
 abbrev pub placed : ℕ → ParseFault → ParseFault
@@ -94,8 +131,8 @@ placed length (BadSymbol left) = BadSymbol (length - left)
 placed length (Extra left) = Extra (length - left)
 placed length fault = fault
 
--- the faults of lines: a line that is too long, then one whose first word names no command, then one whose command
--- this version does not have, or else the first fault of the operands
+-- the faults of lines: a line that is too long, then one whose first word names no command, or else the first fault of
+-- the operands
 pub data Faults : List ℕ → ParseFault → Type 0 where
   too_long : (line : List ℕ) → longest_line < length line → Faults line TooLong
   unknown : (line word rest : List ℕ) → length line ≤ longest_line → (AsksNothing line → ⊥) → Begins line word rest → ((name : CommandName) → IsCommandName word name → ⊥) → Faults line Unknown

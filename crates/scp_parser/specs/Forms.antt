@@ -1,106 +1,19 @@
--- The forms of the words of a line: numbers, names, items, conditions, devices, units and subjects.
-use Rattle.std.specs.Prelude.{◌≡◌, ◌⊎◌, ℕ, ◌+◌, ◌-◌, ◌<◌, ◌≤◌, ◌^◌, All, List, [], ◌∷◌, ◌++◌, length, codes, nat_le, slice_get, Option, Some, None, Contains, if◌then◌else◌}
-use Rattle.nova_word.specs.Numbers.{IsDigit, IsNumber}
-use Rattle.unit_trait.specs.declared.kind.Kind.{Kind}
-use Rattle.unit_trait.specs.declared.kind.Kind.TheVariants.{Mta}
+-- The forms of the words of a line that only some commands have: subjects, options, the units of ATTACH and DETACH, and
+-- the operands of the commands for scripts, breaks and media.
+use Rattle.std.specs.Prelude.{◌≡◌, ◌⊎◌, ℕ, ◌<◌, Bool, true, List, [], ◌∷◌, ◌++◌, length, codes, Option, Some, None}
+use Rattle.unit_trait.specs.declared.kind.Kind.TheVariants.{Tti1}
 use Rattle.unit_trait.specs.declared.kind.UnitName.{UnitName}
-use Rattle.unit_trait.specs.Kinds.{kind_name, TakesFile}
-use Rattle.scp_parser.specs.declared.listing.Name.{Name}
-use Rattle.scp_parser.specs.declared.listing.Rel.{Rel}
-use Rattle.scp_parser.specs.declared.listing.Rel.TheVariants.{Eq, Ne, Lt, Le, Gt, Ge}
-use Rattle.scp_parser.specs.declared.listing.Condition.{Condition}
-use Rattle.scp_parser.specs.declared.listing.Item.{Item}
-use Rattle.scp_parser.specs.declared.listing.Item.TheVariants.{At, Range, Count, All as AllWords, Reg, State, Unknown}
+use Rattle.unit_trait.specs.Kinds.{TakesFile}
 use Rattle.scp_parser.specs.declared.command.Shown.{Shown}
 use Rattle.scp_parser.specs.declared.command.Shown.TheVariants.{Time, Cpu, Queue, Break, Expect, Send, Version, Unit as AUnit}
-use Rattle.line_words.specs.Words.{IsSpelled}
-use Rattle.scp_parser.specs.Names.{device_kinds, unit_kinds, register_names}
-
--- a number above the largest of its reader is held as this one
-abbrev pub too_large : ℕ
-too_large = 2 ^ 64 - 1
-
-abbrev pub held : ℕ → ℕ → ℕ
-held largest n = if nat_le n largest then n else too_large
-
--- a number of a base, as it is held
-pub record IsHeld (base largest : ℕ) (text : List ℕ) (n : ℕ) : Type 0 where
-  pub number : ℕ
-  pub is : IsNumber base text number
-  pub counts : n ≡ held largest number
-
-abbrev pub largest_octal : ℕ
-largest_octal = 2 ^ 32 - 1
-
-abbrev pub largest_decimal : ℕ
-largest_decimal = 2 ^ 63
-
-abbrev pub IsOctal : List ℕ → ℕ → Type 0
-IsOctal text n = IsHeld 8 largest_octal text n
-
-abbrev pub IsDecimal : List ℕ → ℕ → Type 0
-IsDecimal text n = IsHeld 10 largest_decimal text n
-
-abbrev pub IsLetter : ℕ → Type 0
-IsLetter b = ((65 ≤ b) × (b ≤ 90)) ⊎ ((97 ≤ b) × (b ≤ 122))
-
--- a letter, and then letters, digits and `_`
-abbrev pub IsName : List ℕ → Type 0
-IsName [] = ⊥
-IsName (b ∷ more) = IsLetter b × All (λ c. IsLetter c ⊎ (IsDigit 10 c ⊎ (c ≡ 95))) more
-
--- register k of the processor or of a device, by its name
-pub record IsRegister (device : Name) (text : List ℕ) (k : ℕ) : Type 0 where
-  pub name : List ℕ
-  pub is : slice_get (register_names device) k ≡ Some name
-  pub spelled : IsSpelled text name
-
--- an item of a list
-pub data IsItem (device : Name) : List ℕ → Item → Type 0 where
-  at : (text : List ℕ) (address : ℕ) → IsOctal text address → IsItem device text (At address)
-  range : (from to : List ℕ) (a b : ℕ) → IsOctal from a → IsOctal to b → IsItem device (from ++ 45 ∷ to) (Range a b)
-  count : (from number : List ℕ) (a n : ℕ) → IsOctal from a → IsDecimal number n → IsItem device (from ++ 47 ∷ number) (Count a n)
-  all_words : (text : List ℕ) → IsSpelled text (codes "ALL") → IsItem device text AllWords
-  state : (text : List ℕ) → IsSpelled text (codes "STATE") → IsItem device text State
-  register : (text : List ℕ) (k : ℕ) → IsRegister device text k → IsItem device text (Reg k)
-  unknown : (text : List ℕ) → IsName text → (IsSpelled text (codes "ALL") → ⊥) → (IsSpelled text (codes "STATE") → ⊥) → ((k : ℕ) → IsRegister device text k → ⊥) → IsItem device text Unknown
-
--- items with commas between them
-pub data AreItems (device : Name) : List ℕ → List Item → Type 0 where
-  last : (text : List ℕ) (item : Item) → IsItem device text item → AreItems device text (item ∷ [])
-  more : (text rest : List ℕ) (item : Item) (items : List Item) → IsItem device text item → AreItems device rest items → AreItems device (text ++ 44 ∷ rest) (item ∷ items)
-
--- a list has at most 16 items
-pub record IsList (device : Name) (text : List ℕ) (items : List Item) : Type 0 where
-  pub each : AreItems device text items
-  pub few : length items ≤ 16
-
--- how a comparison is written
-abbrev pub rel_text : Rel → List ℕ
-rel_text Eq = codes "="
-rel_text Ne = codes "!="
-rel_text Lt = codes "<"
-rel_text Le = codes "<="
-rel_text Gt = codes ">"
-rel_text Ge = codes ">="
-
--- a comparison with a value, and before it a mask or none
-pub data IsCondition : List ℕ → Condition → Type 0 where
-  plain : (digits : List ℕ) (rel : Rel) (value : ℕ) → IsOctal digits value → IsCondition (rel_text rel ++ digits) (record { mask = None; rel = rel; value = value })
-  masked : (mask digits : List ℕ) (rel : Rel) (m value : ℕ) → IsOctal mask m → IsOctal digits value → IsCondition (38 ∷ mask ++ (rel_text rel ++ digits)) (record { mask = Some m; rel = rel; value = value })
-
--- a kind of a list, by its name
-pub record IsKind (kinds : List Kind) (text : List ℕ) (kind : Kind) : Type 0 where
-  pub listed : Contains kinds kind
-  pub spelled : IsSpelled text (kind_name kind)
-
-abbrev pub IsDevice : List ℕ → Kind → Type 0
-IsDevice text kind = IsKind device_kinds text kind
-
--- a unit that a command may name; the tape's name alone is its first drive
-pub data IsUnit : List ℕ → UnitName → Type 0 where
-  alone : (text : List ℕ) (kind : Kind) → IsKind unit_kinds text kind → IsUnit text (record { kind = kind; unit = 0 })
-  drive : (text : List ℕ) (n : ℕ) → n < 8 → IsSpelled text (codes "MTA" ++ (48 + n) ∷ []) → IsUnit text (record { kind = Mta; unit = n })
+use Rattle.line_words.specs.Words.{IsBlank, StartsIn, IsSpelled}
+use Rattle.operand_forms.specs.declared.listing.Name.{Name}
+use Rattle.operand_forms.specs.declared.listing.Name.TheVariants as whose
+use Rattle.operand_forms.specs.declared.listing.Item.{Item}
+use Rattle.operand_forms.specs.declared.listing.Condition.{Condition}
+use Rattle.operand_forms.specs.declared.listing.Rel.{Rel}
+use Rattle.operand_forms.specs.Forms.{IsOctal, IsDecimal, IsItem, IsTested, rel_text, IsUnit}
+use Rattle.scp_parser.specs.Command.{IsFileName, IsQuoted}
 
 -- what SHOW shows
 pub data IsSubject : List ℕ → Shown → Type 0 where
@@ -132,3 +45,68 @@ IsTarget (Some letter) text u = IsUnit text u × TakesFile u.kind
 pub data IsDetached : List ℕ → Option UnitName → Type 0 where
   every : (text : List ℕ) → IsSpelled text (codes "ALL") → IsDetached text None
   one : (text : List ℕ) (u : UnitName) → IsUnit text u → IsDetached text (Some u)
+
+-- an option or a word that is either there or not
+abbrev pub IsFlag : List ℕ → List ℕ → Bool → Type 0
+IsFlag flag text on = IsSpelled text flag × (on ≡ true)
+
+-- a count in brackets
+pub data IsCount : List ℕ → ℕ → Type 0 where
+  bracketed : (digits : List ℕ) (n : ℕ) → IsDecimal digits n → IsCount (91 ∷ digits ++ 93 ∷ []) n
+
+-- where a BREAK stops, and how often it is passed first: an address, and a count or 1
+pub data IsBreak : List ℕ → ℕ × ℕ → Type 0 where
+  once : (text : List ℕ) (a : ℕ) → IsOctal text a → IsBreak text (a, 1)
+  counted : (digits count : List ℕ) (a n : ℕ) → IsOctal digits a → IsCount count n → IsBreak (digits ++ count) (a, n)
+
+-- the same at the front of a text, up to a blank, a `;` or the end; what follows is x.1
+pub record IsPoint (text : List ℕ) (x : (ℕ × ℕ) × List ℕ) : Type 0 where
+  pub word : List ℕ
+  pub spelled : text ≡ word ++ x.1
+  pub is : IsBreak word x.0
+  pub ends : StartsIn (λ b. IsBlank b ⊎ (b ≡ 59)) x.1
+
+-- what NOBREAK names: all breaks, or one by its address
+pub data IsNoBreak : List ℕ → Option ℕ → Type 0 where
+  all_breaks : (text : List ℕ) → IsSpelled text (codes "ALL") → IsNoBreak text None
+  one_break : (text : List ℕ) (a : ℕ) → IsOctal text a → IsNoBreak text (Some a)
+
+-- a number of a keyword, as in AFTER=5; the keyword ends with its `=`
+pub record IsKeyed (key text : List ℕ) (n : ℕ) : Type 0 where
+  pub front : List ℕ
+  pub digits : List ℕ
+  pub spelled : text ≡ front ++ digits
+  pub keyword : IsSpelled front key
+  pub number : IsDecimal digits n
+
+-- a quoted text at the front of a text, up to a blank or the end: it is x.0, and what follows is x.1
+pub record IsTextAt (text : List ℕ) (x : List ℕ × List ℕ) : Type 0 where
+  pub spelled : text ≡ x.0 ++ x.1
+  pub is : IsQuoted x.0
+  pub ends : StartsIn IsBlank x.1
+
+-- the addresses of a DUMP
+pub data AreAddresses : List ℕ → ℕ × ℕ → Type 0 where
+  between : (from to : List ℕ) (a b : ℕ) → IsOctal from a → IsOctal to b → AreAddresses (from ++ 45 ∷ to) (a, b)
+
+-- what SET sets: something of the processor, or of the second terminal
+pub data IsSet : List ℕ → Name → Type 0 where
+  processor : (text : List ℕ) → IsSpelled text (codes "CPU") → IsSet text whose.Cpu
+  terminal : (text : List ℕ) → IsSpelled text (codes "TTI1") → IsSet text (whose.Device Tti1)
+
+-- a size of memory in K words
+pub data IsSize : List ℕ → ℕ → Type 0 where
+  kilo : (digits : List ℕ) (k n : ℕ) → IsDecimal digits n → (k ≡ 75) ⊎ (k ≡ 107) → IsSize (digits ++ k ∷ []) n
+
+-- the name of a script is one word
+abbrev pub IsScriptName : List ℕ → List ℕ → Type 0
+IsScriptName text name = IsFileName text × (name ≡ text)
+
+-- a word of any bytes
+abbrev pub IsAnyWord : List ℕ → List ℕ → Type 0
+IsAnyWord text word = (0 < length text) × (word ≡ text)
+
+-- what ASSERT tests: an address or a name, a comparison and a value, with no blank between them and no mask
+pub data IsTest (device : Name) : List ℕ → Item × Condition → Type 0 where
+  compared : (name digits : List ℕ) (item : Item) (rel : Rel) (value : ℕ) → IsItem device name item → IsTested item → IsOctal digits value
+      → IsTest device (name ++ (rel_text rel ++ digits)) (item, record { mask = None; rel = rel; value = value })

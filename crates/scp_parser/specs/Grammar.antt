@@ -1,21 +1,26 @@
 -- Which line is which command: a relation by the forms of the lines (SIMH Users' Guide, "Commands").
-use Rattle.std.specs.Prelude.{◌≡◌, ◌⊎◌, ℕ, ◌<◌, ◌≤◌, Bool, true, false, List, [], ◌∷◌, ◌++◌, length, Option, Some, None, is_some}
+use Rattle.std.specs.Prelude.{◌≡◌, ◌⊎◌, ℕ, ◌<◌, ◌≤◌, Bool, true, false, List, [], ◌∷◌, ◌++◌, length, drop, codes, Option, Some, None, is_some, unwrap_or}
 use Rattle.unit_trait.specs.declared.kind.Kind.{Kind}
 use Rattle.unit_trait.specs.declared.kind.Kind.TheVariants.{Tti1}
 use Rattle.unit_trait.specs.declared.kind.UnitName.{UnitName}
 use Rattle.unit_trait.specs.Kinds.{takes_file}
 use Rattle.line_words.specs.Words.{IsBlank, IsBlanks, StartsIn, Begins}
 use Rattle.nova_symbols.specs.Forms.{Reads}
-use Rattle.scp_parser.specs.declared.listing.Name.{Name}
-use Rattle.scp_parser.specs.declared.listing.Name.TheVariants as whose
-use Rattle.scp_parser.specs.declared.listing.Condition.{Condition}
-use Rattle.scp_parser.specs.declared.listing.Listing.{Listing}
+use Rattle.operand_forms.specs.declared.listing.Name.{Name}
+use Rattle.operand_forms.specs.declared.listing.Name.TheVariants as whose
+use Rattle.operand_forms.specs.declared.listing.Condition.{Condition}
+use Rattle.operand_forms.specs.declared.listing.Item.{Item}
+use Rattle.operand_forms.specs.declared.listing.Listing.{Listing}
+use Rattle.operand_forms.specs.declared.listing.Test.{Test}
 use Rattle.scp_parser.specs.declared.names.CommandName.{CommandName}
 use Rattle.scp_parser.specs.declared.names.CommandName.TheVariants.{Examine, Deposit, Run, Go, Cont, Step, Reset, Attach, Detach, Show, Exit}
+use Rattle.scp_parser.specs.declared.names.CommandName.TheVariants.{NoExpect, NoSend, Break, NoBreak, Expect, Send, Load, Save, Dump, Restore, Set, Do, Goto, Assert, Echo}
 use Rattle.scp_parser.specs.Command.{Request, IsFileName}
 use Rattle.scp_parser.specs.Command as request
 use Rattle.scp_parser.specs.Names.{IsCommandName}
-use Rattle.scp_parser.specs.Forms.{IsOctal, IsDecimal, IsList, IsCondition, IsDevice, IsSubject, IsSymbolic, IsOption, IsTarget, IsDetached}
+use Rattle.operand_forms.specs.Forms.{IsOctal, IsDecimal, IsList, IsCondition, IsDevice}
+use Rattle.scp_parser.specs.Forms.{IsSubject, IsSymbolic, IsOption, IsTarget, IsDetached, IsFlag, IsCount, IsPoint, IsNoBreak, IsKeyed, IsTextAt}
+use Rattle.scp_parser.specs.Forms.{AreAddresses, IsSet, IsSize, IsScriptName, IsAnyWord, IsTest}
 
 -- how many bytes a command line has at most
 abbrev pub longest_line : ℕ
@@ -29,6 +34,18 @@ pub data MayBegin {V : Type 0} (Form : List ℕ → V → Type 0) (text : List �
 -- the same of a value, which is x.0, and the rest, which is x.1
 abbrev pub MayTake : {V : Type 0} → (List ℕ → V → Type 0) → List ℕ → Option V × List ℕ → Type 0
 MayTake Form text x = MayBegin Form text x.0 x.1
+
+-- a text begins, behind its blanks, there
+pub record BeginsAt (text past : List ℕ) : Type 0 where
+  pub blanks : List ℕ
+  pub spelled : text ≡ blanks ++ past
+  pub blank : IsBlanks blanks
+  pub some : 0 < length past
+  pub starts : StartsIn (λ b. IsBlank b → ⊥) past
+
+-- what stands there has that form and that value, which is x.0; the rest, x.1, is what follows it
+abbrev pub TakesAt : {V : Type 0} → (List ℕ → V × List ℕ → Type 0) → List ℕ → V × List ℕ → Type 0
+TakesAt Form text x = (past : List ℕ) × BeginsAt text past × Form past x
 
 -- the option for symbolic text, as an operand
 abbrev pub IsSymbolicOption : List ℕ → Bool → Type 0
@@ -88,6 +105,16 @@ pub record IsInstruction (text : List ℕ) (w : ℕ) : Type 0 where
 abbrev pub IsLastName : List ℕ → List ℕ × List ℕ → Type 0
 IsLastName text name = IsInside text name.0 name.1 × IsFileName name.0
 
+-- the rest of a line without the blanks round it, which may be nothing
+pub data IsTail (text : List ℕ) : List ℕ → Type 0 where
+  nothing_left : IsBlanks text → IsTail text []
+  some_left : (inside behind : List ℕ) → IsInside text inside behind → IsTail text inside
+
+-- the actions of a BREAK, behind a `;`
+pub data HasActions (text : List ℕ) : List ℕ → Type 0 where
+  no_actions : IsBlanks text → HasActions text []
+  actions : (rest tail : List ℕ) → BeginsAt text (59 ∷ rest) → IsTail rest tail → HasActions text tail
+
 -- a number that may be left out at the end of a line
 pub data IsLastNumber (Form : List ℕ → ℕ → Type 0) (text : List ℕ) : Option ℕ → Type 0 where
   left_out : IsBlanks text → IsLastNumber Form text None
@@ -132,8 +159,34 @@ Attaches false option unit text asked = Then (Takes IsDecimal text) (λ n. Ends 
 abbrev pub HasTarget : Option ℕ → List ℕ → Request → Type 0
 HasTarget option text asked = Then (Takes (IsTarget option) text) (λ u. Attaches (takes_file u.0.kind) (option_letter option) u.0 u.1) asked
 
--- what a command asks for, by its name and the operands behind it; with one that this version of the program does not
--- have no line is a command
+-- what follows what SET sets: a size of memory, or that the second terminal is disconnected
+abbrev pub Sets : Name → List ℕ → Request → Type 0
+Sets whose.Cpu text asked = Then (Takes IsSize text) (λ n. Ends (request.SetSize n.0) n.1) asked
+Sets (whose.Device kind) text asked = Then (Takes (IsFlag (codes "DISCONNECT")) text) (λ d. Ends (request.Disconnect Tti1) d.1) asked
+
+-- the name of a script behind the options of DO, and its arguments
+abbrev pub Scripts : Option Bool → Option Bool → List ℕ → Request → Type 0
+Scripts echo strict text asked =
+    Then (Takes IsScriptName text) (λ name a. Then (IsTail name.1) (λ arguments b. b ≡ request.Do (is_some echo) (is_some strict) name.0 arguments) a) asked
+
+-- the text of an EXPECT behind its count, and its actions
+abbrev pub Expects : Option ℕ → List ℕ → Request → Type 0
+Expects count text asked =
+    Then (TakesAt IsTextAt text) (λ quoted a. Then (IsTail quoted.1) (λ tail b. b ≡ request.Expect (unwrap_or count 1) quoted.0 tail) a) asked
+
+-- the text of a SEND behind its numbers
+abbrev pub Sends : Option ℕ → Option ℕ → List ℕ → Request → Type 0
+Sends after delay text asked = Then (TakesAt IsTextAt text) (λ quoted. Ends (request.Send (unwrap_or after 0) (unwrap_or delay 1000) quoted.0) quoted.1) asked
+
+-- what ASSERT tests, of a device or of the processor
+abbrev pub test_with : Name → Item × Condition → Test
+test_with device t = record { device = device; item = t.0; condition = t.1 }
+
+-- what an ASSERT tests behind its device
+abbrev pub Asserts : Name → List ℕ → Request → Type 0
+Asserts device text asked = Then (Takes (IsTest device) text) (λ t. Ends (request.Assert (test_with device t.0)) t.1) asked
+
+-- what a command asks for, by its name and the operands behind it
 abbrev pub Operates : CommandName → List ℕ → Request → Type 0
 Operates Examine text asked = Then (IsListing true text) (λ l. Ends (request.Examine l.0) l.1) asked
 Operates Deposit text asked = Then (IsListing false text) (λ l. HasValue l.0.symbolic l.1 (λ n. request.Deposit l.0 n)) asked
@@ -146,7 +199,22 @@ Operates Attach text asked = Then (MayTake IsOption text) (λ option. HasTarget 
 Operates Detach text asked = Then (Takes IsDetached text) (λ u. Ends (request.Detach u.0) u.1) asked
 Operates Show text asked = Then (Takes IsSubject text) (λ s. Ends (request.Show s.0) s.1) asked
 Operates Exit text asked = HasNumber IsDecimal text (λ n. request.Exit n) asked
-Operates name text asked = ⊥
+Operates NoExpect text asked = Ends request.NoExpect text asked
+Operates NoSend text asked = Ends request.NoSend text asked
+Operates Break text asked = Then (TakesAt IsPoint text) (λ point a. Then (HasActions point.1) (λ actions b. b ≡ request.Break point.0.0 point.0.1 actions) a) asked
+Operates NoBreak text asked = Then (Takes IsNoBreak text) (λ at. Ends (request.NoBreak at.0) at.1) asked
+Operates Expect text asked = Then (MayTake IsCount text) (λ count. Expects count.0 count.1) asked
+Operates Send text asked = Then (MayTake (IsKeyed (codes "AFTER=")) text) (λ after a. Then (MayTake (IsKeyed (codes "DELAY=")) after.1) (λ delay. Sends after.0 delay.0 delay.1) a) asked
+Operates Load text asked = Then (IsLastName text) (λ name a. a ≡ request.Load name.0) asked
+Operates Save text asked = Then (IsLastName text) (λ name a. a ≡ request.Save name.0) asked
+Operates Dump text asked = Then (Takes AreAddresses text) (λ at a. Then (IsLastName at.1) (λ name b. b ≡ request.Dump at.0.0 at.0.1 name.0) a) asked
+Operates Restore text asked = Then (MayTake (IsFlag (codes "-F")) text) (λ force a. Then (IsLastName force.1) (λ name b. b ≡ request.Restore (is_some force.0) name.0) a) asked
+Operates Set text asked = Then (Takes IsSet text) (λ what. Sets what.0 what.1) asked
+Operates Do text asked = Then (MayTake (IsFlag (codes "-V")) text) (λ echo a. Then (MayTake (IsFlag (codes "-E")) echo.1) (λ strict. Scripts echo.0 strict.0 strict.1) a) asked
+Operates Goto text asked = Then (Takes IsAnyWord text) (λ label. Ends (request.Goto label.0) label.1) asked
+Operates Assert text asked = Then (MayTake IsDevice text) (λ kind. Asserts (name_of kind.0) kind.1) asked
+-- the text of an ECHO is all that follows the blank behind its name
+Operates Echo text asked = asked ≡ request.Echo (drop 1 text)
 
 -- a comment begins with `;` or `#`, and a label with `:`
 abbrev pub IsMark : ℕ → Type 0

@@ -1,13 +1,8 @@
--- The names of commands, devices, units and registers (SIMH Users' Guide, "Commands"; the abbreviations are this
+-- The names of commands (SIMH Users' Guide, "Commands"; the abbreviations are this
 -- project's own). Names are read in either case.
 use Rattle.std.specs.Prelude.{◌≡◌, ℕ, ◌≤◌, Bool, ◌&&◌, List, [], ◌∷◌, length, take, map, codes, nat_le, Option, Some, None, option_map, Contains, if◌then◌else◌}
 use Rattle.line_words.specs.Words.{IsSpelled, is_spelled}
-use Rattle.unit_trait.specs.declared.kind.Kind.{Kind}
-use Rattle.unit_trait.specs.declared.kind.Kind.TheVariants.{Dsk, Mta, Lpt, Ptr, Ptp, Clk, Tti, Tto, Tti1, Tto1}
-use Rattle.unit_trait.specs.Registers.{Register, registers}
-use Rattle.unit_trait.specs.Processor.{all_registers, register_name}
-use Rattle.scp_parser.specs.declared.listing.Name.{Name}
-use Rattle.scp_parser.specs.declared.listing.Name.TheVariants as whose
+use Rattle.operand_forms.specs.Names.{first_of}
 use Rattle.scp_parser.specs.declared.names.CommandName.{CommandName}
 use Rattle.scp_parser.specs.declared.names.CommandName.TheVariants.{Examine, Deposit, Run, Go, Cont, Reset, NoExpect, NoSend, Step, Break, NoBreak, Expect, Send, Attach, Detach, Load, Save, Dump, Restore, Set, Show, Do, Goto, Assert, Echo, Exit}
 
@@ -65,19 +60,6 @@ pub record IsCommandName (word : List ℕ) (command : CommandName) : Type 0 wher
   pub means : of.command ≡ command
   pub names : IsRowName word of
 
--- the kinds of units whose registers EXAMINE and DEPOSIT name
-abbrev pub device_kinds : List Kind
-device_kinds = Dsk ∷ Mta ∷ Lpt ∷ Ptr ∷ Ptp ∷ Clk ∷ Tti ∷ Tto ∷ Tti1 ∷ Tto1 ∷ []
-
--- the kinds whose name alone names a unit; that of the tape names its first drive
-abbrev pub unit_kinds : List Kind
-unit_kinds = Ptr ∷ Ptp ∷ Lpt ∷ Dsk ∷ Mta ∷ Tti1 ∷ []
-
--- the registers of the processor or of a device, in order
-abbrev pub register_names : Name → List (List ℕ)
-register_names whose.Cpu = map register_name all_registers
-register_names (whose.Device kind) = map (λ (r : Register). r.name) (registers kind)
-
 -- The same as functions.
 
 -- a word is a name, or a first part of it with so many letters at least
@@ -86,11 +68,6 @@ abbreviates word name letters = nat_le letters (length word) && is_spelled word 
 
 abbrev pub is_row_name : List ℕ → CommandRow → Bool
 is_row_name word of = abbreviates word of.name of.letters
-
--- the first of a list that passes a test
-abbrev pub first_of : {T : Type 0} → (T → Bool) → List T → Option T
-first_of test [] = None
-first_of test (x ∷ more) = if test x then Some x else first_of test more
 
 -- the command of the first row whose name a word is
 abbrev pub command_in : List CommandRow → List ℕ → Option CommandName

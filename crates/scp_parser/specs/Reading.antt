@@ -1,27 +1,32 @@
 -- Which line is which command, as a function: its words one by one from the left. A fault is said by how many bytes of
 -- the line are left at its place.
-use Rattle.std.specs.Prelude.{ℕ, ◌-◌, ◌==◌, Bool, true, false, ◌||◌, nat_le, List, [], ◌∷◌, ◌++◌, length, drop, Option, Some, None, is_some, Result, Ok, Err, if◌then◌else◌}
+use Rattle.std.specs.Prelude.{ℕ, ◌-◌, ◌==◌, Bool, true, false, ◌||◌, nat_le, List, [], ◌∷◌, ◌++◌, length, drop, codes, Option, Some, None, is_some, unwrap_or, Result, Ok, Err, if◌then◌else◌}
+use Rattle.unit_trait.specs.declared.kind.Kind.{Kind}
 use Rattle.unit_trait.specs.declared.kind.Kind.TheVariants.{Tti1}
 use Rattle.unit_trait.specs.declared.kind.UnitName.{UnitName}
 use Rattle.unit_trait.specs.Kinds.{takes_file}
 use Rattle.line_words.specs.Words.{past_blanks, word_at, trimmed}
 use Rattle.nova_symbols.specs.declared.fault.SymbolFault.{SymbolFault}
 use Rattle.nova_symbols.specs.Reading as symbols
-use Rattle.scp_parser.specs.declared.listing.Name.{Name}
-use Rattle.scp_parser.specs.declared.listing.Condition.{Condition}
-use Rattle.scp_parser.specs.declared.listing.Item.{Item}
-use Rattle.scp_parser.specs.declared.listing.Listing.{Listing}
+use Rattle.operand_forms.specs.declared.listing.Name.{Name}
+use Rattle.operand_forms.specs.declared.listing.Name.TheVariants as whose
+use Rattle.operand_forms.specs.declared.listing.Condition.{Condition}
+use Rattle.operand_forms.specs.declared.listing.Item.{Item}
+use Rattle.operand_forms.specs.declared.listing.Listing.{Listing}
 use Rattle.scp_parser.specs.declared.command.Piece.{Piece}
 use Rattle.scp_parser.specs.declared.command.Verb.{Verb}
 use Rattle.scp_parser.specs.declared.command.Verb.TheVariants as verb
 use Rattle.scp_parser.specs.declared.fault.ParseFault.{ParseFault}
-use Rattle.scp_parser.specs.declared.fault.ParseFault.TheVariants.{Unknown, Missing, BadSymbol, Extra, TooLong, NotBuilt}
+use Rattle.scp_parser.specs.declared.fault.ParseFault.TheVariants.{Unknown, Missing, BadSymbol, Extra, TooLong}
 use Rattle.scp_parser.specs.declared.names.CommandName.{CommandName}
 use Rattle.scp_parser.specs.declared.names.CommandName.TheVariants.{Examine, Deposit, Run, Go, Cont, Step, Reset, Attach, Detach, Show, Exit}
+use Rattle.scp_parser.specs.declared.names.CommandName.TheVariants.{NoExpect, NoSend, Break, NoBreak, Expect, Send, Load, Save, Dump, Restore, Set, Do, Goto, Assert, Echo}
 use Rattle.scp_parser.specs.Command.{Request, request_of}
 use Rattle.scp_parser.specs.Names.{command_named}
-use Rattle.scp_parser.specs.Operands.{octal, decimal, items_of, condition_of, device_of, subject_of, symbolic_of, option_of, target_of, detached_of, as_file_name}
-use Rattle.scp_parser.specs.Grammar.{longest_line, name_of, option_letter}
+use Rattle.operand_forms.specs.Operands.{octal, decimal, items_of, condition_of, device_of}
+use Rattle.scp_parser.specs.Operands.{subject_of, symbolic_of, option_of, target_of, detached_of, as_file_name, flag_of, count_of, point_of, no_break_of, keyed_of, text_at}
+use Rattle.scp_parser.specs.Operands.{addresses_of, set_of, size_of, any_word, test_of}
+use Rattle.scp_parser.specs.Grammar.{longest_line, name_of, option_letter, test_with}
 use Rattle.scp_parser.specs.Faults.{bad_word, placed}
 
 infixl 10 ◌>>=◌
@@ -152,6 +157,102 @@ attach_target bytes option = needed false (target_of option.0) option.1 >>= atta
 unfoldable pub attach : ℕ → List ℕ → Result Verb ParseFault
 attach bytes text = attach_target bytes (maybe option_of text)
 
+-- a place of the rest of a line of so many bytes, without the blanks round it
+abbrev pub tail_piece : ℕ → List ℕ → Piece
+tail_piece bytes text = let inside = inside_of text in piece_before bytes inside.0 inside.1
+
+-- an operand that must be there, and that is more, or less, than a word
+abbrev pub part_found : {V : Type 0} → Bool → List ℕ → Option (V × List ℕ) → Result (V × List ℕ) ParseFault
+part_found only_number [] found = Err Missing
+part_found only_number (b ∷ more) (Some x) = Ok x
+part_found only_number (b ∷ more) None = Err (bad_word only_number (b ∷ more) (length (b ∷ more)))
+
+abbrev pub needed_part : {V : Type 0} → Bool → (List ℕ → Option (V × List ℕ)) → List ℕ → Result (V × List ℕ) ParseFault
+needed_part only_number form text = let past = past_blanks text in part_found only_number past (form past)
+
+-- the actions of a BREAK, behind a `;`
+abbrev pub actions_in : ℕ → List ℕ → Result Piece ParseFault
+actions_in bytes [] = Ok (piece_before bytes [] [])
+actions_in bytes (b ∷ more) = if b == 59 then Ok (tail_piece bytes more) else Err (Extra (length (b ∷ more)))
+
+unfoldable pub actions : ℕ → List ℕ → Result Piece ParseFault
+actions bytes text = actions_in bytes (past_blanks text)
+
+unfoldable pub break_at : ℕ → List ℕ → Result Verb ParseFault
+break_at bytes text = needed_part true point_of text >>= (λ point. actions bytes point.1 >>= (λ piece. Ok (verb.Break point.0.0 point.0.1 piece)))
+
+unfoldable pub no_break : List ℕ → Result Verb ParseFault
+no_break text = needed false no_break_of text >>= (λ at. ended (verb.NoBreak at.0) at.1)
+
+abbrev pub expect_text : ℕ → Option ℕ × List ℕ → Result Verb ParseFault
+expect_text bytes count =
+    needed_part false text_at count.1 >>= (λ quoted. Ok (verb.Expect (unwrap_or count.0 1) (piece_before bytes quoted.0 quoted.1) (tail_piece bytes quoted.1)))
+
+unfoldable pub expect : ℕ → List ℕ → Result Verb ParseFault
+expect bytes text = expect_text bytes (maybe count_of text)
+
+abbrev pub send_text : ℕ → Option ℕ → Option ℕ × List ℕ → Result Verb ParseFault
+send_text bytes after delay =
+    needed_part false text_at delay.1 >>= (λ quoted. ended (verb.Send (unwrap_or after 0) (unwrap_or delay.0 1000) (piece_before bytes quoted.0 quoted.1)) quoted.1)
+
+abbrev pub send_delay : ℕ → Option ℕ × List ℕ → Result Verb ParseFault
+send_delay bytes after = send_text bytes after.0 (maybe (keyed_of (codes "DELAY=")) after.1)
+
+unfoldable pub send : ℕ → List ℕ → Result Verb ParseFault
+send bytes text = send_delay bytes (maybe (keyed_of (codes "AFTER=")) text)
+
+-- a command with the name of a file up to the end of the line
+abbrev pub with_name : ℕ → (Piece → Verb) → List ℕ → Result Verb ParseFault
+with_name bytes make text = last_name text >>= (λ name. Ok (make (piece_before bytes name.0 name.1)))
+
+unfoldable pub load : ℕ → List ℕ → Result Verb ParseFault
+load bytes text = with_name bytes (λ name. verb.Load name) text
+
+unfoldable pub save : ℕ → List ℕ → Result Verb ParseFault
+save bytes text = with_name bytes (λ name. verb.Save name) text
+
+abbrev pub dump_to : ℕ → (ℕ × ℕ) × List ℕ → Result Verb ParseFault
+dump_to bytes at = with_name bytes (λ name. verb.Dump at.0.0 at.0.1 name) at.1
+
+unfoldable pub dump : ℕ → List ℕ → Result Verb ParseFault
+dump bytes text = needed true addresses_of text >>= dump_to bytes
+
+abbrev pub restore_from : ℕ → Option Bool × List ℕ → Result Verb ParseFault
+restore_from bytes force = with_name bytes (λ name. verb.Restore (is_some force.0) name) force.1
+
+unfoldable pub restore : ℕ → List ℕ → Result Verb ParseFault
+restore bytes text = restore_from bytes (maybe (flag_of (codes "-F")) text)
+
+abbrev pub set_what : Name × List ℕ → Result Verb ParseFault
+set_what (whose.Cpu, text) = needed false size_of text >>= (λ n. ended (verb.SetSize n.0) n.1)
+set_what (whose.Device kind, text) = needed false (flag_of (codes "DISCONNECT")) text >>= (λ d. ended (verb.Disconnect Tti1) d.1)
+
+unfoldable pub set : List ℕ → Result Verb ParseFault
+set text = needed false set_of text >>= set_what
+
+abbrev pub do_script : ℕ → Option Bool → Option Bool × List ℕ → Result Verb ParseFault
+do_script bytes echo strict =
+    needed false as_file_name strict.1 >>= (λ name. Ok (verb.Do (is_some echo) (is_some strict.0) (piece_before bytes name.0 name.1) (tail_piece bytes name.1)))
+
+abbrev pub do_strict : ℕ → Option Bool × List ℕ → Result Verb ParseFault
+do_strict bytes echo = do_script bytes echo.0 (maybe (flag_of (codes "-E")) echo.1)
+
+unfoldable pub do_file : ℕ → List ℕ → Result Verb ParseFault
+do_file bytes text = do_strict bytes (maybe (flag_of (codes "-V")) text)
+
+unfoldable pub goto : ℕ → List ℕ → Result Verb ParseFault
+goto bytes text = needed false any_word text >>= (λ label. ended (verb.Goto (piece_before bytes label.0 label.1)) label.1)
+
+abbrev pub assert_of : Option Kind × List ℕ → Result Verb ParseFault
+assert_of kind = needed false (test_of (name_of kind.0)) kind.1 >>= (λ t. ended (verb.Assert (test_with (name_of kind.0) t.0)) t.1)
+
+unfoldable pub assert : List ℕ → Result Verb ParseFault
+assert text = assert_of (maybe device_of text)
+
+-- the text of an ECHO is all that follows the blank behind its name
+unfoldable pub echo : ℕ → List ℕ → Verb
+echo bytes text = verb.Echo (piece_before bytes (drop 1 text) [])
+
 unfoldable pub detach : List ℕ → Result Verb ParseFault
 detach text = needed false detached_of text >>= (λ u. ended (verb.Detach u.0) u.1)
 
@@ -168,7 +269,21 @@ operands bytes Attach text = attach bytes text
 operands bytes Detach text = detach text
 operands bytes Show text = show text
 operands bytes Exit text = numbered (λ n. verb.Exit n) (last_number decimal text)
-operands bytes name text = Err NotBuilt
+operands bytes NoExpect text = ended verb.NoExpect text
+operands bytes NoSend text = ended verb.NoSend text
+operands bytes Break text = break_at bytes text
+operands bytes NoBreak text = no_break text
+operands bytes Expect text = expect bytes text
+operands bytes Send text = send bytes text
+operands bytes Load text = load bytes text
+operands bytes Save text = save bytes text
+operands bytes Dump text = dump bytes text
+operands bytes Restore text = restore bytes text
+operands bytes Set text = set text
+operands bytes Do text = do_file bytes text
+operands bytes Goto text = goto bytes text
+operands bytes Assert text = assert text
+operands bytes Echo text = Ok (echo bytes text)
 
 -- a comment begins with `;` or `#`, and a label with `:`
 abbrev pub is_mark : ℕ → Bool

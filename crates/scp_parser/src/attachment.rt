@@ -1,18 +1,17 @@
-// ATTACH and DETACH: their options and units, and the file name up to the end of the line.
+// ATTACH and DETACH: their options and units.
 ghost use Rattle.std.specs.Prelude.{◌≡◌, false};
-ghost use Rattle.std.specs.Str.{is_utf8};
-ghost use Rattle.scp_parser.specs.Operands.{option_of, file_unit, target_of, detached_of, is_file_name};
+ghost use Rattle.scp_parser.specs.Operands.{option_of, file_unit, target_of, detached_of};
 ghost use Rattle.scp_parser.specs.Grammar.{option_letter};
-ghost use Rattle.scp_parser.specs.Reading.{maybe, needed, inside_of, last_name, piece_before};
+ghost use Rattle.scp_parser.specs.Reading.{maybe, needed};
 ghost use Rattle.scp_parser.specs.Reading.{attach_file, attach_port, attach, detach};
 ghost use Rattle.scp_parser.specs.Views.{Gives};
 
-use crate::command::{LONGEST_FILE_NAME, Piece, Verb};
+use crate::command::Verb;
 use crate::fault::ParseFault;
 use crate::operands::{bad_operand, ended, needed_decimal, next_word};
-use crate::subject::unit_of;
-use line_words::{is_spelled, past_blanks, trimmed};
-use std::str::from_utf8;
+use crate::tail::{last_name, piece_before};
+use line_words::is_spelled;
+use operand_forms::unit_of;
 use unit_trait::{Kind, UnitName, takes_file};
 
 // The option of a word, as the capital of its letter.
@@ -105,56 +104,6 @@ fn needed_detached(text: &[u8]) -> Result<(Option<UnitName>, &[u8]), ParseFault>
     match detached_of(word) {
         Some(unit) => Ok((unit, rest)),
         None => Err(bad_operand(false, word, rest)),
-    }
-}
-
-// Whether a file can have that name: 1 to 255 bytes in UTF-8.
-#[tactic(auto, unfolding(crate::specs::Operands::is_file_name))]
-fn is_file_name(text: &[u8]) -> bool
-    ensures { result ≡ is_file_name text.now }
-{
-    !text.is_empty() && text.len() <= LONGEST_FILE_NAME && is_utf8(text)
-}
-
-#[tactic(auto, using(crate::proofs::FileNameLemmas::are_utf8, crate::proofs::FileNameLemmas::not_utf8))]
-fn is_utf8(text: &[u8]) -> bool
-    ensures { result ≡ is_utf8 text.now }
-{
-    match from_utf8(text) {
-        Ok(_) => true,
-        Err(_) => false,
-    }
-}
-
-// The rest of a line without the blanks round it, and the blanks behind it.
-#[tactic(auto, using(crate::proofs::InsideLemmas::trimmed_within, crate::proofs::InsideLemmas::trimmed_front), unfolding(crate::specs::Reading::inside_of))]
-fn inside_of(text: &[u8]) -> (&[u8], &[u8])
-    ensures { (result.0.now, result.1.now) ≡ inside_of text.now }
-{
-    let text = past_blanks(text);
-    text.split_at(trimmed(text).len())
-}
-
-// The name of a file, which goes up to the end of the line, and the blanks behind it.
-#[tactic(auto, unfolding(crate::specs::Reading::last_name))]
-fn last_name(text: &[u8]) -> Result<(&[u8], &[u8]), ParseFault>
-    ensures { Gives (λ x. (x.0.now, x.1.now)) result (last_name text.now) }
-{
-    let (name, rest) = inside_of(text);
-    if is_file_name(name) {
-        Ok((name, rest))
-    } else {
-        Err(bad_operand(false, name, rest))
-    }
-}
-
-// A word of a line of so many bytes, by what follows it up to the end of the line.
-fn piece_before(bytes: usize, word: &[u8], rest: &[u8]) -> Piece
-    ensures { result ≡ piece_before bytes word.now rest.now }
-{
-    Piece {
-        from: bytes.saturating_sub(word.len() + rest.len()),
-        to: bytes.saturating_sub(rest.len()),
     }
 }
 

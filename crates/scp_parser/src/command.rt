@@ -1,7 +1,7 @@
 ghost use Rattle.std.specs.Prelude.{◌≡◌};
-ghost use Rattle.scp_parser.specs.Command.{IsNamePiece, piece_of};
+ghost use Rattle.scp_parser.specs.Command.{IsPiece, IsNamePiece, piece_of};
 
-use crate::listing::{Listing, Test};
+use operand_forms::{Listing, Test};
 use std::marker::Model;
 use std::str::from_utf8;
 use unit_trait::{Kind, UnitName};
@@ -131,7 +131,16 @@ fn name_text(line: &[u8], piece: Piece) -> &str
     from_utf8(&line[piece.from..piece.to]).unwrap()
 }
 
+// The bytes that stand in a line as that piece.
+fn piece_bytes(line: &[u8], piece: Piece) -> &[u8]
+    requires { IsPiece line.now piece }
+    ensures { result.now ≡ piece_of line.now piece }
+{
+    &line[piece.from..piece.to]
+}
+
 impl Command {
+    ghost use Rattle.scp_parser.specs.Command.{GivesText, given_text};
     ghost use Rattle.scp_parser.specs.Command.{Nothing, IsKept, IsFileName, NamesFile, file_name_of};
 
     /// An empty line, which asks for nothing.
@@ -167,6 +176,20 @@ impl Command {
             Verb::Dump { name, .. } => name_text(line, *name),
             Verb::Restore { name, .. } => name_text(line, *name),
             Verb::Do { name, .. } => name_text(line, *name),
+            _ => unreachable!(),
+        }
+    }
+
+    /// The bytes that an ECHO prints, the label that a GOTO looks for, or the arguments of a DO.
+    pub fn text(&self) -> &[u8]
+        requires { GivesText self.now }
+        ensures { result.now ≡ given_text self.now }
+    {
+        let line = &self.line[..self.length];
+        match &self.verb {
+            Verb::Do { arguments, .. } => piece_bytes(line, *arguments),
+            Verb::Goto(label) => piece_bytes(line, *label),
+            Verb::Echo(text) => piece_bytes(line, *text),
             _ => unreachable!(),
         }
     }

@@ -15,6 +15,4 @@ pub enum ParseFault {
     Extra(usize),
     /// The line is longer than 512 bytes.
     TooLong,
-    /// The first word names a command that this version of the program does not have yet.
-    NotBuilt,
 }

@@ -3,18 +3,21 @@
 
 mod attachment;
 pub mod command;
-mod condition;
 pub mod fault;
-mod item;
-pub mod listing;
+mod media;
 pub mod names;
-mod number;
 mod operands;
 pub mod reader;
+mod script_commands;
+mod settings;
 mod subject;
+mod tail;
+mod watches;
 
 pub use command::{Command, LONGEST_FILE_NAME, LONGEST_LINE, Piece, Shown, Verb};
 pub use fault::ParseFault;
-pub use listing::{Condition, Item, Items, Listing, MOST_ITEMS, Name, Rel, Test};
-pub use names::register_name;
+pub use names::{CommandName, command_named};
+pub use operand_forms::{
+    Condition, Item, Items, Listing, MOST_ITEMS, Name, Rel, Test, register_name,
+};
 pub use reader::{each_line_has_a_command_or_a_fault, no_line_is_two_commands, read_command};

@@ -1,12 +1,8 @@
-ghost use Rattle.std.specs.Prelude.{◌≡◌, take, map, option_map, slice_get};
+ghost use Rattle.std.specs.Prelude.{◌≡◌, take, map};
 ghost use Rattle.line_words.specs.Words.{is_spelled};
-ghost use Rattle.unit_trait.specs.Processor.{register_name, all_registers};
-ghost use Rattle.scp_parser.specs.Names.{row, abbreviates, command_in, command_named, register_names};
-ghost use Rattle.scp_parser.specs.Operands.{register_named};
+ghost use Rattle.scp_parser.specs.Names.{row, abbreviates, command_in, command_named};
 
-use crate::listing::Name;
 use line_words::is_spelled;
-use unit_trait::{CpuReg, reg_name};
 
 /// The commands. Some have several names.
 #[derive(Clone, Copy, Debug, PartialEq, Eq)]
@@ -103,42 +99,4 @@ fn first_bytes(text: &[u8], count: usize) -> &[u8]
     ensures { result.now ≡ take count text.now }
 {
     &text[..count.min(text.len())]
-}
-
-/// The name of a register of the processor or of a device, by its number in order from 0; none past the last one.
-pub fn register_name(device: Name, i: u8) -> Option<&'static str>
-    ensures { option_map (λ name. name.now) result ≡ slice_get (register_names device) i }
-{
-    match device {
-        Name::Cpu => processor_name(i),
-        Name::Device(kind) => reg_name(kind, i),
-    }
-}
-
-// The name of a register of the processor.
-fn processor_name(i: u8) -> Option<&'static str>
-    ensures { option_map (λ name. name.now) result ≡ slice_get (map register_name all_registers) i }
-{
-    match CpuReg::ALL.get(usize::from(i)) {
-        Some(register) => Some(register.name()),
-        None => None,
-    }
-}
-
-/// The number of a register, by its name in either case.
-#[tactic(auto, unfolding(crate::specs::Operands::register_named))]
-pub fn register_named(device: Name, word: &[u8]) -> Option<u8>
-    ensures { result ≡ register_named device word.now }
-{
-    for i in 0..u8::MAX {
-        match register_name(device, i) {
-            Some(name) => {
-                if is_spelled(word, name.as_bytes()) {
-                    return Some(i);
-                }
-            }
-            None => return None,
-        }
-    }
-    None
 }

@@ -1,19 +1,19 @@
 // The operands of a line, one by one from the left. A fault counts the bytes that are left at its place.
 ghost use Rattle.std.specs.Prelude.{◌≡◌, true, false};
-ghost use Rattle.scp_parser.specs.Operands.{octal, decimal, items_of, device_of, subject_of};
+ghost use Rattle.operand_forms.specs.Operands.{octal, decimal, items_of, device_of};
+ghost use Rattle.scp_parser.specs.Operands.{subject_of};
 ghost use Rattle.scp_parser.specs.Reading.{next_word, maybe, needed, ended, last_number, maybe_condition, listing};
 ghost use Rattle.scp_parser.specs.Reading.{instruction};
-ghost use Rattle.scp_parser.specs.Views.{Gives, bad_operand, maybe_symbolic};
+ghost use Rattle.scp_parser.specs.Views.{Gives, bad_operand, maybe_symbolic, maybe_flag};
 
 use crate::command::{Shown, Verb};
-use crate::condition::condition_of;
 use crate::fault::ParseFault;
-use crate::item::items_of;
-use crate::listing::{Condition, Items, Listing, Name};
-use crate::number::{decimal, octal};
-use crate::subject::{device_of, subject_of};
+use crate::subject::subject_of;
 use line_words::{is_spelled, past_blanks, trimmed, word_at};
 use nova_symbols::read;
+use operand_forms::{
+    Condition, Items, Listing, Name, condition_of, decimal, device_of, items_of, octal,
+};
 use unit_trait::Kind;
 
 // The next word, which has no byte where none is left, and what follows it.
@@ -50,8 +50,21 @@ fn maybe_symbolic(text: &[u8]) -> (bool, &[u8])
     }
 }
 
+// An option that is there or not.
+#[tactic(auto, unfolding(crate::specs::Operands::flag_of))]
+pub fn maybe_flag<'a>(text: &'a [u8], flag: &[u8]) -> (bool, &'a [u8])
+    ensures { (result.0, result.1.now) ≡ maybe_flag flag.now text.now }
+{
+    let (word, rest) = next_word(text);
+    if is_spelled(word, flag) {
+        (true, rest)
+    } else {
+        (false, text)
+    }
+}
+
 // A device, which may be left out.
-fn maybe_device(text: &[u8]) -> (Option<Kind>, &[u8])
+pub fn maybe_device(text: &[u8]) -> (Option<Kind>, &[u8])
     ensures { (result.0, result.1.now) ≡ maybe device_of text.now }
 {
     let (word, rest) = next_word(text);

@@ -10,10 +10,14 @@ ghost use Rattle.scp_parser.specs.declared.fault.ParseFault.{ParseFault};
 use crate::attachment::{attach, detach};
 use crate::command::{Command, LONGEST_LINE, Verb};
 use crate::fault::ParseFault;
+use crate::media::{dump, load, restore, save};
 use crate::names::{CommandName, command_named};
 use crate::operands::{
     ended, instruction, last_decimal, last_octal, listing, needed_octal, needed_subject, next_word,
 };
+use crate::script_commands::{assert, do_file, echo, goto};
+use crate::settings::set;
+use crate::watches::{break_at, expect, no_break, send};
 use line_words::past_blanks;
 
 /// Reads a line as a command.
@@ -89,6 +93,7 @@ fn asks_nothing(line: &[u8]) -> bool
 // What a line with a command's name asks for.
 #[tactic(auto, unfolding(crate::specs::Reading::named))]
 fn named(line: &[u8]) -> Result<Verb, ParseFault>
+    requires { length line.now ≤ 512 }
     ensures { result ≡ named line.now }
 {
     let (word, rest) = next_word(line);
@@ -101,6 +106,7 @@ fn named(line: &[u8]) -> Result<Verb, ParseFault>
 // What a command asks for, by what stands behind its name in a line of so many bytes.
 #[tactic(auto, unfolding(crate::specs::Reading::operands))]
 fn operands(bytes: usize, name: CommandName, text: &[u8]) -> Result<Verb, ParseFault>
+    requires { length text.now ≤ 512 }
     ensures { result ≡ operands bytes name text.now }
 {
     match name {
@@ -115,7 +121,21 @@ fn operands(bytes: usize, name: CommandName, text: &[u8]) -> Result<Verb, ParseF
         CommandName::Detach => detach(text),
         CommandName::Show => show(text),
         CommandName::Exit => exit(text),
-        _ => Err(ParseFault::NotBuilt),
+        CommandName::NoExpect => ended(Verb::NoExpect, text),
+        CommandName::NoSend => ended(Verb::NoSend, text),
+        CommandName::Break => break_at(bytes, text),
+        CommandName::NoBreak => no_break(text),
+        CommandName::Expect => expect(bytes, text),
+        CommandName::Send => send(bytes, text),
+        CommandName::Load => load(bytes, text),
+        CommandName::Save => save(bytes, text),
+        CommandName::Dump => dump(bytes, text),
+        CommandName::Restore => restore(bytes, text),
+        CommandName::Set => set(text),
+        CommandName::Do => do_file(bytes, text),
+        CommandName::Goto => goto(bytes, text),
+        CommandName::Assert => assert(text),
+        CommandName::Echo => Ok(echo(bytes, text)),
     }
 }
 

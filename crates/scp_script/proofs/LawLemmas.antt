@@ -1,20 +1,22 @@
 -- What is consumed behind texts that only go on.
-use Rattle.std.proofs.Common.{◌≡◌, ℕ, zero, suc, ◌+◌, ◌-◌, List, length, drop, refl, ap, sym, ◌∙◌, arith, Ok, Err}
+use Rattle.std.proofs.Common.{◌≡◌, ◌⊎◌, ⊎_elim, inl, inr, ℕ, zero, suc, ◌+◌, ◌-◌, ◌<◌, Bool, true, false, nat_le, List, [], ◌∷◌, ◌++◌, length, drop, refl, ap, sym, ◌∙◌, arith, if◌then◌else◌}
 use Rattle.std.proofs.lemmas.List.{drop-drop}
-use Rattle.observations.specs.Observations.{reads_of}
+use Rattle.std.proofs.lemmas.Bool.{leb-true}
+use Rattle.observations.specs.Observations.{Observation, Prints, reads_of}
 use Rattle.observations.proofs.MadeLemmas.{reads_of-append}
-use Rattle.scp_parser.specs.Reading.{reading}
-use Rattle.scp_commands.specs.declared.next.Next.TheVariants.{Go, Ran, Exit}
-use Rattle.scp_commands.specs.Reply.{Answer}
-use Rattle.scp_commands.specs.Effect.{Asked}
-use Rattle.scp_script.specs.Lines.{Arrival, InputEnds, Unpaid, LineComes, arrival, first_line, line_cost}
-use Rattle.scp_script.specs.Session.{Session, Going, asking, behind_line, upcoming_of, upcoming, following, text_step, step_upcoming, step}
-use Rattle.scp_script.specs.Laws.{lines_size, lines_cost, LinesAreConsumed}
-use Rattle.scp_script.proofs.SessionLemmas.{going-equal, arrival-paid, step-line}
-use Rattle.scp_script.proofs.LineLemmas.{reply_to, line-made, line-reads, comes-reads}
+use Rattle.scp_commands.specs.Effect.{asked}
+use Rattle.script_text.specs.Lines.{first_line, line_cost}
+use Rattle.scp_script.specs.Lines.{Arrival, InputEnds, Unpaid, LineComes, arrival}
+use Rattle.scp_script.specs.Scripts.{Script, still_open, cost_of_line, text_of_line, echo_text}
+use Rattle.scp_script.specs.Session.{State, Session, InputEnded, BudgetSpent, Ends, Comes, Going, state_of, asking_in, asking, behind_line, behind_script_line, upcoming_in, upcoming, Step, step, ComesTo}
+use Rattle.scp_script.specs.Laws.{lines_size, lines_cost, AreBehind, IsBehindLines, NoScripts, LinesAreConsumed}
+use Rattle.scp_script.proofs.SessionLemmas.{arrival-paid, following-is, step-comes, step-over, upcoming-input, closing, step-still}
+use Rattle.scp_script.proofs.LineLemmas.{reply_in, left_by, text-made, text-next, made-reads, asking-reads, comes-reads}
 
--- a session behind one line
-pub record IsNext (s t : Session) : Type 0 where
+-- ---- one text
+
+-- a session behind a line of the input
+record IsNextLine (s t : Session) : Type 0 where
   pub rest : t.input ≡ drop (length (first_line s.input) + 1) s.input
   pub reads : reads_of (step s).made ≡ length (first_line s.input) + 1
   pub budget : s.budget ≡ t.budget + line_cost (length (first_line s.input))
@@ -22,68 +24,159 @@ pub record IsNext (s t : Session) : Type 0 where
   pub limit : t.limit ≡ s.limit
   pub prompt : t.prompt ≡ s.prompt
 
-following-is : (answer : Answer) (s t : Session) → following answer s ≡ Going t → s ≡ t
-following-is (Ok (Exit status)) s t h = absurd (cc)
-following-is (Ok Go) s t h = going-equal h
-following-is (Ok (Ran stop)) s t h = going-equal h
-following-is (Err fault) s t h = going-equal h
+-- a session behind a line of a script
+record IsNextScript (s t : Session) : Type 0 where
+  pub cost : ℕ
+  pub some : 0 < cost
+  pub rest : t.input ≡ s.input
+  pub reads : reads_of (step s).made ≡ 0
+  pub budget : s.budget ≡ t.budget + cost
+  pub spent : t.spent ≡ s.spent + cost
+  pub limit : t.limit ≡ s.limit
+  pub prompt : t.prompt ≡ s.prompt
 
-behind-text : (s t : Session) (asked : Asked) → (text_step (asking s) (behind_line s) asked).next ≡ Going t
-    → record (behind_line s) { live = (reply_to s asked).after.live; notes = drop (reply_to s asked).after.used s.notes } ≡ t
-unfolding text_step behind_line
-behind-text s t asked h =
-    let reply = reply_to s asked in
-    following-is reply.answer (record (behind_line s) { live = reply.after.live; notes = drop reply.after.used s.notes }) t h
+-- the session that a text has left
+left-is : (s behind t : Session) (text : List ℕ) → upcoming s ≡ Comes text behind → (step s).next ≡ Going t → left_by behind (asked text) ≡ t
+left-is s behind t text e h =
+    let is = step-comes s behind text (asked text) e refl in
+    following-is (reply_in behind (asked text)).answer (left_by behind (asked text)) t (sym (text-next s behind (asked text)) ∙ sym (ap (λ (x : Step). x.next) is) ∙ h)
 
-at-line : (s t : Session) (line : List ℕ) (asked : Asked) → arrival s.budget s.open_ s.input ≡ LineComes line → reading line ≡ asked → (step s).next ≡ Going t → IsNext s t
+step-reads : (s behind : Session) (text : List ℕ) → upcoming s ≡ Comes text behind → reads_of (step s).made ≡ reads_of (asking s)
+step-reads s behind text e =
+    ap (λ (x : Step). reads_of x.made) (step-comes s behind text (asked text) e refl) ∙ ap (λ l. reads_of l) (text-made s behind (asked text)) ∙ made-reads s behind (asked text)
+
+at-line : (s t : Session) (line : List ℕ) → s.scripts ≡ [] → arrival s.budget s.open_ s.input ≡ LineComes line → (step s).next ≡ Going t → IsNextLine s t
 unfolding behind_line
-at-line s t line asked e c h =
-    let is = step-line s line asked e c in
-    let behind = behind-text s t asked (sym (ap (λ x. x.next) is) ∙ h) in
+at-line s t line none e h =
+    let comes : upcoming s ≡ Comes line (behind_line s) = upcoming-input s (LineComes line) none e in
+    let left = left-is s (behind_line s) t line comes h in
     let paid = arrival-paid s.budget s.open_ s.input line e in
-    let fallen : s.budget - line_cost (length (first_line s.input)) ≡ t.budget = ap (λ (x : Session). x.budget) behind in
+    let fallen : s.budget - line_cost (length (first_line s.input)) ≡ t.budget = ap (λ (x : Session). x.budget) left in
     record {
-      rest = sym (ap (λ (x : Session). x.input) behind);
-      reads = ap (λ x. reads_of x.made) is ∙ ap (λ l. reads_of l) (line-made s asked) ∙ line-reads s asked ∙ comes-reads s.budget s.open_ s.input line e;
+      rest = sym (ap (λ (x : Session). x.input) left);
+      reads = step-reads s (behind_line s) line comes ∙ asking-reads s none ∙ comes-reads s.budget s.open_ s.input line e;
       budget = omega (arith, paid, fallen);
-      spent = sym (ap (λ (x : Session). x.spent) behind);
-      limit = sym (ap (λ (x : Session). x.limit) behind);
-      prompt = sym (ap (λ (x : Session). x.prompt) behind);
+      spent = sym (ap (λ (x : Session). x.spent) left);
+      limit = sym (ap (λ (x : Session). x.limit) left);
+      prompt = sym (ap (λ (x : Session). x.prompt) left);
     }
 
-at-arrival : (s t : Session) (a : Arrival) → arrival s.budget s.open_ s.input ≡ a → (step_upcoming s (upcoming_of s a)).next ≡ Going t → (step s).next ≡ Going t → IsNext s t
-at-arrival s t InputEnds e h k = absurd (cc)
-at-arrival s t Unpaid e h k = absurd (cc)
-at-arrival s t (LineComes line) e h k = at-line s t line (reading line) e refl k
+at-arrival : (s t : Session) (a : Arrival) → s.scripts ≡ [] → arrival s.budget s.open_ s.input ≡ a → (step s).next ≡ Going t → IsNextLine s t
+at-arrival s t InputEnds none e h = let over = ap (λ (x : Step). x.next) (step-over s InputEnded (upcoming-input s InputEnds none e)) in absurd (cc (over, h))
+at-arrival s t Unpaid none e h = let over = ap (λ (x : Step). x.next) (step-over s BudgetSpent (upcoming-input s Unpaid none e)) in absurd (cc (over, h))
+at-arrival s t (LineComes line) none e h = at-line s t line none e h
 
-going-next : (s t : Session) → (step s).next ≡ Going t → IsNext s t
-unfolding step upcoming
-going-next s t h = at-arrival s t (arrival s.budget s.open_ s.input) refl h h
+next-line : (s t : Session) → s.scripts ≡ [] → (step s).next ≡ Going t → IsNextLine s t
+next-line s t none h = at-arrival s t (arrival s.budget s.open_ s.input) none refl h
 
-pub lines-are-consumed : LinesAreConsumed
-lines-are-consumed zero s t made h =
-    let same : s ≡ t = h.1 in
+upcoming-open : (s : Session) (script : Script) (outer : List Script) (b : Bool) → still_open s.scripts ≡ script ∷ outer → nat_le (cost_of_line script) s.budget ≡ b
+    → upcoming s ≡ (if b then Comes (text_of_line script) (behind_script_line s script outer) else Ends BudgetSpent)
+unfolding upcoming
+upcoming-open s script outer b is test = ap (upcoming_in s) is ∙ ap (λ (x : Bool). if x then Comes (text_of_line script) (behind_script_line s script outer) else Ends BudgetSpent) test
+
+asking-open : (s : Session) (script : Script) (outer : List Script) (b : Bool) → still_open s.scripts ≡ script ∷ outer → nat_le (cost_of_line script) s.budget ≡ b
+    → asking s ≡ (if b then Prints (echo_text script) (state_of s) ∷ [] else [])
+unfolding asking
+asking-open s script outer b is test = ap (asking_in s) is ∙ ap (λ (x : Bool). if x then Prints (echo_text script) (state_of s) ∷ [] else []) test
+
+at-script : (s t : Session) (script : Script) (outer : List Script) (b : Bool) → still_open s.scripts ≡ script ∷ outer → nat_le (cost_of_line script) s.budget ≡ b → (step s).next ≡ Going t
+    → IsNextScript s t
+unfolding behind_script_line
+at-script s t script outer true is test h =
+    let comes : upcoming s ≡ Comes (text_of_line script) (behind_script_line s script outer) = upcoming-open s script outer true is test in
+    let left = left-is s (behind_script_line s script outer) t (text_of_line script) comes h in
+    let paid = leb-true (cost_of_line script) s.budget test in
+    let fallen : s.budget - cost_of_line script ≡ t.budget = ap (λ (x : Session). x.budget) left in
     record {
-      rest = ap (λ (x : Session). x.input) (sym same);
-      reads = ap (λ l. reads_of l) h.0;
-      budget = ap (λ (x : Session). x.budget) same ∙ omega arith;
-      spent = ap (λ (x : Session). x.spent) (sym same) ∙ omega arith;
-      limit = ap (λ (x : Session). x.limit) (sym same);
-      prompt = ap (λ (x : Session). x.prompt) (sym same);
+      cost = cost_of_line script;
+      some = omega arith;
+      rest = sym (ap (λ (x : Session). x.input) left);
+      reads = step-reads s (behind_script_line s script outer) (text_of_line script) comes ∙ ap (λ l. reads_of l) (asking-open s script outer true is test);
+      budget = omega (arith, paid, fallen);
+      spent = sym (ap (λ (x : Session). x.spent) left);
+      limit = sym (ap (λ (x : Session). x.limit) left);
+      prompt = sym (ap (λ (x : Session). x.prompt) left);
     }
-lines-are-consumed (suc count) s t made (mid, more, goes, parts, rest) =
-    let one = going-next s mid goes in
+at-script s t script outer false is test h =
+    let over = ap (λ (x : Step). x.next) (step-over s BudgetSpent (upcoming-open s script outer false is test)) in absurd (cc (over, h))
+
+-- either is the next
+next-open : (s t : Session) (scripts : List Script) → still_open s.scripts ≡ scripts → (step s).next ≡ Going t → IsNextLine (closing s) t ⊎ IsNextScript s t
+next-open s t [] is h = inl (next-line (closing s) t is (ap (λ (x : Step). x.next) (step-still s) ∙ h))
+next-open s t (script ∷ outer) is h = inr (at-script s t script outer (nat_le (cost_of_line script) s.budget) is refl h)
+
+-- ---- many texts
+
+texts-behind : (count : ℕ) (s t : Session) (made : List (Observation State)) → ComesTo count s made t → AreBehind count s made t
+texts-behind zero s t made (none, same) = record {
+  lines = 0;
+  few = omega arith;
+  rest = ap (λ (x : Session). x.input) (sym same);
+  reads = ap (λ l. reads_of l) none;
+  budget = ap (λ (x : Session). x.budget + x.spent) same;
+  paid = let equal = ap (λ (x : Session). x.budget) same in omega (arith, equal);
+  limit = ap (λ (x : Session). x.limit) (sym same);
+  prompt = ap (λ (x : Session). x.prompt) (sym same);
+}
+texts-behind (suc count) s t made (mid, more, goes, parts, rest) =
+    let inner = texts-behind count mid t more rest in
+    let sum = ap (λ l. reads_of l) parts ∙ reads_of-append (step s).made more in
     let size = length (first_line s.input) + 1 in
-    let inner = lines-are-consumed count mid t more rest in
+    ⊎_elim
+    (λ (one : IsNextLine (closing s) mid).
+    let read : reads_of (step s).made ≡ size = ap (λ (x : Step). reads_of x.made) (sym (step-still s)) ∙ one.reads in
+    behind-line count s mid t made more inner one read sum)
+    (λ (one : IsNextScript s mid). behind-script count s mid t made more inner one sum)
+    (next-open s mid (still_open s.scripts) refl goes)
+  where
+    behind-line : (count : ℕ) (s mid t : Session) (made more : List (Observation State)) → AreBehind count mid more t → IsNextLine (closing s) mid
+        → reads_of (step s).made ≡ length (first_line s.input) + 1 → reads_of made ≡ reads_of (step s).made + reads_of more → AreBehind (suc count) s made t
+    behind-line count s mid t made more inner one read sum =
+        let size = length (first_line s.input) + 1 in record {
+          lines = suc inner.lines;
+          few = omega (arith, inner.few);
+          rest = inner.rest ∙ ap (λ i. drop (lines_size inner.lines i) i) one.rest ∙ drop-drop (lines_size inner.lines (drop size s.input)) size s.input;
+          reads = sum ∙ ap (λ n. n + reads_of more) read ∙ ap (λ n. size + n) (inner.reads ∙ ap (lines_size inner.lines) one.rest);
+          budget = omega (arith, one.budget, one.spent, inner.budget);
+          paid = omega (arith, one.budget, inner.paid);
+          limit = inner.limit ∙ one.limit;
+          prompt = inner.prompt ∙ one.prompt;
+        }
+
+    behind-script : (count : ℕ) (s mid t : Session) (made more : List (Observation State)) → AreBehind count mid more t → IsNextScript s mid
+        → reads_of made ≡ reads_of (step s).made + reads_of more → AreBehind (suc count) s made t
+    behind-script count s mid t made more inner one sum = record {
+      lines = inner.lines;
+      few = omega (arith, inner.few);
+      rest = inner.rest ∙ ap (λ i. drop (lines_size inner.lines i) i) one.rest;
+      reads = omega (arith, sum, one.reads, inner.reads ∙ ap (lines_size inner.lines) one.rest);
+      budget = omega (arith, one.budget, one.spent, inner.budget);
+      paid = omega (arith, one.budget, one.some, inner.paid);
+      limit = inner.limit ∙ one.limit;
+      prompt = inner.prompt ∙ one.prompt;
+    }
+
+lines-behind : (count : ℕ) (s t : Session) (made : List (Observation State)) → ComesTo count s made t → NoScripts count s made t → IsBehindLines count s made t
+lines-behind zero s t made (none, same) closed = record {
+  rest = ap (λ (x : Session). x.input) (sym same);
+  reads = ap (λ l. reads_of l) none;
+  budget = ap (λ (x : Session). x.budget) same ∙ omega arith;
+  spent = ap (λ (x : Session). x.spent) (sym same) ∙ omega arith;
+}
+lines-behind (suc count) s t made (mid, more, goes, parts, rest) closed =
+    let one = next-line s mid (closed 0 [] s (omega arith) (refl, refl)) goes in
+    let size = length (first_line s.input) + 1 in
+    let inner = lines-behind count mid t more rest
+    (λ before more' mid' less comes. closed (suc before) ((step s).made ++ more') mid' (omega (arith, less)) (mid, more', goes, refl, comes)) in
     let left = one.rest in
+    let costs : lines_cost count mid.input ≡ lines_cost count (drop size s.input) = ap (lines_cost count) left in
     record {
       rest = inner.rest ∙ ap (λ i. drop (lines_size count i) i) left ∙ drop-drop (lines_size count (drop size s.input)) size s.input;
       reads = ap (λ l. reads_of l) parts ∙ reads_of-append (step s).made more ∙ ap (λ n. n + reads_of more) one.reads
           ∙ ap (λ n. size + n) (inner.reads ∙ ap (lines_size count) left);
-      budget = let costs : lines_cost count mid.input ≡ lines_cost count (drop size s.input) = ap (lines_cost count) left in
-          omega (arith, one.budget, inner.budget, costs);
-      spent = let costs : lines_cost count mid.input ≡ lines_cost count (drop size s.input) = ap (lines_cost count) left in
-          omega (arith, one.spent, inner.spent, costs);
-      limit = inner.limit ∙ one.limit;
-      prompt = inner.prompt ∙ one.prompt;
+      budget = omega (arith, one.budget, inner.budget, costs);
+      spent = omega (arith, one.spent, inner.spent, costs);
     }
+
+pub lines-are-consumed : LinesAreConsumed
+lines-are-consumed = record { texts = texts-behind; lines = lines-behind }

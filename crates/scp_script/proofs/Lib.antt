@@ -1,4 +1,9 @@
 pub mod TextLemmas
+pub mod UndoneLemmas
+pub mod RoomLemmas
+pub mod EchoLemmas
+pub mod WordLemmas
+pub mod StackLemmas
 pub mod ReadingLemmas
 pub mod SessionLemmas
 pub mod LineLemmas

@@ -1,6 +1,6 @@
--- One line of the command loop, by what it came to.
-use Rattle.std.proofs.Common.{◌≡◌, inr, ℕ, ◌+◌, ◌-◌, ◌<◌, ◌≤◌, Bool, true, false, IsTrue, List, [], ◌∷◌, ◌++◌, length, take, drop, refl, ap, sym, ◌∙◌, subst, arith, append_assoc, append-nil, zero-add, add-zero, length-take-le, Some, None, Ok, Err}
-use Rattle.std.proofs.lemmas.Bool.{le-leb}
+-- One text of a session, by what it came to.
+use Rattle.std.proofs.Common.{◌≡◌, inr, ℕ, ◌+◌, ◌-◌, ◌<◌, ◌≤◌, Bool, true, false, IsTrue, List, [], ◌∷◌, ◌++◌, length, take, drop, refl, ap, sym, ◌∙◌, subst, arith, append_assoc, append-nil, zero-add, add-zero, length-take-le, nat_le, if◌then◌else◌, Some, None, Ok, Err}
+use Rattle.std.proofs.lemmas.Bool.{le-leb, leb-false, cond_both}
 use Rattle.host_files.specs.Streams.{AddsPart}
 use Rattle.observations.specs.Observations.{Observation, Prints, Reads, text_of, reads_of, map_made}
 use Rattle.observations.specs.Cut.{ends, cut, cut_trace, BreaksOff}
@@ -8,165 +8,141 @@ use Rattle.observations.proofs.CutLemmas.{cut-refused, cut-failed-after, cut-who
 use Rattle.observations.proofs.MadeLemmas.{text_of-append, reads_of-append, text_of-map, reads_of-map}
 use Rattle.fault_notes.specs.declared.note.FaultNote.{FaultNote}
 use Rattle.fault_notes.specs.Notes.{Note, handed}
-use Rattle.scp_parser.specs.Reading.{reading}
-use Rattle.scp_commands.specs.declared.next.Next.TheVariants.{Go, Ran, Exit as ExitNext}
+use Rattle.scp_commands.specs.declared.next.Next.TheVariants.{Go, Ran, Do, Goto, Exit as ExitNext}
 use Rattle.scp_commands.specs.Live.{Standing, standing}
 use Rattle.scp_commands.specs.Reply.{Answer, Reply}
 use Rattle.scp_commands.specs.Doing.{IsSaid}
-use Rattle.scp_commands.specs.Effect.{Asked}
+use Rattle.scp_commands.specs.Effect.{Asked, asked}
 use Rattle.scp_script.specs.declared.progress.Progress.{Progress}
 use Rattle.scp_script.specs.declared.progress.Progress.TheVariants.{GoesOn, IsOver}
 use Rattle.scp_script.specs.declared.progress.Finish.{Finish}
 use Rattle.scp_script.specs.declared.progress.Finish.TheVariants.{Exit, EndOfInput, Commands, Console, Input, OutOfMemory}
-use Rattle.scp_script.specs.Lines.{InputEnds, Unpaid, LineComes, arrival, line_reads, reads_left, line_cost, first_line, has_lf}
+use Rattle.script_text.specs.Lines.{line_cost, first_line}
+use Rattle.scp_script.specs.Lines.{InputEnds, Unpaid, LineComes, arrival, line_reads, reads_left}
 use Rattle.scp_script.specs.Reading.{AreRead}
-use Rattle.scp_script.specs.Session.{State, Session, SessionEnd, ExitDone, InputEnded, BudgetSpent, end_status, state_of, state_at, closed, Going, Over, prompt_text, asking, behind_line, text_reply, following, text_step, step, over_by, course, trace}
+use Rattle.scp_script.specs.Scripts.{Script, scripts_behind}
+use Rattle.scp_script.specs.Session.{State, Session, SessionEnd, ExitDone, InputEnded, BudgetSpent, end_status, state_of, state_at, closed, end_state, Going, Over, Ends, Comes, prompt_text, asking_input, asking, upcoming, text_reply, following, text_step, step, over_by, course, trace}
 use Rattle.scp_script.specs.Loop.{exit_of, IsAnswer, IsShort, LetsThrough, status_of, finish_of, Finishes, Progresses}
 use Rattle.scp_script.proofs.TextLemmas.{text-reads}
-use Rattle.scp_script.proofs.SessionLemmas.{arrival-paid, trace-is, trace-asks, trace-begins, course-over, step-line, step-ends, step-unpaid}
+use Rattle.scp_script.proofs.SessionLemmas.{arrival-paid, trace-is, trace-asks, trace-begins, course-over, step-comes, step-over, upcoming-input, asking-is}
 
 -- no read was made
 pub none-read : (open_ : Bool) (input : List ℕ) → AreRead 0 open_ input open_ input
 none-read open_ input = record { rest = refl; count = sym (zero-add (reads_left open_ input)) }
 
--- the text of asking is the prompt
-asking-text : (s : Session) → text_of (asking s) ≡ prompt_text s.prompt
-unfolding asking
-asking-text s = append-nil (prompt_text s.prompt)
+-- ---- what comes before a text
 
-asking-reads : (s : Session) → reads_of (asking s) ≡ line_reads s.budget s.open_ s.input
-unfolding asking
-asking-reads s = add-zero (line_reads s.budget s.open_ s.input)
-
--- the console refused a byte of the prompt
-refused-cut : (s : Session) (n gives : ℕ) → n < length (prompt_text s.prompt) → cut_trace (length (take n (prompt_text s.prompt))) gives (trace s) ≡ ends 102 (take n (prompt_text s.prompt)) 0 (state_of s)
-unfolding asking
-refused-cut s n gives short =
+-- the console refused a byte of it
+refused-cut : (s : Session) (shown : List ℕ) (rest : List (Observation State)) (n gives : ℕ) → asking s ≡ Prints shown (state_of s) ∷ rest → n < length shown
+    → cut_trace (length (take n shown)) gives (trace s) ≡ ends 102 (take n shown) 0 (state_of s)
+refused-cut s shown rest n gives asks short =
     let b = trace-asks s in
-    let size = length-take-le n (prompt_text s.prompt) (omega (arith, short)) in
-    ap (cut_trace (length (take n (prompt_text s.prompt))) gives) b.is
-    ∙ ap (λ m. cut m gives (Prints (prompt_text s.prompt) (state_of s) ∷ Reads (line_reads s.budget s.open_ s.input) (state_of s) ∷ [] ++ b.more) b.ended) size
-    ∙ cut-refused (prompt_text s.prompt) (state_of s) (Reads (line_reads s.budget s.open_ s.input) (state_of s) ∷ [] ++ b.more) b.ended n gives short
+    let size = length-take-le n shown (omega (arith, short)) in
+    ap (cut_trace (length (take n shown)) gives) b.is
+    ∙ ap (λ l. cut (length (take n shown)) gives (l ++ b.more) b.ended) asks
+    ∙ ap (λ m. cut m gives (Prints shown (state_of s) ∷ (rest ++ b.more)) b.ended) size
+    ∙ cut-refused shown (state_of s) (rest ++ b.more) b.ended n gives short
 
-refused-prompt : (old : Session) (before after : List ℕ) → AddsPart before (prompt_text old.prompt) after → Finishes old Console old before after
-refused-prompt old before after (n, short, written) = record {
+pub asking-refused : (old new : Session) (shown : List ℕ) (rest : List (Observation State)) (before after : List ℕ) → asking old ≡ Prints shown (state_of old) ∷ rest
+    → state_of old ≡ state_of new → AreRead 0 old.open_ old.input new.open_ new.input → AddsPart before shown after → Finishes old Console new before after
+asking-refused old new shown rest before after asks same reads (n, short, written) = record {
   gives = reads_left old.open_ old.input;
   made = 0;
   lets_through = refl;
-  reads = none-read old.open_ old.input;
-  end = record { taken = take n (prompt_text old.prompt); written = written; outcome = refused-cut old n (reads_left old.open_ old.input) short };
+  reads = reads;
+  end = record { taken = take n shown; written = written; outcome = refused-cut old shown rest n (reads_left old.open_ old.input) asks short ∙ ap (ends 102 (take n shown) 0) same };
   named = λ console _. absurd (console refl);
 }
 
-pub prompt-refused : (old new : Session) (before after : List ℕ) → old ≡ new → AddsPart before (prompt_text old.prompt) after → Finishes old Console new before after
-prompt-refused old new before after same part = subst (λ (x : Session). Finishes old Console x before after) same (refused-prompt old before after part)
-
--- all of it went through: the prompt and the reads of the next line
-asked-cut : (s : Session) (end : SessionEnd) (gives : ℕ) (state : State) → course s ≡ over_by (asking s) end state → line_reads s.budget s.open_ s.input ≤ gives
-    → cut_trace (length (prompt_text s.prompt)) gives (trace s) ≡ ends (end_status end) (prompt_text s.prompt) (line_reads s.budget s.open_ s.input) state
+-- all of it went through
+asked-cut : (s : Session) (end : SessionEnd) (gives : ℕ) (state : State) → course s ≡ over_by (asking s) end state → reads_of (asking s) ≤ gives
+    → cut_trace (length (text_of (asking s))) gives (trace s) ≡ ends (end_status end) (text_of (asking s)) (reads_of (asking s)) state
 asked-cut s end gives state is enough =
-    let status = end_status end in
-    let more : gives ≡ reads_of (asking s) + (gives - line_reads s.budget s.open_ s.input) = omega (arith, asking-reads s, enough) in
-    ap (cut_trace (length (prompt_text s.prompt)) gives) (trace-is s _ is)
-    ∙ ap (λ t. cut (length t) gives (asking s) (record { status = status; state = state })) (sym (asking-text s))
-    ∙ ap (λ n. cut (length (text_of (asking s))) n (asking s) (record { status = status; state = state })) more
-    ∙ cut-whole (asking s) (record { status = status; state = state }) (gives - line_reads s.budget s.open_ s.input)
-    ∙ ap (λ t. ends status t (reads_of (asking s)) state) (asking-text s)
-    ∙ ap (λ n. ends status (prompt_text s.prompt) n state) (asking-reads s)
+    let more : gives ≡ reads_of (asking s) + (gives - reads_of (asking s)) = omega (arith, enough) in
+    ap (cut_trace (length (text_of (asking s))) gives) (trace-is s _ is)
+    ∙ ap (λ n. cut (length (text_of (asking s))) n (asking s) (record { status = end_status end; state = state })) more
+    ∙ cut-whole (asking s) (record { status = end_status end; state = state }) (gives - reads_of (asking s))
 
 -- the reads that were made are among those that can be made
 read-within : (made : ℕ) (open_ : Bool) (input : List ℕ) (open_now : Bool) (left : List ℕ) → AreRead made open_ input open_now left → made ≤ reads_left open_ input
 read-within made open_ input open_now left r = omega (arith, r.count)
 
--- the session is over before a line, in that state
-over-before : (old new : Session) (end : SessionEnd) (finish : Finish) (before after : List ℕ) → step old ≡ record { made = asking old; next = Over end (state_of new) }
-    → status_of finish ≡ end_status end → finish_of end ≡ finish → LetsThrough finish (reads_left old.open_ old.input) (line_reads old.budget old.open_ old.input) (reads_left old.open_ old.input)
-    → AreRead (line_reads old.budget old.open_ old.input) old.open_ old.input new.open_ new.input → after ≡ before ++ prompt_text old.prompt → Finishes old finish new before after
-over-before old new end finish before after step status named lets reads written =
+-- the session is over before a text, in that state
+over-before : (old new : Session) (end : SessionEnd) (finish : Finish) (before after : List ℕ) → upcoming old ≡ Ends end → end_state end old ≡ state_of new
+    → status_of finish ≡ end_status end → finish_of end ≡ finish → LetsThrough finish (reads_left old.open_ old.input) (reads_of (asking old)) (reads_left old.open_ old.input)
+    → AreRead (reads_of (asking old)) old.open_ old.input new.open_ new.input → after ≡ before ++ text_of (asking old) → Finishes old finish new before after
+over-before old new end finish before after e state status named lets reads written =
+    let step = step-over old end e ∙ ap (λ x. record { made = asking old; next = Over end x }) state in
     let is = course-over old end (state_of new) (ap (λ s. s.next) step) ∙ ap (λ s. over_by s.made end (state_of new)) step in
     let all = asked-cut old end (reads_left old.open_ old.input) (state_of new) is (read-within _ old.open_ old.input new.open_ new.input reads) in
     record {
       gives = reads_left old.open_ old.input;
-      made = line_reads old.budget old.open_ old.input;
+      made = reads_of (asking old);
       lets_through = lets;
       reads = reads;
       end = record {
-        taken = prompt_text old.prompt;
+        taken = text_of (asking old);
         written = written;
-        outcome = all ∙ ap (λ n. ends n (prompt_text old.prompt) (line_reads old.budget old.open_ old.input) (state_of new)) (sym status);
+        outcome = all ∙ ap (λ n. ends n (text_of (asking old)) (reads_of (asking old)) (state_of new)) (sym status);
       };
       named = λ _ _. sym named ∙ ap (λ c. finish_of c.end) (sym is);
     }
 
-pub input-ended : (old new : Session) (before after : List ℕ) → arrival old.budget old.open_ old.input ≡ InputEnds → closed old ≡ state_of new
-    → AreRead (line_reads old.budget old.open_ old.input) old.open_ old.input new.open_ new.input → after ≡ before ++ prompt_text old.prompt → Finishes old EndOfInput new before after
-input-ended old new before after e closing reads written =
-    over-before old new InputEnded EndOfInput before after (step-ends old e ∙ ap (λ x. record { made = asking old; next = Over InputEnded x }) closing) refl refl refl reads written
+-- ---- a line of the input is asked for, where no script is open
 
-pub budget-spent : (old new : Session) (before after : List ℕ) → arrival old.budget old.open_ old.input ≡ Unpaid → state_of old ≡ state_of new
+-- the text of asking is the prompt
+pub asking-text : (s : Session) → s.scripts ≡ [] → text_of (asking s) ≡ prompt_text s.prompt
+asking-text s none = ap text_of (asking-is s none) ∙ append-nil (prompt_text s.prompt)
+
+pub asking-reads : (s : Session) → s.scripts ≡ [] → reads_of (asking s) ≡ line_reads s.budget s.open_ s.input
+asking-reads s none = ap reads_of (asking-is s none) ∙ add-zero (line_reads s.budget s.open_ s.input)
+
+over-input : (old new : Session) (end : SessionEnd) (finish : Finish) (before after : List ℕ) → old.scripts ≡ [] → upcoming old ≡ Ends end → end_state end old ≡ state_of new
+    → status_of finish ≡ end_status end → finish_of end ≡ finish → ((made : ℕ) → LetsThrough finish (reads_left old.open_ old.input) made (reads_left old.open_ old.input))
+    → AreRead (line_reads old.budget old.open_ old.input) old.open_ old.input new.open_ new.input → after ≡ before ++ prompt_text old.prompt → Finishes old finish new before after
+over-input old new end finish before after none e state status named lets reads written =
+    over-before old new end finish before after e state status named (lets (reads_of (asking old)))
+    (subst (λ n. AreRead n old.open_ old.input new.open_ new.input) (sym (asking-reads old none)) reads) (written ∙ ap (λ t. before ++ t) (sym (asking-text old none)))
+
+pub input-ended : (old new : Session) (before after : List ℕ) → old.scripts ≡ [] → arrival old.budget old.open_ old.input ≡ InputEnds → closed old ≡ state_of new
+    → AreRead (line_reads old.budget old.open_ old.input) old.open_ old.input new.open_ new.input → after ≡ before ++ prompt_text old.prompt → Finishes old EndOfInput new before after
+input-ended old new before after none e closing reads written =
+    over-input old new InputEnded EndOfInput before after none (upcoming-input old InputEnds none e) closing refl refl (λ _. refl) reads written
+
+pub budget-spent : (old new : Session) (before after : List ℕ) → old.scripts ≡ [] → arrival old.budget old.open_ old.input ≡ Unpaid → state_of old ≡ state_of new
     → AreRead (line_reads old.budget old.open_ old.input) old.open_ old.input new.open_ new.input → after ≡ before ++ prompt_text old.prompt → Finishes old Commands new before after
-budget-spent old new before after e same reads written =
-    over-before old new BudgetSpent Commands before after (step-unpaid old e ∙ ap (λ x. record { made = asking old; next = Over BudgetSpent x }) same) refl refl refl reads written
+budget-spent old new before after none e same reads written =
+    over-input old new BudgetSpent Commands before after none (upcoming-input old Unpaid none e) same refl refl (λ _. refl) reads written
+
+-- the console refused a byte of the prompt
+pub prompt-refused : (old new : Session) (before after : List ℕ) → old.scripts ≡ [] → state_of old ≡ state_of new → AreRead 0 old.open_ old.input new.open_ new.input
+    → AddsPart before (prompt_text old.prompt) after → Finishes old Console new before after
+prompt-refused old new before after none same reads part =
+    asking-refused old new (prompt_text old.prompt) (Reads (line_reads old.budget old.open_ old.input) (state_of old) ∷ []) before after (asking-is old none) same reads part
 
 -- a read fails behind the prompt
-failed-cut : (s : Session) (made : ℕ) → made < line_reads s.budget s.open_ s.input → cut_trace (length (prompt_text s.prompt)) made (trace s) ≡ ends 106 (prompt_text s.prompt) made (state_of s)
-unfolding asking
-failed-cut s made short =
+failed-cut : (s : Session) (made : ℕ) → s.scripts ≡ [] → made < line_reads s.budget s.open_ s.input
+    → cut_trace (length (prompt_text s.prompt)) made (trace s) ≡ ends 106 (prompt_text s.prompt) made (state_of s)
+failed-cut s made none short =
     let b = trace-asks s in
     ap (cut_trace (length (prompt_text s.prompt)) made) b.is
-    ∙ ap (λ t. cut (length t) made (Prints (prompt_text s.prompt) (state_of s) ∷ Reads (line_reads s.budget s.open_ s.input) (state_of s) ∷ [] ++ b.more) b.ended) (sym (append-nil (prompt_text s.prompt)))
-    ∙ ap (λ n. cut (length (prompt_text s.prompt ++ [])) n (Prints (prompt_text s.prompt) (state_of s) ∷ Reads (line_reads s.budget s.open_ s.input) (state_of s) ∷ [] ++ b.more) b.ended) (sym (zero-add made))
+    ∙ ap (λ l. cut (length (prompt_text s.prompt)) made (l ++ b.more) b.ended) (asking-is s none)
+    ∙ ap (λ t. cut (length t) made (asking_input s ++ b.more) b.ended) (sym (append-nil (prompt_text s.prompt)))
+    ∙ ap (λ n. cut (length (prompt_text s.prompt ++ [])) n (asking_input s ++ b.more) b.ended) (sym (zero-add made))
     ∙ cut-failed-after (Prints (prompt_text s.prompt) (state_of s) ∷ []) (line_reads s.budget s.open_ s.input) (state_of s) b.more b.ended made short
     ∙ ap (λ t. ends 106 t (0 + made) (state_of s)) (append-nil (prompt_text s.prompt))
     ∙ ap (λ n. ends 106 (prompt_text s.prompt) n (state_of s)) (zero-add made)
 
-pub input-failed : (old new : Session) (before after : List ℕ) (made : ℕ) → made < line_reads old.budget old.open_ old.input → state_of old ≡ state_of new
+pub input-failed : (old new : Session) (before after : List ℕ) (made : ℕ) → old.scripts ≡ [] → made < line_reads old.budget old.open_ old.input → state_of old ≡ state_of new
     → AreRead made old.open_ old.input new.open_ new.input → after ≡ before ++ prompt_text old.prompt → Finishes old Input new before after
-input-failed old new before after made short same reads written = record {
+input-failed old new before after made none short same reads written = record {
   gives = made;
   made = made;
   lets_through = refl;
   reads = reads;
-  end = record { taken = prompt_text old.prompt; written = written; outcome = failed-cut old made short ∙ ap (ends 106 (prompt_text old.prompt) made) same };
+  end = record { taken = prompt_text old.prompt; written = written; outcome = failed-cut old made none short ∙ ap (ends 106 (prompt_text old.prompt) made) same };
   named = λ _ input. absurd (input refl);
 }
-
--- what a line comes to: the asking, and then what its text does
-
--- the reply of the next line
-abbrev pub reply_to : Session → Asked → Reply
-reply_to s asked = text_reply s.limit (handed (s.spent + line_cost (length (first_line s.input))) s.notes) s.live asked
-
--- what is made in it
-abbrev pub made_by : Session → Asked → List (Observation State)
-made_by s asked = asking s ++ map_made (state_at s.notes) (reply_to s asked).made
-
-pub line-made : (s : Session) (asked : Asked) → (text_step (asking s) (behind_line s) asked).made ≡ made_by s asked
-unfolding text_step behind_line
-line-made s asked = refl
-
-line-next : (s : Session) (asked : Asked) → (text_step (asking s) (behind_line s) asked).next
-    ≡ following (reply_to s asked).answer (record (behind_line s) { live = (reply_to s asked).after.live; notes = drop (reply_to s asked).after.used s.notes })
-unfolding text_step behind_line
-line-next s asked = refl
-
-line-text : (s : Session) (asked : Asked) → text_of (made_by s asked) ≡ prompt_text s.prompt ++ text_of (reply_to s asked).made
-line-text s asked =
-    text_of-append (asking s) (map_made (state_at s.notes) (reply_to s asked).made)
-    ∙ ap (λ t. text_of (asking s) ++ t) (text_of-map (state_at s.notes) (reply_to s asked).made)
-    ∙ ap (λ t. t ++ text_of (reply_to s asked).made) (asking-text s)
-
-none-made : (s : Session) (asked : Asked) → reads_of (map_made (state_at s.notes) (reply_to s asked).made) ≡ 0
-none-made s asked =
-    reads_of-map (state_at s.notes) (reply_to s asked).made
-    ∙ text-reads s.limit (handed (s.spent + line_cost (length (first_line s.input))) s.notes) s.live asked
-
-pub line-reads : (s : Session) (asked : Asked) → reads_of (made_by s asked) ≡ line_reads s.budget s.open_ s.input
-line-reads s asked =
-    reads_of-append (asking s) (map_made (state_at s.notes) (reply_to s asked).made)
-    ∙ ap (λ n. reads_of (asking s) + n) (none-made s asked)
-    ∙ add-zero (reads_of (asking s))
-    ∙ asking-reads s
 
 -- a line that comes takes its bytes, and its LF or the end
 pub comes-reads : (budget : ℕ) (open_ : Bool) (input line : List ℕ) → arrival budget open_ input ≡ LineComes line → line_reads budget open_ input ≡ length (first_line input) + 1
@@ -175,150 +151,201 @@ comes-reads budget true input line e =
     let test = le-leb (line_cost (length (first_line input))) budget paid in rw test refl
 comes-reads budget false input line e = absurd (cc)
 
-session-equal : (s t : Session) → s.live ≡ t.live → s.notes ≡ t.notes → s.spent ≡ t.spent → s.limit ≡ t.limit → s.budget ≡ t.budget → s.prompt ≡ t.prompt → s.input ≡ t.input → s.open_ ≡ t.open_ → s ≡ t
-session-equal s t live notes spent limit budget prompt input open_ =
-    ap (λ x. record s { live = x }) live
-    ∙ ap (λ x. record s { live = t.live; notes = x }) notes
-    ∙ ap (λ x. record s { live = t.live; notes = t.notes; spent = x }) spent
-    ∙ ap (λ x. record s { live = t.live; notes = t.notes; spent = t.spent; limit = x }) limit
-    ∙ ap (λ x. record t { budget = x; prompt = s.prompt; input = s.input; open_ = s.open_ }) budget
-    ∙ ap (λ x. record t { prompt = x; input = s.input; open_ = s.open_ }) prompt
-    ∙ ap (λ x. record t { input = x; open_ = s.open_ }) input
-    ∙ ap (λ x. record t { open_ = x }) open_
+-- ---- a script for whose next line no unit is left
 
--- a session behind a line, as the code leaves it, but for what commands work on and their notes
-pub record IsBehind (old new : Session) : Type 0 where
-  pub spent : new.spent ≡ old.spent + line_cost (length (first_line old.input))
-  pub limit : new.limit ≡ old.limit
-  pub budget : new.budget ≡ old.budget - line_cost (length (first_line old.input))
-  pub open_ : new.open_ ≡ has_lf old.input
-  pub prompt : new.prompt ≡ old.prompt
-  pub reads : AreRead (line_reads old.budget old.open_ old.input) old.open_ old.input new.open_ new.input
+pub script-unpaid : (old new : Session) (before after : List ℕ) → upcoming old ≡ Ends BudgetSpent → asking old ≡ [] → state_of old ≡ state_of new
+    → AreRead 0 old.open_ old.input new.open_ new.input → after ≡ before → Finishes old Commands new before after
+script-unpaid old new before after e asks same reads written =
+    over-before old new BudgetSpent Commands before after e same refl refl refl
+    (subst (λ (l : List (Observation State)). AreRead (reads_of l) old.open_ old.input new.open_ new.input) (sym asks) reads)
+    (written ∙ sym (append-nil before) ∙ ap (λ (l : List (Observation State)). before ++ text_of l) (sym asks))
 
-behind-is : (old new : Session) (line : List ℕ) (state : State) → arrival old.budget old.open_ old.input ≡ LineComes line → IsBehind old new → state_of new ≡ state
-    → record (behind_line old) { live = state.live; notes = state.notes } ≡ new
-unfolding behind_line
-behind-is old new line state e b is =
-    session-equal (record (behind_line old) { live = state.live; notes = state.notes }) new (ap (λ (x : State). x.live) (sym is)) (ap (λ (x : State). x.notes) (sym is)) (sym b.spent)
-    (sym b.limit) (sym b.budget) (sym b.prompt)
-    (sym (b.reads.rest ∙ ap (λ n. drop n old.input) (comes-reads old.budget old.open_ old.input line e))) (sym b.open_)
+-- ---- what a text comes to: the asking, and then what it does
+
+-- its reply in the session behind it
+abbrev pub reply_in : Session → Asked → Reply
+reply_in behind what = text_reply behind.limit behind.scripts (handed behind.spent behind.notes) behind.live what
+
+-- what is made in it
+abbrev pub made_by : Session → Session → Asked → List (Observation State)
+made_by s behind what = asking s ++ map_made (state_at behind.notes) (reply_in behind what).made
+
+-- the session that it leaves
+abbrev pub left_by : Session → Asked → Session
+left_by behind what = record behind {
+  live = (reply_in behind what).after.live;
+  notes = drop (reply_in behind what).after.used behind.notes;
+  scripts = scripts_behind behind.scripts what (reply_in behind what).answer;
+}
+
+pub text-made : (s behind : Session) (what : Asked) → (text_step (asking s) behind what).made ≡ made_by s behind what
+unfolding text_step
+text-made s behind what = refl
+
+pub text-next : (s behind : Session) (what : Asked) → (text_step (asking s) behind what).next ≡ following (reply_in behind what).answer (left_by behind what)
+unfolding text_step
+text-next s behind what = refl
+
+text-text : (s behind : Session) (what : Asked) → text_of (made_by s behind what) ≡ text_of (asking s) ++ text_of (reply_in behind what).made
+text-text s behind what =
+    text_of-append (asking s) (map_made (state_at behind.notes) (reply_in behind what).made)
+    ∙ ap (λ t. text_of (asking s) ++ t) (text_of-map (state_at behind.notes) (reply_in behind what).made)
+
+none-made : (behind : Session) (what : Asked) → reads_of (map_made (state_at behind.notes) (reply_in behind what).made) ≡ 0
+none-made behind what =
+    reads_of-map (state_at behind.notes) (reply_in behind what).made
+    ∙ text-reads behind.limit behind.scripts (handed behind.spent behind.notes) behind.live what
+
+pub made-reads : (s behind : Session) (what : Asked) → reads_of (made_by s behind what) ≡ reads_of (asking s)
+made-reads s behind what =
+    reads_of-append (asking s) (map_made (state_at behind.notes) (reply_in behind what).made)
+    ∙ ap (λ n. reads_of (asking s) + n) (none-made behind what)
+    ∙ add-zero (reads_of (asking s))
 
 following-none : (answer : Answer) (s : Session) → exit_of answer ≡ None → following answer s ≡ Going s
 following-none (Ok (ExitNext status)) s e = absurd (cc)
 following-none (Ok Go) s e = refl
 following-none (Ok (Ran stop)) s e = refl
+following-none (Ok (Do file)) s e = refl
+following-none (Ok Goto) s e = refl
 following-none (Err fault) s e = refl
 
 following-some : (answer : Answer) (s : Session) (status : ℕ) → exit_of answer ≡ Some status → following answer s ≡ Over (ExitDone status) (state_of s)
 following-some (Ok (ExitNext n)) s status e = let same : n ≡ status = cc in ap (λ k. Over (ExitDone k) (state_of s)) same
 following-some (Ok Go) s status e = absurd (cc)
 following-some (Ok (Ran stop)) s status e = absurd (cc)
+following-some (Ok (Do file)) s status e = absurd (cc)
+following-some (Ok Goto) s status e = absurd (cc)
 following-some (Err fault) s status e = absurd (cc)
 
--- a byte of what the line's text makes is refused
-line-refused-cut : (s : Session) (line : List ℕ) (asked : Asked) (taken : List ℕ) (at : Standing) (gives : ℕ) → arrival s.budget s.open_ s.input ≡ LineComes line → reading line ≡ asked
-    → BreaksOff (reply_to s asked).made taken at → line_reads s.budget s.open_ s.input ≤ gives
-    → cut_trace (length (prompt_text s.prompt ++ taken)) gives (trace s) ≡ ends 102 (prompt_text s.prompt ++ taken) (line_reads s.budget s.open_ s.input) (state_at s.notes at)
-line-refused-cut s line asked taken at gives e c breaks enough =
+-- a byte of what the text makes is refused
+text-refused-cut : (s behind : Session) (text : List ℕ) (what : Asked) (taken : List ℕ) (at : Standing) (gives : ℕ) → upcoming s ≡ Comes text behind → asked text ≡ what
+    → BreaksOff (reply_in behind what).made taken at → reads_of (asking s) ≤ gives
+    → cut_trace (length (text_of (asking s) ++ taken)) gives (trace s) ≡ ends 102 (text_of (asking s) ++ taken) (reads_of (asking s)) (state_at behind.notes at)
+text-refused-cut s behind text what taken at gives e c breaks enough =
     let b = trace-begins s in
-    let own = map_made (state_at s.notes) (reply_to s asked).made in
-    let state = state_at s.notes at in
-    let made : (step s).made ≡ asking s ++ own = ap (λ s. s.made) (step-line s line asked e c) ∙ line-made s asked in
-    let placed = breaks-map (state_at s.notes) (reply_to s asked).made taken at breaks in
+    let own = map_made (state_at behind.notes) (reply_in behind what).made in
+    let state = state_at behind.notes at in
+    let made : (step s).made ≡ asking s ++ own = ap (λ s. s.made) (step-comes s behind text what e c) ∙ text-made s behind what in
+    let placed = breaks-map (state_at behind.notes) (reply_in behind what).made taken at breaks in
     let inner = breaks-behind (asking s) own taken state placed in
     let wide = breaks-before (asking s ++ own) b.more (text_of (asking s) ++ taken) state inner in
     let none = breaks-reads own taken state placed in
-    let reads : wide.reads ≡ line_reads s.budget s.open_ s.input =
+    let reads : wide.reads ≡ reads_of (asking s) =
     before-reads (asking s ++ own) b.more (text_of (asking s) ++ taken) state inner
     ∙ behind-reads (asking s) own taken state placed
-    ∙ omega (arith, none, none-made s asked, asking-reads s) in
+    ∙ omega (arith, none, none-made behind what) in
     let more : gives ≡ wide.reads + (gives - wide.reads) = omega (arith, reads, enough) in
-    let shown = prompt_text s.prompt ++ taken in
+    let shown = text_of (asking s) ++ taken in
     ap (cut_trace (length shown) gives) b.is
     ∙ ap (λ l. cut (length shown) gives (l ++ b.more) b.ended) made
-    ∙ ap (λ t. cut (length (t ++ taken)) gives ((asking s ++ own) ++ b.more) b.ended) (sym (asking-text s))
-    ∙ ap (λ n. cut (length (text_of (asking s) ++ taken)) n ((asking s ++ own) ++ b.more) b.ended) more
+    ∙ ap (λ n. cut (length shown) n ((asking s ++ own) ++ b.more) b.ended) more
     ∙ wide.cut_at (gives - wide.reads) b.ended
-    ∙ ap (λ t. ends 102 (t ++ taken) wide.reads state) (asking-text s)
     ∙ ap (λ n. ends 102 shown n state) reads
 
--- the session is over behind its line
-line-whole-cut : (s : Session) (status gives : ℕ) (state : State) (asked : Asked) → course s ≡ over_by (made_by s asked) (ExitDone status) state
-    → line_reads s.budget s.open_ s.input ≤ gives
-    → cut_trace (length (prompt_text s.prompt ++ text_of (reply_to s asked).made)) gives (trace s) ≡ ends status (prompt_text s.prompt ++ text_of (reply_to s asked).made) (line_reads s.budget s.open_ s.input) state
-line-whole-cut s status gives state asked is enough =
-    let made = made_by s asked in
-    let shown = prompt_text s.prompt ++ text_of (reply_to s asked).made in
-    let more : gives ≡ reads_of made + (gives - line_reads s.budget s.open_ s.input) = omega (arith, line-reads s asked, enough) in
+-- the session is over behind its text
+text-whole-cut : (s behind : Session) (status gives : ℕ) (state : State) (what : Asked) → course s ≡ over_by (made_by s behind what) (ExitDone status) state
+    → reads_of (asking s) ≤ gives
+    → cut_trace (length (text_of (asking s) ++ text_of (reply_in behind what).made)) gives (trace s)
+    ≡ ends status (text_of (asking s) ++ text_of (reply_in behind what).made) (reads_of (asking s)) state
+text-whole-cut s behind status gives state what is enough =
+    let made = made_by s behind what in
+    let shown = text_of (asking s) ++ text_of (reply_in behind what).made in
+    let more : gives ≡ reads_of made + (gives - reads_of (asking s)) = omega (arith, made-reads s behind what, enough) in
     ap (cut_trace (length shown) gives) (trace-is s _ is)
-    ∙ ap (λ t. cut (length t) gives made (record { status = status; state = state })) (sym (line-text s asked))
+    ∙ ap (λ t. cut (length t) gives made (record { status = status; state = state })) (sym (text-text s behind what))
     ∙ ap (λ n. cut (length (text_of made)) n made (record { status = status; state = state })) more
-    ∙ cut-whole made (record { status = status; state = state }) (gives - line_reads s.budget s.open_ s.input)
-    ∙ ap (λ t. ends status t (reads_of made) state) (line-text s asked)
-    ∙ ap (λ n. ends status shown n state) (line-reads s asked)
+    ∙ cut-whole made (record { status = status; state = state }) (gives - reads_of (asking s))
+    ∙ ap (λ t. ends status t (reads_of made) state) (text-text s behind what)
+    ∙ ap (λ n. ends status shown n state) (made-reads s behind what)
 
 -- the place that a text has left, which used so many of the notes, is where the session stands
-placed : (old new : Session) (used : ℕ) → drop used old.notes ≡ new.notes → state_of new ≡ state_at old.notes (standing used new.live)
-placed old new used notes = ap (λ (l : List Note). record { live = new.live; notes = l }) (sym notes)
+placed : (behind new : Session) (used : ℕ) → drop used behind.notes ≡ new.notes → state_of new ≡ state_at behind.notes (standing used new.live)
+placed behind new used notes = ap (λ (l : List Note). record { live = new.live; notes = l }) (sym notes)
 
--- what a line's text comes to, which used so many of the notes
-pub answered : (old new : Session) (line : List ℕ) (asked : Asked) (used : ℕ) (result : Progress) (tells : Bool) (before mid after : List ℕ) (kept kept' : List FaultNote) → IsTrue tells
-    → arrival old.budget old.open_ old.input ≡ LineComes line → reading line ≡ asked → IsBehind old new → mid ≡ before ++ prompt_text old.prompt → drop used old.notes ≡ new.notes
-    → IsAnswer (reply_to old asked) result (standing used new.live) tells mid after → IsShort result old.live new.live kept kept' mid after → Progresses old result new before after
-answered old new line asked used GoesOn tells before mid after kept kept' told e c b prompted notes a short =
-    let is = step-line old line asked e c in
-    let reply = reply_to old asked in
-    let made = ap (λ s. s.made) is ∙ line-made old asked in
-    let said : IsSaid reply (standing used new.live) tells mid after = a.1 in
-    let state = placed old new used notes ∙ ap (state_at old.notes) said.after_is in
+-- the session behind a text, but for what commands work on, their notes and the scripts
+abbrev pub IsBehind : Session → Session → Type 0
+IsBehind behind new = new ≡ record behind { live = new.live; notes = new.notes; scripts = new.scripts }
+
+left-is : (behind new : Session) (what : Asked) → IsBehind behind new → state_of new ≡ state_at behind.notes (reply_in behind what).after
+    → new.scripts ≡ scripts_behind behind.scripts what (reply_in behind what).answer → left_by behind what ≡ new
+left-is behind new what same state scripts =
+    ap (λ (x : State). record behind { live = x.live; notes = x.notes; scripts = scripts_behind behind.scripts what (reply_in behind what).answer }) (sym state)
+    ∙ ap (λ (l : List Script). record behind { live = new.live; notes = new.notes; scripts = l }) (sym scripts)
+    ∙ sym same
+
+-- what a text comes to, which used so many of the notes
+pub answered : (old behind new : Session) (text : List ℕ) (what : Asked) (used : ℕ) (result : Progress) (tells : Bool) (before mid after : List ℕ) (kept kept' : List FaultNote) → IsTrue tells
+    → upcoming old ≡ Comes text behind → asked text ≡ what → IsBehind behind new → mid ≡ before ++ text_of (asking old) → drop used behind.notes ≡ new.notes
+    → AreRead (reads_of (asking old)) old.open_ old.input new.open_ new.input
+    → IsAnswer (reply_in behind what) (scripts_behind behind.scripts what) result new.scripts (standing used new.live) tells mid after → IsShort result old.live new.live kept kept' mid after
+    → Progresses old result new before after
+answered old behind new text what used GoesOn tells before mid after kept kept' told e c b asks notes reads a short =
+    let is = step-comes old behind text what e c in
+    let reply = reply_in behind what in
+    let made = ap (λ s. s.made) is ∙ text-made old behind what in
+    let said : IsSaid reply (standing used new.live) tells mid after = a.2 in
+    let state = placed behind new used notes ∙ ap (state_at behind.notes) said.after_is in
     record {
-      next = ap (λ s. s.next) is ∙ line-next old asked ∙ following-none reply.answer (record (behind_line old) { live = reply.after.live; notes = drop reply.after.used old.notes }) a.0
-          ∙ ap Going (behind-is old new line (state_at old.notes reply.after) e b state);
-      written = said.written told ∙ ap (λ t. t ++ text_of reply.made) prompted ∙ append_assoc before (prompt_text old.prompt) (text_of reply.made)
-          ∙ ap (λ t. before ++ t) (sym (ap (λ l. text_of l) made ∙ line-text old asked));
-      reads = subst (λ n. AreRead n old.open_ old.input new.open_ new.input) (sym (ap (λ l. reads_of l) made ∙ line-reads old asked)) b.reads;
+      next = ap (λ s. s.next) is ∙ text-next old behind what ∙ following-none reply.answer (left_by behind what) a.0 ∙ ap Going (left-is behind new what b state a.1);
+      written = said.written told ∙ ap (λ t. t ++ text_of reply.made) asks ∙ append_assoc before (text_of (asking old)) (text_of reply.made)
+          ∙ ap (λ t. before ++ t) (sym (ap (λ l. text_of l) made ∙ text-text old behind what));
+      reads = subst (λ n. AreRead n old.open_ old.input new.open_ new.input) (sym (ap (λ l. reads_of l) made ∙ made-reads old behind what)) reads;
     }
-answered old new line asked used (IsOver (Exit status)) tells before mid after kept kept' told e c b prompted notes a short =
-    let is = step-line old line asked e c in
-    let reply = reply_to old asked in
+answered old behind new text what used (IsOver (Exit status)) tells before mid after kept kept' told e c b asks notes reads a short =
+    let is = step-comes old behind text what e c in
+    let reply = reply_in behind what in
     let said : IsSaid reply (standing used new.live) tells mid after = a.1 in
-    let last = state_at old.notes reply.after in
-    let next = ap (λ s. s.next) is ∙ line-next old asked ∙ following-some reply.answer (record (behind_line old) { live = reply.after.live; notes = drop reply.after.used old.notes }) status a.0 in
-    let over = course-over old (ExitDone status) last next ∙ ap (λ l. over_by l (ExitDone status) last) (ap (λ s. s.made) is ∙ line-made old asked) in
-    let whole = line-whole-cut old status (reads_left old.open_ old.input) last asked over (read-within _ old.open_ old.input new.open_ new.input b.reads) in
+    let last = state_at behind.notes reply.after in
+    let next = ap (λ s. s.next) is ∙ text-next old behind what ∙ following-some reply.answer (left_by behind what) status a.0 in
+    let over = course-over old (ExitDone status) last next ∙ ap (λ l. over_by l (ExitDone status) last) (ap (λ s. s.made) is ∙ text-made old behind what) in
+    let whole = text-whole-cut old behind status (reads_left old.open_ old.input) last what over (read-within _ old.open_ old.input new.open_ new.input reads) in
     record {
       gives = reads_left old.open_ old.input;
-      made = line_reads old.budget old.open_ old.input;
+      made = reads_of (asking old);
       lets_through = refl;
-      reads = b.reads;
+      reads = reads;
       end = record {
-        taken = prompt_text old.prompt ++ text_of reply.made;
-        written = said.written told ∙ ap (λ t. t ++ text_of reply.made) prompted ∙ append_assoc before (prompt_text old.prompt) (text_of reply.made);
-        outcome = whole ∙ ap (ends status (prompt_text old.prompt ++ text_of reply.made) (line_reads old.budget old.open_ old.input)) (sym (placed old new used notes ∙ ap (state_at old.notes) said.after_is));
+        taken = text_of (asking old) ++ text_of reply.made;
+        written = said.written told ∙ ap (λ t. t ++ text_of reply.made) asks ∙ append_assoc before (text_of (asking old)) (text_of reply.made);
+        outcome = whole ∙ ap (ends status (text_of (asking old) ++ text_of reply.made) (reads_of (asking old))) (sym (placed behind new used notes ∙ ap (state_at behind.notes) said.after_is));
       };
       named = λ _ _. ap (λ c. finish_of c.end) (sym over);
     }
-answered old new line asked used (IsOver Console) tells before mid after kept kept' told e c b prompted notes a short =
+answered old behind new text what used (IsOver Console) tells before mid after kept kept' told e c b asks notes reads a short =
     let off = a.told told in
-    let refused = line-refused-cut old line asked off.taken (standing used new.live) (reads_left old.open_ old.input) e c off.breaks (read-within _ old.open_ old.input new.open_ new.input b.reads) in
+    let refused = text-refused-cut old behind text what off.taken (standing used new.live) (reads_left old.open_ old.input) e c off.breaks (read-within _ old.open_ old.input new.open_ new.input reads) in
     record {
       gives = reads_left old.open_ old.input;
-      made = line_reads old.budget old.open_ old.input;
+      made = reads_of (asking old);
       lets_through = refl;
-      reads = b.reads;
+      reads = reads;
       end = record {
-        taken = prompt_text old.prompt ++ off.taken;
-        written = off.written ∙ ap (λ t. t ++ off.taken) prompted ∙ append_assoc before (prompt_text old.prompt) off.taken;
-        outcome = refused ∙ ap (ends 102 (prompt_text old.prompt ++ off.taken) (line_reads old.budget old.open_ old.input)) (sym (placed old new used notes));
+        taken = text_of (asking old) ++ off.taken;
+        written = off.written ∙ ap (λ t. t ++ off.taken) asks ∙ append_assoc before (text_of (asking old)) off.taken;
+        outcome = refused ∙ ap (ends 102 (text_of (asking old) ++ off.taken) (reads_of (asking old))) (sym (placed behind new used notes));
       };
       named = λ console _. absurd (console refl);
     }
-answered old new line asked used (IsOver OutOfMemory) tells before mid after kept kept' told e c b prompted notes a short = record {
-  short = record { live_is = short.0; written = inr (short.2 ∙ prompted) };
-  made = line_reads old.budget old.open_ old.input;
+answered old behind new text what used (IsOver OutOfMemory) tells before mid after kept kept' told e c b asks notes reads a short = record {
+  short = record { live_is = short.0; written = inr (short.2 ∙ asks) };
+  made = reads_of (asking old);
   few = omega arith;
-  reads = b.reads;
+  reads = reads;
 }
-answered old new line asked used (IsOver EndOfInput) tells before mid after kept kept' told e c b prompted notes a short = absurd a
-answered old new line asked used (IsOver Commands) tells before mid after kept kept' told e c b prompted notes a short = absurd a
-answered old new line asked used (IsOver Input) tells before mid after kept kept' told e c b prompted notes a short = absurd a
+answered old behind new text what used (IsOver EndOfInput) tells before mid after kept kept' told e c b asks notes reads a short = absurd a
+answered old behind new text what used (IsOver Commands) tells before mid after kept kept' told e c b asks notes reads a short = absurd a
+answered old behind new text what used (IsOver Input) tells before mid after kept kept' told e c b asks notes reads a short = absurd a
+
+-- the text that a script's line is, where it is short enough
+pub some-fits : (text line : List ℕ) → Some text ≡ (if nat_le (length line) 512 then Some line else None) → text ≡ line
+some-fits text line =
+    cond_both (nat_le (length line) 512) (Some line) None (λ o. Some text ≡ o → text ≡ line)
+    (λ _ h. cc)
+    (λ _ h. absurd (cc))
+
+pub none-fits : (line : List ℕ) → None ≡ (if nat_le (length line) 512 then Some line else None) → 512 < length line
+none-fits line =
+    cond_both (nat_le (length line) 512) (Some line) None (λ o. None ≡ o → 512 < length line)
+    (λ _ h. absurd (cc))
+    (λ long _. omega (arith, leb-false (length line) 512 long))

@@ -1,13 +1,13 @@
 -- A line with the notes that were kept in it: what is handed to its text, and what is left.
-use Rattle.std.proofs.Common.{◌≡◌, ◌≢◌, ℕ, ◌+◌, ◌-◌, ◌<◌, Bool, IsTrue, List, [], ◌∷◌, ◌++◌, length, drop, refl, ap, sym, ◌∙◌, subst, arith, append_assoc, append-nil, inl}
+use Rattle.std.proofs.Common.{◌≡◌, ◌≢◌, ◌⊎◌, ℕ, ◌+◌, ◌-◌, ◌<◌, ◌≤◌, Bool, IsTrue, List, [], ◌∷◌, ◌++◌, length, drop, refl, ap, sym, ◌∙◌, subst, arith, append_assoc, append-nil, inl}
 use Rattle.fault_counts.specs.Faults.{raised}
+use Rattle.observations.specs.Observations.{Observation, Trace, text_of, reads_of}
 use Rattle.host_files.specs.Lists.{NamedBytes}
 use Rattle.fault_notes.specs.declared.note.FaultNote.{FaultNote}
 use Rattle.fault_notes.specs.Notes.{CommandNote, Note, notes_said, numbered, handed, Follow}
 use Rattle.fault_notes.proofs.Handing.{handed-own, dropped}
-use Rattle.scp_parser.specs.Reading.{reading}
 use Rattle.scp_commands.specs.Live.{Live, standing, CommandState}
-use Rattle.scp_commands.specs.Effect.{Asked}
+use Rattle.scp_commands.specs.Effect.{Asked, asked}
 use Rattle.scp_commands.specs.FileEffects.{detached_all, all_closings}
 use Rattle.scp_commands.specs.Doing.{Closes}
 use Rattle.scp_script.specs.declared.progress.CommandLoop.{CommandLoop}
@@ -15,12 +15,14 @@ use Rattle.scp_script.specs.declared.progress.Progress.{Progress}
 use Rattle.scp_script.specs.declared.progress.Progress.TheVariants.{GoesOn, IsOver}
 use Rattle.scp_script.specs.declared.progress.Finish.{Finish}
 use Rattle.scp_script.specs.declared.progress.Finish.TheVariants.{Exit, EndOfInput, Commands, Console, Input, OutOfMemory}
-use Rattle.scp_script.specs.Lines.{InputEnds, LineComes, arrival, line_reads, line_cost, first_line}
+use Rattle.script_text.specs.Lines.{line_cost, first_line, has_lf}
+use Rattle.scp_script.specs.Lines.{InputEnds, LineComes, arrival, line_reads}
 use Rattle.scp_script.specs.Reading.{AreRead}
-use Rattle.scp_script.specs.Session.{Session, prompt_text, closed, text_reply}
-use Rattle.scp_script.specs.Loop.{session_of, IsAnswer, IsShort, Answers, AnswerCounts, HasExitStatus, MayFollow, MayCome, RunsOut, Progresses, ProgressCause, Stepped}
-use Rattle.scp_script.proofs.SessionLemmas.{arrival-paid}
-use Rattle.scp_script.proofs.LineLemmas.{none-read, IsBehind, answered, input-ended}
+use Rattle.scp_script.specs.Scripts.{Script, still_open, cost_of_line, text_of_line, echo_text, past_line, scripts_behind}
+use Rattle.scp_script.specs.Session.{State, Session, Comes, Step, Course, prompt_text, asking, behind_line, behind_script_line, upcoming, closed, text_reply, course, trace}
+use Rattle.scp_script.specs.Loop.{session_of, IsAnswer, IsShort, Answers, AnswerCounts, HasExitStatus, status_of, finish_of, EndsAs, Finishes, MayFollow, MayCome, StopsShort, RunsOut, Progresses, ProgressCause, Stepped}
+use Rattle.scp_script.proofs.SessionLemmas.{arrival-paid, upcoming-input, upcoming-script, asking-script, trace-is, closing, asking-still, step-still, course-still}
+use Rattle.scp_script.proofs.LineLemmas.{none-read, comes-reads, asking-text, asking-reads, IsBehind, answered, input-ended}
 
 -- a session to which these calls are still to come
 abbrev pub with_notes : Session → List Note → Session
@@ -66,24 +68,96 @@ may-follow : (p : Progress) (number : ℕ) (live : Live) (more : List Note) → 
 may-follow GoesOn number live more m = m
 may-follow (IsOver finish) number live more none = none-follow number live more none
 
--- the text of a line was done
-pub line-stepped : (old new : Session) (line : List ℕ) (asked : Asked) (result : Progress) (tells : Bool) (before mid after : List ℕ) (notes notes' : List Note) (kept kept' : List FaultNote) → IsTrue tells
-    → arrival old.budget old.open_ old.input ≡ LineComes line → reading line ≡ asked → IsBehind old new → old.spent < new.spent → mid ≡ before ++ prompt_text old.prompt
-    → Answers (λ own. text_reply old.limit own old.live asked) new.spent result new.live tells mid after notes notes' → IsShort result old.live new.live kept kept' mid after
+-- a text was done
+pub text-stepped : (old behind new : Session) (text : List ℕ) (what : Asked) (shown : List ℕ) (made : ℕ) (result : Progress) (tells : Bool) (before mid after : List ℕ) (notes notes' : List Note) (kept kept' : List FaultNote) → IsTrue tells
+    → ((l : List Note) → upcoming (with_notes old l) ≡ Comes text (with_notes behind l)) → asked text ≡ what → IsBehind behind new → old.spent < new.spent
+    → ((l : List Note) → text_of (asking (with_notes old l)) ≡ shown) → mid ≡ before ++ shown → ((l : List Note) → reads_of (asking (with_notes old l)) ≡ made)
+    → AreRead made old.open_ old.input new.open_ new.input
+    → Answers behind.limit behind.live behind.scripts what new.spent result new.live new.scripts tells mid after notes notes' → IsShort result old.live new.live kept kept' mid after
     → Stepped (with_notes old) result (with_notes new) before after notes notes'
-line-stepped old new line asked result tells before mid after notes notes' kept kept' told e c b less prompted a short = record {
+text-stepped old behind new text what shown made result tells before mid after notes notes' kept kept' told e c b less asks prompted counts reads a short = record {
   own = numbered new.spent a.own;
   kept = a.kept;
   first = λ more come. later-follow old.spent new.spent old.live new.live a.own more less (may-follow result new.spent new.live more come);
   goes = λ more come.
       let m = may-follow result new.spent new.live more come in
       let all = numbered new.spent a.own ++ more in
-      let given : handed (old.spent + line_cost (length (first_line old.input))) all ≡ a.own ++ m.behind =
-      ap (λ n. handed n all) (sym b.spent) ∙ handed-more new.spent new.live a.own more m in
-      answered (with_notes old all) (with_notes new more) line asked (length a.own) result tells before mid after kept kept' told e c
-      (record { spent = b.spent; limit = b.limit; budget = b.budget; open_ = b.open_; prompt = b.prompt; reads = b.reads }) prompted (dropped new.spent a.own more)
-      (subst (λ l. IsAnswer (text_reply old.limit l old.live asked) result (standing (length a.own) new.live) tells mid after) (sym given) (a.answers m.behind m.closings)) short;
+      let given : handed behind.spent all ≡ a.own ++ m.behind =
+      ap (λ n. handed n all) (sym (ap (λ (x : Session). x.spent) b)) ∙ handed-more new.spent new.live a.own more m in
+      answered (with_notes old all) (with_notes behind all) (with_notes new more) text what (length a.own) result tells before mid after kept kept' told (e all) c
+      (ap (λ (x : Session). record x { notes = more }) b) (prompted ∙ ap (λ t. before ++ t) (sym (asks all))) (dropped new.spent a.own more)
+      (subst (λ n. AreRead n old.open_ old.input new.open_ new.input) (sym (counts all)) reads)
+      (subst (λ l. IsAnswer (text_reply behind.limit behind.scripts l behind.live what) (scripts_behind behind.scripts what) result new.scripts (standing (length a.own) new.live) tells mid after)
+      (sym given) (a.answers m.behind m.closings)) short;
 }
+
+session-equal : (s t : Session) → s.live ≡ t.live → s.notes ≡ t.notes → s.spent ≡ t.spent → s.limit ≡ t.limit → s.budget ≡ t.budget → s.scripts ≡ t.scripts → s.prompt ≡ t.prompt → s.input ≡ t.input → s.open_ ≡ t.open_ → s ≡ t
+session-equal s t live notes spent limit budget scripts prompt input open_ =
+    ap (λ x. record s { live = x }) live
+    ∙ ap (λ x. record s { live = t.live; notes = x }) notes
+    ∙ ap (λ x. record s { live = t.live; notes = t.notes; spent = x }) spent
+    ∙ ap (λ x. record s { live = t.live; notes = t.notes; spent = t.spent; limit = x }) limit
+    ∙ ap (λ x. record t { budget = x; scripts = s.scripts; prompt = s.prompt; input = s.input; open_ = s.open_ }) budget
+    ∙ ap (λ x. record t { scripts = x; prompt = s.prompt; input = s.input; open_ = s.open_ }) scripts
+    ∙ ap (λ x. record t { prompt = x; input = s.input; open_ = s.open_ }) prompt
+    ∙ ap (λ x. record t { input = x; open_ = s.open_ }) input
+    ∙ ap (λ x. record t { open_ = x }) open_
+
+-- a session behind a line of the input, as the code leaves it, but for what commands work on, their notes and the scripts
+pub record IsBehindLine (old new : Session) : Type 0 where
+  pub spent : new.spent ≡ old.spent + line_cost (length (first_line old.input))
+  pub limit : new.limit ≡ old.limit
+  pub budget : new.budget ≡ old.budget - line_cost (length (first_line old.input))
+  pub open_ : new.open_ ≡ has_lf old.input
+  pub prompt : new.prompt ≡ old.prompt
+  pub reads : AreRead (line_reads old.budget old.open_ old.input) old.open_ old.input new.open_ new.input
+
+behind-input : (old new : Session) (line : List ℕ) → arrival old.budget old.open_ old.input ≡ LineComes line → IsBehindLine old new → IsBehind (behind_line old) new
+unfolding behind_line
+behind-input old new line e b =
+    session-equal new (record (behind_line old) { live = new.live; notes = new.notes; scripts = new.scripts }) refl refl b.spent b.limit b.budget refl b.prompt
+    (b.reads.rest ∙ ap (λ n. drop n old.input) (comes-reads old.budget old.open_ old.input line e)) b.open_
+
+-- a line of the input was done, where no script was open
+pub line-stepped : (old new : Session) (line : List ℕ) (what : Asked) (result : Progress) (tells : Bool) (before mid after : List ℕ) (notes notes' : List Note) (kept kept' : List FaultNote) → IsTrue tells
+    → old.scripts ≡ [] → arrival old.budget old.open_ old.input ≡ LineComes line → asked line ≡ what → IsBehindLine old new → old.spent < new.spent → mid ≡ before ++ prompt_text old.prompt
+    → Answers old.limit old.live [] what new.spent result new.live new.scripts tells mid after notes notes' → IsShort result old.live new.live kept kept' mid after
+    → Stepped (with_notes old) result (with_notes new) before after notes notes'
+unfolding behind_line
+line-stepped old new line what result tells before mid after notes notes' kept kept' told none e c b less prompted a short =
+    text-stepped old (behind_line old) new line what (prompt_text old.prompt) (line_reads old.budget old.open_ old.input) result tells before mid after notes notes' kept kept' told
+    (λ l. upcoming-input (with_notes old l) (LineComes line) none e) c (behind-input old new line e b) less (λ l. asking-text (with_notes old l) none) prompted
+    (λ l. asking-reads (with_notes old l) none) b.reads a short
+
+-- the same behind the next line of a script
+pub record IsBehindScript (old new : Session) (script : Script) : Type 0 where
+  pub spent : new.spent ≡ old.spent + cost_of_line script
+  pub limit : new.limit ≡ old.limit
+  pub budget : new.budget ≡ old.budget - cost_of_line script
+  pub prompt : new.prompt ≡ old.prompt
+  pub input : new.input ≡ old.input
+  pub open_ : new.open_ ≡ old.open_
+
+behind-script : (old new : Session) (script : Script) (outer : List Script) → IsBehindScript old new script → IsBehind (behind_script_line old script outer) new
+unfolding behind_script_line
+behind-script old new script outer b =
+    session-equal new (record (behind_script_line old script outer) { live = new.live; notes = new.notes; scripts = new.scripts }) refl refl b.spent b.limit b.budget refl b.prompt b.input b.open_
+
+pub same-read : (o o' : Bool) (i i' : List ℕ) → o' ≡ o → i' ≡ i → AreRead 0 o i o' i'
+same-read o o' i i' open_ input = subst (λ (x : Bool). AreRead 0 o i x i') (sym open_) (subst (λ (x : List ℕ). AreRead 0 o i o x) (sym input) (none-read o i))
+
+-- a line of the innermost script was done
+pub script-stepped : (old new : Session) (script : Script) (outer : List Script) (what : Asked) (result : Progress) (tells : Bool) (before mid after : List ℕ) (notes notes' : List Note) (kept kept' : List FaultNote) → IsTrue tells
+    → old.scripts ≡ script ∷ outer → script.place < length script.text → cost_of_line script ≤ old.budget → asked (text_of_line script) ≡ what → IsBehindScript old new script
+    → old.spent < new.spent → mid ≡ before ++ echo_text script
+    → Answers old.limit old.live (past_line script ∷ outer) what new.spent result new.live new.scripts tells mid after notes notes' → IsShort result old.live new.live kept kept' mid after
+    → Stepped (with_notes old) result (with_notes new) before after notes notes'
+unfolding behind_script_line
+script-stepped old new script outer what result tells before mid after notes notes' kept kept' told is more fits c b less prompted a short =
+    text-stepped old (behind_script_line old script outer) new (text_of_line script) what (echo_text script) 0 result tells before mid after notes notes' kept kept' told
+    (λ l. upcoming-script (with_notes old l) script outer is more fits) c (behind-script old new script outer b) less
+    (λ l. ap text_of (asking-script (with_notes old l) script outer is more fits) ∙ append-nil (echo_text script)) prompted
+    (λ l. ap reads_of (asking-script (with_notes old l) script outer is more fits)) (same-read old.open_ new.open_ old.input new.input b.open_ b.input) a short
 
 -- the session is over, and no note was kept for that
 pub over-alone : (old new : Session) (finish : Finish) (before after : List ℕ) (notes notes' : List Note) → notes' ≡ notes
@@ -105,13 +179,13 @@ closed-own s own used =
     ∙ ap (λ l. record { live = detached_all s.live; notes = l }) (dropped s.spent own [])
 
 -- the input has ended, and all files were closed
-pub input-closed : (old new : Session) (before after : List ℕ) (notes notes' : List Note) → arrival old.budget old.open_ old.input ≡ InputEnds → new.live ≡ detached_all old.live
+pub input-closed : (old new : Session) (before after : List ℕ) (notes notes' : List Note) → old.scripts ≡ [] → arrival old.budget old.open_ old.input ≡ InputEnds → new.live ≡ detached_all old.live
     → Closes old.spent old.live notes notes' → AreRead (line_reads old.budget old.open_ old.input) old.open_ old.input new.open_ new.input → after ≡ before ++ prompt_text old.prompt
     → Stepped (with_notes old) (IsOver EndOfInput) (with_notes new) before after notes notes'
-input-closed old new before after notes notes' e live c reads written =
+input-closed old new before after notes notes' none_open e live c reads written =
     let own = numbered old.spent c.own in
     let closing = closed-own old c.own c.used ∙ ap (λ (x : Live). record { live = x; notes = [] }) (sym live) in
-    let over = input-ended (with_notes old (own ++ [])) (with_notes new []) before after e closing reads written in
+    let over = input-ended (with_notes old (own ++ [])) (with_notes new []) before after none_open e closing reads written in
     record {
       own = own;
       kept = c.kept;
@@ -119,7 +193,7 @@ input-closed old new before after notes notes' e live c reads written =
       goes = λ more none. subst (λ l. Progresses (with_notes old (own ++ l)) (IsOver EndOfInput) (with_notes new l) before after) (sym none) over;
     }
 
--- memory ran out before a line was asked for
+-- memory ran out before a text was asked for
 pub room-refused : (old new : Session) (before : List ℕ) → new ≡ old → RunsOut old new before before
 room-refused old new before same = subst (λ (x : Session). RunsOut old x before before) (sym same) (record {
   short = record { live_is = refl; written = inl refl };
@@ -127,6 +201,56 @@ room-refused old new before same = subst (λ (x : Session). RunsOut old x before
   few = omega arith;
   reads = none-read old.open_ old.input;
 })
+
+-- ---- scripts that have ended are closed before the next text
+
+short-still : (s : Session) (live : Live) (before after : List ℕ) → StopsShort (closing s) live before after → StopsShort s live before after
+short-still s live before after h = record {
+  live_is = h.live_is;
+  written = subst (λ (l : List (Observation State)). (after ≡ before) ⊎ (after ≡ before ++ text_of l)) (asking-still s) h.written;
+}
+
+over-still : (s : Session) (finish : Finish) (new : Session) (before after : List ℕ) → Finishes (closing s) finish new before after → Finishes s finish new before after
+over-still s finish new before after f =
+    let course_is = course-still s in
+    let trace_is : trace (closing s) ≡ trace s = trace-is (closing s) (course s) course_is ∙ sym (trace-is s (course s) refl) in
+    record {
+      gives = f.gives;
+      made = f.made;
+      lets_through = f.lets_through;
+      reads = f.reads;
+      end = subst (λ (t : Trace State). EndsAs t (status_of finish) f.gives f.made before after (record { live = new.live; notes = new.notes })) trace_is f.end;
+      named = λ console input. f.named console input ∙ ap (λ (c : Course). finish_of c.end) course_is;
+    }
+
+progress-still : (s : Session) (p : Progress) (new : Session) (before after : List ℕ) → Progresses (closing s) p new before after → Progresses s p new before after
+progress-still s GoesOn new before after g = record {
+  next = ap (λ (x : Step). x.next) (sym (step-still s)) ∙ g.next;
+  written = g.written ∙ ap (λ (x : Step). before ++ text_of x.made) (step-still s);
+  reads = subst (λ n. AreRead n s.open_ s.input new.open_ new.input) (ap (λ (x : Step). reads_of x.made) (step-still s)) g.reads;
+}
+progress-still s (IsOver OutOfMemory) new before after r = record {
+  short = short-still s new.live before after r.short;
+  made = r.made;
+  few = subst (λ (l : List (Observation State)). r.made ≤ reads_of l) (asking-still s) r.few;
+  reads = r.reads;
+}
+progress-still s (IsOver (Exit status)) new before after f = over-still s (Exit status) new before after f
+progress-still s (IsOver EndOfInput) new before after f = over-still s EndOfInput new before after f
+progress-still s (IsOver Commands) new before after f = over-still s Commands new before after f
+progress-still s (IsOver Console) new before after f = over-still s Console new before after f
+progress-still s (IsOver Input) new before after f = over-still s Input new before after f
+
+-- what is known behind the closing is known before
+pub closed-before : (old : Session) (scripts : List Script) (p : Progress) (new : List Note → Session) (before after : List ℕ) (notes notes' : List Note) → still_open old.scripts ≡ scripts
+    → Stepped (with_notes (record old { scripts = scripts })) p new before after notes notes' → Stepped (with_notes old) p new before after notes notes'
+closed-before old scripts p new before after notes notes' is s = record {
+  own = s.own;
+  kept = s.kept;
+  first = s.first;
+  goes = λ more come. progress-still (with_notes old (s.own ++ more)) p (new more) before after
+      (subst (λ (l : List Script). Progresses (record (with_notes old (s.own ++ more)) { scripts = l }) p (new more) before after) (sym is) (s.goes more come));
+}
 
 -- an answer that is not for want of memory
 pub never-short : (result : Progress) (old new : Live) (kept kept' : List FaultNote) (before after : List ℕ) → result ≢ IsOver OutOfMemory → IsShort result old new kept kept' before after
@@ -137,13 +261,6 @@ never-short (IsOver EndOfInput) old new kept kept' before after never = tt
 never-short (IsOver Commands) old new kept kept' before after never = tt
 never-short (IsOver Console) old new kept kept' before after never = tt
 never-short (IsOver Input) old new kept kept' before after never = tt
-
--- what commands stand in once a line was paid
-abbrev pub paid_state : CommandState → ℕ → ℕ → CommandState
-paid_state s spare command = record s { spare = spare; command = command }
-
-pub paid-is : (s taken paid : CommandState) → taken ≡ record s { spare = taken.spare } → paid ≡ record taken { command = paid.command } → paid ≡ paid_state s taken.spare paid.command
-paid-is s taken paid room read = read ∙ ap (λ (x : CommandState). record x { command = paid.command }) room
 
 -- what is known of the state that is left is known where it is that
 pub left-at : (old new now : CommandState) (files : List NamedBytes) (lines lines' : CommandLoop) (input left : List ℕ) (p : Progress) (before after : List ℕ) → new ≡ now

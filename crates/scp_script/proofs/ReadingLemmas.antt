@@ -7,7 +7,8 @@ use Rattle.std.proofs.lemmas.List.Sums.{take_while-cons}
 use Rattle.scp_script.specs.declared.line_reader.Reading.{Reading}
 use Rattle.scp_script.specs.declared.line_reader.Reading.TheVariants.{Line, TooLong, End, Unpaid, Failed}
 use Rattle.scp_parser.specs.Grammar.{longest_line}
-use Rattle.scp_script.specs.Lines.{Arrival, InputEnds, LineComes, arrival, line_reads, reads_left, unpaid_reads, line_cost, first_line, has_lf, command_line, without_cr}
+use Rattle.script_text.specs.Lines.{line_cost, first_line, has_lf, command_line, without_cr}
+use Rattle.scp_script.specs.Lines.{Arrival, InputEnds, LineComes, arrival, line_reads, reads_left, unpaid_reads}
 use Rattle.scp_script.specs.Lines as lines
 use Rattle.scp_script.specs.Reading.{ReaderState, AreRead, IsReading, LineEnds, Pays, is_charged, byte_cost, ended_line}
 

@@ -1,14 +1,15 @@
 -- The trace of a session, one text further.
-use Rattle.std.proofs.Common.{◌≡◌, ℕ, zero, suc, ◌-◌, ◌<◌, ◌≤◌, Bool, not, ◌||◌, nat_le, nat_eq, List, [], ◌++◌, length, drop, refl, ap, sym, ◌∙◌, arith, if◌then◌else◌, append_assoc, append-nil, Ok, Err}
-use Rattle.std.proofs.lemmas.Bool.{leb-true, cond_both}
-use Rattle.observations.specs.Observations.{Observation, Ended, after_made}
-use Rattle.scp_parser.specs.Reading.{reading}
-use Rattle.scp_commands.specs.declared.next.Next.TheVariants.{Go, Ran, Exit}
+use Rattle.std.proofs.Common.{◌≡◌, ℕ, zero, suc, ◌-◌, ◌<◌, ◌≤◌, Bool, not, ◌||◌, nat_le, nat_lt, nat_eq, List, [], ◌∷◌, ◌++◌, length, drop, refl, ap, sym, ◌∙◌, arith, if◌then◌else◌, append_assoc, append-nil, Ok, Err}
+use Rattle.std.proofs.lemmas.Bool.{leb-true, le-leb, lt-leb, lt-ltb, cond_both}
+use Rattle.observations.specs.Observations.{Observation, Prints, Ended, after_made}
+use Rattle.scp_commands.specs.declared.next.Next.TheVariants.{Go, Ran, Do, Goto, Exit}
 use Rattle.fault_notes.specs.Notes.{handed}
 use Rattle.scp_commands.specs.Reply.{Answer}
-use Rattle.scp_commands.specs.Effect.{Asked}
-use Rattle.scp_script.specs.Lines.{Arrival, InputEnds, Unpaid, LineComes, arrival, line_cost, first_line, command_line}
-use Rattle.scp_script.specs.Session.{State, Session, SessionEnd, InputEnded, BudgetSpent, end_status, state_of, closed, Following, Going, Over, Upcoming, Ends, Comes, asking, behind_line, upcoming_of, upcoming, text_reply, following, text_step, step_upcoming, step, Course, over_by, after_step, texts, course, trace}
+use Rattle.scp_commands.specs.Effect.{Asked, asked}
+use Rattle.script_text.specs.Lines.{line_cost, first_line, command_line}
+use Rattle.scp_script.specs.Lines.{Arrival, InputEnds, Unpaid, LineComes, arrival}
+use Rattle.scp_script.specs.Scripts.{Script, still_open, cost_of_line, text_of_line, echo_text, scripts_behind}
+use Rattle.scp_script.specs.Session.{State, Session, SessionEnd, ExitDone, InputEnded, BudgetSpent, end_status, state_of, closed, end_state, Following, Going, Over, Upcoming, Ends, Comes, asking_input, asking_in, asking, behind_line, behind_script_line, upcoming_of, upcoming_in, upcoming, text_reply, following, text_step, Step, step_upcoming, step, Course, over_by, after_step, texts, course, trace}
 
 pub going-equal : {s t : Session} → Going s ≡ Going t → s ≡ t
 going-equal h = cc
@@ -28,31 +29,49 @@ behind-budget : (s : Session) → (behind_line s).budget ≡ s.budget - line_cos
 unfolding behind_line
 behind-budget s = refl
 
--- a text keeps the budget of the session behind it
-following-budget : (answer : Answer) (s t : Session) → following answer s ≡ Going t → t.budget ≡ s.budget
-following-budget (Ok (Exit status)) s t h = absurd (cc)
-following-budget (Ok Go) s t h = ap (λ (x : Session). x.budget) (sym (going-equal h))
-following-budget (Ok (Ran stop)) s t h = ap (λ (x : Session). x.budget) (sym (going-equal h))
-following-budget (Err fault) s t h = ap (λ (x : Session). x.budget) (sym (going-equal h))
+behind-script-budget : (s : Session) (script : Script) (outer : List Script) → (behind_script_line s script outer).budget ≡ s.budget - cost_of_line script
+unfolding behind_script_line
+behind-script-budget s script outer = refl
 
-text-budget : (made : List (Observation State)) (behind t : Session) (asked : Asked) → (text_step made behind asked).next ≡ Going t → t.budget ≡ behind.budget
+pub following-is : (answer : Answer) (s t : Session) → following answer s ≡ Going t → s ≡ t
+following-is (Ok (Exit status)) s t h = absurd (cc)
+following-is (Ok Go) s t h = going-equal h
+following-is (Ok (Ran stop)) s t h = going-equal h
+following-is (Ok (Do file)) s t h = going-equal h
+following-is (Ok Goto) s t h = going-equal h
+following-is (Err fault) s t h = going-equal h
+
+-- a text keeps the budget of the session behind it
+text-budget : (made : List (Observation State)) (behind t : Session) (what : Asked) → (text_step made behind what).next ≡ Going t → t.budget ≡ behind.budget
 unfolding text_step
-text-budget made behind t asked h =
-    let reply = text_reply behind.limit (handed behind.spent behind.notes) behind.live asked in
-    following-budget reply.answer (record behind { live = reply.after.live; notes = drop reply.after.used behind.notes }) t h
+text-budget made behind t what h =
+    let reply = text_reply behind.limit behind.scripts (handed behind.spent behind.notes) behind.live what in
+    ap (λ (x : Session). x.budget)
+    (sym (following-is reply.answer (record behind { live = reply.after.live; notes = drop reply.after.used behind.notes; scripts = scripts_behind behind.scripts what reply.answer }) t h))
 
 arrival-pays : (s t : Session) (a : Arrival) → arrival s.budget s.open_ s.input ≡ a → (step_upcoming s (upcoming_of s a)).next ≡ Going t → t.budget < s.budget
 arrival-pays s t InputEnds e h = absurd (cc)
 arrival-pays s t Unpaid e h = absurd (cc)
 arrival-pays s t (LineComes line) e h =
     let paid = arrival-paid s.budget s.open_ s.input line e in
-    let same = text-budget _ (behind_line s) t (reading line) h in
+    let same = text-budget _ (behind_line s) t (asked line) h in
     omega (arith, paid, same, behind-budget s)
+
+upcoming-pays : (s t : Session) (scripts : List Script) → (step_upcoming s (upcoming_in s scripts)).next ≡ Going t → t.budget < s.budget
+upcoming-pays s t [] = arrival-pays s t (arrival s.budget s.open_ s.input) refl
+upcoming-pays s t (script ∷ outer) =
+    cond_both (nat_le (cost_of_line script) s.budget) (Comes (text_of_line script) (behind_script_line s script outer)) (Ends BudgetSpent)
+    (λ u. (step_upcoming s u).next ≡ Going t → t.budget < s.budget)
+    (λ fits h.
+    let paid = leb-true (cost_of_line script) s.budget fits in
+    let same = text-budget (asking s) (behind_script_line s script outer) t (asked (text_of_line script)) h in
+    omega (arith, paid, same, behind-script-budget s script outer))
+    (λ _ h. absurd (cc))
 
 -- a text after which the session goes on costs a unit
 pub going-pays : (s t : Session) → (step s).next ≡ Going t → t.budget < s.budget
 unfolding step upcoming
-going-pays s t h = arrival-pays s t (arrival s.budget s.open_ s.input) refl h
+going-pays s t h = upcoming-pays s t (still_open s.scripts) h
 
 after-step-same : (made : List (Observation State)) (next : Following) (f g : Session → Course) → ((t : Session) → next ≡ Going t → f t ≡ g t) → after_step made next f ≡ after_step made next g
 after-step-same made (Going t) f g same = ap (λ c. record { trace = after_made made c.trace; end = c.end }) (same t refl)
@@ -131,16 +150,119 @@ pub trace-asks : (s : Session) → Begins s (asking s)
 unfolding step
 trace-asks s = let asks = upcoming-asks s (upcoming s) in begins-shorter s (step s).made (asking s) asks.0 (trace-begins s) asks.1
 
--- what comes is a line, or an end
+-- ---- what comes next
 
-pub step-line : (s : Session) (line : List ℕ) (asked : Asked) → arrival s.budget s.open_ s.input ≡ LineComes line → reading line ≡ asked → step s ≡ text_step (asking s) (behind_line s) asked
-unfolding step upcoming
-step-line s line asked e c = ap (λ a. step_upcoming s (upcoming_of s a)) e ∙ ap (text_step (asking s) (behind_line s)) c
+pub step-comes : (s behind : Session) (text : List ℕ) (what : Asked) → upcoming s ≡ Comes text behind → asked text ≡ what → step s ≡ text_step (asking s) behind what
+unfolding step
+step-comes s behind text what e c = ap (step_upcoming s) e ∙ ap (text_step (asking s) behind) c
 
-pub step-ends : (s : Session) → arrival s.budget s.open_ s.input ≡ InputEnds → step s ≡ record { made = asking s; next = Over InputEnded (closed s) }
-unfolding step upcoming
-step-ends s e = ap (λ a. step_upcoming s (upcoming_of s a)) e
+pub step-over : (s : Session) (end : SessionEnd) → upcoming s ≡ Ends end → step s ≡ record { made = asking s; next = Over end (end_state end s) }
+unfolding step
+step-over s end e = ap (step_upcoming s) e
 
-pub step-unpaid : (s : Session) → arrival s.budget s.open_ s.input ≡ Unpaid → step s ≡ record { made = asking s; next = Over BudgetSpent (state_of s) }
-unfolding step upcoming
-step-unpaid s e = ap (λ a. step_upcoming s (upcoming_of s a)) e
+still-none : (scripts : List Script) → scripts ≡ [] → still_open scripts ≡ []
+unfolding still_open
+still-none scripts none = ap still_open none
+
+-- a line of the input, where no script is open
+pub upcoming-input : (s : Session) (a : Arrival) → s.scripts ≡ [] → arrival s.budget s.open_ s.input ≡ a → upcoming s ≡ upcoming_of s a
+unfolding upcoming
+upcoming-input s a none e = ap (upcoming_in s) (still-none s.scripts none) ∙ ap (upcoming_of s) e
+
+pub asking-is : (s : Session) → s.scripts ≡ [] → asking s ≡ asking_input s
+unfolding asking
+asking-is s none = ap (asking_in s) (still-none s.scripts none)
+
+-- a script that has another line is open
+still-top : (script : Script) (outer : List Script) → script.place < length script.text → still_open (script ∷ outer) ≡ script ∷ outer
+unfolding still_open
+still-top script outer more = let test = lt-ltb script.place (length script.text) more in rw test refl
+
+still-there : (scripts : List Script) (script : Script) (outer : List Script) → scripts ≡ script ∷ outer → script.place < length script.text → still_open scripts ≡ script ∷ outer
+still-there scripts script outer is more = ap still_open is ∙ still-top script outer more
+
+-- a line of a script
+pub upcoming-script : (s : Session) (script : Script) (outer : List Script) → s.scripts ≡ script ∷ outer → script.place < length script.text → cost_of_line script ≤ s.budget
+    → upcoming s ≡ Comes (text_of_line script) (behind_script_line s script outer)
+unfolding upcoming
+upcoming-script s script outer is more fits =
+    let test = le-leb (cost_of_line script) s.budget fits in
+    ap (upcoming_in s) (still-there s.scripts script outer is more)
+    ∙ ap (λ (b : Bool). if b then Comes (text_of_line script) (behind_script_line s script outer) else Ends BudgetSpent) test
+
+pub upcoming-unpaid : (s : Session) (script : Script) (outer : List Script) → s.scripts ≡ script ∷ outer → script.place < length script.text → s.budget < cost_of_line script
+    → upcoming s ≡ Ends BudgetSpent
+unfolding upcoming
+upcoming-unpaid s script outer is more short =
+    let test = lt-leb (cost_of_line script) s.budget short in
+    ap (upcoming_in s) (still-there s.scripts script outer is more)
+    ∙ ap (λ (b : Bool). if b then Comes (text_of_line script) (behind_script_line s script outer) else Ends BudgetSpent) test
+
+pub asking-script : (s : Session) (script : Script) (outer : List Script) → s.scripts ≡ script ∷ outer → script.place < length script.text → cost_of_line script ≤ s.budget
+    → asking s ≡ Prints (echo_text script) (state_of s) ∷ []
+unfolding asking
+asking-script s script outer is more fits =
+    let test = le-leb (cost_of_line script) s.budget fits in
+    ap (asking_in s) (still-there s.scripts script outer is more) ∙ ap (λ (b : Bool). if b then Prints (echo_text script) (state_of s) ∷ [] else []) test
+
+pub asking-unpaid : (s : Session) (script : Script) (outer : List Script) → s.scripts ≡ script ∷ outer → script.place < length script.text → s.budget < cost_of_line script
+    → asking s ≡ []
+unfolding asking
+asking-unpaid s script outer is more short =
+    let test = lt-leb (cost_of_line script) s.budget short in
+    ap (asking_in s) (still-there s.scripts script outer is more) ∙ ap (λ (b : Bool). if b then Prints (echo_text script) (state_of s) ∷ [] else []) test
+
+-- ---- scripts that have ended may be closed before
+
+pub still-still : (scripts : List Script) → still_open (still_open scripts) ≡ still_open scripts
+unfolding still_open
+still-still [] = refl
+still-still (s ∷ outer) =
+    cond_both (nat_lt s.place (length s.text)) (s ∷ outer) (still_open outer) (λ l. still_open l ≡ l)
+    (λ more. rw more refl)
+    (λ _. still-still outer)
+
+-- a session in which they are
+abbrev pub closing : Session → Session
+closing s = record s { scripts = still_open s.scripts }
+
+asking-closing : (s : Session) (scripts : List Script) → asking_in (closing s) scripts ≡ asking_in s scripts
+asking-closing s [] = refl
+asking-closing s (script ∷ outer) = refl
+
+pub asking-still : (s : Session) → asking (closing s) ≡ asking s
+unfolding asking
+asking-still s = ap (asking_in (closing s)) (still-still s.scripts) ∙ asking-closing s (still_open s.scripts)
+
+arrival-closing : (s : Session) (a : Arrival) → upcoming_of (closing s) a ≡ upcoming_of s a
+unfolding behind_line
+arrival-closing s InputEnds = refl
+arrival-closing s Unpaid = refl
+arrival-closing s (LineComes line) = refl
+
+upcoming-closing : (s : Session) (scripts : List Script) → upcoming_in (closing s) scripts ≡ upcoming_in s scripts
+unfolding behind_script_line
+upcoming-closing s [] = arrival-closing s (arrival s.budget s.open_ s.input)
+upcoming-closing s (script ∷ outer) = refl
+
+upcoming-still : (s : Session) → upcoming (closing s) ≡ upcoming s
+unfolding upcoming
+upcoming-still s = ap (upcoming_in (closing s)) (still-still s.scripts) ∙ upcoming-closing s (still_open s.scripts)
+
+end-closing : (end : SessionEnd) (s : Session) → end_state end (closing s) ≡ end_state end s
+unfolding closed
+end-closing (ExitDone status) s = refl
+end-closing InputEnded s = refl
+end-closing BudgetSpent s = refl
+
+step-closing : (s : Session) (u : Upcoming) → step_upcoming (closing s) u ≡ step_upcoming s u
+step-closing s (Ends end) =
+    ap (λ l. record { made = l; next = Over end (end_state end (closing s)) }) (asking-still s) ∙ ap (λ x. record { made = asking s; next = Over end x }) (end-closing end s)
+step-closing s (Comes text behind) = ap (λ l. text_step l behind (asked text)) (asking-still s)
+
+pub step-still : (s : Session) → step (closing s) ≡ step s
+unfolding step
+step-still s = ap (step_upcoming (closing s)) (upcoming-still s) ∙ step-closing s (upcoming s)
+
+pub course-still : (s : Session) → course (closing s) ≡ course s
+course-still s = line-by-line (closing s) ∙ ap (λ (x : Step). after_step x.made x.next course) (step-still s) ∙ sym (line-by-line s)

@@ -1,5 +1,5 @@
 -- All lines of a session, one behind another.
-use Rattle.std.proofs.Common.{◌≡◌, ℕ, zero, suc, ◌+◌, Bool, List, [], ◌++◌, length, drop, refl, ap, sym, ◌∙◌, subst, arith, append_assoc, append-nil, zero-add, length-append}
+use Rattle.std.proofs.Common.{◌≡◌, inl, ℕ, zero, suc, ◌+◌, Bool, List, [], ◌++◌, length, drop, refl, ap, sym, ◌∙◌, subst, arith, append_assoc, append-nil, zero-add, length-append}
 use Rattle.std.proofs.lemmas.List.{drop-drop}
 use Rattle.fault_counts.specs.Faults.{raised}
 use Rattle.host_files.specs.State.{FileState}
@@ -176,6 +176,26 @@ over start now new finish before mid after notes notes' notes'' s st =
       first = s.first (st.own ++ []) follow;
       is = performed-by (start own) (now (st.own ++ [])) (with_notes new []) finish before mid after refl (s.comes (st.own ++ []) follow) (st.goes [] refl);
     }
+
+-- memory ran out before the first text
+pub never-begun : (start : List Note → Session) (before : List ℕ) (notes : List Note) → Performed start OutOfMemory (start []).live (start []).input before before notes notes
+never-begun start before notes = record {
+  own = [];
+  kept = sym (append-nil notes);
+  first = record { behind = []; later = []; are = refl; closings = tt; follows = tt };
+  is = record {
+    count = 0;
+    done = [];
+    reached = start [];
+    comes = (refl, refl);
+    mid = before;
+    written = sym (append-nil before);
+    made = 0;
+    few = omega arith;
+    rest = refl;
+    short = record { live_is = refl; written = inl refl };
+  };
+}
 
 -- the notes that were kept are counted
 pub kept-none : (notes : List FaultNote) (s : FileState) → AreKept notes notes s s

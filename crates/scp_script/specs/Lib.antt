@@ -1,5 +1,6 @@
 pub mod Lines
 pub mod Reading
+pub mod Scripts
 pub mod Session
 pub mod Loop
 pub mod Perform

@@ -1,26 +1,7 @@
--- The lines of the input, on the whole list of its bytes (SIMH Users' Guide, "Command Processing"), and what they cost.
-use Rattle.std.specs.Prelude.{ℕ, ◌+◌, ◌-◌, ◌*◌, ◌/◌, ◌==◌, ◌&&◌, ◌||◌, max, Bool, not, List, length, take, take_while, slice_index, nat_le, nat_eq, if◌then◌else◌}
-
--- the bytes before the first LF
-abbrev pub first_line : List ℕ → List ℕ
-first_line input = take_while (λ b. not (b == 10)) input
-
--- a line costs one unit of the budget, and one more for each whole 512 bytes past its first 512
-abbrev pub line_cost : ℕ → ℕ
-line_cost bytes = max 1 (bytes / 512)
-
--- an LF stands behind the first line
-abbrev pub has_lf : List ℕ → Bool
-has_lf input = not (nat_eq (length (first_line input)) (length input))
-
--- a line without a CR at its end
-abbrev pub without_cr : List ℕ → List ℕ
-without_cr line =
-    if not (nat_eq (length line) 0) && (slice_index line (length line - 1) == 13) then take (length line - 1) line else line
-
--- the first line, without its LF and a CR before that
-abbrev pub command_line : List ℕ → List ℕ
-command_line input = if has_lf input then without_cr (first_line input) else first_line input
+-- The lines of the input, on the whole list of its bytes (SIMH Users' Guide, "Command Processing"), and what they cost. What
+-- a line is, and what it costs, is as in a script.
+use Rattle.std.specs.Prelude.{ℕ, ◌+◌, ◌*◌, ◌==◌, ◌||◌, Bool, not, List, length, nat_le, nat_eq, if◌then◌else◌}
+use Rattle.script_text.specs.Lines.{first_line, command_line, line_cost}
 
 -- what comes next of an input: its end, a line for which no unit is left, or this line
 pub data Arrival : Type 0 where

@@ -5,7 +5,10 @@ use Rattle.fault_counts.specs.Faults.{raised}
 use Rattle.host_files.specs.Streams.{AddsPart}
 use Rattle.observations.specs.Observations.{Trace, text_of, reads_of}
 use Rattle.observations.specs.Cut.{ends, cut_trace}
+use Rattle.scp_parser.specs.Command.{Request, Do}
+use Rattle.scp_commands.specs.declared.next.Next.{Next}
 use Rattle.scp_commands.specs.declared.next.Next.TheVariants.{Exit as ExitNext}
+use Rattle.scp_commands.specs.declared.next.Next.TheVariants as next
 use Rattle.scp_commands.specs.declared.fault.CommandFault.{CommandFault}
 use Rattle.scp_commands.specs.declared.fault.CommandFault.TheVariants as fault
 use Rattle.host_files.specs.Lists.{NamedBytes}
@@ -16,15 +19,17 @@ use Rattle.fault_notes.specs.Counts.{AreCounted}
 use Rattle.scp_commands.specs.Live.{Live, Standing, CommandState, live_in}
 use Rattle.scp_commands.specs.Reply.{Answer, Reply}
 use Rattle.scp_commands.specs.FaultText.{fault_text}
-use Rattle.scp_commands.specs.Doing.{IsSaid, IsBrokenOff, ComeBehind}
+use Rattle.scp_commands.specs.Effect.{Asked}
+use Rattle.scp_commands.specs.Doing.{IsSaid, IsBrokenOff, Does, ComeBehind}
 use Rattle.scp_script.specs.declared.progress.CommandLoop.{CommandLoop}
 use Rattle.scp_script.specs.declared.progress.Finish.{Finish}
 use Rattle.scp_script.specs.declared.progress.Finish.TheVariants.{Exit, EndOfInput, Commands, Console, Input, OutOfMemory}
 use Rattle.scp_script.specs.declared.progress.Progress.{Progress}
 use Rattle.scp_script.specs.declared.progress.Progress.TheVariants.{GoesOn, IsOver}
-use Rattle.scp_script.specs.Lines.{reads_left, line_reads}
+use Rattle.scp_script.specs.Lines.{reads_left}
 use Rattle.scp_script.specs.Reading.{AreRead}
-use Rattle.scp_script.specs.Session.{State, Session, SessionEnd, ExitDone, InputEnded, BudgetSpent, Going, prompt_text, step, course, trace}
+use Rattle.scp_script.specs.Scripts.{Script, most_scripts, settled, scripts_behind}
+use Rattle.scp_script.specs.Session.{State, Session, SessionEnd, ExitDone, InputEnded, BudgetSpent, Going, asking, with_complaint, text_reply, step, course, trace}
 
 -- the session that the loop stands in, to which these failing calls are still to come
 abbrev pub session_of : CommandState → List NamedBytes → CommandLoop → List ℕ → List Note → Session
@@ -34,6 +39,7 @@ session_of state files l input notes = record {
   spent = state.command;
   limit = state.limit;
   budget = l.budget;
+  scripts = l.scripts;
   prompt = l.prompt;
   input = input;
   open_ = l.reader.open_;
@@ -44,22 +50,41 @@ abbrev pub exit_of : Answer → Option ℕ
 exit_of (Ok (ExitNext status)) = Some status
 exit_of answer = None
 
--- what a text comes to on the console: it was done and what it prints was printed, or a byte of that was refused. Where
--- memory ran out, another clause says what stands.
-abbrev pub IsAnswer : Reply → Progress → Standing → Bool → List ℕ → List ℕ → Type 0
-IsAnswer reply GoesOn at tells before after = (exit_of reply.answer ≡ None) × IsSaid reply at tells before after
-IsAnswer reply (IsOver (Exit status)) at tells before after = (exit_of reply.answer ≡ Some status) × IsSaid reply at tells before after
-IsAnswer reply (IsOver Console) at tells before after = IsBrokenOff reply at tells before after
-IsAnswer reply (IsOver OutOfMemory) at tells before after = Unit {0}
-IsAnswer reply (IsOver EndOfInput) at tells before after = ⊥
-IsAnswer reply (IsOver Commands) at tells before after = ⊥
-IsAnswer reply (IsOver Input) at tells before after = ⊥
+-- What a text comes to on the console: it was done and what it prints was printed, or a byte of that was refused. Where
+-- the session goes on, these scripts are open, which are those behind its answer. Where memory ran out, another clause says
+-- what stands.
+abbrev pub IsAnswer : Reply → (Answer → List Script) → Progress → List Script → Standing → Bool → List ℕ → List ℕ → Type 0
+IsAnswer reply behind GoesOn scripts at tells before after =
+    (exit_of reply.answer ≡ None) × (scripts ≡ behind reply.answer) × IsSaid reply at tells before after
+IsAnswer reply behind (IsOver (Exit status)) scripts at tells before after = (exit_of reply.answer ≡ Some status) × IsSaid reply at tells before after
+IsAnswer reply behind (IsOver Console) scripts at tells before after = IsBrokenOff reply at tells before after
+IsAnswer reply behind (IsOver OutOfMemory) scripts at tells before after = Unit {0}
+IsAnswer reply behind (IsOver EndOfInput) scripts at tells before after = ⊥
+IsAnswer reply behind (IsOver Commands) scripts at tells before after = ⊥
+IsAnswer reply behind (IsOver Input) scripts at tells before after = ⊥
 
--- a text was answered, with the notes that were kept in it: it has used all of them and no others, whatever comes behind
-pub record Answers (reply : List CommandNote → Reply) (number : ℕ) (result : Progress) (new : Live) (tells : Bool) (before after : List ℕ) (notes notes' : List Note) : Type 0 where
+-- A text was answered where these scripts were open, with the notes that were kept in it: it has used all of them and no
+-- others, whatever comes behind.
+pub record Answers (limit : ℕ) (old : Live) (scripts : List Script) (what : Asked) (number : ℕ) (result : Progress) (new : Live) (scripts' : List Script) (tells : Bool) (before after : List ℕ) (notes notes' : List Note) : Type 0 where
   pub own : List CommandNote
   pub kept : notes' ≡ notes ++ numbered number own
-  pub answers : (behind : List CommandNote) → ComeBehind new behind → IsAnswer (reply (own ++ behind)) result (record { live = new; used = length own }) tells before after
+  pub answers : (behind : List CommandNote) → ComeBehind new behind
+      → IsAnswer (text_reply limit scripts (own ++ behind) old what) (scripts_behind scripts what) result scripts' (record { live = new; used = length own }) tells before after
+
+-- there is room for the script of a DO
+abbrev pub FitsIn : List Script → Request → Type 0
+FitsIn scripts (Do echo strict name arguments) = length scripts < most_scripts
+FitsIn scripts request = Unit {0}
+
+abbrev pub HasRoom : List Script → Next → Type 0
+HasRoom scripts (next.Do file) = length scripts < most_scripts
+HasRoom scripts other = Unit {0}
+
+-- what comes to be of a command that was done and has that to say, where its bytes are written
+abbrev pub Follows : Next → Request → Progress → List Script → List Script → Bool → List ℕ → List ℕ → Type 0
+Follows next request result scripts scripts' tells written after =
+    (reply : Reply) (at : Standing) (before : List ℕ) → HasRoom scripts next → Does reply (Ok next) at tells before written
+    → IsAnswer (with_complaint (settled scripts (Ok request) reply)) (scripts_behind scripts (Ok request)) result scripts' at tells before after
 
 -- the text of a fault was printed, or a byte of it was refused
 abbrev pub Complains : Bool → List ℕ → List ℕ → Progress → List ℕ → Type 0
@@ -141,16 +166,16 @@ pub record GoesPast (old new : Session) (before after : List ℕ) : Type 0 where
   pub reads : AreRead (reads_of (step old).made) old.open_ old.input new.open_ new.input
 
 -- A session for which memory ran out before its next text, or at it: nothing of the text was done, and of what is printed
--- before it comes all or nothing.
+-- before it is done comes all or nothing.
 pub record StopsShort (old : Session) (live : Live) (before after : List ℕ) : Type 0 where
   pub live_is : live ≡ old.live
-  pub written : (after ≡ before) ⊎ (after ≡ before ++ prompt_text old.prompt)
+  pub written : (after ≡ before) ⊎ (after ≡ before ++ text_of (asking old))
 
 -- the same, with the reads that were made of its line
 pub record RunsOut (old new : Session) (before after : List ℕ) : Type 0 where
   pub short : StopsShort old new.live before after
   pub made : ℕ
-  pub few : made ≤ line_reads old.budget old.open_ old.input
+  pub few : made ≤ reads_of (asking old)
   pub reads : AreRead made old.open_ old.input new.open_ new.input
 
 abbrev pub Progresses : Session → Progress → Session → List ℕ → List ℕ → Type 0

@@ -1,28 +1,34 @@
 -- What a whole session comes to, from its opening on.
-use Rattle.std.specs.Prelude.{◌≡◌, ℕ, ◌≤◌, true, List, [], ◌++◌, ◌+◌, drop}
+use Rattle.std.specs.Prelude.{◌≡◌, ℕ, ◌≤◌, Bool, true, List, [], ◌++◌, ◌+◌, drop}
 use Rattle.host_files.specs.Lists.{NamedBytes}
 use Rattle.fault_notes.specs.Notes.{Note}
 use Rattle.scp_commands.specs.Live.{Live, CommandState, live_in}
 use Rattle.scp_script.specs.declared.perform_session.Opening.{Opening}
 use Rattle.scp_script.specs.declared.progress.Finish.{Finish}
 use Rattle.scp_script.specs.declared.progress.Finish.TheVariants.{OutOfMemory}
-use Rattle.scp_script.specs.Lines.{reads_left, line_reads}
-use Rattle.scp_script.specs.Session.{State, Session, course, trace, ComesTo}
+use Rattle.scp_script.specs.Lines.{reads_left}
+use Rattle.scp_script.specs.Scripts.{Script, first_script}
+use Rattle.scp_script.specs.Session.{State, Session, asking, course, trace, ComesTo}
 use Rattle.scp_script.specs.Loop.{EndsAs, LetsThrough, NamesEnd, status_of, StopsShort, MayFollow}
 use Rattle.observations.specs.Observations.{Observation, text_of, reads_of}
 
--- a session before its first text, in which these calls on files fail
-unfoldable pub beginning : CommandState → List NamedBytes → Opening → List ℕ → List Note → Session
-beginning state files opening input notes = record {
+-- a session before its first text, with those scripts, in which these calls on files fail
+unfoldable pub beginning_with : CommandState → List NamedBytes → Bool → ℕ → List Script → List ℕ → List Note → Session
+beginning_with state files prompt budget scripts input notes = record {
   live = live_in state files;
   notes = notes;
   spent = state.command;
   limit = state.limit;
-  budget = opening.budget;
-  prompt = opening.prompt;
+  budget = budget;
+  scripts = scripts;
+  prompt = prompt;
   input = input;
   open_ = true;
 }
+
+-- the same of an opening
+unfoldable pub beginning : CommandState → List NamedBytes → Opening → List ℕ → List Note → Session
+beginning state files opening input notes = beginning_with state files opening.prompt opening.budget (first_script opening.script opening.arguments.items) input notes
 
 -- The whole session, which took the first bytes of the input and left the others. It has used every note.
 pub record IsSession (start : Session) (finish : Finish) (live : Live) (left before after : List ℕ) : Type 0 where
@@ -43,7 +49,7 @@ pub record RunsShort (start : Session) (live : Live) (left before after : List �
   pub mid : List ℕ
   pub written : mid ≡ before ++ text_of done
   pub made : ℕ
-  pub few : made ≤ line_reads reached.budget reached.open_ reached.input
+  pub few : made ≤ reads_of (asking reached)
   pub rest : left ≡ drop (reads_of done + made) start.input
   pub short : StopsShort reached live mid after
 

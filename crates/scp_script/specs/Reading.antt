@@ -3,7 +3,8 @@ use Rattle.std.specs.Prelude.{◌≡◌, ◌⊎◌, ◌==◌, ◌&&◌, ◌||◌
 use Rattle.scp_parser.specs.Grammar.{longest_line}
 use Rattle.scp_script.specs.declared.line_reader.Reading.{Reading}
 use Rattle.scp_script.specs.declared.line_reader.Reading.TheVariants.{Line, TooLong, End, Unpaid, Failed}
-use Rattle.scp_script.specs.Lines.{InputEnds, LineComes, arrival, line_reads, reads_left, line_cost, first_line, has_lf, without_cr}
+use Rattle.script_text.specs.Lines.{line_cost, first_line, has_lf, without_cr}
+use Rattle.scp_script.specs.Lines.{InputEnds, LineComes, arrival, line_reads, reads_left}
 use Rattle.scp_script.specs.Lines as lines
 
 -- the line that was read last, and whether the input's end is still to be read

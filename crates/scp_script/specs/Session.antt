@@ -1,15 +1,16 @@
 -- A session: one text after another, to EXIT, the end of the input, or the end of the budget.
-use Rattle.std.specs.Prelude.{◌≡◌, ℕ, zero, suc, ◌+◌, ◌-◌, Bool, List, [], ◌∷◌, ◌++◌, length, drop, codes, Ok, Err, if◌then◌else◌}
+use Rattle.std.specs.Prelude.{◌≡◌, ℕ, zero, suc, ◌+◌, ◌-◌, nat_le, Bool, List, [], ◌∷◌, ◌++◌, length, drop, codes, Ok, Err, if◌then◌else◌}
 use Rattle.observations.specs.Observations.{Observation, Prints, Reads, Trace, after_made, map_made}
 use Rattle.fault_notes.specs.Notes.{CommandNote, Note, handed}
-use Rattle.scp_parser.specs.Reading.{reading}
-use Rattle.scp_commands.specs.declared.next.Next.TheVariants.{Go, Ran, Exit}
+use Rattle.scp_commands.specs.declared.next.Next.TheVariants.{Exit}
 use Rattle.scp_commands.specs.Live.{Live, Standing}
 use Rattle.scp_commands.specs.Reply.{Answer, Reply}
 use Rattle.scp_commands.specs.FaultText.{fault_text}
 use Rattle.scp_commands.specs.FileEffects.{detached_all, all_closings}
-use Rattle.scp_commands.specs.Effect.{Asked, does}
-use Rattle.scp_script.specs.Lines.{Arrival, InputEnds, Unpaid, LineComes, first_line, line_cost, has_lf, arrival, line_reads}
+use Rattle.scp_commands.specs.Effect.{Asked, does, asked}
+use Rattle.scp_script.specs.Scripts.{Script, still_open, cost_of_line, text_of_line, echo_text, past_line, checked, settled, scripts_behind}
+use Rattle.script_text.specs.Lines.{first_line, line_cost, has_lf}
+use Rattle.scp_script.specs.Lines.{Arrival, InputEnds, Unpaid, LineComes, arrival, line_reads}
 
 -- what an early end of a session shows: what commands work on, and the failing calls that are still to come
 pub record State : Type 0 where
@@ -17,7 +18,8 @@ pub record State : Type 0 where
   pub notes : List Note
 
 -- What the future of a session depends on: what commands work on, how many instructions a run may execute, the units of
--- budget left, whether the prompt is printed, the rest of the input, and whether its end is still to be read. Beside that it
+-- budget left, the scripts that are open, whether the prompt is printed, the rest of the input, and whether its end is
+-- still to be read. Beside that it
 -- is handed the failing calls that are still to come, each with the number of its command, which is how many units of the
 -- budget are spent, those of the command included.
 pub record Session : Type 0 where
@@ -26,6 +28,7 @@ pub record Session : Type 0 where
   pub spent : ℕ
   pub limit : ℕ
   pub budget : ℕ
+  pub scripts : List Script
   pub prompt : Bool
   pub input : List ℕ
   pub open_ : Bool
@@ -40,17 +43,35 @@ state_at notes at = record { live = at.live; notes = drop at.used notes }
 abbrev pub prompt_text : Bool → List ℕ
 prompt_text on = if on then codes "sim> " else []
 
--- what is made before the next text is there: the prompt, where it is on, and the reads of a line
-unfoldable pub asking : Session → List (Observation State)
-asking s = Prints (prompt_text s.prompt) (state_of s) ∷ Reads (line_reads s.budget s.open_ s.input) (state_of s) ∷ []
+-- what is made before a line of the input is there: the prompt, where it is on, and the reads of the line
+abbrev pub asking_input : Session → List (Observation State)
+asking_input s = Prints (prompt_text s.prompt) (state_of s) ∷ Reads (line_reads s.budget s.open_ s.input) (state_of s) ∷ []
 
--- the session behind its next line, which was read and paid
+-- what is made before the next text is done: that, where no script is open; and else the text of the script's line, where
+-- it is to be printed, and the line is paid
+abbrev pub asking_in : Session → List Script → List (Observation State)
+asking_in s [] = asking_input s
+asking_in s (script ∷ outer) = if nat_le (cost_of_line script) s.budget then Prints (echo_text script) (state_of s) ∷ [] else []
+
+unfoldable pub asking : Session → List (Observation State)
+asking s = asking_in s (still_open s.scripts)
+
+-- the session behind its next line of the input, which was read and paid: no script is open then
 unfoldable pub behind_line : Session → Session
 behind_line s = record s {
+  scripts = [];
   spent = s.spent + line_cost (length (first_line s.input));
   budget = s.budget - line_cost (length (first_line s.input));
   input = drop (length (first_line s.input) + 1) s.input;
   open_ = has_lf s.input;
+}
+
+-- the session behind the next line of its innermost script, which was paid
+unfoldable pub behind_script_line : Session → Script → List Script → Session
+behind_script_line s script outer = record s {
+  spent = s.spent + cost_of_line script;
+  budget = s.budget - cost_of_line script;
+  scripts = past_line script ∷ outer;
 }
 
 -- By what a session is over where nothing fails: EXIT with that status was done, the input has ended, or a line was due
@@ -76,8 +97,14 @@ upcoming_of s InputEnds = Ends InputEnded
 upcoming_of s Unpaid = Ends BudgetSpent
 upcoming_of s (LineComes line) = Comes line (behind_line s)
 
+-- the next text is the next line of the innermost script that is open, or else a line of the input
+abbrev pub upcoming_in : Session → List Script → Upcoming
+upcoming_in s [] = upcoming_of s (arrival s.budget s.open_ s.input)
+upcoming_in s (script ∷ outer) =
+    if nat_le (cost_of_line script) s.budget then Comes (text_of_line script) (behind_script_line s script outer) else Ends BudgetSpent
+
 unfoldable pub upcoming : Session → Upcoming
-upcoming s = upcoming_of s (arrival s.budget s.open_ s.input)
+upcoming s = upcoming_in s (still_open s.scripts)
 
 -- the text of a fault is printed behind what its command has made
 abbrev pub complaint : Answer → Standing → List (Observation Standing)
@@ -87,9 +114,9 @@ complaint (Err fault) at = Prints (fault_text fault) at ∷ []
 abbrev pub with_complaint : Reply → Reply
 with_complaint reply = record reply { made = reply.made ++ complaint reply.answer reply.after }
 
--- what a text does, where these calls on files fail
-unfoldable pub text_reply : ℕ → List CommandNote → Live → Asked → Reply
-text_reply limit notes live asked = with_complaint (does limit notes live asked)
+-- what a text does where these scripts are open, and these calls on files fail
+unfoldable pub text_reply : ℕ → List Script → List CommandNote → Live → Asked → Reply
+text_reply limit scripts notes live what = with_complaint (settled scripts what (does limit notes live (checked scripts what)))
 
 -- what comes behind a text: the session goes on, or is over by that, in that state
 pub data Following : Type 0 where
@@ -98,9 +125,7 @@ pub data Following : Type 0 where
 
 abbrev pub following : Answer → Session → Following
 following (Ok (Exit status)) s = Over (ExitDone status) (state_of s)
-following (Ok Go) s = Going s
-following (Ok (Ran stop)) s = Going s
-following (Err fault) s = Going s
+following answer s = Going s
 
 -- what one text of a session comes to
 pub record Step : Type 0 where
@@ -110,9 +135,13 @@ pub record Step : Type 0 where
 -- a text is done in the session behind it: it is handed the leading notes that have its number, and leaves those that it
 -- has not used
 unfoldable pub text_step : List (Observation State) → Session → Asked → Step
-text_step asked_first behind asked = let reply = text_reply behind.limit (handed behind.spent behind.notes) behind.live asked in record {
+text_step asked_first behind what = let reply = text_reply behind.limit behind.scripts (handed behind.spent behind.notes) behind.live what in record {
   made = asked_first ++ map_made (state_at behind.notes) reply.made;
-  next = following reply.answer (record behind { live = reply.after.live; notes = drop reply.after.used behind.notes });
+  next = following reply.answer (record behind {
+    live = reply.after.live;
+    notes = drop reply.after.used behind.notes;
+    scripts = scripts_behind behind.scripts what reply.answer;
+  });
 }
 
 -- where the input ends, all files are closed, with the notes that have the number of the last command
@@ -125,7 +154,7 @@ end_state end s = state_of s
 
 abbrev pub step_upcoming : Session → Upcoming → Step
 step_upcoming s (Ends end) = record { made = asking s; next = Over end (end_state end s) }
-step_upcoming s (Comes text behind) = text_step (asking s) behind (reading text)
+step_upcoming s (Comes text behind) = text_step (asking s) behind (asked text)
 
 unfoldable pub step : Session → Step
 step s = step_upcoming s (upcoming s)

@@ -1,31 +1,29 @@
-ghost use Rattle.std.specs.Prelude.{◌≡◌, ◌≢◌, ◌≤◌, ◌+◌, ◌^◌, List, IsTrue, Err};
+ghost use Rattle.std.specs.Prelude.{◌≡◌, ◌≢◌, ◌≤◌, ◌<◌, ◌+◌, ◌-◌, ◌^◌, ◌∷◌, [], ℕ, List, IsTrue, true, false, length};
 ghost use Rattle.fault_counts.specs.Faults.{CountsFault, raised};
-ghost use Rattle.host_files.specs.Lists.{NamedBytes};
 ghost use Rattle.host_files.specs.State.{Opened};
 ghost use Rattle.host_files.specs.Streams.{Puts};
 ghost use Rattle.unit_files.specs.Open.{AllOpen, Around};
-ghost use Rattle.fault_notes.specs.Notes.{CommandNote, notes_said};
-ghost use Rattle.scp_parser.specs.Reading.{reading};
-ghost use Rattle.scp_commands.specs.Live.{live_in, standing};
-ghost use Rattle.scp_commands.specs.Effect.{effect};
-ghost use Rattle.scp_commands.specs.FaultText.{fault_text};
-ghost use Rattle.scp_script.specs.declared.progress.Progress.TheVariants.{IsOver};
-ghost use Rattle.scp_script.specs.declared.progress.Finish.TheVariants.{OutOfMemory};
+ghost use Rattle.fault_notes.specs.Notes.{notes_said};
 ghost use Rattle.scp_script.specs.Reading.{IsReading, Pays};
-ghost use Rattle.scp_script.specs.Session.{prompt_text, text_reply, with_complaint};
-ghost use Rattle.scp_script.specs.Loop.{IsAnswer, Answers, AnswerCounts, HasExitStatus, session_of, Stepped};
-ghost use Rattle.scp_script.specs.Loop.{ProgressCause, PaysFor, Complains, Denies, AreKept, IsShort};
+ghost use Rattle.scp_script.specs.Scripts.{cost_of_line};
+ghost use Rattle.scp_script.specs.Session.{prompt_text};
+ghost use Rattle.scp_script.specs.Loop.{session_of, Stepped, ProgressCause, PaysFor, AreKept};
 
+use crate::answers::{answer, deny_line};
 use crate::line_reader::Reading;
+use crate::open_script::OpenScript;
 use crate::progress::{CommandLoop, Finish, Progress};
 use host_files::{Failed, Files, Sink, Source, put_all};
-use scp_commands::{CommandFault, Next, Session, execute};
-use scp_parser::{Command, ParseFault, read_command};
+use scp_commands::{CommandFault, Session};
+use scp_parser::ParseFault;
 use std::alloc::Global;
 use unit_trait::Unit;
 
-/// Does the next line of a session: it takes memory for the notes of a command, then come the prompt where it is on, the
-/// reading, and the command. Where the input has ended, all files are closed.
+/// A text of more than 512 bytes.
+const TOO_LONG: CommandFault = CommandFault::Parse(ParseFault::TooLong);
+
+/// Does the next text of a session: the next line of the innermost script that has one, or else of the input. First it
+/// takes memory for the notes of a command.
 pub fn next_line<U: Unit, C: Source, F: Files, S: Sink>(
     alloc: Global,
     session: &mut Session<U>,
@@ -55,13 +53,56 @@ pub fn next_line<U: Unit, C: Source, F: Files, S: Sink>(
     if session.take_room().is_err() {
         return Progress::IsOver(Finish::OutOfMemory);
     }
+    match lines.scripts.pop_open() {
+        Some(script) => script_line(alloc, session, lines, script, files, out),
+        None => input_line(alloc, session, lines, input, files, out),
+    }
+}
+
+/// Does the next line of the input, where no script is open and there is room for notes: the prompt comes first where
+/// it is on, then the reading, and the command. Where the input has ended, all files are closed.
+fn input_line<U: Unit, C: Source, F: Files, S: Sink>(
+    alloc: Global,
+    session: &mut Session<U>,
+    lines: &mut CommandLoop,
+    input: &mut C,
+    files: &mut F,
+    out: &mut S,
+) -> Progress
+    requires scripts { lines.old.scripts ≡ [] }
+    requires room { 16 ≤ session.old.spare }
+    requires budget { lines.old.budget ≤ 2 ^ 32 }
+    requires command { session.old.command + lines.old.budget ≤ 2 ^ 33 }
+    requires open { AllOpen session.old.machine.slots (F.state files.old).opened }
+    ensures told { IsTrue C.tells → IsTrue F.tells → IsTrue S.tells
+        → Stepped (session_of session.old (F.state files.old).files lines.old (C.left input.old)) result
+        (session_of session.new (F.state files.new).files lines.new (C.left input.new)) (S.written out.old)
+        (S.written out.new) (notes_said session.old.notes) (notes_said session.new.notes) }
+    ensures cause { ProgressCause result (S.fault_count out.old) (S.fault_count out.new) (C.fault_count input.old)
+        (C.fault_count input.new) }
+    ensures pays { PaysFor lines.old.budget result lines.new.budget }
+    ensures command { session.new.command + lines.new.budget ≡ session.old.command + lines.old.budget }
+    ensures keeps { AreKept session.old.notes session.new.notes (F.state files.old) (F.state files.new) }
+    ensures keys { session.new.keys ≡ session.old.keys }
+    ensures limit { session.new.limit ≡ session.old.limit }
+    ensures open { AllOpen session.new.machine.slots (F.state files.new).opened }
+    ensures around { (base : List Opened) → Around session.old.machine.slots base (F.state files.old).opened
+        → Around session.new.machine.slots base (F.state files.new).opened }
+{
     match ask(lines.prompt, out) {
         Ok(()) => (),
         Err(_) => return Progress::IsOver(Finish::Console),
     }
     match read_paid(session, lines, input) {
-        Reading::Line => answer(alloc, session, lines.reader.line(), files, out),
-        Reading::TooLong => deny_line(session, ParseFault::TooLong, out),
+        Reading::Line => answer(
+            alloc,
+            session,
+            lines.reader.line(),
+            &mut lines.scripts,
+            files,
+            out,
+        ),
+        Reading::TooLong => deny_line(session, TOO_LONG, &mut lines.scripts, out),
         Reading::End => {
             session.detach_files(files);
             Progress::IsOver(Finish::EndOfInput)
@@ -69,6 +110,75 @@ pub fn next_line<U: Unit, C: Source, F: Files, S: Sink>(
         Reading::Unpaid => Progress::IsOver(Finish::Commands),
         Reading::Failed => Progress::IsOver(Finish::Input),
     }
+}
+
+/// Does the next line of a script, within which none is open: it is paid for, and then printed where the script's lines
+/// are printed.
+fn script_line<U: Unit, F: Files, S: Sink>(
+    alloc: Global,
+    session: &mut Session<U>,
+    lines: &mut CommandLoop,
+    mut script: OpenScript,
+    files: &mut F,
+    out: &mut S,
+) -> Progress
+    requires line { script.place < length script.text }
+    requires scripts { length lines.old.scripts < 10 }
+    requires budget { lines.old.budget ≤ 2 ^ 32 }
+    requires command { session.old.command + lines.old.budget ≤ 2 ^ 33 }
+    requires open { AllOpen session.old.machine.slots (F.state files.old).opened }
+    ensures told { IsTrue F.tells → IsTrue S.tells → (input : List ℕ)
+        → Stepped (session_of session.old (F.state files.old).files
+        (record lines.old { scripts = script ∷ lines.old.scripts }) input) result
+        (session_of session.new (F.state files.new).files lines.new input) (S.written out.old) (S.written out.new)
+        (notes_said session.old.notes) (notes_said session.new.notes) }
+    ensures cause { (source : ℕ) → ProgressCause result (S.fault_count out.old) (S.fault_count out.new) source source }
+    ensures pays { PaysFor lines.old.budget result lines.new.budget }
+    ensures command { session.new.command + lines.new.budget ≡ session.old.command + lines.old.budget }
+    ensures keeps { AreKept session.old.notes session.new.notes (F.state files.old) (F.state files.new) }
+    ensures keys { session.new.keys ≡ session.old.keys }
+    ensures limit { session.new.limit ≡ session.old.limit }
+    ensures open { AllOpen session.new.machine.slots (F.state files.new).opened }
+    ensures around { (base : List Opened) → Around session.old.machine.slots base (F.state files.old).opened
+        → Around session.new.machine.slots base (F.state files.new).opened }
+{
+    if !pay(session, lines, script.line_cost()) {
+        return Progress::IsOver(Finish::Commands);
+    }
+    match script.put_echo(out) {
+        Ok(()) => (),
+        Err(_) => return Progress::IsOver(Finish::Console),
+    }
+    let text = script.take_line();
+    lines.scripts.push(script);
+    match text {
+        Some(text) => answer(
+            alloc,
+            session,
+            text.as_slice(),
+            &mut lines.scripts,
+            files,
+            out,
+        ),
+        None => deny_line(session, TOO_LONG, &mut lines.scripts, out),
+    }
+}
+
+/// Pays for a line of a script, where enough units are left, and counts them as spent. Answers whether it is paid.
+fn pay<U: Unit>(session: &mut Session<U>, lines: &mut CommandLoop, cost: u64) -> bool
+    requires { session.old.command + lines.old.budget ≤ 2 ^ 33 }
+    ensures paid { result ≡ true → (cost ≤ lines.old.budget) × (lines.new.budget ≡ lines.old.budget - cost) }
+    ensures unpaid { result ≡ false → (lines.old.budget < cost) × (lines.new.budget ≡ lines.old.budget) }
+    ensures command { session.new.command + lines.new.budget ≡ session.old.command + lines.old.budget }
+    ensures rest { session.new ≡ record session.old { command = session.new.command } }
+    ensures lines { lines.new ≡ record lines.old { budget = lines.new.budget } }
+{
+    if lines.budget < cost {
+        return false;
+    }
+    lines.budget -= cost;
+    session.command += cost;
+    true
 }
 
 /// Reads the next line, and counts the units that it costs as spent.
@@ -86,6 +196,7 @@ fn read_paid<U: Unit, C: Source>(
     ensures cause { result ≡ Reading.Failed → C.fault_count input.new ≡ raised (C.fault_count input.old) }
     ensures quiet { result ≢ Reading.Failed → C.fault_count input.new ≡ C.fault_count input.old }
     ensures prompt { lines.new.prompt ≡ lines.old.prompt }
+    ensures scripts { lines.new.scripts ≡ lines.old.scripts }
     ensures command { session.new.command + lines.new.budget ≡ session.old.command + lines.old.budget }
     ensures rest { session.new ≡ record session.old { command = session.new.command } }
 {
@@ -104,109 +215,5 @@ fn ask<S: Sink>(prompt: bool, out: &mut S) -> Result<(), Failed>
         put_all(out, b"sim> ")
     } else {
         Ok(())
-    }
-}
-
-/// Does the command of a line, or answers its fault, and says whether the session goes on.
-fn answer<U: Unit, F: Files, S: Sink>(
-    alloc: Global,
-    session: &mut Session<U>,
-    line: &[u8],
-    files: &mut F,
-    out: &mut S,
-) -> Progress
-    requires open { AllOpen session.old.machine.slots (F.state files.old).opened }
-    ensures told { IsTrue F.tells → Answers
-        (λ notes. text_reply session.old.limit notes (live_in session.old (F.state files.old).files) (reading line.now))
-        session.old.command result (live_in session.new (F.state files.new).files) S.tells (S.written out.old)
-        (S.written out.new) (notes_said session.old.notes) (notes_said session.new.notes) }
-    ensures short { IsShort result (live_in session.old (F.state files.old).files)
-        (live_in session.new (F.state files.new).files) session.old.notes session.new.notes (S.written out.old)
-        (S.written out.new) }
-    ensures counts { AnswerCounts result (S.fault_count out.old) (S.fault_count out.new) }
-    ensures exit { HasExitStatus result }
-    ensures command { session.new.command ≡ session.old.command }
-    ensures keeps { AreKept session.old.notes session.new.notes (F.state files.old) (F.state files.new) }
-    ensures keys { session.new.keys ≡ session.old.keys }
-    ensures limit { session.new.limit ≡ session.old.limit }
-    ensures open { AllOpen session.new.machine.slots (F.state files.new).opened }
-    ensures around { (base : List Opened) → Around session.old.machine.slots base (F.state files.old).opened
-        → Around session.new.machine.slots base (F.state files.new).opened }
-{
-    let mut command = Command::new();
-    match read_command(line, &mut command) {
-        Ok(()) => obey(alloc, session, &command, files, out),
-        Err(fault) => deny_line(session, fault, out),
-    }
-}
-
-/// Does a command, and prints the text of its fault where it is refused.
-fn obey<U: Unit, F: Files, S: Sink>(
-    alloc: Global,
-    session: &mut Session<U>,
-    command: &Command,
-    files: &mut F,
-    out: &mut S,
-) -> Progress
-    requires open { AllOpen session.old.machine.slots (F.state files.old).opened }
-    ensures told { IsTrue F.tells → Answers
-        (λ notes. with_complaint (effect session.old.limit notes (live_in session.old (F.state files.old).files)
-        command.now)) session.old.command result (live_in session.new (F.state files.new).files) S.tells
-        (S.written out.old) (S.written out.new) (notes_said session.old.notes) (notes_said session.new.notes) }
-    ensures short { IsShort result (live_in session.old (F.state files.old).files)
-        (live_in session.new (F.state files.new).files) session.old.notes session.new.notes (S.written out.old)
-        (S.written out.new) }
-    ensures counts { AnswerCounts result (S.fault_count out.old) (S.fault_count out.new) }
-    ensures exit { HasExitStatus result }
-    ensures command { session.new.command ≡ session.old.command }
-    ensures keeps { AreKept session.old.notes session.new.notes (F.state files.old) (F.state files.new) }
-    ensures keys { session.new.keys ≡ session.old.keys }
-    ensures limit { session.new.limit ≡ session.old.limit }
-    ensures open { AllOpen session.new.machine.slots (F.state files.new).opened }
-    ensures around { (base : List Opened) → Around session.old.machine.slots base (F.state files.old).opened
-        → Around session.new.machine.slots base (F.state files.new).opened }
-{
-    match execute(alloc, session, command, files, out) {
-        Ok(Next::Exit(status)) => Progress::IsOver(Finish::Exit(status)),
-        Ok(Next::Go) => Progress::GoesOn,
-        Ok(Next::Ran(_)) => Progress::GoesOn,
-        Err(fault) => deny(fault, out),
-    }
-}
-
-/// Answers a fault: by its text, or by the end of the session where the console refused a byte or memory ran out.
-fn deny<S: Sink>(fault: CommandFault, out: &mut S) -> Progress
-    ensures { Denies fault S.tells result (S.written out.old) (S.written out.new) (S.fault_count out.old)
-        (S.fault_count out.new) }
-{
-    match fault {
-        CommandFault::Console => Progress::IsOver(Finish::Console),
-        CommandFault::OutOfMemory => Progress::IsOver(Finish::OutOfMemory),
-        _ => complain(fault, out),
-    }
-}
-
-/// Answers the fault of a line that is no command.
-fn deny_line<U: Unit, S: Sink>(session: &Session<U>, fault: ParseFault, out: &mut S) -> Progress
-    ensures told { (files : List NamedBytes) (notes : List CommandNote)
-        → IsAnswer (text_reply session.now.limit notes (live_in session.now files) (Err fault)) result
-        (standing 0 (live_in session.now files)) S.tells (S.written out.old) (S.written out.new) }
-    ensures memory { result ≢ IsOver OutOfMemory }
-    ensures counts { AnswerCounts result (S.fault_count out.old) (S.fault_count out.new) }
-    ensures exit { HasExitStatus result }
-{
-    complain(CommandFault::of_line(fault), out)
-}
-
-/// Prints the text of a fault.
-fn complain<S: Sink>(fault: CommandFault, out: &mut S) -> Progress
-    ensures told { Complains S.tells (S.written out.old) (fault_text fault) result (S.written out.new) }
-    ensures exit { HasExitStatus result }
-    ensures counts { AnswerCounts result (S.fault_count out.old) (S.fault_count out.new) }
-    ensures memory { result ≢ IsOver OutOfMemory }
-{
-    match fault.put_text(out) {
-        Ok(()) => Progress::GoesOn,
-        Err(Failed) => Progress::IsOver(Finish::Console),
     }
 }

@@ -1,11 +1,15 @@
-//! The lines of a session: their reading, what each costs, and what they come to one behind another.
+//! The texts of a session, which are the lines of its input and of its scripts: their reading, what each costs, and
+//! what they come to one behind another.
 #![tactic(auto)]
 
+mod answers;
 mod command_loop;
 pub mod laws;
 mod line_reader;
+mod open_script;
 pub mod perform_session;
 pub mod progress;
+mod script_stack;
 
 pub use laws::{lines_are_consumed, session_goes_line_by_line};
 pub use perform_session::{Opening, perform};

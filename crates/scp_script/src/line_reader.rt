@@ -1,6 +1,6 @@
 ghost use Rattle.std.specs.Prelude.{◌≡◌, ◌≢◌, ◌+◌, ◌≤◌, ◌<◌, ◌^◌, [], true, false, IsTrue};
 ghost use Rattle.fault_counts.specs.Faults.{raised};
-ghost use Rattle.scp_script.specs.Lines.{without_cr};
+ghost use Rattle.script_text.specs.Lines.{without_cr};
 ghost use Rattle.scp_script.specs.Reading.{is_charged, byte_cost};
 
 use host_files::{Source, next_byte};

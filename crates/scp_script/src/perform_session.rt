@@ -1,22 +1,30 @@
-ghost use Rattle.std.specs.Prelude.{◌≡◌, ◌≤◌, ◌^◌, List, IsTrue};
+ghost use Rattle.std.specs.Prelude.{◌≡◌, ◌≤◌, ◌^◌, [], true, List, map, take, string_bytes, IsTrue, IfOk};
 ghost use Rattle.host_files.specs.State.{Opened};
 ghost use Rattle.unit_files.specs.Open.{AllOpen, Around};
 ghost use Rattle.fault_notes.specs.Notes.{notes_said};
 ghost use Rattle.scp_commands.specs.Live.{live_in};
 ghost use Rattle.scp_script.specs.Loop.{FinishCause, AreKept};
+ghost use Rattle.scp_script.specs.Scripts.{first_script};
 ghost use Rattle.scp_script.specs.Perform.{beginning, Performed};
 
 use crate::command_loop::next_line;
 use crate::line_reader::LineReader;
+use crate::open_script::OpenScript;
 use crate::progress::{CommandLoop, Finish, Progress};
+use crate::script_stack::ScriptStack;
 use host_files::{Files, Sink, Source};
-use scp_commands::Session;
-use std::alloc::Global;
+use scp_commands::{DoFile, ScriptText, Session};
+use script_text::Arguments;
+use std::alloc::{AllocError, Global};
 use unit_trait::Unit;
 
 /// How a session begins.
-#[derive(Clone, Copy, Debug, PartialEq, Eq)]
+#[derive(Drop)]
 pub struct Opening {
+    /// The script whose lines come before those of the input.
+    pub script: Option<DoFile>,
+    /// The script's name, and then its arguments. The first ten of these words count.
+    pub arguments: Vec<String>,
     /// Whether the prompt is printed before each line of the input.
     pub prompt: bool,
     /// The units to pay for lines, at most 2^32: a line costs one, and one more for each whole 512 bytes past its first
@@ -24,7 +32,8 @@ pub struct Opening {
     pub budget: u64,
 }
 
-/// Does all lines of the input, until the session is over. Where the input ends, all files are closed.
+/// Does all lines of the script and of the input, until the session is over. Where the input ends, all files are
+/// closed.
 ///
 /// The notes that it keeps are those of the calls on files that failed in it, one for each, but for the closing that a
 /// refused ATTACH makes. Memory is taken for those of a command before its line is read.
@@ -40,7 +49,8 @@ pub fn perform<U: Unit, C: Source, F: Files, S: Sink>(
     requires command { session.old.command ≤ 2 ^ 32 }
     requires open { AllOpen session.old.machine.slots (F.state files.old).opened }
     ensures told { IsTrue C.tells → IsTrue F.tells → IsTrue S.tells
-        → Performed (λ notes. beginning session.old (F.state files.old).files opening.now (C.left input.old) notes) result
+        → Performed
+        (λ notes. beginning session.old (F.state files.old).files opening.now (C.left input.old) notes) result
         (live_in session.new (F.state files.new).files) (C.left input.new) (S.written out.old) (S.written out.new)
         (notes_said session.old.notes) (notes_said session.new.notes) }
     ensures cause { FinishCause result (S.fault_count out.old) (S.fault_count out.new) (C.fault_count input.old)
@@ -52,10 +62,8 @@ pub fn perform<U: Unit, C: Source, F: Files, S: Sink>(
     ensures around { (base : List Opened) → Around session.old.machine.slots base (F.state files.old).opened
         → Around session.new.machine.slots base (F.state files.new).opened }
 {
-    let mut lines = CommandLoop {
-        reader: LineReader::new(),
-        budget: opening.budget,
-        prompt: opening.prompt,
+    let Ok(mut lines) = begin(alloc, opening) else {
+        return Finish::OutOfMemory;
     };
     'lines: loop {
         match next_line(alloc, session, &mut lines, input, files, out) {
@@ -63,6 +71,57 @@ pub fn perform<U: Unit, C: Source, F: Files, S: Sink>(
             Progress::IsOver(finish) => return finish,
         }
     }
+}
+
+/// The texts of a session before the first one. Memory is taken for the script and its arguments, and the room for
+/// others.
+fn begin(alloc: Global, opening: &Opening) -> Result<CommandLoop, AllocError>
+    ensures { IfOk result (λ lines. lines ≡ record {
+      scripts = first_script opening.now.script opening.now.arguments.items;
+      reader = record { line = []; open_ = true };
+      budget = opening.now.budget;
+      prompt = opening.now.prompt;
+    }) }
+{
+    let mut scripts = ScriptStack::new(alloc)?;
+    match &opening.script {
+        None => (),
+        Some(file) => {
+            let arguments = arguments_of(alloc, &opening.arguments)?;
+            let copy = copy_of(alloc, file)?;
+            scripts.push(OpenScript::begin(copy, arguments));
+        }
+    }
+    Ok(CommandLoop {
+        scripts,
+        reader: LineReader::new(),
+        budget: opening.budget,
+        prompt: opening.prompt,
+    })
+}
+
+/// A copy of a script.
+fn copy_of(alloc: Global, file: &DoFile) -> Result<DoFile, AllocError>
+    ensures { IfOk result (λ copy. copy ≡ file.now) }
+{
+    Ok(DoFile {
+        text: ScriptText::new(Vec::from_slice(alloc, file.text.as_slice())?),
+        echo: file.echo,
+        strict: file.strict,
+    })
+}
+
+/// The first ten words, as the name of a script and its arguments.
+fn arguments_of(alloc: Global, words: &[String]) -> Result<Arguments, AllocError>
+    ensures { IfOk result (λ arguments. arguments ≡ take 10 (map (λ word. string_bytes word) words.now)) }
+{
+    let mut arguments = Arguments::new(alloc);
+    for word in words {
+        if !arguments.is_full() {
+            arguments.push(word.as_bytes())?;
+        }
+    }
+    Ok(arguments)
 }
 
 #[cfg(test)]

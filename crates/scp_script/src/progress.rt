@@ -1,4 +1,5 @@
 use crate::line_reader::LineReader;
+use crate::script_stack::ScriptStack;
 
 /// How a session ended.
 #[derive(Clone, Copy, Debug, PartialEq, Eq)]
@@ -43,9 +44,11 @@ pub enum Progress {
     IsOver(Finish),
 }
 
-/// The texts of a session: the reader of its lines, the units left to pay for them, and whether a prompt asks for each.
+/// The texts of a session: the scripts that are open, the reader of the lines of its input, the units left to pay for
+/// texts, and whether a prompt asks for each line of the input.
 #[derive(Drop)]
 pub struct CommandLoop {
+    pub scripts: ScriptStack,
     pub reader: LineReader,
     pub budget: u64,
     pub prompt: bool,

@@ -1,4 +1,5 @@
 use super::*;
+use crate::words::is_size;
 use std::test::Fail;
 
 fn at(n: u16) -> Addr {
@@ -45,4 +46,66 @@ fn words_are_lent_where_they_stand(rt: HostRuntime) -> Result<(), Fail> {
     assert_eq!(rt; memory.read(at(0o24)), Word(0o51));
     assert_eq!(rt; memory.read(at(0o30)), Word(7));
     Ok(())
+}
+
+#[test]
+fn words_past_the_size_are_lost_for_good(rt: HostRuntime) -> Result<(), Fail> {
+    let mut memory = Memory::new(rt.alloc())?;
+    for n in [0, 0o17777, 0o20000, 0o77777] {
+        memory.write(at(n), Word(0o123456));
+    }
+    memory.set_size(8192);
+    assert_eq!(rt; memory.size(), 8192);
+    memory.write(at(0o20000), Word(7));
+    memory.set_size(32768);
+    assert_eq!(rt; memory.size(), 32768);
+    for (n, word) in [
+        (0, 0o123456),
+        (0o17777, 0o123456),
+        (0o20000, 0),
+        (0o77777, 0),
+    ] {
+        assert_eq!(rt; memory.read(at(n)), Word(word), "at {n:o}");
+    }
+    memory.write(at(0o20000), Word(7));
+    assert_eq!(rt; memory.read(at(0o20000)), Word(7));
+    Ok(())
+}
+
+#[test]
+fn a_machine_may_have_eight_sizes(rt: HostRuntime) -> Result<(), Fail> {
+    let mut memory = Memory::new(rt.alloc())?;
+    for size in [4096, 8192, 12288, 16384, 20480, 24576, 28672, 32768] {
+        memory.set_size(size);
+        assert_eq!(rt; memory.size(), size);
+        memory.write(at(size - 1), Word(5));
+        memory.write(Addr::of_word(Word(size)), Word(6));
+        assert_eq!(rt; memory.read(at(size - 1)), Word(5), "at {size} - 1");
+    }
+    Ok(())
+}
+
+#[test]
+fn a_number_of_k_is_a_size(rt: HostRuntime) {
+    for (k, wanted) in [
+        (0, false),
+        (1, false),
+        (3, false),
+        (4, true),
+        (6, false),
+        (8, true),
+        (12, true),
+        (16, true),
+        (20, true),
+        (24, true),
+        (28, true),
+        (31, false),
+        (32, true),
+        (36, false),
+        (64, false),
+        (0x1_0000_0004, false),
+        (u64::MAX, false),
+    ] {
+        assert_eq!(rt; is_size(k), wanted, "{k}K");
+    }
 }

@@ -90,7 +90,19 @@ const PRINTED: &[u8] =
 #[test]
 fn sessions_print_and_end_as_the_tables_say(rt: HostRuntime) -> Result<(), Fail> {
     let quiet = ["-q"];
-    let cases: [(&[u8], &[u8], u8); 29] = [
+    let cases: [(&[u8], &[u8], u8); 31] = [
+        // the first fault of each line, from the left
+        (
+            b"FOO\nE 8\nSTEP 0\nD SIZE 1\nE XYZ\nD AC0 200000\nGO 1 2\n",
+            b"Unknown command\nInvalid number at 2\nValue out of range\nRead only name\nNo such name\nValue out of range\nToo many arguments at 5\n",
+            0,
+        ),
+        // memory of a size, conditions and texts; a line of a command that is not built is not read
+        (
+            b"SET CPU 4K\nSHOW CPU\nD 10000 1\nASSERT SIZE=10000\nAS PC>0\nECHO  a b \nLOAD\nSAVE 8 9\nB ;\nSET TTI1 DISCONNECT\nSHOW VERSION\n",
+            b"CPU, 4K\nValue out of range\nAssertion failed\n a b \nNot built\nNot built\nNot built\nNot built\nNova simulator, project version 1\n",
+            0,
+        ),
         (FIRST_RUN, FIRST_RUN_PRINTS, 0),
         (b"", b"", 0),
         (b"\n\n", b"", 0),
@@ -104,7 +116,7 @@ fn sessions_print_and_end_as_the_tables_say(rt: HostRuntime) -> Result<(), Fail>
         // nothing behind EXIT is done
         (b"EXIT\nEXAMINE AC0\n", b"", 0),
         (
-            b"FOO\nexamine ac0\nE\tAC0 \nSTEP -1\nATTACH\nE DSK BUSY\nE PTR\nSHOW CPU\nSHOW FOO\n",
+            b"FOO\nexamine ac0\nE\tAC0 \nSTEP -1\nATTACH\nE DSK BUSY\nE PTR\nSHOW BREAK\nSHOW FOO\n",
             b"Unknown command\nAC0:\t000000\nAC0:\t000000\nInvalid number at 5\nToo few arguments\nNot built\nToo few arguments\nNot built\nInvalid name at 5\n",
             0,
         ),
@@ -278,6 +290,29 @@ fn a_limit_ends_each_run(rt: HostRuntime) -> Result<(), Fail> {
 }
 
 #[test]
+fn a_budget_ends_the_session_before_a_line(rt: HostRuntime) -> Result<(), Fail> {
+    let lines = b"ECHO a\nECHO b\nECHO c\n";
+    let seen = run(rt.alloc(), &["-q", "-m", "2"], lines, 4096, None)?;
+    assert_eq!(rt; seen.status, 104);
+    assert_eq!(rt; seen.console.as_slice(), b"a\nb\n".as_slice());
+    assert_eq!(rt; seen.left.as_slice(), b"CHO c\n".as_slice());
+    let seen = run(rt.alloc(), &["-m", "3", "-q"], lines, 4096, None)?;
+    assert_eq!(rt; seen.status, 0);
+    let most = ["-q", "-m", "4294967296"];
+    let seen = run(rt.alloc(), &most, lines, 4096, None)?;
+    assert_eq!(rt; seen.status, 0);
+    for budget in ["0", "4294967297", "02", "", "-1", "1x"] {
+        let seen = run(rt.alloc(), &["-m", budget], lines, 4096, None)?;
+        assert_eq!(rt; seen.status, 100, "at {budget:?}");
+    }
+    for words in [["-m", "5", "-m"], ["-q", "-q", "-m"], ["-m", "-q", "5"]] {
+        let seen = run(rt.alloc(), &words, lines, 4096, None)?;
+        assert_eq!(rt; seen.status, 100, "at {words:?}");
+    }
+    Ok(())
+}
+
+#[test]
 fn the_prompt_comes_before_each_line(rt: HostRuntime) -> Result<(), Fail> {
     let seen = run(rt.alloc(), &[], b"", 4096, None)?;
     assert_eq!(rt; seen.console.as_slice(), b"sim> ".as_slice());
@@ -310,6 +345,47 @@ fn words_outside_the_grammar_print_the_usage(rt: HostRuntime) -> Result<(), Fail
     let seen = run(rt.alloc(), &none, b"", 6, None)?;
     assert_eq!(rt; seen.status, 102, "a console fault prevails");
     assert_eq!(rt; seen.console.as_slice(), b"usage:".as_slice());
+    Ok(())
+}
+
+#[test]
+fn a_script_ends_the_words(rt: HostRuntime) -> Result<(), Fail> {
+    let long = String::from_utf8(vec![in rt.alloc(); b'n'; 256]?).unwrap_or(String::new(
+        rt.alloc(),
+    ));
+    // in the grammar: the script is looked for, and is not there
+    let words: [&[&str]; 6] = [
+        &["demo"],
+        &["-q", "demo"],
+        &["demo", "-q"],
+        &["-l", "5", "demo", "-x", "--"],
+        &["demo", "1", "2", "3", "4", "5", "6", "7", "8", "9"],
+        &["-m", "5", "demo", "-k"],
+    ];
+    for word in words {
+        let seen = run(rt.alloc(), word, FIRST_RUN, 4096, None)?;
+        assert_eq!(rt; seen.console.as_slice(), b"Cannot open demo\n".as_slice());
+        assert_eq!(rt; seen.status, 101);
+        assert!(rt; !seen.machine);
+        assert_eq!(rt; seen.left.as_slice(), FIRST_RUN, "nothing was read");
+    }
+    // and outside it
+    let words: [&[&str]; 7] = [
+        &["demo", "1", "2", "3", "4", "5", "6", "7", "8", "9", "10"],
+        &["demo", ""],
+        &["demo", "a", "", "b"],
+        &["", "demo"],
+        &["-"],
+        &["--", "demo"],
+        &[long.as_str()],
+    ];
+    for word in words {
+        let seen = run(rt.alloc(), word, FIRST_RUN, 4096, None)?;
+        assert_eq!(rt; seen.status, 100, "at {word:?}");
+    }
+    let seen = run(rt.alloc(), &["demo"], b"", 8, None)?;
+    assert_eq!(rt; seen.status, 102, "a console fault prevails");
+    assert_eq!(rt; seen.console.as_slice(), b"Cannot o".as_slice());
     Ok(())
 }
 

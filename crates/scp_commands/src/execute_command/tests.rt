@@ -7,6 +7,7 @@ ghost use Rattle.unit_files.specs.Open.{AllOpen};
 use super::*;
 use clock_unit::Clk;
 use expect_actions::Keys;
+use fault_notes::Subject;
 use host_files::{ByteSink, FileCall, MemFiles};
 use nova_machine::Stop;
 use paper_tape::{Lpt, Ptp, Ptr};
@@ -15,22 +16,45 @@ use std::process::Abort;
 use std::test::Fail;
 use tty_units::{Tti, Tto};
 
-/// A line, the room of the console that it is done on, what it answers, and what it prints. Where no answer is given, any
-/// will do.
-type Case = (
-    &'static [u8],
-    usize,
-    Option<Result<Next, CommandFault>>,
-    &'static [u8],
-);
+/// What a line is to answer.
+#[derive(Clone, Copy)]
+enum Wanted {
+    Goes,
+    Ran(Stop),
+    /// A script that has these bytes; whether its lines are echoed; and whether a failed one ends it.
+    Does(&'static [u8], bool, bool),
+    GoesTo,
+    Exits(u8),
+    Refuses(CommandFault),
+    Anything,
+}
+
+/// A line, the room of the console that it is done on, what it answers, and what it prints.
+type Case = (&'static [u8], usize, Wanted, &'static [u8]);
 
 /// A note: its time, its call, and how many bytes were written.
 type Note = (u64, FileCall, u64);
 
-const GOES: Option<Result<Next, CommandFault>> = Some(Ok(Next::Go));
+const GOES: Wanted = Wanted::Goes;
 
-fn refuses(fault: CommandFault) -> Option<Result<Next, CommandFault>> {
-    Some(Err(fault))
+fn refuses(fault: CommandFault) -> Wanted {
+    Wanted::Refuses(fault)
+}
+
+/// Whether an answer is the one that is wanted.
+fn is_wanted(wanted: Wanted, answer: &Result<Next, CommandFault>) -> bool {
+    match (wanted, answer) {
+        (Wanted::Anything, _) => true,
+        (Wanted::Goes, Ok(Next::Go)) => true,
+        (Wanted::GoesTo, Ok(Next::Goto)) => true,
+        (Wanted::Ran(stop), Ok(Next::Ran(other))) => stop == *other,
+        (Wanted::Exits(status), Ok(Next::Exit(other))) => status == *other,
+        (Wanted::Refuses(fault), Err(other)) => fault == *other,
+        (Wanted::Does(text, echo, strict), Ok(Next::Do(file))) => {
+            file.text.as_slice() == text && file.echo == echo && file.strict == strict
+        }
+        _ => false,
+    }
 }
 
 /// Does lines in one session, one behind another. Answers how many are left from the first one on that answers or prints
@@ -53,7 +77,7 @@ fn left<U: Unit, F: Files>(
                 return Ok(cases.len());
             }
             let answer = execute(alloc, session, &command, files, &mut out);
-            if wanted.is_some_and(|wanted| wanted != answer) || out.bytes() != text {
+            if !is_wanted(wanted, &answer) || out.bytes() != text {
                 return Ok(cases.len());
             }
             left(alloc, session, files, others)
@@ -116,22 +140,22 @@ fn commands_answer_and_print(rt: HostRuntime) -> Result<(), Fail> {
         (
             b"STEP",
             100,
-            Some(Ok(Next::Ran(Stop::Stepped))),
+            Wanted::Ran(Stop::Stepped),
             b"\nStep expired, PC: 00007 (000000)\n",
         ),
         (b"D 7 63077", 0, GOES, b""),
         (
             b"CONT",
             100,
-            Some(Ok(Next::Ran(Stop::Halt))),
+            Wanted::Ran(Stop::Halt),
             b"\nHALT instruction, PC: 00010 (000000)\n",
         ),
         (b"GO 100000", 100, refuses(CommandFault::OutOfRange), b""),
         (b"SHOW TIME", 7, refuses(CommandFault::Console), b"Time: 2"),
         (b"SHOW TIME", 8, GOES, b"Time: 2\n"),
-        (b"SHOW CPU", 100, refuses(CommandFault::NotBuilt), b""),
+        (b"SHOW BREAK", 100, refuses(CommandFault::NotBuilt), b""),
         (b"EXIT 100", 100, refuses(CommandFault::OutOfRange), b""),
-        (b"EXIT 99", 0, Some(Ok(Next::Exit(99))), b""),
+        (b"EXIT 99", 0, Wanted::Exits(99), b""),
     ];
     let mut files = MemFiles::with_room(rt.alloc(), 0)?;
     session_of(&rt, rt.alloc(), &mut files, &cases, &[])
@@ -149,13 +173,111 @@ fn a_guest_prints_and_waits(rt: HostRuntime) -> Result<(), Fail> {
         (
             b"GO 100",
             100,
-            Some(Ok(Next::Ran(Stop::Halt))),
+            Wanted::Ran(Stop::Halt),
             b"A\nHALT instruction, PC: 00104 (000000)\n",
         ),
         (b"SHOW TIME", 100, GOES, b"Time: 103\n"),
         (b"SHOW QUEUE", 100, GOES, b"TTI 97\n"),
         (b"GO 100", 0, refuses(CommandFault::Console), b""),
         (b"SHOW TIME", 100, GOES, b"Time: 203\n"),
+    ];
+    let mut files = MemFiles::with_room(rt.alloc(), 0)?;
+    session_of(&rt, rt.alloc(), &mut files, &cases, &[])
+}
+
+#[test]
+fn texts_are_echoed_and_conditions_tested(rt: HostRuntime) -> Result<(), Fail> {
+    let cases: [Case; 18] = [
+        (b"ECHO", 100, GOES, b"\n"),
+        (b"ec  two  words ", 100, GOES, b" two  words \n"),
+        (b"ECHO stop", 3, refuses(CommandFault::Console), b"sto"),
+        (b"ECHO stop", 4, refuses(CommandFault::Console), b"stop"),
+        (b"D 100 7", 0, GOES, b""),
+        (b"ASSERT 100=7", 0, GOES, b""),
+        (b"as 100>=10", 100, refuses(CommandFault::AssertFailed), b""),
+        (b"ASSERT PC=0", 0, GOES, b""),
+        (
+            b"ASSERT AC0!=0",
+            100,
+            refuses(CommandFault::AssertFailed),
+            b"",
+        ),
+        (b"ASSERT CLK SEL=0", 0, GOES, b""),
+        (
+            b"ASSERT CLK SEL>0",
+            100,
+            refuses(CommandFault::AssertFailed),
+            b"",
+        ),
+        (
+            b"ASSERT CLK SEL=4",
+            100,
+            refuses(CommandFault::OutOfRange),
+            b"",
+        ),
+        (b"ASSERT 77777=0", 0, GOES, b""),
+        (
+            b"ASSERT 100000=0",
+            100,
+            refuses(CommandFault::OutOfRange),
+            b"",
+        ),
+        (
+            b"ASSERT 100=200000",
+            100,
+            refuses(CommandFault::OutOfRange),
+            b"",
+        ),
+        (b"ASSERT XYZ=0", 100, refuses(CommandFault::NoSuchName), b""),
+        (
+            b"ASSERT DSK BUSY=0",
+            100,
+            refuses(CommandFault::NotBuilt),
+            b"",
+        ),
+        (b"E 100", 100, GOES, b"00100:\t000007\n"),
+    ];
+    let mut files = MemFiles::with_room(rt.alloc(), 0)?;
+    session_of(&rt, rt.alloc(), &mut files, &cases, &[])
+}
+
+#[test]
+fn memory_is_given_a_size(rt: HostRuntime) -> Result<(), Fail> {
+    let out_of_range = refuses(CommandFault::OutOfRange);
+    let cases: [Case; 23] = [
+        (
+            b"SHOW VERSION",
+            100,
+            GOES,
+            b"Nova simulator, project version 1\n",
+        ),
+        (b"SHOW CPU", 100, GOES, b"CPU, 32K\n"),
+        (b"D 7777,17777,77777 5", 0, GOES, b""),
+        (b"SET CPU 8K", 0, GOES, b""),
+        (b"SHOW CPU", 7, refuses(CommandFault::Console), b"CPU, 8K"),
+        (b"E 17777", 100, GOES, b"17777:\t000005\n"),
+        (b"E 20000", 100, out_of_range, b""),
+        (b"D 20000 1", 100, out_of_range, b""),
+        (b"ASSERT 20000=0", 100, out_of_range, b""),
+        (b"SET CPU 4K", 0, GOES, b""),
+        (b"E SIZE", 100, GOES, b"SIZE:\t010000\n"),
+        (b"SET CPU 0K", 100, out_of_range, b""),
+        (b"SET CPU 5K", 100, out_of_range, b""),
+        (b"SET CPU 36K", 100, out_of_range, b""),
+        (b"SET CPU 18446744073709551615K", 100, out_of_range, b""),
+        (b"E 7777", 100, GOES, b"07777:\t000005\n"),
+        (b"SHOW CPU", 100, GOES, b"CPU, 4K\n"),
+        (b"SET CPU 12K", 0, GOES, b""),
+        (b"SHOW CPU", 100, GOES, b"CPU, 12K\n"),
+        (b"SET CPU 16K", 0, GOES, b""),
+        (b"SET CPU 32K", 0, GOES, b""),
+        (b"SHOW CPU", 100, GOES, b"CPU, 32K\n"),
+        (
+            b"E 7777-10000,17777,77777",
+            100,
+            GOES,
+            b"07777:\t000005\n10000:\t000000\n17777:\t000000\n77777:\t000000\n",
+        ),
     ];
     let mut files = MemFiles::with_room(rt.alloc(), 0)?;
     session_of(&rt, rt.alloc(), &mut files, &cases, &[])
@@ -186,7 +308,7 @@ fn files_are_attached_shown_and_detached(rt: HostRuntime) -> Result<(), Fail> {
         (b"SHOW PTR", 100, GOES, b"PTR, attached to p, read only\n"),
         (b"ATTACH LPT old", 0, GOES, b""),
         (b"E LPT POS", 100, GOES, b"POS:\t000000003\n"),
-        (b"EXIT 3", 0, Some(Ok(Next::Exit(3))), b""),
+        (b"EXIT 3", 0, Wanted::Exits(3), b""),
         (b"SHOW PTR", 100, GOES, b"PTR, not attached\n"),
     ];
     let mut files = MemFiles::with_room(rt.alloc(), 8)?;
@@ -205,7 +327,7 @@ const PUNCHES: [Case; 8] = [
     (
         b"GO 100",
         100,
-        None,
+        Wanted::Anything,
         b"\nFile error on PTP, PC: 00102 (000777)\n",
     ),
     (b"E PTP BUSY,POS", 100, GOES, b"BUSY:\t1\nPOS:\t000000002\n"),
@@ -232,7 +354,7 @@ fn a_failed_write_stops_the_run_and_is_noted(rt: HostRuntime) -> Result<(), Fail
 #[test]
 fn a_failed_opening_and_a_failed_closing_are_noted(rt: HostRuntime) -> Result<(), Fail> {
     let opening: [Case; 2] = [
-        (b"ATTACH -N PTP out", 0, None, b""),
+        (b"ATTACH -N PTP out", 0, Wanted::Anything, b""),
         (b"SHOW PTP", 100, GOES, b"PTP, not attached\n"),
     ];
     let mut files = MemFiles::with_room(rt.alloc(), 8)?;
@@ -258,4 +380,51 @@ fn a_failed_opening_and_a_failed_closing_are_noted(rt: HostRuntime) -> Result<()
         &closing,
         &[(0, FileCall::Closing, 0)],
     )
+}
+
+/// The bytes of a script.
+const SCRIPT: &[u8] = b"E 0\nECHO x\n";
+
+/// The answer that is its bytes, without options.
+const DOES: Wanted = Wanted::Does(SCRIPT, false, false);
+
+#[test]
+fn scripts_are_read_and_labels_looked_for(rt: HostRuntime) -> Result<(), Fail> {
+    let cases: [Case; 8] = [
+        (b"DO s", 0, DOES, b""),
+        (b"do -v s a b", 0, Wanted::Does(SCRIPT, true, false), b""),
+        (b"DO -E s", 0, Wanted::Does(SCRIPT, false, true), b""),
+        (b"DO -V -E s", 0, Wanted::Does(SCRIPT, true, true), b""),
+        (b"DO empty", 0, Wanted::Does(b"", false, false), b""),
+        (b"DO t", 0, refuses(CommandFault::NoFile), b""),
+        (b"GOTO end", 0, Wanted::GoesTo, b""),
+        (b"E 0", 100, GOES, b"00000:\t000000\n"),
+    ];
+    let mut files = MemFiles::with_room(rt.alloc(), 64)?;
+    assert!(rt; files.add_file("s", SCRIPT).is_ok());
+    assert!(rt; files.add_file("empty", b"").is_ok());
+    session_of(&rt, rt.alloc(), &mut files, &cases, &[])
+}
+
+#[test]
+fn each_failed_call_on_a_script_is_noted(rt: HostRuntime) -> Result<(), Fail> {
+    let failed = refuses(CommandFault::FileFailed(Subject::Script));
+    for (place, call, wanted) in [
+        (0, FileCall::Opening, failed),
+        (1, FileCall::Length, failed),
+        (2, FileCall::Read, failed),
+        (3, FileCall::Closing, DOES),
+    ] {
+        let mut files = MemFiles::with_room(rt.alloc(), 64)?;
+        assert!(rt; files.add_file("s", SCRIPT).is_ok());
+        assert!(rt; files.fail_call(place, 0).is_ok());
+        session_of(
+            &rt,
+            rt.alloc(),
+            &mut files,
+            &[(b"DO s", 0, wanted, b""), (b"DO s", 0, DOES, b"")],
+            &[(0, call, 0)],
+        )?;
+    }
+    Ok(())
 }

@@ -7,7 +7,7 @@ use crate::fault::ExamineFault;
 use crate::test_lists::{bare_machine, put};
 use clock_unit::Clk;
 use nova_machine::{CpuReg, Machine};
-use scp_parser::{Condition, Item, Name, Rel, Test};
+use operand_forms::{Condition, Item, Name, Rel, Test};
 use std::process::Abort;
 use std::test::Fail;
 use tty_units::{Tti, Tto};

@@ -8,7 +8,7 @@ use crate::test_lists::{bare_machine, device_list, list_of, put};
 use clock_unit::Clk;
 use host_files::{ByteSink, Sink, put_all};
 use nova_machine::{CpuReg, Machine};
-use scp_parser::{Condition, Item, Name, Rel};
+use operand_forms::{Condition, Item, Name, Rel};
 use std::process::Abort;
 use std::test::Fail;
 use tty_units::{Tti, Tto};

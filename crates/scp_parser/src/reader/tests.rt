@@ -1,6 +1,6 @@
 use super::*;
 use crate::command::Shown;
-use crate::listing::{Condition, Item, Listing, Name, Rel};
+use operand_forms::{Condition, Item, Listing, Name, Rel};
 use unit_trait::{Kind, UnitName};
 
 /// What a line asks for, without what EXAMINE and DEPOSIT work on.
@@ -407,22 +407,6 @@ fn answers_the_first_fault(rt: HostRuntime) {
         ("E1", ParseFault::Unknown),
         ("  ; no comment", ParseFault::Unknown),
         ("1", ParseFault::Unknown),
-        ("B", ParseFault::NotBuilt),
-        ("NOB", ParseFault::NotBuilt),
-        ("nobreak 8 9", ParseFault::NotBuilt),
-        ("EXP", ParseFault::NotBuilt),
-        ("NOE", ParseFault::NotBuilt),
-        ("SEN", ParseFault::NotBuilt),
-        ("NOS", ParseFault::NotBuilt),
-        ("REST", ParseFault::NotBuilt),
-        ("AS", ParseFault::NotBuilt),
-        ("L", ParseFault::NotBuilt),
-        ("SA", ParseFault::NotBuilt),
-        ("DU", ParseFault::NotBuilt),
-        ("SET", ParseFault::NotBuilt),
-        ("DO", ParseFault::NotBuilt),
-        ("GOT", ParseFault::NotBuilt),
-        ("EC", ParseFault::NotBuilt),
         ("E", ParseFault::Missing),
         ("E \t", ParseFault::Missing),
         ("E -M", ParseFault::Missing),

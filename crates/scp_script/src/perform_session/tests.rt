@@ -25,6 +25,8 @@ fn sessions_finish_by_their_input_console_and_budget(rt: HostRuntime) -> Result<
         let units: Vec<Clk> = Vec::new(alloc);
         let mut session = Session::new(alloc, units, Keys::none(alloc), 1 << 48)?;
         let opening = Opening {
+            script: None,
+            arguments: Vec::new(alloc),
             prompt: true,
             budget,
         };
@@ -51,6 +53,8 @@ fn a_failed_read_finishes_a_session(rt: HostRuntime) -> Result<(), Fail> {
     let units: Vec<Clk> = Vec::new(alloc);
     let mut session = Session::new(alloc, units, Keys::none(alloc), 1 << 48)?;
     let opening = Opening {
+        script: None,
+        arguments: Vec::new(alloc),
         prompt: false,
         budget: 9,
     };
@@ -68,5 +72,203 @@ fn a_failed_read_finishes_a_session(rt: HostRuntime) -> Result<(), Fail> {
     );
     assert!(rt; finish == Finish::Input);
     assert!(rt; input.faults() == 1);
+    Ok(())
+}
+
+/// A session that is done in the files of a test: the bytes of the script that it begins with, whether its lines are
+/// printed and its first failed command ends it; the words of its name and its arguments; the lines of the input; the
+/// budget; and how it is to finish, and what to print.
+#[derive(Clone, Copy)]
+struct Case {
+    script: &'static [u8],
+    echo: bool,
+    strict: bool,
+    words: &'static str,
+    input: &'static [u8],
+    budget: u64,
+    finish: Finish,
+    text: &'static [u8],
+}
+
+const PLAIN: Case = Case {
+    script: b"",
+    echo: false,
+    strict: false,
+    words: "main",
+    input: b"",
+    budget: 99,
+    finish: Finish::EndOfInput,
+    text: b"",
+};
+
+/// The name of a script and its arguments, between spaces.
+fn words_of(alloc: Global, text: &str) -> Result<Vec<String>, AllocError> {
+    let mut words = Vec::new(alloc);
+    for word in text.split(' ') {
+        words.push(String::from_str(alloc, word)?)?;
+    }
+    Ok(words)
+}
+
+/// Does a session, and answers whether it finishes and prints as it is to.
+fn does(
+    rt: &HostRuntime,
+    case: Case,
+    scripts: &[(&'static str, &'static [u8])],
+) -> Result<bool, Fail> {
+    let alloc = rt.alloc();
+    let units: Vec<Clk> = Vec::new(alloc);
+    let mut session = Session::new(alloc, units, Keys::none(alloc), 1 << 48)?;
+    let opening = Opening {
+        script: Some(DoFile {
+            text: ScriptText::new(Vec::from_slice(alloc, case.script)?),
+            echo: case.echo,
+            strict: case.strict,
+        }),
+        arguments: words_of(alloc, case.words)?,
+        prompt: true,
+        budget: case.budget,
+    };
+    let mut input = ByteSource::new(alloc, case.input)?;
+    let mut files = MemFiles::with_room(alloc, 4096)?;
+    for (name, bytes) in scripts {
+        files.add_file(name, bytes)?;
+    }
+    let mut out = ByteSink::with_room(alloc, 4096)?;
+    let finish = perform(
+        alloc,
+        &mut session,
+        &opening,
+        &mut input,
+        &mut files,
+        &mut out,
+    );
+    Ok(finish == case.finish && out.bytes() == case.text)
+}
+
+#[test]
+fn the_lines_of_a_script_come_before_those_of_the_input(rt: HostRuntime) -> Result<(), Fail> {
+    let cases = [
+        Case {
+            script: b"ECHO %1-%2\nASSERT PC=1\nECHO never\n",
+            words: "main a b",
+            input: b"ECHO c\n",
+            text: b"a-b\nAssertion failed\nsim> c\nsim> ",
+            ..PLAIN
+        },
+        Case {
+            script: b"ECHO a\nNONSENSE\nASSERT PC=0\nECHO b",
+            text: b"a\nUnknown command\nb\nsim> ",
+            ..PLAIN
+        },
+        Case {
+            script: b"ECHO a\r\nECHO b\r",
+            text: b"a\nb\r\nsim> ",
+            ..PLAIN
+        },
+        Case {
+            script: b"ECHO a\nEXIT 7\nECHO b\n",
+            input: b"ECHO c\n",
+            finish: Finish::Exit(7),
+            text: b"a\n",
+            ..PLAIN
+        },
+        Case {
+            script: b"ECHO a\nNONSENSE\nECHO b\n",
+            strict: true,
+            text: b"a\nUnknown command\nsim> ",
+            ..PLAIN
+        },
+        Case {
+            script: b"ECHO %0 %1\n; %2\n",
+            echo: true,
+            words: "main x yy",
+            text: b"do> ECHO main x\nmain x\ndo> ; yy\nsim> ",
+            ..PLAIN
+        },
+    ];
+    for case in cases {
+        assert!(rt; does(&rt, case, &[])?);
+    }
+    Ok(())
+}
+
+#[test]
+fn a_goto_goes_to_the_first_such_label_of_its_script(rt: HostRuntime) -> Result<(), Fail> {
+    let cases = [
+        Case {
+            script: b"GOTO end\nECHO a\n:end\nECHO b\n:end\nECHO c\n",
+            text: b"b\nc\nsim> ",
+            ..PLAIN
+        },
+        Case {
+            script: b":again\nECHO a\nGOTO again\n",
+            budget: 5,
+            finish: Finish::Commands,
+            text: b"a\na\n",
+            ..PLAIN
+        },
+        Case {
+            script: b"GOTO nowhere\nECHO a\n",
+            input: b"GOTO end\n",
+            text: b"Label not found\na\nsim> Not in a DO file\nsim> ",
+            ..PLAIN
+        },
+        Case {
+            script: b"; one\n\n",
+            budget: 2,
+            input: b"ECHO a\n",
+            finish: Finish::Commands,
+            text: b"sim> ",
+            ..PLAIN
+        },
+    ];
+    for case in cases {
+        assert!(rt; does(&rt, case, &[])?);
+    }
+    Ok(())
+}
+
+#[test]
+fn a_script_may_begin_others(rt: HostRuntime) -> Result<(), Fail> {
+    let scripts: [(&'static str, &'static [u8]); 5] = [
+        ("inner", b"ECHO <%0 %1 %2>\nDO -V last\nECHO %2\n"),
+        ("last", b"ECHO deep"),
+        ("self", b"DO self\n"),
+        ("fails", b"NONSENSE\nECHO no\n"),
+        ("asserts", b"ASSERT PC=1\nECHO no\n"),
+    ];
+    let cases = [
+        Case {
+            script: b"DO inner a b c\nECHO end\n",
+            text: b"<inner a b>\ndo> ECHO deep\ndeep\nb\nend\nsim> ",
+            ..PLAIN
+        },
+        Case {
+            script: b"",
+            input: b"DO self\nECHO a\n",
+            text: b"sim> DO nested too deeply\nsim> a\nsim> ",
+            ..PLAIN
+        },
+        Case {
+            script: b"DO -E fails\nECHO a\n",
+            text: b"Unknown command\na\nsim> ",
+            ..PLAIN
+        },
+        Case {
+            script: b"DO -E fails\nECHO a\n",
+            strict: true,
+            text: b"Unknown command\nsim> ",
+            ..PLAIN
+        },
+        Case {
+            script: b"DO asserts\nECHO a\nDO missing\nECHO b\n",
+            text: b"Assertion failed\na\nFile not found\nb\nsim> ",
+            ..PLAIN
+        },
+    ];
+    for case in cases {
+        assert!(rt; does(&rt, case, &scripts)?);
+    }
     Ok(())
 }

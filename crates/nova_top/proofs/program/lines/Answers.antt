@@ -1,8 +1,6 @@
-use Rattle.std.proofs.Common.{refl, ap, sym, ◌∙◌, subst, List, Option}
-use Rattle.host_files.specs.State.{Opened}
+use Rattle.std.proofs.Common.{refl, ap, sym, subst, List, Option}
 use Rattle.unit_files.specs.Open.{AllOpen, Around}
 use Rattle.unit_files.specs.Attachments.{Held}
-use Rattle.nova_machine.specs.Machine.{MachineState}
 use Rattle.scp_commands.specs.Live.{CommandState}
 use Rattle.nova_top.proofs.ProgramLemmas.{lines-told}
 use Rattle.nova_top.proofs.program.lines.Goals as goal
@@ -13,9 +11,9 @@ returns-clause-ended g c = (
   c.session.inside.machine,
   c.status.ensures,
   refl,
-  (λ source files sink. lines-told c.args.session c.perform-finish.new.session _ c.args.options (g.F.Files.state c.args.files.now).files (g.F.Files.state c.perform-finish.new.files).files
+  (λ source files sink. lines-told c.args.session c.perform-finish.new.session _ c.args.opening.now (g.F.Files.state c.args.files.now).files (g.F.Files.state c.perform-finish.new.files).files
       (g.C.Source.left c.args.input.now) (g.C.Source.left c.perform-finish.new.input) (g.S.Sink.written c.args.output.now) (g.S.Sink.written c.perform-finish.new.out) c.perform-finish.result
-      c.requires.command c.requires.limit c.session.view_is c.perform-finish.ensures.keys (c.perform-finish.ensures.told source files sink)),
+      c.session.view_is c.perform-finish.ensures.keys (c.perform-finish.ensures.told source files sink)),
   c.perform-finish.ensures.cause,
 )
 

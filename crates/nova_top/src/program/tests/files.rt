@@ -23,6 +23,8 @@ struct Row<'a> {
     before: &'a [(&'a str, &'a [u8])],
     /// The number of the call on files that fails, and how many bytes it writes.
     fails: Option<(u64, usize)>,
+    /// How many bytes the console takes.
+    room: usize,
     lines: &'a [u8],
     prints: &'a [u8],
     status: u8,
@@ -35,6 +37,7 @@ const PLAIN: Row<'static> = Row {
     words: &["-q"],
     before: &[],
     fails: None,
+    room: 4096,
     lines: b"",
     prints: b"",
     status: 0,
@@ -58,7 +61,7 @@ fn plays<U: Unit>(rt: &impl Abort, alloc: Global, units: Vec<U>, row: Row<'_>) -
         files.fail_call(number, done)?;
     }
     let mut input = ByteSource::new(alloc, row.lines)?;
-    let mut output = ByteSink::with_room(alloc, 4096)?;
+    let mut output = ByteSink::with_room(alloc, row.room)?;
     let ending = simulate(
         alloc,
         words.as_slice(),
@@ -76,7 +79,7 @@ fn plays<U: Unit>(rt: &impl Abort, alloc: Global, units: Vec<U>, row: Row<'_>) -
     for file in row.after {
         assert!(rt; files.file_bytes(file.0) == file.1, "{}", file.0);
     }
-    if ending.status > 100 {
+    if matches!(ending.status, 101 | 105) {
         let mut rest = [0; 8];
         assert!(rt; ending.machine.is_none());
         assert!(rt;
@@ -149,6 +152,74 @@ fn the_third_byte_of_a_punch_fails(rt: HostRuntime) -> Result<(), Fail> {
         ..PLAIN
     };
     comes(&rt, rt.alloc(), row)
+}
+
+/// A program that punches As without end; its file is looked for, made and measured, and then each byte is a call.
+const LOOPS: Row<'static> = Row {
+    lines: b"D AC0 101\nD 100 61113\nD 101 63613\nD 102 777\nD 103 100\nATTACH PTP out\nGO 100\n",
+    prints: b"\nFile error on PTP, PC: 00102 (000777)\n",
+    ..PLAIN
+};
+
+#[test]
+fn each_byte_of_a_punch_fails_in_turn(rt: HostRuntime) -> Result<(), Fail> {
+    let rows: [(u64, usize, &[Note], &[u8]); 6] = [
+        (3, 0, &[(7, 200, FileCall::Write, 0)], b""),
+        (3, 1, &[(7, 200, FileCall::Write, 1)], b"A"),
+        (4, 0, &[(7, 403, FileCall::Write, 0)], b"A"),
+        (4, 1, &[(7, 403, FileCall::Write, 1)], b"AA"),
+        (5, 0, &[(7, 606, FileCall::Write, 0)], b"AA"),
+        (6, 0, &[(7, 809, FileCall::Write, 0)], b"AAA"),
+    ];
+    for (number, done, notes, bytes) in rows {
+        let row = Row {
+            fails: Some((number, done)),
+            notes,
+            after: &[("out", Some(bytes))],
+            ..LOOPS
+        };
+        comes(&rt, rt.alloc(), row)?;
+    }
+    Ok(())
+}
+
+/// A file that was attached, and then a session that ends early: no call closes it, so that the call that would have
+/// failed is not made.
+const STAYS_OPEN: Row<'static> = Row {
+    fails: Some((3, 0)),
+    lines: b"ATTACH PTP out\nE C\n",
+    after: &[("out", Some(b""))],
+    ..PLAIN
+};
+
+#[test]
+fn files_stay_open_at_an_early_end(rt: HostRuntime) -> Result<(), Fail> {
+    let refused = Row {
+        room: 3,
+        prints: b"C:\t",
+        status: 102,
+        ..STAYS_OPEN
+    };
+    comes(&rt, rt.alloc(), refused)?;
+    let unpaid = Row {
+        words: &["-q", "-m", "1"],
+        status: 104,
+        ..STAYS_OPEN
+    };
+    comes(&rt, rt.alloc(), unpaid)?;
+    let closed = Row {
+        prints: b"C:\t0\n",
+        notes: &[(2, 0, FileCall::Closing, 0)],
+        ..STAYS_OPEN
+    };
+    comes(&rt, rt.alloc(), closed)?;
+    let left = Row {
+        lines: b"ATTACH PTP out\nEXIT 3\n",
+        status: 3,
+        notes: &[(2, 0, FileCall::Closing, 0)],
+        ..STAYS_OPEN
+    };
+    comes(&rt, rt.alloc(), left)
 }
 
 /// A program that punches one character, over a file that is not there: it is looked for, made and measured, the byte is
@@ -284,4 +355,133 @@ fn each_call_on_a_keys_file_fails_in_turn(rt: HostRuntime) -> Result<(), Fail> {
         comes(&rt, rt.alloc(), row)?;
     }
     Ok(())
+}
+
+/// A session whose script prints its arguments and ends at an assertion that fails.
+const SCRIPTED: Row<'static> = Row {
+    words: &["-q", "s", "a", "b"],
+    before: &[("s", b"ECHO %1-%2\nASSERT AC0=0\nASSERT AC0=1\nECHO no\n")],
+    lines: b"ECHO end\n",
+    prints: b"a-b\nAssertion failed\nend\n",
+    ..PLAIN
+};
+
+#[test]
+fn a_script_comes_before_the_input(rt: HostRuntime) -> Result<(), Fail> {
+    comes(&rt, rt.alloc(), SCRIPTED)?;
+    // words behind it are its arguments, so the prompt is on
+    let prompted = Row {
+        words: &["s", "-q"],
+        before: &[("s", b"ECHO %0 %1\n")],
+        prints: b"s -q\nsim> end\nsim> ",
+        ..SCRIPTED
+    };
+    comes(&rt, rt.alloc(), prompted)?;
+    let left = Row {
+        before: &[("s", b"EXIT 7\n")],
+        prints: b"",
+        status: 7,
+        ..SCRIPTED
+    };
+    comes(&rt, rt.alloc(), left)?;
+    let unpaid = Row {
+        words: &["-q", "-m", "2", "s", "a", "b"],
+        prints: b"a-b\n",
+        status: 104,
+        ..SCRIPTED
+    };
+    comes(&rt, rt.alloc(), unpaid)?;
+    // it reads the keys file of the words, which comes first
+    let keyed = Row {
+        words: &["-q", "-k", "k", "-l", "200", "s"],
+        before: &[
+            ("k", b"50 \"A\"\n"),
+            ("s", b"D 100 60110\nD 101 400\nGO 100\nE TTI BUF\n"),
+        ],
+        prints: b"\nInstruction limit, PC: 00101 (000400)\nBUF:\t101\nend\n",
+        ..SCRIPTED
+    };
+    comes(&rt, rt.alloc(), keyed)
+}
+
+#[test]
+fn scripts_and_keys_files_are_refused(rt: HostRuntime) -> Result<(), Fail> {
+    let missing = Row {
+        before: &[],
+        prints: b"Cannot open s\n",
+        status: 101,
+        ..SCRIPTED
+    };
+    comes(&rt, rt.alloc(), missing)?;
+    // the keys file is refused before the script is looked at
+    let both = Row {
+        words: &["-k", "k", "s"],
+        prints: b"Cannot open k\n",
+        ..missing
+    };
+    comes(&rt, rt.alloc(), both)?;
+    let faulty = Row {
+        before: &[("k", b"x\n")],
+        fails: Some((3, 0)),
+        prints: b"Bad keys file at 0\n",
+        status: 105,
+        notes: &[(0, 0, FileCall::Closing, 0)],
+        ..both
+    };
+    comes(&rt, rt.alloc(), faulty)?;
+    let second = Row {
+        before: &[("k", b"1 \"A\"\n")],
+        prints: b"Cannot open s\n",
+        ..both
+    };
+    comes(&rt, rt.alloc(), second)
+}
+
+#[test]
+fn each_call_on_a_script_fails_in_turn(rt: HostRuntime) -> Result<(), Fail> {
+    let unread = Row {
+        prints: b"Cannot open s\n",
+        status: 101,
+        ..SCRIPTED
+    };
+    let rows: [Row; 5] = [
+        Row {
+            fails: Some((0, 0)),
+            notes: &[(0, 0, FileCall::Opening, 0)],
+            ..unread
+        },
+        Row {
+            fails: Some((1, 0)),
+            notes: &[(0, 0, FileCall::Length, 0)],
+            ..unread
+        },
+        Row {
+            fails: Some((2, 0)),
+            notes: &[(0, 0, FileCall::Read, 0)],
+            ..unread
+        },
+        Row {
+            fails: Some((3, 0)),
+            notes: &[(0, 0, FileCall::Closing, 0)],
+            ..SCRIPTED
+        },
+        Row {
+            fails: Some((4, 0)),
+            ..SCRIPTED
+        },
+    ];
+    for row in rows {
+        comes(&rt, rt.alloc(), row)?;
+    }
+    // the calls on the keys file come first
+    let closing = Row {
+        words: &["-q", "-k", "k", "s", "a", "b"],
+        before: &[("k", b""), ("s", b"ECHO %1-%2\n")],
+        fails: Some((4, 0)),
+        prints: b"Cannot open s\n",
+        status: 101,
+        notes: &[(0, 0, FileCall::Length, 0)],
+        ..SCRIPTED
+    };
+    comes(&rt, rt.alloc(), closing)
 }

@@ -1,10 +1,11 @@
-use Rattle.std.proofs.Common.{Ok, Err, ◌≡◌, refl, ap, sym, ◌∙◌, subst, arith}
+use Rattle.std.proofs.Common.{Ok, Err, ℕ, List, ◌≡◌, refl, ap, sym, ◌∙◌, subst, arith}
 use Rattle.host_files.specs.State.{Opened}
 use Rattle.unit_files.specs.Open.{AllOpen, Around}
 use Rattle.unit_files.specs.Attachments.{Held}
 use Rattle.fault_notes.specs.Notes.{notes_said}
-use Rattle.scp_parser.specs.Command.{Request, Nothing, Examine, Deposit, Reset, Attach, Detach, Show, Exit, request_of, file_name_of}
+use Rattle.scp_parser.specs.Command.{Request, Nothing, Examine, Deposit, Reset, Attach, Detach, SetSize, Show, Do, Assert, Echo, Exit, request_of, file_name_of, given_text}
 use Rattle.scp_commands.specs.declared.next.Next.TheVariants.{Go}
+use Rattle.scp_commands.specs.declared.next.Next.TheVariants as next
 use Rattle.scp_commands.specs.declared.fault.CommandFault.TheVariants.{NotBuilt}
 use Rattle.scp_commands.specs.Live.{CommandState, live_in}
 use Rattle.scp_commands.specs.Reply.{goes, refused}
@@ -13,9 +14,11 @@ use Rattle.scp_commands.specs.ListEffects.{examine_reply, deposit_reply}
 use Rattle.scp_commands.specs.FileEffects.{attach_reply, detach_one_or_all}
 use Rattle.scp_commands.specs.ShowEffects.{show_reply}
 use Rattle.scp_commands.specs.ExitEffects.{exit_reply}
+use Rattle.scp_commands.specs.SetEffects.{set_size_reply}
+use Rattle.scp_commands.specs.ScriptEffects.{do_reply, echo_reply, assert_reply, goto_reply}
 use Rattle.scp_commands.specs.Effect.{effect}
-use Rattle.scp_commands.specs.Doing.{IsTold}
-use Rattle.scp_commands.proofs.ObeyLemmas.{plain-did, noted-did, goes-does, keeps-none, does-of-no-file, examine-no-file, deposit-no-file, show-no-file, reset-no-file, reset-slots, IsOther, other-is}
+use Rattle.scp_commands.specs.Doing.{IsTold, says_files}
+use Rattle.scp_commands.proofs.ObeyLemmas.{plain-did, noted-did, do-named, goes-does, goto-does, keeps-none, does-of-no-file, examine-no-file, deposit-no-file, show-no-file, set_size-no-file, echo-no-file, assert-no-file, reset-no-file, reset-slots, IsOther, other-is}
 use Rattle.scp_commands.proofs.DidLemmas.{refused-does}
 use Rattle.scp_commands.proofs.execute_command.obey.Goals as goal
 
@@ -116,7 +119,9 @@ returns-in-Attach-clause-told g c = λ told.
     (c.attach.ensures.told g.S.Sink.tells text (subst (λ (r : Request). IsTold g.F.Files.tells s.machine.slots r) is told))
 
 pub returns-in-Attach-clause-undone : goal.returns-in-Attach-clause-undone
-returns-in-Attach-clause-undone g c = λ is. c.attach.ensures.undone (g.S.Sink.written c.args.out.now) is
+returns-in-Attach-clause-undone g c = λ is.
+    let undone = c.attach.ensures.undone (g.S.Sink.written c.args.out.now) is in
+    record { machine = undone.machine; notes = undone.notes; written = undone.written; files_are = λ _. undone.files_are refl }
 
 pub returns-in-Detach-clause-told : goal.returns-in-Detach-clause-told
 unfolding effect
@@ -128,6 +133,28 @@ returns-in-Detach-clause-told g c = λ told.
     noted-did s.limit s.command live (live_in new (g.F.Files.state c.detach_one_or_every.new.files).files) c.args.command.now (Detach c.in-Detach.unit)
     (λ own. detach_one_or_all own live c.in-Detach.unit) c.detach_one_or_every.result g.S.Sink.tells text text (notes_said s.notes) (notes_said new.notes)
     (sym c.command.view_is ∙ ap (request_of _) c.in-Detach.is) (λ own. refl) (c.detach_one_or_every.ensures.told g.S.Sink.tells text)
+
+pub returns-in-SetSize-clause-told : goal.returns-in-SetSize-clause-told
+unfolding effect
+returns-in-SetSize-clause-told g c = λ told.
+    let s = c.args.session.now in
+    let new = c.set_size.new.session in
+    let files = (g.F.Files.state c.args.files.now).files in
+    let live = live_in s files in
+    let text = g.S.Sink.written c.args.out.now in
+    plain-did s.limit s.command live (live_in new files) c.args.command.now (SetSize c.in-SetSize.k) (set_size_reply live c.in-SetSize.k) c.set_size.result g.S.Sink.tells
+    text text (notes_said s.notes) (notes_said new.notes)
+    (sym c.command.view_is ∙ ap (request_of _) c.in-SetSize.is) (λ own. refl) (ap (λ (x : CommandState). notes_said x.notes) c.set_size.ensures.rest) (c.set_size.ensures.told files g.S.Sink.tells text)
+
+pub returns-in-SetSize-clause-keeps : goal.returns-in-SetSize-clause-keeps
+returns-in-SetSize-clause-keeps g c =
+    let s = c.args.session.now in
+    let new = c.set_size.new.session in
+    let state = g.F.Files.state c.args.files.now in
+    let live = live_in s state.files in
+    let text = g.S.Sink.written c.args.out.now in
+    keeps-none s.command new.machine.time g.F.Files.tells c.set_size.result s.notes new.notes state (ap (λ (x : CommandState). x.notes) c.set_size.ensures.rest)
+    (does-of-no-file (set_size_reply live c.in-SetSize.k) c.set_size.result _ _ _ _ (c.set_size.ensures.told state.files g.S.Sink.tells text) (set_size-no-file live c.in-SetSize.k))
 
 pub returns-in-Show-clause-told : goal.returns-in-Show-clause-told
 unfolding effect
@@ -146,6 +173,75 @@ returns-in-Show-clause-keeps g c =
     let live = live_in s state.files in
     keeps-none s.command s.machine.time g.F.Files.tells c.show.result s.notes s.notes state refl
     (does-of-no-file (show_reply live c.in-Show.subject) c.show.result _ _ _ _ (c.show.ensures.told state.files) (show-no-file live c.in-Show.subject))
+
+pub returns-in-Do-clause-told : goal.returns-in-Do-clause-told
+unfolding effect
+returns-in-Do-clause-told g c = λ told.
+    let s = c.args.session.now in
+    let new = c.do_script.new.session in
+    let live = live_in s (g.F.Files.state c.args.files.now).files in
+    let text = g.S.Sink.written c.args.out.now in
+    let what = c.in-Do in
+    let name = c.file_name-in-Do.result.now in
+    let (arguments, is) = do-named _ c.command.inside.verb what.echo what.strict _ _ c.args.command.now name (sym c.command.view_is) what.is c.file_name-in-Do.ensures.name in
+    noted-did s.limit s.command live (live_in new (g.F.Files.state c.do_script.new.files).files) c.args.command.now (Do what.echo what.strict name arguments)
+    (λ own. do_reply own live what.echo what.strict name) c.do_script.result g.S.Sink.tells text text (notes_said s.notes) (notes_said new.notes) is (λ own. refl)
+    (c.do_script.ensures.told g.S.Sink.tells text (subst (λ (r : Request). IsTold g.F.Files.tells s.machine.slots r) is told))
+
+pub returns-in-Do-clause-undone : goal.returns-in-Do-clause-undone
+returns-in-Do-clause-undone g c = λ is.
+    let undone = c.do_script.ensures.undone (g.S.Sink.written c.args.out.now) is in
+    let says = ap (says_files g.F.Files.tells) (sym c.command.view_is ∙ ap (request_of _) c.in-Do.is) in
+    record { machine = undone.machine; notes = undone.notes; written = undone.written; files_are = λ told. undone.files_are (sym says ∙ told) }
+
+pub returns-in-Goto-clause-told : goal.returns-in-Goto-clause-told
+unfolding effect
+returns-in-Goto-clause-told g c = λ told.
+    let s = c.args.session.now in
+    let live = live_in s (g.F.Files.state c.args.files.now).files in
+    let text = g.S.Sink.written c.args.out.now in
+    plain-did s.limit s.command live live c.args.command.now _ (goto_reply live) (Ok next.Goto) g.S.Sink.tells text text (notes_said s.notes) (notes_said s.notes)
+    (sym c.command.view_is ∙ ap (request_of _) c.in-Goto.is) (λ own. refl) refl (goto-does live g.S.Sink.tells text)
+
+pub returns-in-Assert-clause-told : goal.returns-in-Assert-clause-told
+unfolding effect
+returns-in-Assert-clause-told g c = λ told.
+    let s = c.args.session.now in
+    let files = (g.F.Files.state c.args.files.now).files in
+    let live = live_in s files in
+    let text = g.S.Sink.written c.args.out.now in
+    plain-did s.limit s.command live live c.args.command.now (Assert c.in-Assert.what) (assert_reply live c.in-Assert.what) c.assert_condition.result g.S.Sink.tells
+    text text (notes_said s.notes) (notes_said s.notes)
+    (sym c.command.view_is ∙ ap (request_of _) c.in-Assert.is) (λ own. refl) refl (c.assert_condition.ensures.told files g.S.Sink.tells text)
+
+pub returns-in-Assert-clause-keeps : goal.returns-in-Assert-clause-keeps
+returns-in-Assert-clause-keeps g c =
+    let s = c.args.session.now in
+    let state = g.F.Files.state c.args.files.now in
+    let live = live_in s state.files in
+    let text = g.S.Sink.written c.args.out.now in
+    keeps-none s.command s.machine.time g.F.Files.tells c.assert_condition.result s.notes s.notes state refl
+    (does-of-no-file (assert_reply live c.in-Assert.what) c.assert_condition.result _ _ _ _ (c.assert_condition.ensures.told state.files g.S.Sink.tells text) (assert-no-file live c.in-Assert.what))
+
+pub returns-in-Echo-clause-told : goal.returns-in-Echo-clause-told
+unfolding effect
+returns-in-Echo-clause-told g c = λ told.
+    let s = c.args.session.now in
+    let live = live_in s (g.F.Files.state c.args.files.now).files in
+    let text = c.text.result.now in
+    let read = sym c.command.view_is ∙ ap (request_of _) c.in-Echo.is in
+    let is : c.args.command.now ≡ Echo text = read ∙ ap Echo (sym (c.text.ensures ∙ ap given_text read)) in
+    plain-did s.limit s.command live live c.args.command.now (Echo text) (echo_reply live text) c.echo.result g.S.Sink.tells
+    (g.S.Sink.written c.args.out.now) (g.S.Sink.written c.echo.new.out) (notes_said s.notes) (notes_said s.notes)
+    is (λ own. refl) refl (c.echo.ensures.told live)
+
+pub returns-in-Echo-clause-keeps : goal.returns-in-Echo-clause-keeps
+returns-in-Echo-clause-keeps g c =
+    let s = c.args.session.now in
+    let state = g.F.Files.state c.args.files.now in
+    let live = live_in s state.files in
+    keeps-none s.command s.machine.time g.F.Files.tells c.echo.result s.notes s.notes state refl
+    (does-of-no-file (echo_reply live c.text.result.now) c.echo.result _ _ _ _ (c.echo.ensures.told live) (echo-no-file live c.text.result.now))
 
 pub returns-in-Exit-clause-told : goal.returns-in-Exit-clause-told
 unfolding effect
@@ -176,7 +272,12 @@ returns-in_default g c =
       reset = c.in_default.not-Reset;
       attach = c.in_default.not-Attach;
       detach = c.in_default.not-Detach;
+      set_size = c.in_default.not-SetSize;
       show = c.in_default.not-Show;
+      do_ = c.in_default.not-Do;
+      goto = c.in_default.not-Goto;
+      assert = c.in_default.not-Assert;
+      echo = c.in_default.not-Echo;
       exit = c.in_default.not-Exit;
     } in
     record {

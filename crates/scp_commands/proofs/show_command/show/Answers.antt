@@ -2,7 +2,7 @@ use Rattle.std.proofs.Common.{List, subst}
 use Rattle.host_files.specs.Streams.{Puts}
 use Rattle.event_queue.specs.EventList.{Event}
 use Rattle.scp_commands.specs.ShowEffects.{queue_text}
-use Rattle.scp_commands.proofs.ShowLemmas.{time-does, queue-does}
+use Rattle.scp_commands.proofs.ShowLemmas.{time-does, cpu-does, version-does, queue-does}
 use Rattle.scp_commands.proofs.show_command.show.Goals as goal
 
 pub returns-in-Time-clause-told : goal.returns-in-Time-clause-told
@@ -10,6 +10,18 @@ returns-in-Time-clause-told g c =
     rw (c.in-Time.is) (rw (← c.session.view_is) (λ files.
     time-does c.session.inside.machine c.session.inside.keys files c.put_time-printed.result c.told_or_console.result g.S.Sink.tells (g.S.Sink.written c.args.out.now)
     (g.S.Sink.written c.put_time-printed.new.out) c.told_or_console.ensures c.put_time-printed.ensures.told))
+
+pub returns-in-Cpu-clause-told : goal.returns-in-Cpu-clause-told
+returns-in-Cpu-clause-told g c =
+    rw (c.in-Cpu.is) (rw (← c.session.view_is) (λ files.
+    cpu-does c.session.inside.machine c.session.inside.keys files c.put_cpu-printed.result c.told_or_console-in-Cpu.result g.S.Sink.tells (g.S.Sink.written c.args.out.now)
+    (g.S.Sink.written c.put_cpu-printed.new.out) c.told_or_console-in-Cpu.ensures c.put_cpu-printed.ensures.told))
+
+pub returns-in-Version-clause-told : goal.returns-in-Version-clause-told
+returns-in-Version-clause-told g c =
+    rw (c.in-Version.is) (rw (← c.session.view_is) (λ files.
+    version-does c.session.inside.machine c.session.inside.keys files c.put_version-printed.result c.told_or_console-in-Version.result g.S.Sink.tells (g.S.Sink.written c.args.out.now)
+    (g.S.Sink.written c.put_version-printed.new.out) c.told_or_console-in-Version.ensures c.put_version-printed.ensures.told))
 
 pub returns-in-Queue-clause-told : goal.returns-in-Queue-clause-told
 returns-in-Queue-clause-told g c =

@@ -1,12 +1,13 @@
-use Rattle.std.proofs.Common.{Ok, Err, ◌≡◌, refl, ap, sym, ◌∙◌, arith}
+use Rattle.std.proofs.Common.{Ok, Err, ◌≡◌, ℕ, refl, ap, sym, ◌∙◌, subst, arith}
 use Rattle.unit_files.specs.Attachments.{attachments_of}
 use Rattle.fault_notes.specs.Notes.{notes_said}
-use Rattle.nova_machine.specs.Machine.{with_slots}
+use Rattle.nova_machine.specs.Machine.{MachineState, with_slots}
 use Rattle.nova_machine.specs.Seen.{seen}
 use Rattle.scp_commands.specs.declared.next.Next.TheVariants.{Go}
+use Rattle.scp_commands.specs.Doing.{Keeps}
 use Rattle.scp_commands.proofs.SeenLemmas.{attached-erased}
 use Rattle.scp_commands.proofs.BehindLemmas.{stamp_in}
-use Rattle.scp_commands.proofs.AttachLemmas.{longest-paper, attach-not-built, attach-done, becomes-attached, becomes-refused}
+use Rattle.scp_commands.proofs.AttachLemmas.{longest-paper, attach-not-built, attach-done, becomes-attached, becomes-refused, attach-keeps}
 use Rattle.scp_commands.proofs.unit_commands.attach.Goals as goal
 
 pub returns-then-lacks_unit-clause-told : goal.returns-then-lacks_unit-clause-told
@@ -63,3 +64,25 @@ returns-in-Err-clause-told g c = λ tells text told.
           c.attached_mut.ensures.value done.refused;
       noted = done.notes;
     }))
+
+pub returns-in-Ok-clause-keeps : goal.returns-in-Ok-clause-keeps
+returns-in-Ok-clause-keeps g c =
+    let s = c.session.inside in
+    let before = g.F.Files.state c.args.files.now in
+    let after = g.F.Files.state c.attach_unit.new.files in
+    let notes = c.attach_unit.new.notes.items in
+    let done = c.in-Ok.ensures in
+    let time_is : c.set_position.new.machine.time ≡ s.machine.time = ap (λ (m : MachineState). m.time) c.set_position.ensures in
+    rw (← c.session.view_is)
+    (subst (λ (time : ℕ). Keeps s.command time g.F.Files.tells (Ok Go) s.notes.items notes before after) (sym time_is)
+    (attach-keeps s.command s.machine.time c.stamp_of-stamp.result g.F.Files.tells c.args.unit (Ok c.in-Ok.count) (Ok Go) s.notes.items notes before after
+    (c.stamp_of-stamp.ensures ∙ ap stamp_in (sym c.session.view_is)) refl done.notes done.counted done.own done.missing))
+
+pub returns-in-Err-clause-keeps : goal.returns-in-Err-clause-keeps
+returns-in-Err-clause-keeps g c =
+    let s = c.session.inside in
+    let done = c.in-Err.ensures in
+    rw (← c.session.view_is)
+    (attach-keeps s.command s.machine.time c.stamp_of-stamp.result g.F.Files.tells c.args.unit (Err c.in-Err.fault) (Err c.of_attach.result) s.notes.items c.attach_unit.new.notes.items
+    (g.F.Files.state c.args.files.now) (g.F.Files.state c.attach_unit.new.files)
+    (c.stamp_of-stamp.ensures ∙ ap stamp_in (sym c.session.view_is)) (ap Err c.of_attach.ensures) done.notes done.counted done.own done.missing)

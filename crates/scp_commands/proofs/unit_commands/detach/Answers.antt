@@ -5,7 +5,7 @@ use Rattle.nova_machine.specs.Machine.{with_slots}
 use Rattle.nova_machine.specs.Seen.{seen}
 use Rattle.scp_commands.proofs.SeenLemmas.{attached-erased}
 use Rattle.scp_commands.proofs.BehindLemmas.{stamp_in}
-use Rattle.scp_commands.proofs.DetachLemmas.{detach_result, detached-live, detach-done, detach-not-built}
+use Rattle.scp_commands.proofs.DetachLemmas.{detach_result, detached-live, detach-done, detach-not-built, detach-keeps}
 use Rattle.scp_commands.proofs.unit_commands.detach.Goals as goal
 use Rattle.scp_commands.proofs.unit_commands.detach.Goals.{in-Ok, in-Err}
 
@@ -34,3 +34,16 @@ returns-clause-told g c = λ tells text.
     (detached-live s.keys before.files after.files s.machine new.attached held c.args.unit c.detach_unit.result c.attached_mut.ensures.value
     c.detach_unit.ensures.attached c.detach_unit.ensures.refused c.detach_unit.ensures.files)
     c.detach_unit.ensures.nothing c.detach_unit.ensures.notes)
+
+pub returns-clause-keeps : goal.returns-clause-keeps
+returns-clause-keeps g c =
+    let answered : c.match-detach_unit.result ≡ detach_result c.detach_unit.result = elim c.match-detach_unit.branch [
+      | in-Ok w ↦ w.result-is ∙ sym (ap detach_result w.in-Ok.is)
+      | in-Err w ↦ w.result-is ∙ ap Err w.of_detach.ensures ∙ sym (ap detach_result w.in-Err.is)
+    ] in
+    let s = c.session.inside in
+    rw (← c.session.view_is)
+    (detach-keeps s.command s.machine.time c.stamp_of-stamp.result g.F.Files.tells c.args.unit (attachments_of c.attached_mut.result.now) c.detach_unit.result c.match-detach_unit.result
+    s.notes.items c.detach_unit.new.notes.items (g.F.Files.state c.args.files.now) (g.F.Files.state c.detach_unit.new.files)
+    (c.stamp_of-stamp.ensures ∙ ap stamp_in (sym c.session.view_is)) answered c.detach_unit.ensures.notes c.detach_unit.ensures.counted c.detach_unit.ensures.said c.detach_unit.ensures.own
+    c.detach_unit.ensures.nothing)

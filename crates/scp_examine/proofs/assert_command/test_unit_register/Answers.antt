@@ -3,8 +3,8 @@ use Rattle.unit_trait.specs.declared.kind.Kind.{Kind}
 use Rattle.unit_trait.specs.Device as table
 use Rattle.unit_trait.specs.Registers.{register_at}
 use Rattle.nova_machine.specs.Machine.{MachineState}
-use Rattle.scp_parser.specs.declared.listing.Name.TheVariants as whose
-use Rattle.scp_parser.specs.declared.listing.Condition.{Condition}
+use Rattle.operand_forms.specs.declared.listing.Name.TheVariants as whose
+use Rattle.operand_forms.specs.declared.listing.Condition.{Condition}
 use Rattle.scp_examine.specs.declared.fault.ExamineFault.TheVariants.{NoSuchName}
 use Rattle.scp_examine.specs.Places.{UnitRegister, named_register, value_at, largest_at}
 use Rattle.scp_examine.specs.Effect.{compared, test_of}

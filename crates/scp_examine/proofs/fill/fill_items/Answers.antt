@@ -1,5 +1,5 @@
 use Rattle.std.proofs.Common.{sym, ap, ◌∙◌}
-use Rattle.scp_parser.specs.declared.listing.Item.TheVariants.{At}
+use Rattle.operand_forms.specs.declared.listing.Item.TheVariants.{At}
 use Rattle.scp_examine.specs.Shape.{shape_of}
 use Rattle.scp_examine.specs.Effect.{filled}
 use Rattle.scp_examine.proofs.ShowLemmas.{all_places-none}

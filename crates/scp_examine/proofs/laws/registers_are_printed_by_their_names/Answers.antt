@@ -1,6 +1,6 @@
 use Rattle.std.proofs.Common.{refl}
 use Rattle.unit_trait.specs.declared.kind.Kind.TheVariants.{Dsk, Mta, Lpt, Ptr, Ptp, Clk, Tti, Tto, Tti1, Tto1, Qty}
-use Rattle.scp_parser.specs.declared.listing.Name.TheVariants.{Cpu, Device}
+use Rattle.operand_forms.specs.declared.listing.Name.TheVariants.{Cpu, Device}
 use Rattle.scp_examine.specs.Places.{numbered}
 use Rattle.scp_examine.specs.Laws.{RegistersHaveNames}
 use Rattle.scp_examine.proofs.laws.registers_are_printed_by_their_names.Goals as goal

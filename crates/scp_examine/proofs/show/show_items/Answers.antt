@@ -1,6 +1,6 @@
 use Rattle.std.proofs.Common.{◌+◌, take, get_or, refl, ap, ◌∙◌}
 use Rattle.std.proofs.lemmas.Result.{err_from_is_err_and}
-use Rattle.scp_parser.specs.declared.listing.Item.TheVariants.{At}
+use Rattle.operand_forms.specs.declared.listing.Item.TheVariants.{At}
 use Rattle.scp_examine.specs.Shape.{shape_of}
 use Rattle.scp_examine.specs.Places.{places_of}
 use Rattle.scp_examine.specs.Checks.{item_fault}

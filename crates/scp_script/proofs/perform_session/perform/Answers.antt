@@ -1,24 +1,31 @@
-use Rattle.std.proofs.Common.{true, [], refl, ◌∙◌, arith}
+use Rattle.std.proofs.Common.{◌≡◌, true, [], refl, ap, ◌∙◌, arith}
 use Rattle.fault_notes.specs.Notes.{notes_said}
-use Rattle.scp_script.specs.Perform.{beginning}
+use Rattle.scp_script.specs.declared.progress.CommandLoop.{CommandLoop}
+use Rattle.scp_script.specs.Scripts.{first_script}
+use Rattle.scp_script.specs.Perform.{beginning, beginning_with}
 use Rattle.scp_script.specs.Loop.{session_of}
-use Rattle.scp_script.proofs.WholeLemmas.{begun, further, over, kept-none, kept-both, causes-behind}
+use Rattle.scp_script.proofs.WholeLemmas.{begun, never-begun, further, over, kept-none, kept-both, causes-behind}
 use Rattle.scp_script.proofs.perform_session.perform.Goals as goal
 
 pub lines-init : goal.lines-init
-unfolding beginning
-lines-init g c = record {
-  enough = c.requires.budget;
-  command = omega (arith, c.requires.budget, c.requires.command);
-  limit = refl;
-  keys = refl;
-  told = λ source files sink. rw c.new.ensures (begun (session_of c.args.session.now (g.F.Files.state c.args.files.now).files (record { reader = record { line = []; open_ = true }; budget = c.args.opening.now.budget; prompt = c.args.opening.now.prompt }) (g.C.Source.left c.args.input.now)) (g.S.Sink.written c.args.out.now) (notes_said c.args.session.now.notes));
-  source = refl;
-  sink = refl;
-  keeps = kept-none c.args.session.now.notes (g.F.Files.state c.args.files.now);
-  is_open = c.requires.«open»;
-  around = λ base around. around;
-}
+unfolding beginning beginning_with
+lines-init g c =
+    let started = c.in-Ok.ensures in
+    let budget : c.in-Ok.lines.budget ≡ c.args.opening.now.budget = ap (λ (x : CommandLoop). x.budget) started in
+    record {
+      enough = omega (arith, c.requires.budget, budget);
+      command = omega (arith, c.requires.budget, c.requires.command, budget);
+      limit = refl;
+      keys = refl;
+      told = λ source files sink. rw started (begun (session_of c.args.session.now (g.F.Files.state c.args.files.now).files
+          (record { scripts = first_script c.args.opening.now.script c.args.opening.now.arguments.items; reader = record { line = []; open_ = true }; budget = c.args.opening.now.budget; prompt = c.args.opening.now.prompt })
+          (g.C.Source.left c.args.input.now)) (g.S.Sink.written c.args.out.now) (notes_said c.args.session.now.notes));
+      source = refl;
+      sink = refl;
+      keeps = kept-none c.args.session.now.notes (g.F.Files.state c.args.files.now);
+      is_open = c.requires.«open»;
+      around = λ base around. around;
+    }
 
 pub lines-preserved : goal.lines-preserved
 lines-preserved g c = record {
@@ -59,3 +66,9 @@ pub returns-in-IsOver-clause-keeps : goal.returns-in-IsOver-clause-keeps
 returns-in-IsOver-clause-keeps g c =
     kept-both c.args.session.now.notes c.lines.session.notes c.next_line.new.session.notes (g.F.Files.state c.args.files.now) (g.F.Files.state c.lines.files)
     (g.F.Files.state c.next_line.new.files) c.lines.invariant.keeps c.in-IsOver.ensures.keeps
+
+pub returns-in_default-clause-told : goal.returns-in_default-clause-told
+unfolding beginning beginning_with
+returns-in_default-clause-told g c = λ source files sink.
+    never-begun (λ notes. beginning c.args.session.now (g.F.Files.state c.args.files.now).files c.args.opening.now (g.C.Source.left c.args.input.now) notes)
+    (g.S.Sink.written c.args.out.now) (notes_said c.args.session.now.notes)

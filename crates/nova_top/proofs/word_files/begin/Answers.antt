@@ -1,0 +1,45 @@
+use Rattle.std.proofs.Common.{List, ◌≡◌, subst, Ok, Err, rules}
+use Rattle.host_files.specs.Lists.{NamedBytes}
+use Rattle.fault_notes.specs.Notes.{notes_said}
+use Rattle.fault_notes.specs.declared.note.Subject.TheVariants as subject
+use Rattle.nova_top.specs.Words.{texts_of, script_name}
+use Rattle.nova_top.specs.Outside.{taken_script}
+use Rattle.nova_top.specs.Program.{Takes}
+use Rattle.nova_top.proofs.WordFileLemmas.{script-denied, denied-along, both-begin, text-begins}
+use Rattle.nova_top.proofs.ReadingLemmas.{kept-both}
+use Rattle.nova_top.proofs.word_files.begin.Goals as goal
+
+pub returns-in_err-script-clause-told : goal.returns-in_err-script-clause-told
+returns-in_err-script-clause-told g c = λ told.
+    let words = texts_of c.args.words.now in
+    let files = (g.F.Files.state c.args.files.now).files in
+    let refusal = c.in_err-script.field-0.0 in
+    let script = subst (λ (f : List NamedBytes). Takes subject.Script words (taken_script (script_name words c.args.options) f) c.take_keys.new.notes.items c.take_script.new.notes.items (Err refusal)) (c.take_keys.ensures.files told)
+    (c.in_err-script.ensures.told told) in
+    let is : c.from_residual-in_err-script.result ≡ Err refusal = search rules in
+    denied-along words c.args.options files (notes_said c.take_script.new.notes.items) refusal c.from_residual-in_err-script.result is
+    (script-denied words c.args.options files c.in_ok-keys.keys c.args.notes.now.items c.take_keys.new.notes.items c.take_script.new.notes.items refusal c.requires.none (c.in_ok-keys.ensures.told told) script)
+
+pub returns-in_err-script-clause-keeps : goal.returns-in_err-script-clause-keeps
+returns-in_err-script-clause-keeps g c =
+    kept-both c.args.notes.now.items c.take_keys.new.notes.items c.take_script.new.notes.items (g.F.Files.state c.args.files.now) (g.F.Files.state c.take_keys.new.files) (g.F.Files.state c.take_script.new.files)
+    c.requires.none c.take_keys.ensures.keeps c.take_script.ensures.keeps
+
+pub returns-in-Ok-clause-told : goal.returns-in-Ok-clause-told
+returns-in-Ok-clause-told g c = λ told.
+    let words = texts_of c.args.words.now in
+    let files = (g.F.Files.state c.args.files.now).files in
+    let script = subst (λ (f : List NamedBytes). Takes subject.Script words (taken_script (script_name words c.args.options) f) c.take_keys.new.notes.items c.take_script.new.notes.items (Ok c.in_ok-script.script)) (c.take_keys.ensures.files told)
+    (c.in_ok-script.ensures.told told) in
+    text-begins words c.args.options files c.in_ok-keys.keys c.in_ok-script.script (notes_said c.take_script.new.notes.items) c.open_with.result c.open_with.ensures.script
+    (both-begin words c.args.options files c.in_ok-keys.keys c.in_ok-script.script c.args.notes.now.items c.take_keys.new.notes.items c.take_script.new.notes.items c.requires.none (c.in_ok-keys.ensures.told told) script)
+
+pub returns-in-Ok-clause-keeps : goal.returns-in-Ok-clause-keeps
+returns-in-Ok-clause-keeps g c =
+    kept-both c.args.notes.now.items c.take_keys.new.notes.items c.take_script.new.notes.items (g.F.Files.state c.args.files.now) (g.F.Files.state c.take_keys.new.files) (g.F.Files.state c.take_script.new.files)
+    c.requires.none c.take_keys.ensures.keeps c.take_script.ensures.keeps
+
+pub returns-in-Err-clause-keeps : goal.returns-in-Err-clause-keeps
+returns-in-Err-clause-keeps g c =
+    kept-both c.args.notes.now.items c.take_keys.new.notes.items c.take_script.new.notes.items (g.F.Files.state c.args.files.now) (g.F.Files.state c.take_keys.new.files) (g.F.Files.state c.take_script.new.files)
+    c.requires.none c.take_keys.ensures.keeps c.take_script.ensures.keeps

@@ -1,0 +1,15 @@
+use Rattle.std.proofs.Common.{length}
+use Rattle.nova_top.specs.Words.{texts_of}
+use Rattle.nova_top.proofs.ReadingLemmas.{named-at, script-take}
+use Rattle.nova_top.proofs.word_files.take_script.Goals as goal
+
+pub returns-in-Some-clause-told : goal.returns-in-Some-clause-told
+returns-in-Some-clause-told g c = λ told.
+    let within = named-at c.args.options.script (length (texts_of c.args.words.now)) c.in-Some.place c.requires.named.script c.in-Some.is in
+    script-take c.args.words.now c.args.options (g.F.Files.state c.args.files.now).files c.in-Some.place c.index-words-place.result c.args.notes.now.items c.read_word-read.new.notes.items c.read_word-read.result c.script_of.result
+    c.in-Some.is within c.index-words-place.is (c.read_word-read.ensures.told told) c.script_of.ensures.comes
+
+pub returns-in-Some-clause-cause : goal.returns-in-Some-clause-cause
+returns-in-Some-clause-cause g c =
+    let within = named-at c.args.options.script (length (texts_of c.args.words.now)) c.in-Some.place c.requires.named.script c.in-Some.is in
+    c.script_of.ensures.named (texts_of c.args.words.now) c.args.options within c.in-Some.is

@@ -1,0 +1,252 @@
+// The files that the words name: the keys file and the script.
+ghost use Rattle.std.specs.Prelude.{◌≡◌, ◌+◌, ◌<◌, ◌≤◌, ◌++◌, ℕ, List, [], IsTrue, IfOk, IfErr, IfSome, option_map};
+ghost use Rattle.std.specs.Prelude.{string_bytes, length, get_or, vec_len, vec_capacity};
+ghost use Rattle.fault_notes.specs.Notes.{notes_said};
+ghost use Rattle.fault_notes.specs.declared.note.Subject.TheVariants as subject;
+ghost use Rattle.whole_files.specs.Whole.{longest_file};
+ghost use Rattle.whole_files.specs.Claims.{said_of_bytes};
+ghost use Rattle.scp_script.specs.Loop.{AreKept};
+ghost use Rattle.nova_top.specs.Words.{texts_of, keys_name, script_name, script_words, FilesAreNamed};
+ghost use Rattle.nova_top.specs.Outside.{keys_from, taken_keys, script_from, taken_script};
+ghost use Rattle.nova_top.specs.Program.{noted_call, ReadsFile, ComesOf, Takes, RefusalCause, as_file, BeginsAs};
+ghost use Rattle.nova_top.specs.Program.{OpensAs};
+
+use crate::options::Options;
+use expect_actions::{Keys, KeysFault};
+use fault_notes::{FaultNote, Subject, keep};
+use host_files::Files;
+use scp_commands::{DoFile, ScriptText};
+use scp_script::Opening;
+use std::alloc::{AllocError, Global};
+use whole_files::{FailedCall, WholeFault, read_file};
+
+/// Why there is no session.
+#[derive(Clone, Copy, Debug, PartialEq, Eq)]
+pub enum Refusal {
+    /// The file of the word at that place is not there, or too long, or a call on it failed.
+    Unopened(usize),
+    /// The keys file is none: its first faulty line begins at that place, counted from 0.
+    BadKeys(usize),
+    /// Memory ran out.
+    OutOfMemory,
+}
+
+/// What a session begins with.
+#[derive(Drop)]
+pub struct Beginning {
+    pub keys: Keys,
+    pub opening: Opening,
+}
+
+/// Reads the keys file and then the script, where the words name them, and notes the calls on them that failed, before
+/// the first command.
+pub fn begin<F: Files>(
+    alloc: Global,
+    words: &[String],
+    options: Options,
+    files: &mut F,
+    notes: &mut Vec<FaultNote>,
+) -> Result<Beginning, Refusal>
+    requires named { FilesAreNamed (texts_of words.now) options }
+    requires none { notes.old.items ≡ [] }
+    requires room { 4 ≤ vec_capacity notes.old }
+    ensures told { IsTrue F.tells → BeginsAs (texts_of words.now) options (F.state files.old).files
+        (notes_said notes.new.items) result }
+    ensures opens { IfOk result (λ beginning. OpensAs (texts_of words.now) options beginning.opening) }
+    ensures cause { IfErr result (RefusalCause (texts_of words.now) options) }
+    ensures files { IsTrue F.tells → (F.state files.new).files ≡ (F.state files.old).files }
+    ensures opened { (F.state files.new).opened ≡ (F.state files.old).opened }
+    ensures keeps { AreKept [] notes.new.items (F.state files.old) (F.state files.new) }
+{
+    let keys = take_keys(alloc, words, options, files, notes)?;
+    let script = take_script(alloc, words, options, files, notes)?;
+    match copy_script_words(alloc, words, options) {
+        Ok(arguments) => Ok(Beginning {
+            keys,
+            opening: open_with(options, script, arguments),
+        }),
+        Err(_) => Err(Refusal::OutOfMemory),
+    }
+}
+
+/// How a session is opened with a script of that text, and these words for its name and its arguments.
+fn open_with(options: Options, script: Option<ScriptText>, arguments: Vec<String>) -> Opening
+    ensures script { result.script ≡ option_map as_file script }
+    ensures arguments { result.arguments ≡ arguments }
+    ensures prompt { result.prompt ≡ options.prompt }
+    ensures budget { result.budget ≡ options.budget }
+{
+    let script = match script {
+        Some(text) => Some(DoFile {
+            text,
+            echo: false,
+            strict: false,
+        }),
+        None => None,
+    };
+    Opening {
+        script,
+        arguments,
+        prompt: options.prompt,
+        budget: options.budget,
+    }
+}
+
+/// The keys of the keys file, where the words name one.
+fn take_keys<F: Files>(
+    alloc: Global,
+    words: &[String],
+    options: Options,
+    files: &mut F,
+    notes: &mut Vec<FaultNote>,
+) -> Result<Keys, Refusal>
+    requires named { FilesAreNamed (texts_of words.now) options }
+    requires room { vec_len notes.old + 2 ≤ vec_capacity notes.old }
+    ensures told { IsTrue F.tells → Takes subject.Keys (texts_of words.now)
+        (taken_keys (keys_name (texts_of words.now) options) (F.state files.old).files) notes.old.items notes.new.items
+        result }
+    ensures cause { IfErr result (RefusalCause (texts_of words.now) options) }
+    ensures room { vec_len notes.new + vec_capacity notes.old ≤ vec_len notes.old + 2 + vec_capacity notes.new }
+    ensures files { IsTrue F.tells → (F.state files.new).files ≡ (F.state files.old).files }
+    ensures opened { (F.state files.new).opened ≡ (F.state files.old).opened }
+    ensures keeps { AreKept notes.old.items notes.new.items (F.state files.old) (F.state files.new) }
+{
+    match options.keys {
+        Some(place) => {
+            let read = read_word(alloc, Subject::Keys, &words[place], files, notes);
+            keys_of(alloc, place, read)
+        }
+        None => Ok(Keys::none(alloc)),
+    }
+}
+
+/// The text of the script, where the words name one.
+fn take_script<F: Files>(
+    alloc: Global,
+    words: &[String],
+    options: Options,
+    files: &mut F,
+    notes: &mut Vec<FaultNote>,
+) -> Result<Option<ScriptText>, Refusal>
+    requires named { FilesAreNamed (texts_of words.now) options }
+    requires room { vec_len notes.old + 2 ≤ vec_capacity notes.old }
+    ensures told { IsTrue F.tells → Takes subject.Script (texts_of words.now)
+        (taken_script (script_name (texts_of words.now) options) (F.state files.old).files) notes.old.items
+        notes.new.items result }
+    ensures cause { IfErr result (RefusalCause (texts_of words.now) options) }
+    ensures files { IsTrue F.tells → (F.state files.new).files ≡ (F.state files.old).files }
+    ensures opened { (F.state files.new).opened ≡ (F.state files.old).opened }
+    ensures keeps { AreKept notes.old.items notes.new.items (F.state files.old) (F.state files.new) }
+{
+    match options.script {
+        Some(place) => {
+            let read = read_word(alloc, Subject::Script, &words[place], files, notes);
+            script_of(place, read)
+        }
+        None => Ok(None),
+    }
+}
+
+/// Reads the file of a word, and notes the calls on it that failed.
+fn read_word<F: Files>(
+    alloc: Global,
+    whose: Subject,
+    name: &String,
+    files: &mut F,
+    notes: &mut Vec<FaultNote>,
+) -> Result<Vec<u8>, WholeFault>
+    requires room { vec_len notes.old + 2 ≤ vec_capacity notes.old }
+    ensures told { IsTrue F.tells → ReadsFile whose (string_bytes name.now) (F.state files.old).files notes.old.items
+        notes.new.items result }
+    ensures bound { IfOk result (λ bytes. length bytes.items ≤ longest_file) }
+    ensures room { vec_len notes.new + vec_capacity notes.old ≤ vec_len notes.old + 2 + vec_capacity notes.new }
+    ensures files { IsTrue F.tells → (F.state files.new).files ≡ (F.state files.old).files }
+    ensures opened { (F.state files.new).opened ≡ (F.state files.old).opened }
+    ensures keeps { AreKept notes.old.items notes.new.items (F.state files.old) (F.state files.new) }
+{
+    let whole = read_file(alloc, name.as_str(), files);
+    note_call(whose, notes, whole.failed);
+    note_call(whose, notes, whole.closing);
+    whole.bytes
+}
+
+/// Notes a call on the file of a word, where it failed, before the first command.
+fn note_call(whose: Subject, notes: &mut Vec<FaultNote>, failed: Option<FailedCall>)
+    requires { vec_len notes.old + 1 ≤ vec_capacity notes.old }
+    ensures notes { notes.new.items ≡ notes.old.items ++ noted_call whose failed }
+    ensures room { vec_len notes.new + vec_capacity notes.old ≤ vec_len notes.old + 1 + vec_capacity notes.new }
+{
+    match failed {
+        None => (),
+        Some(failed) => keep(
+            notes,
+            FaultNote {
+                command: 0,
+                time: 0,
+                subject: whose,
+                file: failed.file,
+                call: failed.call,
+                done: 0,
+            },
+        ),
+    }
+}
+
+/// The keys of what was read of the keys file, which the word at that place names.
+fn keys_of(alloc: Global, place: usize, read: Result<Vec<u8>, WholeFault>) -> Result<Keys, Refusal>
+    ensures comes { (words : List (List ℕ)) → ComesOf words (keys_from (get_or words place [])) (said_of_bytes read)
+        result }
+    ensures named { (words : List (List ℕ)) (options : Options) → place < length words → options.keys ≡ Some place
+        → IfErr result (RefusalCause words options) }
+{
+    match read {
+        Ok(bytes) => match Keys::read_keys(alloc, bytes.as_slice()) {
+            Ok(keys) => Ok(keys),
+            Err(KeysFault::Bad(line)) => Err(Refusal::BadKeys(line)),
+            Err(KeysFault::OutOfMemory) => Err(Refusal::OutOfMemory),
+        },
+        Err(WholeFault::OutOfMemory) => Err(Refusal::OutOfMemory),
+        Err(_) => Err(Refusal::Unopened(place)),
+    }
+}
+
+/// The text of what was read of the script, which the word at that place names.
+#[tactic(auto, unfolding(whole_files::specs::Whole::longest_file))]
+fn script_of(place: usize, read: Result<Vec<u8>, WholeFault>) -> Result<Option<ScriptText>, Refusal>
+    requires bound { IfOk read (λ bytes. length bytes.items ≤ longest_file) }
+    ensures comes { (words : List (List ℕ)) → ComesOf words (script_from (get_or words place [])) (said_of_bytes read)
+        result }
+    ensures named { (words : List (List ℕ)) (options : Options) → place < length words → options.script ≡ Some place
+        → IfErr result (RefusalCause words options) }
+{
+    match read {
+        Ok(bytes) => Ok(Some(ScriptText::new(bytes))),
+        Err(WholeFault::OutOfMemory) => Err(Refusal::OutOfMemory),
+        Err(_) => Err(Refusal::Unopened(place)),
+    }
+}
+
+/// The name of the script and its arguments, where there is one.
+fn copy_script_words(
+    alloc: Global,
+    words: &[String],
+    options: Options,
+) -> Result<Vec<String>, AllocError>
+    requires { FilesAreNamed (texts_of words.now) options }
+    ensures { IfOk result (λ copies. texts_of copies.items ≡ script_words (texts_of words.now) options) }
+{
+    match options.script {
+        Some(place) => copy_words(alloc, &words[place..]),
+        None => Ok(Vec::new(alloc)),
+    }
+}
+
+fn copy_words(alloc: Global, words: &[String]) -> Result<Vec<String>, AllocError>
+    ensures { IfOk result (λ copies. texts_of copies.items ≡ texts_of words.now) }
+{
+    let mut copies = Vec::new(alloc);
+    for word in words {
+        copies.push(word.clone()?)?;
+    }
+    Ok(copies)
+}

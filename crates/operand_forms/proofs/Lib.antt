@@ -1,0 +1,14 @@
+pub mod Decides
+pub mod ChoiceLemmas
+pub mod SpellingLemmas
+pub mod NumberLemmas
+pub mod ListLemmas
+pub mod SplitLemmas
+pub mod UnitLemmas
+pub mod ItemLemmas
+pub mod ConditionLemmas
+pub mod NothingLemmas
+pub mod ItemLoopLemmas
+pub mod MarkLemmas
+pub mod RegisterLemmas
+pub mod FormLemmas

@@ -1,0 +1,91 @@
+-- ECHO and ASSERT: ASSERT speaks of no file's number, and never answers for the console.
+use Rattle.std.proofs.Common.{◌≡◌, ◌∙◌, ℕ, Bool, true, false, IsTrue, List, [], ◌∷◌, ◌++◌, Option, Some, None, Result, Ok, Err, refl, ap, sym, if◌then◌else◌}
+use Rattle.host_files.specs.Lists.{NamedBytes}
+use Rattle.host_files.specs.Streams.{Puts}
+use Rattle.nova_machine.specs.Machine.{MachineState}
+use Rattle.nova_machine.specs.Seen.{erased, seen}
+use Rattle.operand_forms.specs.declared.listing.Condition.{Condition}
+use Rattle.operand_forms.specs.declared.listing.Test.{Test}
+use Rattle.scp_examine.specs.declared.fault.ExamineFault.{ExamineFault}
+use Rattle.scp_examine.specs.declared.fault.ExamineFault.TheVariants as list
+use Rattle.scp_examine.specs.Shape.{shape_of}
+use Rattle.scp_examine.specs.Places.{Place, value_at, largest_at, meets, places_of}
+use Rattle.scp_examine.specs.Checks.{condition_fits, item_fault}
+use Rattle.scp_examine.specs.Effect.{compared, test_of, test_after, tested}
+use Rattle.scp_commands.specs.declared.next.Next.TheVariants.{Go}
+use Rattle.scp_commands.specs.declared.fault.CommandFault.TheVariants.{NotBuilt}
+use Rattle.scp_commands.specs.Live.{Live, standing}
+use Rattle.scp_commands.specs.Reply.{Answer}
+use Rattle.scp_commands.specs.ListEffects.{lacks_device}
+use Rattle.scp_commands.specs.ScriptEffects.{echo_reply, test_answer, assert_answer, assert_reply}
+use Rattle.scp_commands.specs.Doing.{Does, IsPlain, told_or_console}
+use Rattle.scp_commands.proofs.ReplyLemmas.{says-does, silent-does}
+use Rattle.scp_commands.proofs.ListLemmas.{erased-lacks, erased-value}
+use Rattle.scp_commands.proofs.OwnLemmas.{IsListsOwn, own-item}
+
+pub echo-does : {T E : Type 0} (live : Live) (text : List ℕ) (printed : Result T E) (answer : Answer) (tells : Bool) (before after : List ℕ) → answer ≡ told_or_console printed Go
+    → (IsTrue tells → Puts before (text ++ 10 ∷ []) printed after) → Does (echo_reply live text) answer (standing 0 live) tells before after
+unfolding echo_reply
+echo-does live text printed answer tells before after is puts = says-does (text ++ 10 ∷ []) live printed answer tells before after is puts
+
+-- ---- ASSERT
+
+erased-test_of : (m : MachineState) (c : Condition) (places : List Place) → test_of (erased m) c places ≡ test_of m c places
+erased-test_of m c [] = refl
+erased-test_of m c (place ∷ more) = ap (λ (v : ℕ). compared v (largest_at place) c) (erased-value m place)
+
+erased-test_after : (fault : Option ExamineFault) (m : MachineState) (test : Test) → test_after fault (erased m) test ≡ test_after fault m test
+erased-test_after (Some fault) m test = refl
+erased-test_after None m test = erased-test_of m test.condition (places_of (shape_of m) test.device test.item)
+
+erased-tested : (m : MachineState) (test : Test) → tested (erased m) test ≡ tested m test
+unfolding tested
+erased-tested m test = erased-test_after (item_fault (shape_of m) test.device test.item) m test
+
+erased-assert : (m : MachineState) (test : Test) → assert_answer (erased m) test ≡ assert_answer m test
+erased-assert m test =
+    ap (λ (b : Bool). if b then Err NotBuilt else test_answer (tested (erased m) test)) (erased-lacks m test.device)
+    ∙ ap (λ (r : Result Bool ExamineFault). if lacks_device m test.device then Err NotBuilt else test_answer r) (erased-tested m test)
+
+-- what is answered is not for the console
+abbrev IsTestsOwn : Result Bool ExamineFault → Type 0
+IsTestsOwn (Err list.Console) = ⊥
+IsTestsOwn answer = Unit {0}
+
+own-if : (b : Bool) (holds : Bool) → IsTestsOwn (if b then Ok holds else Err list.OutOfRange)
+own-if true holds = tt
+own-if false holds = tt
+
+own-test_of : (m : MachineState) (c : Condition) (places : List Place) → IsTestsOwn (test_of m c places)
+own-test_of m c [] = tt
+own-test_of m c (place ∷ more) = own-if (condition_fits (largest_at place) c) (meets c (value_at m place))
+
+own-test_after : (fault : Option ExamineFault) (m : MachineState) (test : Test) → IsListsOwn fault → IsTestsOwn (test_after fault m test)
+own-test_after None m test own = own-test_of m test.condition (places_of (shape_of m) test.device test.item)
+own-test_after (Some list.NoSuchName) m test own = tt
+own-test_after (Some list.OutOfRange) m test own = tt
+own-test_after (Some list.ReadOnlyName) m test own = tt
+own-test_after (Some list.Console) m test own = absurd own
+
+own-tested : (m : MachineState) (test : Test) → IsTestsOwn (tested m test)
+unfolding tested
+own-tested m test = own-test_after (item_fault (shape_of m) test.device test.item) m test (own-item (shape_of m) test.device test.item)
+
+own-answer : (lacks : Bool) (r : Result Bool ExamineFault) → IsTestsOwn r → IsPlain (if lacks then Err NotBuilt else test_answer r)
+own-answer true r own = tt
+own-answer false (Ok true) own = tt
+own-answer false (Ok false) own = tt
+own-answer false (Err list.NoSuchName) own = tt
+own-answer false (Err list.OutOfRange) own = tt
+own-answer false (Err list.ReadOnlyName) own = tt
+own-answer false (Err list.Console) own = absurd own
+
+pub assert-own : (m : MachineState) (test : Test) → IsPlain (assert_answer m test)
+assert-own m test = own-answer (lacks_device m test.device) (tested m test) (own-tested m test)
+
+pub assert-does : (m : MachineState) (keys : List (ℕ × ℕ)) (files : List NamedBytes) (test : Test) (answer : Answer) (tells : Bool) (text : List ℕ) → answer ≡ assert_answer m test
+    → Does (assert_reply (seen keys files m) test) answer (standing 0 (seen keys files m)) tells text text
+unfolding assert_reply
+assert-does m keys files test answer tells text is =
+    let live = seen keys files m in
+    silent-does (assert_reply live test) answer (standing 0 live) tells text (assert-own (erased m) test) (is ∙ sym (erased-assert m test)) refl refl

@@ -1,0 +1,77 @@
+-- SET CPU speaks of no file's number, and leaves what is not memory.
+use Rattle.std.proofs.Common.{◌≡◌, ◌∙◌, ℕ, ◌-◌, ◌*◌, ◌^◌, ◌<◌, ◌≤◌, ◌%◌, ◌==◌, ◌&&◌, nat_le, nat_lt, Bool, true, false, IsTrue, List, ◌++◌, length, take, replicate, slice_index, get_or}
+use Rattle.std.proofs.Common.{Ok, Err, refl, ap, sym, subst, if◌then◌else◌, arith}
+use Rattle.std.proofs.lemmas.Bool.{and_parts, leb-true, ltb-false, lt-ltb, le-ltb}
+use Rattle.std.proofs.lemmas.List.{length-take-le, get_or-take, get_or_append_left}
+use Rattle.host_files.specs.Lists.{NamedBytes}
+use Rattle.nova_memory.specs.Memory.{MemoryState, IsMemory, fits_size, get, resized}
+use Rattle.fault_notes.specs.Notes.{CommandNote}
+use Rattle.nova_machine.specs.Machine.{MachineState}
+use Rattle.nova_machine.specs.Seen.{seen}
+use Rattle.scp_commands.specs.declared.next.Next.TheVariants.{Go}
+use Rattle.scp_commands.specs.declared.fault.CommandFault.TheVariants.{OutOfRange}
+use Rattle.scp_commands.specs.Live.{Live, standing, with_machine}
+use Rattle.scp_parser.specs.Command.{SetSize}
+use Rattle.scp_commands.specs.Reply.{goes, refused}
+use Rattle.scp_commands.specs.SetEffects.{sized, set_size_reply}
+use Rattle.scp_commands.specs.Effect.{effect}
+use Rattle.scp_commands.specs.Laws.{IsSized, SetCpuLeavesTheRest}
+use Rattle.scp_commands.specs.Doing.{Does}
+use Rattle.scp_commands.proofs.ReplyLemmas.{goes-said, refused-said}
+
+pub size-does : (keys : List (ℕ × ℕ)) (files : List NamedBytes) (m new : MachineState) (k : ℕ) (tells : Bool) (text : List ℕ) → fits_size k ≡ true → new ≡ sized m k
+    → Does (set_size_reply (seen keys files m) k) (Ok Go) (standing 0 (seen keys files new)) tells text text
+unfolding set_size_reply
+size-does keys files m new k tells text fits is =
+    let live = seen keys files m in
+    subst (λ (b : Bool). Does (if b then goes (with_machine live (sized live.machine k)) else refused OutOfRange live) (Ok Go) (standing 0 (seen keys files new)) tells text text) (sym fits)
+    (subst (λ (x : MachineState). Does (goes (with_machine live (sized live.machine k))) (Ok Go) (standing 0 (seen keys files x)) tells text text) (sym is)
+    (refl, goes-said (with_machine live (sized live.machine k)) tells text))
+
+pub size-refused : (live : Live) (k : ℕ) (tells : Bool) (text : List ℕ) → fits_size k ≡ false → Does (set_size_reply live k) (Err OutOfRange) (standing 0 live) tells text text
+unfolding set_size_reply
+size-refused live k tells text fits =
+    subst (λ (b : Bool). Does (if b then goes (with_machine live (sized live.machine k)) else refused OutOfRange live) (Err OutOfRange) (standing 0 live) tells text text) (sym fits)
+    (refl, refused-said OutOfRange live tells text)
+
+-- ---- what SET CPU leaves
+
+fits-most : (k : ℕ) → fits_size k ≡ true → 1024 * k ≤ 2 ^ 15
+fits-most k fits =
+    let within = and_parts (nat_le 4 k && nat_le k 32) (k % 4 == 0) fits in
+    let most = leb-true k 32 (and_parts (nat_le 4 k) (nat_le k 32) within.0).1 in
+    omega (arith, most)
+
+-- a word below the size that is given
+below-stays : (m : MemoryState) (n a : ℕ) → IsMemory m → n ≤ 2 ^ 15 → a < n → get (resized m n) a ≡ get m a
+below-stays m n a is most low =
+    let words = take n m.words ++ replicate (2 ^ 15 - n) 0 in
+    let whole = is.whole in
+    let taken : length (take n m.words) ≡ n = length-take-le n m.words (omega (arith, whole, most)) in
+    ap (λ (b : Bool). if b then slice_index words a else 0) (lt-ltb a n low)
+    ∙ get_or_append_left (take n m.words) (replicate (2 ^ 15 - n) 0) 0 a (omega (arith, taken, low)) ∙ get_or-take n m.words a 0 low ∙ by-size (nat_lt a m.size) refl
+  where
+    by-size : (b : Bool) → nat_lt a m.size ≡ b → get_or m.words a 0 ≡ (if b then slice_index m.words a else 0)
+    by-size true h = refl
+    by-size false h = is.beyond a (ltb-false a m.size h)
+
+others-clear : (m : MemoryState) (n a : ℕ) → n ≤ a → get (resized m n) a ≡ 0
+others-clear m n a past = ap (λ (b : Bool). if b then slice_index (take n m.words ++ replicate (2 ^ 15 - n) 0) a else 0) (le-ltb a n past)
+
+sized-machine : (m : MachineState) (k : ℕ) → IsMemory m.processor.memory → fits_size k ≡ true → IsSized k m (sized m k)
+sized-machine m k is fits = record {
+  size = refl;
+  below = λ a low. below-stays m.processor.memory (1024 * k) a is (fits-most k fits) low;
+  others = λ a past. others-clear m.processor.memory (1024 * k) a past;
+  rest = refl;
+}
+
+size-leaves : (limit : ℕ) (notes : List CommandNote) (live : Live) (k : ℕ) → IsMemory live.machine.processor.memory → IsTrue (fits_size k)
+    → IsSized k live.machine (effect limit notes live (SetSize k)).after.live.machine
+unfolding effect set_size_reply
+size-leaves limit notes live k is fits =
+    subst (λ (b : Bool). IsSized k live.machine (if b then goes (with_machine live (sized live.machine k)) else refused OutOfRange live).after.live.machine) (sym fits)
+    (sized-machine live.machine k is fits)
+
+pub set-cpu-leaves-the-rest : SetCpuLeavesTheRest
+set-cpu-leaves-the-rest = size-leaves

@@ -1,0 +1,122 @@
+// DO.
+ghost use Rattle.std.specs.Prelude.{◌≡◌, ◌≤◌, ◌+◌, ◌++◌, ◌^◌, ℕ, Bool, List, IsTrue, IfOk, Err, length};
+ghost use Rattle.std.specs.Prelude.{vec_len, vec_capacity};
+ghost use Rattle.host_files.specs.State.{Opened};
+ghost use Rattle.unit_files.specs.Open.{AllOpen, Around};
+ghost use Rattle.fault_notes.specs.Notes.{notes_said};
+ghost use Rattle.scp_commands.specs.declared.fault.CommandFault.TheVariants.{OutOfMemory};
+ghost use Rattle.scp_commands.specs.Live.{live_in};
+ghost use Rattle.scp_commands.specs.ScriptEffects.{do_reply};
+ghost use Rattle.scp_commands.specs.ScriptCalls.{call_notes, script_notes, script_answer};
+ghost use Rattle.scp_commands.specs.Doing.{Did, Keeps, IsUndone, IsOwn, IsExitAnswer};
+
+use crate::do_file::{DoFile, ScriptText};
+use crate::fault::CommandFault;
+use crate::next::Next;
+use crate::session::Session;
+use crate::unit_commands::stamp_of;
+use fault_notes::{FaultNote, Subject, keep};
+use file_commands::Stamp;
+use host_files::Files;
+use std::alloc::Global;
+use unit_trait::Unit;
+use whole_files::{FailedCall, Whole, WholeFault, read_file};
+
+/// DO reads the script of a name whole, closes it again, and answers its bytes. It prints nothing, and no file changes.
+///
+/// `NoFile` comes where there is no such file, `FileTooLong` where it is longer than 1048576 bytes, `FileFailed` where
+/// its opening, its length or a read failed, and `OutOfMemory` where there is no memory for it. Each call that failed
+/// is noted, the closing too, but with `OutOfMemory`, where nothing is.
+#[tactic(auto, unfolding(whole_files::specs::Whole::longest_file))]
+pub fn do_script<U: Unit, F: Files>(
+    alloc: Global,
+    session: &mut Session<U>,
+    echo: bool,
+    strict: bool,
+    name: &str,
+    files: &mut F,
+) -> Result<Next, CommandFault>
+    requires room { 16 ≤ session.old.spare }
+    requires open { AllOpen session.old.machine.slots (F.state files.old).opened }
+    ensures told { (tells : Bool) (text : List ℕ) → IsTrue F.tells
+        → Did (λ notes. do_reply notes (live_in session.old (F.state files.old).files) echo strict name.now)
+        session.old.command result (live_in session.new (F.state files.new).files) tells text text
+        (notes_said session.old.notes) (notes_said session.new.notes) }
+    ensures undone { (text : List ℕ) → result ≡ Err OutOfMemory
+        → IsUndone F.tells session.old session.new text text (F.state files.old) (F.state files.new) }
+    ensures keeps { Keeps session.old.command session.new.machine.time F.tells result session.old.notes
+        session.new.notes (F.state files.old) (F.state files.new) }
+    ensures own { IsOwn result }
+    ensures exit { IsExitAnswer result }
+    ensures keys { session.new.keys ≡ session.old.keys }
+    ensures limit { session.new.limit ≡ session.old.limit }
+    ensures command { session.new.command ≡ session.old.command }
+    ensures open { AllOpen session.new.machine.slots (F.state files.new).opened }
+    ensures around { (base : List Opened) → Around session.old.machine.slots base (F.state files.old).opened
+        → Around session.new.machine.slots base (F.state files.new).opened }
+{
+    let stamp = stamp_of(session);
+    let whole = read_file(alloc, name, files);
+    note_calls(&mut session.notes, &whole, stamp);
+    script_answer(whole.bytes, echo, strict)
+}
+
+// Notes the calls on a script that failed, but where memory ran out.
+fn note_calls(notes: &mut Vec<FaultNote>, whole: &Whole, stamp: Stamp)
+    requires { vec_len notes.old + 2 ≤ vec_capacity notes.old }
+    ensures notes { notes.new.items ≡ notes.old.items ++ script_notes stamp whole.now }
+    ensures capacity { vec_capacity notes.old ≤ vec_capacity notes.new }
+{
+    match &whole.bytes {
+        Err(WholeFault::OutOfMemory) => (),
+        _ => {
+            note_call(notes, whole.failed, stamp);
+            note_call(notes, whole.closing, stamp);
+        }
+    }
+}
+
+// Notes a call on a script, where it failed.
+fn note_call(notes: &mut Vec<FaultNote>, failed: Option<FailedCall>, stamp: Stamp)
+    requires { vec_len notes.old + 1 ≤ vec_capacity notes.old }
+    ensures notes { notes.new.items ≡ notes.old.items ++ call_notes stamp failed }
+    ensures few { vec_len notes.new ≤ vec_len notes.old + 1 }
+    ensures capacity { vec_capacity notes.old ≤ vec_capacity notes.new }
+{
+    match failed {
+        None => (),
+        Some(failed) => keep(
+            notes,
+            FaultNote {
+                command: stamp.command,
+                time: stamp.time,
+                subject: Subject::Script,
+                file: failed.file,
+                call: failed.call,
+                done: 0,
+            },
+        ),
+    }
+}
+
+// What is answered of a script that was read, or not.
+fn script_answer(
+    bytes: Result<Vec<u8>, WholeFault>,
+    echo: bool,
+    strict: bool,
+) -> Result<Next, CommandFault>
+    requires { IfOk bytes (λ v. length v.items ≤ 2 ^ 20) }
+    ensures { result ≡ script_answer echo strict bytes }
+{
+    match bytes {
+        Ok(bytes) => Ok(Next::Do(DoFile {
+            text: ScriptText::new(bytes),
+            echo,
+            strict,
+        })),
+        Err(WholeFault::NoFile) => Err(CommandFault::NoFile),
+        Err(WholeFault::TooLong) => Err(CommandFault::FileTooLong),
+        Err(WholeFault::Failed) => Err(CommandFault::FileFailed(Subject::Script)),
+        Err(WholeFault::OutOfMemory) => Err(CommandFault::OutOfMemory),
+    }
+}

@@ -1,0 +1,41 @@
+// SET CPU.
+ghost use Rattle.std.specs.Prelude.{◌≡◌, ◌*◌, ℕ, Bool, List};
+ghost use Rattle.host_files.specs.Lists.{NamedBytes};
+ghost use Rattle.nova_memory.specs.Memory.{IsSize};
+ghost use Rattle.scp_commands.specs.Live.{standing, live_in};
+ghost use Rattle.scp_commands.specs.SetEffects.{sized, set_size_reply};
+ghost use Rattle.scp_commands.specs.Doing.{Does, IsPlain, IsExitAnswer};
+
+use crate::fault::CommandFault;
+use crate::next::Next;
+use crate::session::Session;
+use nova_machine::Machine;
+use nova_memory::is_size;
+use unit_trait::Unit;
+
+/// SET CPU gives the machine that many K of memory, each of 1024 words: 4, 8 and so on up to 32. The words below that
+/// stay, and all others are 0 from then on. It prints nothing.
+pub fn set_size<U: Unit>(session: &mut Session<U>, k: u64) -> Result<Next, CommandFault>
+    ensures told { (files : List NamedBytes) (tells : Bool) (text : List ℕ)
+        → Does (set_size_reply (live_in session.old files) k) result (standing 0 (live_in session.new files)) tells
+        text text }
+    ensures own { IsPlain result }
+    ensures exit { IsExitAnswer result }
+    ensures rest { session.new ≡ record session.old { machine = session.new.machine } }
+    ensures slots { session.new.machine.slots ≡ session.old.machine.slots }
+    ensures time { session.new.machine.time ≡ session.old.machine.time }
+{
+    if !is_size(k) {
+        return Err(CommandFault::OutOfRange);
+    }
+    resize(&mut session.machine, k);
+    Ok(Next::Go)
+}
+
+// Gives a machine that many K of memory.
+fn resize<U: Unit>(machine: &mut Machine<U>, k: u64)
+    requires { IsSize (1024 * k) }
+    ensures { machine.new ≡ sized machine.old k }
+{
+    machine.memory_mut().set_size((1024 * k) as u16);
+}

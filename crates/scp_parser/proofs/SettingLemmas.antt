@@ -1,0 +1,70 @@
+-- What SET and NOBREAK ask for, by the operands behind their names.
+use Rattle.std.specs.Prelude.{codes}
+use Rattle.std.proofs.Common.{◌≡◌, ℕ, false, None, Ok, List, [], refl, arith}
+use Rattle.unit_trait.specs.declared.kind.Kind.TheVariants.{Tti1}
+use Rattle.operand_forms.specs.declared.listing.Name.{Name}
+use Rattle.operand_forms.specs.declared.listing.Name.TheVariants as whose
+use Rattle.scp_parser.specs.declared.command.Verb.{Verb}
+use Rattle.scp_parser.specs.declared.command.Verb.TheVariants as verb
+use Rattle.scp_parser.specs.declared.names.CommandName.TheVariants.{NoBreak, Set}
+use Rattle.scp_parser.specs.Command.{Request, request_of, Keeps}
+use Rattle.scp_parser.specs.Command as request
+use Rattle.scp_parser.specs.Forms.{IsFlag, IsNoBreak, IsSet, IsSize}
+use Rattle.scp_parser.specs.Operands.{flag_of, no_break_of, set_of, size_of}
+use Rattle.scp_parser.specs.Grammar.{Takes, Ends, Sets, Operates}
+use Rattle.scp_parser.specs.Faults.{WordFaults, EndFaults, SetFaults, OperandFaults}
+use Rattle.scp_parser.specs.Reading.{map_ok, needed, ended, set_what, set, no_break}
+use Rattle.scp_parser.proofs.FormsDecided.{Forms_decided}
+use Rattle.scp_parser.proofs.FlagLemmas.{no_flag, no_set, none_no_break}
+use Rattle.scp_parser.proofs.SizeLemmas.{no_size}
+use Rattle.scp_parser.proofs.Settles.{Settles, then_seen}
+use Rattle.scp_parser.proofs.OperandLemmas.{ended_seen, needed_settles}
+use Rattle.scp_parser.proofs.StepLemmas.{bind_keeps, ended_keeps}
+
+module _ (d : Forms_decided) (line : List ℕ) where
+  abbrev see : Verb → Request
+  see v = request_of line v
+
+  -- NOBREAK
+
+  pub no_break_settles : (text : List ℕ) → Settles (map_ok see (no_break text)) (Operates NoBreak text) (OperandFaults NoBreak text)
+  unfolding no_break
+  no_break_settles text =
+      then_seen see (Takes IsNoBreak text) (WordFaults IsNoBreak false text) (λ at. ended (verb.NoBreak at.0) at.1) (λ at. Ends (request.NoBreak at.0) at.1) (λ at. EndFaults at.1)
+      (needed false no_break_of text) (needed_settles IsNoBreak no_break_of d.no_break none_no_break false text) (λ at is. ended_seen see (verb.NoBreak at.0) at.1)
+
+  pub no_break_keeps : (text : List ℕ) (v : Verb) → no_break text ≡ Ok v → Keeps line v
+  unfolding no_break
+  no_break_keeps text v h =
+      bind_keeps (Keeps line) (needed false no_break_of text) (λ at. ended (verb.NoBreak at.0) at.1) v h (λ at is last. ended_keeps (Keeps line) (verb.NoBreak at.0) at.1 v last tt)
+
+  -- SET
+
+  abbrev word : List ℕ
+  word = codes "DISCONNECT"
+
+  no_disconnect : flag_of word [] ≡ None
+  no_disconnect = no_flag word (omega arith)
+
+  what_settles : (what : Name) (text : List ℕ) → Settles (map_ok see (set_what (what, text))) (Sets what text) (SetFaults what text)
+  what_settles whose.Cpu text =
+      then_seen see (Takes IsSize text) (WordFaults IsSize false text) (λ n. ended (verb.SetSize n.0) n.1) (λ n. Ends (request.SetSize n.0) n.1) (λ n. EndFaults n.1) (needed false size_of text)
+      (needed_settles IsSize size_of d.size no_size false text) (λ n is. ended_seen see (verb.SetSize n.0) n.1)
+  what_settles (whose.Device kind) text =
+      then_seen see (Takes (IsFlag word) text) (WordFaults (IsFlag word) false text) (λ d. ended (verb.Disconnect Tti1) d.1) (λ d. Ends (request.Disconnect Tti1) d.1) (λ d. EndFaults d.1)
+      (needed false (flag_of word) text) (needed_settles (IsFlag word) (flag_of word) (d.flag word) no_disconnect false text) (λ n is. ended_seen see (verb.Disconnect Tti1) n.1)
+
+  pub set_settles : (text : List ℕ) → Settles (map_ok see (set text)) (Operates Set text) (OperandFaults Set text)
+  unfolding set
+  set_settles text =
+      then_seen see (Takes IsSet text) (WordFaults IsSet false text) set_what (λ what. Sets what.0 what.1) (λ what. SetFaults what.0 what.1) (needed false set_of text)
+      (needed_settles IsSet set_of d.set no_set false text) (λ what is. what_settles what.0 what.1)
+
+  what_keeps : (what : Name) (text : List ℕ) (v : Verb) → set_what (what, text) ≡ Ok v → Keeps line v
+  what_keeps whose.Cpu text v h = bind_keeps (Keeps line) (needed false size_of text) (λ n. ended (verb.SetSize n.0) n.1) v h (λ n is last. ended_keeps (Keeps line) (verb.SetSize n.0) n.1 v last tt)
+  what_keeps (whose.Device kind) text v h =
+      bind_keeps (Keeps line) (needed false (flag_of word) text) (λ n. ended (verb.Disconnect Tti1) n.1) v h (λ n is last. ended_keeps (Keeps line) (verb.Disconnect Tti1) n.1 v last refl)
+
+  pub set_keeps : (text : List ℕ) (v : Verb) → set text ≡ Ok v → Keeps line v
+  unfolding set
+  set_keeps text v h = bind_keeps (Keeps line) (needed false set_of text) set_what v h (λ what is last. what_keeps what.0 what.1 v last)

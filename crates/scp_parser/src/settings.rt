@@ -1,0 +1,101 @@
+// SET.
+ghost use Rattle.std.specs.Prelude.{◌≡◌, false, codes};
+ghost use Rattle.scp_parser.specs.Operands.{flag_of, set_of, size_of};
+ghost use Rattle.scp_parser.specs.Reading.{needed, set_what, set};
+ghost use Rattle.scp_parser.specs.Views.{Gives};
+ghost use Rattle.operand_forms.specs.declared.listing.Name.TheVariants as whose;
+ghost use Rattle.unit_trait.specs.declared.kind.Kind.TheVariants.{Tti1};
+
+use crate::command::Verb;
+use crate::fault::ParseFault;
+use crate::operands::{bad_operand, ended, next_word};
+use line_words::is_spelled;
+use operand_forms::{Name, decimal};
+use unit_trait::Kind;
+
+// What a word names that SET can set.
+#[tactic(auto, unfolding(crate::specs::Operands::set_of))]
+fn set_of(word: &[u8]) -> Option<Name>
+    ensures { result ≡ set_of word.now }
+{
+    if is_spelled(word, b"CPU") {
+        Some(Name::Cpu)
+    } else if is_spelled(word, b"TTI1") {
+        Some(Name::Device(Kind::Tti1))
+    } else {
+        None
+    }
+}
+
+// A size of memory, in K words.
+#[tactic(auto, using(crate::proofs::SizeLemmas::sizes), unfolding(crate::specs::Operands::size_of))]
+fn size_of(word: &[u8]) -> Option<u64>
+    ensures { result ≡ size_of word.now }
+{
+    match word {
+        [digits @ .., b'K' | b'k'] => decimal(digits),
+        _ => None,
+    }
+}
+
+fn needed_set(text: &[u8]) -> Result<(Name, &[u8]), ParseFault>
+    ensures { Gives (λ x. (x.0, x.1.now)) result (needed false set_of text.now) }
+{
+    let (word, rest) = next_word(text);
+    match set_of(word) {
+        Some(name) => Ok((name, rest)),
+        None => Err(bad_operand(false, word, rest)),
+    }
+}
+
+fn needed_size(text: &[u8]) -> Result<(u64, &[u8]), ParseFault>
+    ensures { Gives (λ x. (x.0, x.1.now)) result (needed false size_of text.now) }
+{
+    let (word, rest) = next_word(text);
+    match size_of(word) {
+        Some(n) => Ok((n, rest)),
+        None => Err(bad_operand(false, word, rest)),
+    }
+}
+
+// The word DISCONNECT, and what follows it.
+#[tactic(auto, unfolding(crate::specs::Operands::flag_of))]
+fn needed_disconnect(text: &[u8]) -> Result<(bool, &[u8]), ParseFault>
+    ensures { Gives (λ x. (x.0, x.1.now)) result (needed false (flag_of (codes "DISCONNECT")) text.now) }
+{
+    let (word, rest) = next_word(text);
+    if is_spelled(word, b"DISCONNECT") {
+        Ok((true, rest))
+    } else {
+        Err(bad_operand(false, word, rest))
+    }
+}
+
+fn set_size(text: &[u8]) -> Result<Verb, ParseFault>
+    ensures { result ≡ set_what (whose.Cpu, text.now) }
+{
+    let (n, rest) = needed_size(text)?;
+    ended(Verb::SetSize(n), rest)
+}
+
+fn disconnect(text: &[u8]) -> Result<Verb, ParseFault>
+    ensures { result ≡ set_what (whose.Device Tti1, text.now) }
+{
+    let (_, rest) = needed_disconnect(text)?;
+    ended(Verb::Disconnect(Kind::Tti1), rest)
+}
+
+/// What a SET asks for, by what stands behind its name.
+#[tactic(auto, unfolding(crate::specs::Reading::set))]
+pub fn set(text: &[u8]) -> Result<Verb, ParseFault>
+    ensures { result ≡ set text.now }
+{
+    let (what, rest) = needed_set(text)?;
+    match what {
+        Name::Cpu => set_size(rest),
+        Name::Device(_) => disconnect(rest),
+    }
+}
+
+#[cfg(test)]
+mod tests;

@@ -1,0 +1,193 @@
+-- A command has a script next only where it is a DO.
+use Rattle.std.proofs.Common.{ℕ, ◌<◌, Bool, true, false, List, length, sym, subst, Option, Some, None, Result, Ok, Err, if◌then◌else◌, nat_le, ◌&&◌, ◌^◌, min, unwrap_or}
+use Rattle.fault_notes.specs.declared.note.Subject.TheVariants as subject
+use Rattle.fault_notes.specs.Notes.{CommandNote, failure_now}
+use Rattle.unit_trait.specs.declared.kind.UnitName.{UnitName}
+use Rattle.unit_files.specs.Acts.{AttachSaid, Attached, UnitHasFile, OnlyWrites, NotThere, TooLong, CallFailed, DetachSaid, HadNone, Detached}
+use Rattle.unit_files.specs.Acts.{attach_said, detach_said}
+use Rattle.nova_memory.specs.Memory.{fits_size}
+use Rattle.nova_machine.specs.Seen.{attached_in}
+use Rattle.nova_machine.specs.Run.{run}
+use Rattle.nova_machine.specs.declared.machine.Stop.{Stop}
+use Rattle.operand_forms.specs.declared.listing.Listing.{Listing}
+use Rattle.operand_forms.specs.declared.listing.Test.{Test}
+use Rattle.scp_parser.specs.declared.command.Shown.{Shown}
+use Rattle.scp_parser.specs.declared.command.Shown.TheVariants as shown
+use Rattle.scp_parser.specs.Command.{Request}
+use Rattle.scp_parser.specs.Command as request
+use Rattle.scp_examine.specs.declared.fault.ExamineFault.{ExamineFault}
+use Rattle.scp_examine.specs.Effect.{examine_fault, fault_of_deposit, tested}
+use Rattle.scp_commands.specs.declared.next.Next.{Next}
+use Rattle.scp_commands.specs.declared.next.Next.TheVariants.{Go, Ran, Do, Goto, Exit}
+use Rattle.scp_commands.specs.declared.fault.CommandFault.TheVariants.{NotBuilt}
+use Rattle.scp_commands.specs.Live.{Live, Standing}
+use Rattle.scp_commands.specs.Reply.{Answer, Reply}
+use Rattle.scp_commands.specs.Doing.{Does}
+use Rattle.scp_commands.specs.RunEffects.{run_answer, run_failure, ran, address_fits, started, run_from, stepped, step_of, reset_reply}
+use Rattle.scp_commands.specs.ListEffects.{lacks_device, examine_after, examine_reply, handed, deposit_after, deposit_reply}
+use Rattle.scp_commands.specs.FileEffects.{lacks_unit, mode_of, attach_answer, attach_reply}
+use Rattle.scp_commands.specs.FileEffects.{detach_answer, detach_reply, detach_all_reply, detach_one_or_all}
+use Rattle.scp_commands.specs.ShowEffects.{show_reply}
+use Rattle.scp_commands.specs.ExitEffects.{exit_reply}
+use Rattle.scp_commands.specs.SetEffects.{set_size_reply}
+use Rattle.scp_commands.specs.ScriptEffects.{test_answer, echo_reply, assert_reply}
+use Rattle.scp_commands.specs.Effect.{effect}
+use Rattle.scp_script.specs.Scripts.{Script, most_scripts}
+use Rattle.scp_script.specs.Loop.{FitsIn, HasRoom}
+
+-- an answer that begins no script
+abbrev NoScript : Answer → Type 0
+NoScript (Ok (Do file)) = ⊥
+NoScript answer = Unit {0}
+
+none-if : (b : Bool) (x y : Reply) → NoScript x.answer → NoScript y.answer → NoScript (if b then x else y).answer
+none-if true x y first second = first
+none-if false x y first second = second
+
+run-none : (stop : Option Stop) → NoScript (run_answer stop)
+run-none (Some stop) = tt
+run-none None = tt
+
+ran-none : (notes : List CommandNote) (step : Bool) (count : ℕ) (live : Live) → NoScript (ran (run (run_failure notes) step count live)).answer
+unfolding ran
+ran-none notes step count live = run-none (run (run_failure notes) step count live).stop
+
+run_from-none : (limit : ℕ) (notes : List CommandNote) (resets : Bool) (address : Option ℕ) (live : Live) → NoScript (run_from limit notes resets address live).answer
+unfolding run_from
+run_from-none limit notes resets address live = none-if (address_fits address) _ _ (ran-none notes false limit (started resets address live)) tt
+
+step-none : (limit : ℕ) (notes : List CommandNote) (count : ℕ) (live : Live) → NoScript (step_of limit notes count live).answer
+unfolding step_of stepped
+step-none limit notes count live = none-if (nat_le 1 count && nat_le count (2 ^ 48)) _ _ (ran-none notes (nat_le count limit) (min count limit) live) tt
+
+reset-none : (live : Live) → NoScript (reset_reply live).answer
+unfolding reset_reply
+reset-none live = tt
+
+examine_after-none : (fault : Option ExamineFault) (live : Live) (l : Listing) → NoScript (examine_after fault live l).answer
+examine_after-none (Some fault) live l = tt
+examine_after-none None live l = tt
+
+examine-none : (live : Live) (l : Listing) → NoScript (examine_reply live l).answer
+unfolding examine_reply
+examine-none live l = none-if (lacks_device live.machine l.device) _ _ tt (examine_after-none (examine_fault live.machine l) live l)
+
+deposit_after-none : (fault : Option ExamineFault) (live : Live) (l : Listing) (value : ℕ) → NoScript (deposit_after fault live l value).answer
+deposit_after-none (Some fault) live l value = tt
+deposit_after-none None live l value = tt
+
+deposit-none : (live : Live) (l : Listing) (value : ℕ) → NoScript (deposit_reply live l value).answer
+unfolding deposit_reply
+deposit-none live l value = none-if (lacks_device live.machine l.device) _ _ tt (deposit_after-none (fault_of_deposit live.machine l (handed value)) live l (handed value))
+
+attach_answer-none : (unit : UnitName) (said : AttachSaid) → NoScript (attach_answer unit said)
+attach_answer-none unit (Attached count) = tt
+attach_answer-none unit UnitHasFile = tt
+attach_answer-none unit OnlyWrites = tt
+attach_answer-none unit NotThere = tt
+attach_answer-none unit TooLong = tt
+attach_answer-none unit (CallFailed f) = tt
+
+attach-none : (notes : List CommandNote) (live : Live) (option : ℕ) (unit : UnitName) (name : List ℕ) → NoScript (attach_reply notes live option unit name).answer
+unfolding attach_reply
+attach-none notes live option unit name =
+    none-if (lacks_unit live.machine unit) _ _ tt
+    (attach_answer-none unit (attach_said (failure_now live.machine.time (subject.Unit unit) notes) (mode_of option) unit name (attached_in live.machine) live.files))
+
+detach_answer-none : (said : DetachSaid) → NoScript (detach_answer said)
+detach_answer-none HadNone = tt
+detach_answer-none (Detached f) = tt
+
+detach-none : (notes : List CommandNote) (live : Live) (unit : UnitName) → NoScript (detach_reply notes live unit).answer
+unfolding detach_reply
+detach-none notes live unit =
+    none-if (lacks_unit live.machine unit) _ _ tt (detach_answer-none (detach_said (failure_now live.machine.time (subject.Unit unit) notes) unit (attached_in live.machine)))
+
+detach_all-none : (notes : List CommandNote) (live : Live) → NoScript (detach_all_reply notes live).answer
+unfolding detach_all_reply
+detach_all-none notes live = tt
+
+detach_where-none : (notes : List CommandNote) (live : Live) (unit : Option UnitName) → NoScript (detach_one_or_all notes live unit).answer
+detach_where-none notes live None = detach_all-none notes live
+detach_where-none notes live (Some unit) = detach-none notes live unit
+
+show-none : (live : Live) (subject : Shown) → NoScript (show_reply live subject).answer
+unfolding show_reply
+show-none live shown.Time = tt
+show-none live shown.Cpu = tt
+show-none live shown.Queue = tt
+show-none live shown.Version = tt
+show-none live (shown.Unit unit) = none-if (lacks_unit live.machine unit) _ _ tt tt
+show-none live subject = tt
+
+exit-none : (notes : List CommandNote) (live : Live) (status : Option ℕ) → NoScript (exit_reply notes live status).answer
+unfolding exit_reply
+exit-none notes live status = none-if (nat_le (unwrap_or status 0) 99) _ _ tt tt
+
+set_size-none : (live : Live) (k : ℕ) → NoScript (set_size_reply live k).answer
+unfolding set_size_reply
+set_size-none live k = none-if (fits_size k) _ _ tt tt
+
+echo-none : (live : Live) (text : List ℕ) → NoScript (echo_reply live text).answer
+unfolding echo_reply
+echo-none live text = tt
+
+tested-none : (lacks : Bool) (r : Result Bool ExamineFault) → NoScript (if lacks then Err NotBuilt else test_answer r)
+tested-none true r = tt
+tested-none false (Ok true) = tt
+tested-none false (Ok false) = tt
+tested-none false (Err fault) = tt
+
+assert-none : (live : Live) (test : Test) → NoScript (assert_reply live test).answer
+unfolding assert_reply
+assert-none live test = tested-none (lacks_device live.machine test.device) (tested live.machine test)
+
+-- there is room for the script that an answer begins
+abbrev RoomFor : List Script → Answer → Type 0
+RoomFor scripts (Ok (Do file)) = length scripts < most_scripts
+RoomFor scripts answer = Unit {0}
+
+room-any : (scripts : List Script) (answer : Answer) → length scripts < most_scripts → RoomFor scripts answer
+room-any scripts (Ok (Do file)) fits = fits
+room-any scripts (Ok Go) fits = tt
+room-any scripts (Ok (Ran stop)) fits = tt
+room-any scripts (Ok Goto) fits = tt
+room-any scripts (Ok (Exit status)) fits = tt
+room-any scripts (Err fault) fits = tt
+
+room-none : (scripts : List Script) (answer : Answer) → NoScript answer → RoomFor scripts answer
+room-none scripts (Ok (Do file)) none = absurd none
+room-none scripts (Ok Go) none = tt
+room-none scripts (Ok (Ran stop)) none = tt
+room-none scripts (Ok Goto) none = tt
+room-none scripts (Ok (Exit status)) none = tt
+room-none scripts (Err fault) none = tt
+
+room-effect : (scripts : List Script) (limit : ℕ) (notes : List CommandNote) (live : Live) (r : Request) → FitsIn scripts r → RoomFor scripts (effect limit notes live r).answer
+unfolding effect
+room-effect scripts limit notes live request.Nothing fits = tt
+room-effect scripts limit notes live (request.Examine l) fits = room-none scripts _ (examine-none live l)
+room-effect scripts limit notes live (request.Deposit l value) fits = room-none scripts _ (deposit-none live l value)
+room-effect scripts limit notes live (request.Run address) fits = room-none scripts _ (run_from-none limit notes true address live)
+room-effect scripts limit notes live (request.Go address) fits = room-none scripts _ (run_from-none limit notes false address live)
+room-effect scripts limit notes live request.Cont fits = room-none scripts _ (ran-none notes false limit live)
+room-effect scripts limit notes live (request.Step count) fits = room-none scripts _ (step-none limit notes (unwrap_or count 1) live)
+room-effect scripts limit notes live request.Reset fits = room-none scripts _ (reset-none live)
+room-effect scripts limit notes live (request.Attach option unit name) fits = room-none scripts _ (attach-none notes live option unit name)
+room-effect scripts limit notes live (request.Detach unit) fits = room-none scripts _ (detach_where-none notes live unit)
+room-effect scripts limit notes live (request.SetSize k) fits = room-none scripts _ (set_size-none live k)
+room-effect scripts limit notes live (request.Show subject) fits = room-none scripts _ (show-none live subject)
+room-effect scripts limit notes live (request.Assert test) fits = room-none scripts _ (assert-none live test)
+room-effect scripts limit notes live (request.Echo text) fits = room-none scripts _ (echo-none live text)
+room-effect scripts limit notes live (request.Exit status) fits = room-none scripts _ (exit-none notes live status)
+room-effect scripts limit notes live (request.Do echo strict name arguments) fits = room-any scripts (effect limit notes live (request.Do echo strict name arguments)).answer fits
+room-effect scripts limit notes live r fits = tt
+
+-- where a command was done that has a script next, there is room for it
+pub room-next : (scripts : List Script) (limit : ℕ) (notes : List CommandNote) (live : Live) (r : Request) (next : Next) (at : Standing) (tells : Bool) (before after : List ℕ)
+    → FitsIn scripts r → Does (effect limit notes live r) (Ok next) at tells before after → HasRoom scripts next
+room-next scripts limit notes live r (Do file) at tells before after fits does = subst (λ (a : Answer). RoomFor scripts a) (sym does.0) (room-effect scripts limit notes live r fits)
+room-next scripts limit notes live r Go at tells before after fits does = tt
+room-next scripts limit notes live r (Ran stop) at tells before after fits does = tt
+room-next scripts limit notes live r Goto at tells before after fits does = tt
+room-next scripts limit notes live r (Exit status) at tells before after fits does = tt

@@ -1,0 +1,162 @@
+use Rattle.std.proofs.Common.{◌≡◌, ◌<◌, List, [], Err, refl, ap, sym, ◌∙◌, subst, arith}
+use Rattle.unit_files.specs.Open.{Around}
+use Rattle.fault_notes.specs.Notes.{notes_said}
+use Rattle.scp_parser.specs.declared.fault.ParseFault.TheVariants.{TooLong}
+use Rattle.scp_commands.specs.declared.fault.CommandFault.TheVariants.{Parse}
+use Rattle.scp_commands.specs.Live.{CommandState, live_in}
+use Rattle.scp_commands.specs.FileEffects.{detached_all}
+use Rattle.scp_commands.specs.Doing.{Closes}
+use Rattle.scp_commands.specs.Effect.{asked}
+use Rattle.scp_commands.proofs.AskedLemmas.{long-asked}
+use Rattle.scp_script.specs.declared.progress.Progress.TheVariants.{IsOver}
+use Rattle.scp_script.specs.declared.progress.Finish.TheVariants.{Commands, Console, Input}
+use Rattle.scp_script.specs.Scripts.{Script, checked}
+use Rattle.scp_script.specs.Loop.{IsShort, Answers, session_of}
+use Rattle.scp_script.proofs.TextLemmas.{answers-none}
+use Rattle.scp_script.proofs.LineLemmas.{none-read, prompt-refused, budget-spent, input-failed}
+use Rattle.scp_script.proofs.NoteLemmas.{line-stepped, over-alone, input-closed, left-at, never-short, spent-line}
+use Rattle.scp_script.proofs.command_loop.input_line.Goals as goal
+
+pub returns-in-Err-clause-told : goal.returns-in-Err-clause-told
+returns-in-Err-clause-told g c = λ source files sink.
+    let session = c.args.session.now in
+    let input = g.C.Source.left c.args.input.now in
+    let before = g.S.Sink.written c.args.out.now in
+    let after = g.S.Sink.written c.ask.new.out in
+    let old = session_of session (g.F.Files.state c.args.files.now).files c.args.lines.now input [] in
+    over-alone old old Console before after (notes_said session.notes) (notes_said session.notes) refl
+    (prompt-refused old old before after c.requires.scripts refl (none-read c.args.lines.now.reader.open_ input) (c.in-Err.ensures.told sink))
+
+pub returns-in-Line-clause-told : goal.returns-in-Line-clause-told
+returns-in-Line-clause-told g c = λ source files sink.
+    let session = c.args.session.now in
+    let paid = c.read_paid.new.session in
+    let named = (g.F.Files.state c.args.files.now).files in
+    let lines = c.args.lines.now in
+    let now = c.read_paid.new.lines in
+    let input = g.C.Source.left c.args.input.now in
+    let left = g.C.Source.left c.read_paid.new.input in
+    let before = g.S.Sink.written c.args.out.now in
+    let mid = g.S.Sink.written c.ask.new.out in
+    let after = g.S.Sink.written c.answer.new.out in
+    let done = c.answer.new.session in
+    let last = record now { scripts = c.answer.new.scripts } in
+    let tells = g.S.Sink.tells in
+    let result = c.answer.result in
+    let what = asked c.line.result.now in
+    let live = live_in done (g.F.Files.state c.answer.new.files).files in
+    let is = c.read_paid.ensures.rest in
+    let none = c.read_paid.ensures.scripts ∙ c.requires.scripts in
+    let reads = c.in-Line.ensures.reads source in
+    let spent = spent-line session.command paid.command lines.budget now.budget lines.reader.open_ input now.reader.line reads.0 reads.1 c.read_paid.ensures.command in
+    let less : session.command < done.command = omega (arith, c.read_paid.ensures.command, c.in-Line.ensures.pays, c.answer.ensures.command) in
+    let told = subst (λ (x : CommandState). Answers x.limit (live_in x named) [] what done.command result live c.answer.new.scripts tells mid after (notes_said x.notes) (notes_said done.notes)) is
+    (subst (λ (l : List Script). Answers paid.limit (live_in paid named) l what done.command result live c.answer.new.scripts tells mid after (notes_said paid.notes) (notes_said done.notes)) none
+    (subst (λ n. Answers paid.limit (live_in paid named) now.scripts what n result live c.answer.new.scripts tells mid after (notes_said paid.notes) (notes_said done.notes)) (sym c.answer.ensures.command)
+    (c.answer.ensures.told files))) in
+    let short = subst (λ (x : CommandState). IsShort result (live_in x named) live x.notes done.notes mid after) is (c.answer.ensures.short files) in
+    let limit = c.answer.ensures.limit ∙ ap (λ (x : CommandState). x.limit) is in
+    line-stepped (session_of session named lines input []) (session_of done (g.F.Files.state c.answer.new.files).files last left []) now.reader.line what result tells before mid after
+    (notes_said session.notes) (notes_said done.notes) session.notes done.notes sink c.requires.scripts reads.0 (ap asked (sym c.line.ensures))
+    (record { spent = c.answer.ensures.command ∙ spent; limit = limit; budget = reads.1; open_ = reads.2; prompt = c.read_paid.ensures.prompt; reads = reads.3 }) less
+    (c.in-Ok.ensures.told sink) told short
+
+pub returns-in-Line-clause-around : goal.returns-in-Line-clause-around
+returns-in-Line-clause-around g c = λ base around.
+    c.answer.ensures.around base (subst (λ (x : CommandState). Around x.machine.slots base (g.F.Files.state c.args.files.now).opened) (sym c.read_paid.ensures.rest) around)
+
+pub returns-in-TooLong-clause-told : goal.returns-in-TooLong-clause-told
+returns-in-TooLong-clause-told g c = λ source files sink.
+    let session = c.args.session.now in
+    let paid = c.read_paid.new.session in
+    let named = (g.F.Files.state c.args.files.now).files in
+    let lines = c.args.lines.now in
+    let now = c.read_paid.new.lines in
+    let input = g.C.Source.left c.args.input.now in
+    let left = g.C.Source.left c.read_paid.new.input in
+    let before = g.S.Sink.written c.args.out.now in
+    let mid = g.S.Sink.written c.ask.new.out in
+    let after = g.S.Sink.written c.deny_line.new.out in
+    let last = record now { scripts = c.deny_line.new.scripts } in
+    let tells = g.S.Sink.tells in
+    let result = c.deny_line.result in
+    let live = live_in session named in
+    let is = c.read_paid.ensures.rest in
+    let now_state = record session { command = paid.command } in
+    let none = c.read_paid.ensures.scripts ∙ c.requires.scripts in
+    let reads = c.in-TooLong.ensures.reads source in
+    let what = asked reads.0 in
+    let long : what ≡ Err (Parse TooLong) = long-asked reads.0 reads.2 in
+    let spent = spent-line session.command paid.command lines.budget now.budget lines.reader.open_ input reads.0 reads.1 reads.3 c.read_paid.ensures.command in
+    let less : session.command < paid.command = omega (arith, c.read_paid.ensures.command, c.in-TooLong.ensures.pays) in
+    let said = answers-none paid.limit (live_in paid named) now.scripts what paid.command result c.deny_line.new.scripts tells mid after (notes_said paid.notes)
+    (λ notes. c.deny_line.ensures.told named notes what (ap (checked now.scripts) long)) in
+    let told = subst (λ (x : CommandState). Answers x.limit (live_in x named) [] what paid.command result (live_in x named) c.deny_line.new.scripts tells mid after (notes_said x.notes) (notes_said x.notes)) is
+    (subst (λ (l : List Script). Answers paid.limit (live_in paid named) l what paid.command result (live_in paid named) c.deny_line.new.scripts tells mid after (notes_said paid.notes) (notes_said paid.notes)) none said) in
+    let short = never-short result live live session.notes session.notes mid after c.deny_line.ensures.memory in
+    left-at session paid now_state named lines last input left result before after is
+    (line-stepped (session_of session named lines input []) (session_of now_state named last left []) reads.0 what result tells before mid after
+    (notes_said session.notes) (notes_said session.notes) session.notes session.notes sink c.requires.scripts reads.1 refl
+    (record { spent = spent; limit = refl; budget = reads.3; open_ = reads.4; prompt = c.read_paid.ensures.prompt; reads = reads.5 }) less
+    (c.in-Ok.ensures.told sink) told short)
+
+pub returns-in-End-clause-told : goal.returns-in-End-clause-told
+returns-in-End-clause-told g c = λ source files sink.
+    let session = c.args.session.now in
+    let paid = c.read_paid.new.session in
+    let named = (g.F.Files.state c.args.files.now).files in
+    let lines = c.args.lines.now in
+    let now = c.read_paid.new.lines in
+    let input = g.C.Source.left c.args.input.now in
+    let left = g.C.Source.left c.read_paid.new.input in
+    let before = g.S.Sink.written c.args.out.now in
+    let after = g.S.Sink.written c.ask.new.out in
+    let done = c.detach_files.new.self in
+    let is = c.read_paid.ensures.rest in
+    let reads = c.in-End.ensures.reads source in
+    let same : paid.command ≡ session.command = omega (arith, c.read_paid.ensures.command, reads.1) in
+    let live = c.detach_files.ensures.live ∙ ap (λ (x : CommandState). detached_all (live_in x named)) is in
+    let closes = subst (λ n. Closes n (live_in session named) (notes_said session.notes) (notes_said done.notes)) same
+    (subst (λ (x : CommandState). Closes x.command (live_in x named) (notes_said x.notes) (notes_said done.notes)) is c.detach_files.ensures.closes) in
+    input-closed (session_of session named lines input []) (session_of done (g.F.Files.state c.detach_files.new.files).files now left []) before after
+    (notes_said session.notes) (notes_said done.notes) c.requires.scripts reads.0 live closes reads.2 (c.in-Ok.ensures.told sink)
+
+pub returns-in-Unpaid-clause-told : goal.returns-in-Unpaid-clause-told
+returns-in-Unpaid-clause-told g c = λ source files sink.
+    let session = c.args.session.now in
+    let paid = c.read_paid.new.session in
+    let named = (g.F.Files.state c.args.files.now).files in
+    let lines = c.args.lines.now in
+    let now = c.read_paid.new.lines in
+    let input = g.C.Source.left c.args.input.now in
+    let left = g.C.Source.left c.read_paid.new.input in
+    let before = g.S.Sink.written c.args.out.now in
+    let after = g.S.Sink.written c.ask.new.out in
+    let is = c.read_paid.ensures.rest in
+    let reads = c.in-Unpaid.ensures.reads source in
+    let now_state = record session { command = paid.command } in
+    let old = session_of session named lines input [] in
+    let new = session_of now_state named now left [] in
+    left-at session paid now_state named lines now input left (IsOver Commands) before after is
+    (over-alone old new Commands before after (notes_said session.notes) (notes_said session.notes) refl
+    (budget-spent old new before after c.requires.scripts reads.0 refl reads.1 (c.in-Ok.ensures.told sink)))
+
+pub returns-in-Failed-clause-told : goal.returns-in-Failed-clause-told
+returns-in-Failed-clause-told g c = λ source files sink.
+    let session = c.args.session.now in
+    let paid = c.read_paid.new.session in
+    let named = (g.F.Files.state c.args.files.now).files in
+    let lines = c.args.lines.now in
+    let now = c.read_paid.new.lines in
+    let input = g.C.Source.left c.args.input.now in
+    let left = g.C.Source.left c.read_paid.new.input in
+    let before = g.S.Sink.written c.args.out.now in
+    let after = g.S.Sink.written c.ask.new.out in
+    let is = c.read_paid.ensures.rest in
+    let reads = c.in-Failed.ensures.reads source in
+    let now_state = record session { command = paid.command } in
+    let old = session_of session named lines input [] in
+    let new = session_of now_state named now left [] in
+    left-at session paid now_state named lines now input left (IsOver Input) before after is
+    (over-alone old new Input before after (notes_said session.notes) (notes_said session.notes) refl
+    (input-failed old new before after reads.0 c.requires.scripts reads.1 refl reads.2 (c.in-Ok.ensures.told sink)))

@@ -1,0 +1,239 @@
+ghost use Rattle.std.specs.Prelude.{◌≡◌, ◌≢◌, List, IsTrue, true, false, Ok, Err, IfOk};
+ghost use Rattle.host_files.specs.Lists.{NamedBytes};
+ghost use Rattle.host_files.specs.State.{Opened};
+ghost use Rattle.unit_files.specs.Open.{AllOpen, Around};
+ghost use Rattle.fault_notes.specs.Notes.{CommandNote, notes_said};
+ghost use Rattle.scp_commands.specs.Live.{live_in, standing};
+ghost use Rattle.scp_commands.specs.Effect.{Asked, asked};
+ghost use Rattle.scp_commands.specs.Doing.{IsExitAnswer};
+ghost use Rattle.scp_commands.specs.FaultText.{fault_text};
+ghost use Rattle.scp_commands.specs.declared.fault.CommandFault.TheVariants.{TooDeep};
+ghost use Rattle.scp_script.specs.declared.progress.Progress.TheVariants.{IsOver};
+ghost use Rattle.scp_script.specs.declared.progress.Finish.TheVariants.{OutOfMemory};
+ghost use Rattle.scp_script.specs.Scripts.{checked, arguments_of, label_of, behind_failure, is_assertion};
+ghost use Rattle.scp_script.specs.Scripts.{scripts_behind};
+ghost use Rattle.scp_script.specs.Session.{text_reply};
+ghost use Rattle.scp_script.specs.Loop.{IsAnswer, Answers, AnswerCounts, HasExitStatus, AreKept, IsShort};
+ghost use Rattle.scp_script.specs.Loop.{Complains, Denies, Follows, FitsIn};
+
+use crate::open_script::OpenScript;
+use crate::progress::{Finish, Progress};
+use crate::script_stack::ScriptStack;
+use host_files::{Failed, Files, Sink};
+use scp_commands::{CommandFault, Next, Session, execute, is_built};
+use scp_parser::{Command, Verb, read_command};
+use script_text::Arguments;
+use std::alloc::{AllocError, Global};
+use unit_trait::Unit;
+
+/// Does the command of a text, or answers its fault, and says whether the session goes on.
+pub fn answer<U: Unit, F: Files, S: Sink>(
+    alloc: Global,
+    session: &mut Session<U>,
+    line: &[u8],
+    scripts: &mut ScriptStack,
+    files: &mut F,
+    out: &mut S,
+) -> Progress
+    requires open { AllOpen session.old.machine.slots (F.state files.old).opened }
+    ensures told { IsTrue F.tells → Answers session.old.limit (live_in session.old (F.state files.old).files)
+        scripts.old (asked line.now) session.old.command result (live_in session.new (F.state files.new).files)
+        scripts.new S.tells (S.written out.old) (S.written out.new) (notes_said session.old.notes)
+        (notes_said session.new.notes) }
+    ensures short { IsTrue F.tells → IsShort result (live_in session.old (F.state files.old).files)
+        (live_in session.new (F.state files.new).files) session.old.notes session.new.notes (S.written out.old)
+        (S.written out.new) }
+    ensures counts { AnswerCounts result (S.fault_count out.old) (S.fault_count out.new) }
+    ensures exit { HasExitStatus result }
+    ensures command { session.new.command ≡ session.old.command }
+    ensures keeps { AreKept session.old.notes session.new.notes (F.state files.old) (F.state files.new) }
+    ensures keys { session.new.keys ≡ session.old.keys }
+    ensures limit { session.new.limit ≡ session.old.limit }
+    ensures open { AllOpen session.new.machine.slots (F.state files.new).opened }
+    ensures around { (base : List Opened) → Around session.old.machine.slots base (F.state files.old).opened
+        → Around session.new.machine.slots base (F.state files.new).opened }
+{
+    if !is_built(line) {
+        return deny_line(session, CommandFault::NotBuilt, scripts, out);
+    }
+    let mut command = Command::new();
+    match read_command(line, &mut command) {
+        Ok(()) => obey(alloc, session, &command, scripts, files, out),
+        Err(fault) => deny_line(session, CommandFault::of_line(fault), scripts, out),
+    }
+}
+
+/// Does a command, and prints the text of its fault where it is refused. A DO is refused where no more scripts can be
+/// open; the memory for its arguments is taken before its file is read.
+#[tactic(auto, using(crate::proofs::UndoneLemmas::says))]
+fn obey<U: Unit, F: Files, S: Sink>(
+    alloc: Global,
+    session: &mut Session<U>,
+    command: &Command,
+    scripts: &mut ScriptStack,
+    files: &mut F,
+    out: &mut S,
+) -> Progress
+    requires open { AllOpen session.old.machine.slots (F.state files.old).opened }
+    ensures told { IsTrue F.tells → Answers session.old.limit (live_in session.old (F.state files.old).files)
+        scripts.old (Ok command.now) session.old.command result (live_in session.new (F.state files.new).files)
+        scripts.new S.tells (S.written out.old) (S.written out.new) (notes_said session.old.notes)
+        (notes_said session.new.notes) }
+    ensures short { IsTrue F.tells → IsShort result (live_in session.old (F.state files.old).files)
+        (live_in session.new (F.state files.new).files) session.old.notes session.new.notes (S.written out.old)
+        (S.written out.new) }
+    ensures counts { AnswerCounts result (S.fault_count out.old) (S.fault_count out.new) }
+    ensures exit { HasExitStatus result }
+    ensures command { session.new.command ≡ session.old.command }
+    ensures keeps { AreKept session.old.notes session.new.notes (F.state files.old) (F.state files.new) }
+    ensures keys { session.new.keys ≡ session.old.keys }
+    ensures limit { session.new.limit ≡ session.old.limit }
+    ensures open { AllOpen session.new.machine.slots (F.state files.new).opened }
+    ensures around { (base : List Opened) → Around session.old.machine.slots base (F.state files.old).opened
+        → Around session.new.machine.slots base (F.state files.new).opened }
+{
+    if is_too_deep(command, scripts) {
+        return deny_line(session, CommandFault::TooDeep, scripts, out);
+    }
+    let Ok(arguments) = script_arguments(alloc, command) else {
+        return Progress::IsOver(Finish::OutOfMemory);
+    };
+    match execute(alloc, session, command, files, out) {
+        Ok(next) => follow(next, command, arguments, scripts, out),
+        Err(fault) => refuse(fault, scripts, out),
+    }
+}
+
+/// Whether a command is a DO where no more scripts can be open.
+fn is_too_deep(command: &Command, scripts: &ScriptStack) -> bool
+    ensures deep { result ≡ true → checked scripts.now (Ok command.now) ≡ Err TooDeep }
+    ensures fits { result ≡ false → checked scripts.now (Ok command.now) ≡ Ok command.now }
+    ensures room { result ≡ false → FitsIn scripts.now command.now }
+{
+    match &command.verb {
+        Verb::Do { .. } => scripts.is_full(),
+        _ => false,
+    }
+}
+
+/// The name of the script that a DO begins, and its arguments; nothing of any other command.
+fn script_arguments(alloc: Global, command: &Command) -> Result<Arguments, AllocError>
+    ensures { IfOk result (λ arguments. arguments ≡ arguments_of (Ok command.now)) }
+{
+    match &command.verb {
+        Verb::Do { .. } => {
+            Arguments::from_text(alloc, command.file_name().as_bytes(), command.text())
+        }
+        _ => Ok(Arguments::new(alloc)),
+    }
+}
+
+/// The label that a GOTO looks for; nothing of any other command.
+fn label_of(command: &Command) -> &[u8]
+    ensures { result.now ≡ label_of (Ok command.now) }
+{
+    match &command.verb {
+        Verb::Goto(_) => command.text(),
+        _ => b"",
+    }
+}
+
+/// Goes on behind a command that was done: in its script, at its label, or not at all.
+fn follow<S: Sink>(
+    next: Next,
+    command: &Command,
+    arguments: Arguments,
+    scripts: &mut ScriptStack,
+    out: &mut S,
+) -> Progress
+    requires arguments { arguments ≡ arguments_of (Ok command.now) }
+    requires exit { IsExitAnswer (Ok next) }
+    ensures told { Follows next command.now result scripts.old scripts.new S.tells (S.written out.old)
+        (S.written out.new) }
+    ensures counts { AnswerCounts result (S.fault_count out.old) (S.fault_count out.new) }
+    ensures exit { HasExitStatus result }
+    ensures memory { result ≢ IsOver OutOfMemory }
+{
+    match next {
+        Next::Go => Progress::GoesOn,
+        Next::Ran(_) => Progress::GoesOn,
+        Next::Do(file) => {
+            if !scripts.is_full() {
+                scripts.push(OpenScript::begin(file, arguments));
+            }
+            Progress::GoesOn
+        }
+        Next::Goto => match scripts.go_to(label_of(command)) {
+            Ok(()) => Progress::GoesOn,
+            Err(fault) => refuse(fault, scripts, out),
+        },
+        Next::Exit(status) => Progress::IsOver(Finish::Exit(status)),
+    }
+}
+
+/// Answers the fault of a command, and ends the scripts that it ends.
+fn refuse<S: Sink>(fault: CommandFault, scripts: &mut ScriptStack, out: &mut S) -> Progress
+    ensures told { Denies fault S.tells result (S.written out.old) (S.written out.new) (S.fault_count out.old)
+        (S.fault_count out.new) }
+    ensures scripts { scripts.new ≡ behind_failure (is_assertion fault) scripts.old }
+{
+    let progress = deny(fault, out);
+    scripts.fail(is_assertion(fault));
+    progress
+}
+
+/// Whether a fault is that of an ASSERT.
+fn is_assertion(fault: CommandFault) -> bool
+    ensures { result ≡ is_assertion fault }
+{
+    match fault {
+        CommandFault::AssertFailed => true,
+        _ => false,
+    }
+}
+
+/// Answers a fault: by its text, or by the end of the session where the console refused a byte or memory ran out.
+fn deny<S: Sink>(fault: CommandFault, out: &mut S) -> Progress
+    ensures { Denies fault S.tells result (S.written out.old) (S.written out.new) (S.fault_count out.old)
+        (S.fault_count out.new) }
+{
+    match fault {
+        CommandFault::Console => Progress::IsOver(Finish::Console),
+        CommandFault::OutOfMemory => Progress::IsOver(Finish::OutOfMemory),
+        _ => complain(fault, out),
+    }
+}
+
+/// Answers the fault of a text that is refused before any command.
+pub fn deny_line<U: Unit, S: Sink>(
+    session: &Session<U>,
+    fault: CommandFault,
+    scripts: &mut ScriptStack,
+    out: &mut S,
+) -> Progress
+    ensures told { (files : List NamedBytes) (notes : List CommandNote) (what : Asked)
+        → checked scripts.old what ≡ Err fault
+        → IsAnswer (text_reply session.now.limit scripts.old notes (live_in session.now files) what)
+        (scripts_behind scripts.old what) result scripts.new (standing 0 (live_in session.now files)) S.tells
+        (S.written out.old) (S.written out.new) }
+    ensures memory { result ≢ IsOver OutOfMemory }
+    ensures counts { AnswerCounts result (S.fault_count out.old) (S.fault_count out.new) }
+    ensures exit { HasExitStatus result }
+{
+    let progress = complain(fault, out);
+    scripts.fail(is_assertion(fault));
+    progress
+}
+
+/// Prints the text of a fault.
+fn complain<S: Sink>(fault: CommandFault, out: &mut S) -> Progress
+    ensures told { Complains S.tells (S.written out.old) (fault_text fault) result (S.written out.new) }
+    ensures exit { HasExitStatus result }
+    ensures counts { AnswerCounts result (S.fault_count out.old) (S.fault_count out.new) }
+    ensures memory { result ≢ IsOver OutOfMemory }
+{
+    match fault.put_text(out) {
+        Ok(()) => Progress::GoesOn,
+        Err(Failed) => Progress::IsOver(Finish::Console),
+    }
+}
