@@ -370,19 +370,21 @@ fn a_script_ends_the_words(rt: HostRuntime) -> Result<(), Fail> {
         assert_eq!(rt; seen.left.as_slice(), FIRST_RUN, "nothing was read");
     }
     // and outside it
-    let words: [&[&str]; 7] = [
+    let words: [&[&str]; 6] = [
         &["demo", "1", "2", "3", "4", "5", "6", "7", "8", "9", "10"],
         &["demo", ""],
         &["demo", "a", "", "b"],
         &["", "demo"],
         &["-"],
         &["--", "demo"],
-        &[long.as_str()],
     ];
     for word in words {
         let seen = run(rt.alloc(), word, FIRST_RUN, 4096, None)?;
         assert_eq!(rt; seen.status, 100, "at {word:?}");
     }
+    let word = long.as_str();
+    let seen = run(rt.alloc(), &[word], FIRST_RUN, 4096, None)?;
+    assert_eq!(rt; seen.status, 100, "a name of 256 bytes");
     let seen = run(rt.alloc(), &["demo"], b"", 8, None)?;
     assert_eq!(rt; seen.status, 102, "a console fault prevails");
     assert_eq!(rt; seen.console.as_slice(), b"Cannot o".as_slice());
