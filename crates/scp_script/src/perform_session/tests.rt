@@ -119,6 +119,10 @@ fn does(
     let alloc = rt.alloc();
     let units: Vec<Clk> = Vec::new(alloc);
     let mut session = Session::new(alloc, units, Keys::none(alloc), 1 << 48)?;
+    // Short enough to be read whole.
+    if case.script.len() > 1 << 20 {
+        return Ok(false);
+    }
     let opening = Opening {
         script: Some(DoFile {
             text: ScriptText::new(Vec::from_slice(alloc, case.script)?),
@@ -127,7 +131,7 @@ fn does(
         }),
         arguments: words_of(alloc, case.words)?,
         prompt: true,
-        budget: case.budget,
+        budget: case.budget.min(1 << 32),
     };
     let mut input = ByteSource::new(alloc, case.input)?;
     let mut files = MemFiles::with_room(alloc, 4096)?;
