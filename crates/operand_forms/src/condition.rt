@@ -52,7 +52,7 @@ fn first_rel_byte(text: &[u8]) -> Option<usize>
     text.iter().position(|b| is_rel_byte(*b))
 }
 
-// The place of the first byte of a comparison, or the end.
+/// The place of the first byte of a comparison, or the end.
 #[tactic(auto, using(line_words::proofs::PlaceLemmas::place_or_length, line_words::proofs::PlaceLemmas::place_le_length))]
 pub fn rel_place(text: &[u8]) -> usize
     ensures place { result ≡ position_or_len is_rel_byte text.now }
@@ -67,7 +67,7 @@ fn is_rel_byte(b: u8) -> bool
     matches!(b, b'=' | b'!' | b'<' | b'>')
 }
 
-// A comparison and its value.
+/// A comparison and its value, where both are there.
 #[tactic(auto, unfolding(crate::specs::Operands::comparison_of))]
 pub fn comparison_of(text: &[u8]) -> Option<(Rel, u64)>
     ensures { result ≡ comparison_of text.now }

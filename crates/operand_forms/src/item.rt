@@ -27,7 +27,7 @@ pub fn items_of(device: Name, word: &[u8]) -> Option<Items>
     None
 }
 
-// What stands before the first such byte of a text, and what stands behind it, if there is one.
+/// What stands before the first such byte of a text, and what stands behind it, if there is one.
 pub fn split(text: &[u8], mark: u8) -> (&[u8], Option<&[u8]>)
     ensures front { result.0.now ≡ front mark text.now }
     ensures behind { option_map (λ rest. rest.now) result.1 ≡ some_behind mark text.now }
@@ -45,7 +45,8 @@ fn place_of(text: &[u8], mark: u8) -> Option<usize>
     text.iter().position(|b| *b == mark)
 }
 
-// An item.
+/// The item that a text names, if it has one of the forms: ALL, STATE, the name of a register, an address, a range, or an
+/// address and a count.
 #[tactic(auto, unfolding(crate::specs::Operands::item_of))]
 pub fn item_of(device: Name, text: &[u8]) -> Option<Item>
     ensures { result ≡ item_of device text.now }
