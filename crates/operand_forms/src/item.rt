@@ -45,8 +45,8 @@ fn place_of(text: &[u8], mark: u8) -> Option<usize>
     text.iter().position(|b| *b == mark)
 }
 
-/// The item that a text names, if it has one of the forms: ALL, STATE, the name of a register, an address, a range, or an
-/// address and a count.
+/// The item that a text names, if it has one of the forms: ALL, STATE, the name of a register, an address, a range, or
+/// an address and a count.
 #[tactic(auto, unfolding(crate::specs::Operands::item_of))]
 pub fn item_of(device: Name, text: &[u8]) -> Option<Item>
     ensures { result ≡ item_of device text.now }
