@@ -32,7 +32,7 @@ use Rattle.nova_machine.proofs.Plain.{plain-prepared}
 use Rattle.nova_machine.proofs.Runs.{turns-stop, turns-go, next-early}
 
 -- the machine behind an instruction of the processor alone
-behind_step : MachineState → ProcessorState → MachineState
+pub behind_step : MachineState → ProcessorState → MachineState
 behind_step m p = record m { processor = p; ints = released m.ints; time = m.time + 1; events = ticked_events m.events }
 
 -- a step and what the turn's instruction comes to
@@ -57,7 +57,7 @@ agrees-transfer m q t = record {
 }
 
 -- an instruction on the processor takes its time and clears HOLD
-executed-is : (f : ProcessorState → ProcessorState) (m : MachineState) → executed f m ≡ behind_step m (f m.processor)
+pub executed-is : (f : ProcessorState → ProcessorState) (m : MachineState) → executed f m ≡ behind_step m (f m.processor)
 unfolding begun ticked behind_step
 executed-is f m = refl
 
@@ -105,11 +105,11 @@ turn-is : (note : Option UnitNote) (first : Bool) (s : Seen) → turn note first
 unfolding turn
 turn-is note first s = refl
 
-plain-turn : (note : Option UnitNote) (first : Bool) (s : Seen) → IsPlain s.machine → turn note first s ≡ still s (fetch s.machine)
+pub plain-turn : (note : Option UnitNote) (first : Bool) (s : Seen) → IsPlain s.machine → turn note first s ≡ still s (fetch s.machine)
 plain-turn note first s plain =
     turn-is note first s ∙ ap (λ (p : Part). then_part p (λ ready. still ready (fetch ready.machine))) (plain-prepared note s plain)
 
-plain-next : (note : Option RunNote) (s : Seen) (p : ProcessorState) → IsPlain s.machine → s.machine.time < last_time → step s.machine.processor ≡ steps p
+pub plain-next : (note : Option RunNote) (s : Seen) (p : ProcessorState) → IsPlain s.machine → s.machine.time < last_time → step s.machine.processor ≡ steps p
     → next_turn note false s ≡ silent None (with_machine s (behind_step s.machine p))
 plain-next note s p plain early is =
     next-early note false s early ∙ plain-turn (at_time s.machine.time note) false s plain ∙ ap (λ (t : Turned). still s t) ((agrees-step s.machine).executed_is p is)
@@ -120,7 +120,7 @@ plain-chain : (note : Option RunNote) (s : Seen) (p : ProcessorState) → IsPlai
 plain-chain note s p plain early is =
     next-early note false s early ∙ plain-turn (at_time s.machine.time note) false s plain ∙ ap (λ (t : Turned). still s t) ((agrees-step s.machine).endless p is)
 
-turns-silent : (note : Option RunNote) (step : Bool) (left : ℕ) (s next : Seen) → next_turn note false s ≡ silent None next
+pub turns-silent : (note : Option RunNote) (step : Bool) (left : ℕ) (s next : Seen) → next_turn note false s ≡ silent None next
     → turns note step false (suc left) s ≡ turns note step false left next
 turns-silent note step left s next is =
     turns-go note step false left s (ap (λ (p : Part). p.stop) is)
@@ -130,10 +130,10 @@ turns-silent note step left s next is =
 -- ---- so many of them
 
 -- the machine behind so many steps
-pub behind : ℕ → MachineState → ProcessorState → MachineState
+unfoldable pub behind : ℕ → MachineState → ProcessorState → MachineState
 behind count m q = record (passed_by count m) { processor = q }
 
-behind-none : (m : MachineState) (q : ProcessorState) → q ≡ m.processor → behind 0 m q ≡ m
+pub behind-none : (m : MachineState) (q : ProcessorState) → q ≡ m.processor → behind 0 m q ≡ m
 unfolding behind passed_by
 behind-none m q is =
     let time : m.time + 0 ≡ m.time = omega arith in
@@ -148,7 +148,7 @@ released-if false i = refl
 never : (n : ℕ) → (suc n == 0) ≡ false
 never n = grind (arith, nat_tests)
 
-behind-more : (count : ℕ) (m : MachineState) (mid q : ProcessorState) → behind_step (behind count m mid) q ≡ behind (suc count) m q
+pub behind-more : (count : ℕ) (m : MachineState) (mid q : ProcessorState) → behind_step (behind count m mid) q ≡ behind (suc count) m q
 unfolding behind behind_step passed_by
 behind-more count m mid q =
     let time : m.time + count + 1 ≡ m.time + suc count = omega arith in
@@ -178,7 +178,7 @@ calm-ints i now units on mask quiet =
     calm-and now.on now.hold (requested now.mask units)
     (ap (λ (b : Bool). b && requested now.mask units) on ∙ ap (λ (n : ℕ). i.on && requested n units) mask ∙ quiet)
 
-behind-plain : (count most : ℕ) (m : MachineState) (q : ProcessorState) → IsCalm most m → count < most → IsPlain (behind count m q)
+pub behind-plain : (count most : ℕ) (m : MachineState) (q : ProcessorState) → IsCalm most m → count < most → IsPlain (behind count m q)
 unfolding behind passed_by
 behind-plain count most m q calm before = record {
   none = calm.clear count before;
@@ -187,11 +187,11 @@ behind-plain count most m q calm before = record {
       (calm.quiet (omega (arith, before)));
 }
 
-behind-early : (count most : ℕ) (m : MachineState) (q : ProcessorState) → count < most → m.time + most ≤ last_time → (behind count m q).time < last_time
+pub behind-early : (count most : ℕ) (m : MachineState) (q : ProcessorState) → count < most → m.time + most ≤ last_time → (behind count m q).time < last_time
 unfolding behind passed_by
 behind-early count most m q before end = omega (arith, before, end)
 
-behind-processor : (count : ℕ) (m : MachineState) (q : ProcessorState) → (behind count m q).processor ≡ q
+pub behind-processor : (count : ℕ) (m : MachineState) (q : ProcessorState) → (behind count m q).processor ≡ q
 unfolding behind
 behind-processor count m q = refl
 
@@ -216,7 +216,7 @@ burst-turns note one (suc count) most left s q calm within end reaches =
 
 -- ---- what the calls come to
 
-behind-is : (count : ℕ) (m : MachineState) (q : ProcessorState) → passed_by count (record m { processor = q }) ≡ behind count m q
+pub behind-is : (count : ℕ) (m : MachineState) (q : ProcessorState) → passed_by count (record m { processor = q }) ≡ behind count m q
 unfolding behind passed_by
 behind-is count m q = refl
 
@@ -224,10 +224,10 @@ behind-with : (count : ℕ) (m : MachineState) (mid q : ProcessorState) → reco
 unfolding behind
 behind-with count m mid q = refl
 
-calm-erased : (count : ℕ) (m : MachineState) → IsCalm count m → IsCalm count (erased m)
+pub calm-erased : (count : ℕ) (m : MachineState) → IsCalm count m → IsCalm count (erased m)
 calm-erased count m calm = record { quiet = calm.quiet; clear = calm.clear }
 
-erased-behind : (count : ℕ) (m : MachineState) (q : ProcessorState) → behind count (erased m) q ≡ erased (behind count m q)
+pub erased-behind : (count : ℕ) (m : MachineState) (q : ProcessorState) → behind count (erased m) q ≡ erased (behind count m q)
 unfolding behind passed_by
 erased-behind count m q = refl
 

@@ -13,6 +13,7 @@ pub mod Service
 pub mod Turn
 pub mod Run
 pub mod Bursts
+pub mod Waits
 pub mod Comes
 pub mod Quiet
 pub mod Laws

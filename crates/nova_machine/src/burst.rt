@@ -5,14 +5,35 @@ ghost use Rattle.nova_machine.specs.Run.{last_time};
 
 use crate::machine::Machine;
 use crate::run::LAST_TIME;
-use nova_processor::Burst;
+use nova_processor::{Burst, Step};
 use unit_trait::Unit;
 
 impl<U: Unit> Machine<U> {
     ghost use Rattle.nova_machine.specs.Bursts.{Bursts, IsCalm, passed_by};
 
-    /// Makes turns, as many at the most, while nothing but an instruction of the processor alone can come.
+    /// Makes turns, as many at the most, while nothing but an instruction of the processor alone can come. Where a word
+    /// of input and output is next and begins a loop that waits for a flag, the rounds of the loop pass too.
     pub(crate) fn burst(&mut self, most: u64) -> Burst
+        ensures few { result.done ≤ most }
+        ensures told { Bursts most result.done result.end self.old self.new }
+        ensures slots { self.new.slots ≡ self.old.slots }
+        ensures later { self.old.time ≤ self.new.time }
+    {
+        let burst = self.work(most);
+        match burst.end {
+            Step::Executed | Step::ChainLimit => burst,
+            Step::Transfer => {
+                let waited = self.wait(most - burst.done);
+                Burst {
+                    done: burst.done + waited,
+                    end: Step::Transfer,
+                }
+            }
+        }
+    }
+
+    /// Makes turns, as many at the most, of instructions of the processor alone.
+    fn work(&mut self, most: u64) -> Burst
         ensures few { result.done ≤ most }
         ensures told { Bursts most result.done result.end self.old self.new }
         ensures slots { self.new.slots ≡ self.old.slots }
@@ -26,7 +47,7 @@ impl<U: Unit> Machine<U> {
 
     /// For how many instructions no event is due and no interrupt can come, at least.
     #[inline]
-    fn calm(&self) -> u64
+    pub(crate) fn calm(&self) -> u64
         ensures calm { IsCalm result self.now }
         ensures range { result < 2 ^ 32 }
     {
@@ -40,7 +61,7 @@ impl<U: Unit> Machine<U> {
     /// Lets so many instructions pass.
     #[inline]
     #[tactic(auto, using(crate::proofs::Listed::listings), unfolding(crate::specs::Bursts::passed_by))]
-    fn pass_time(&mut self, count: u32)
+    pub(crate) fn pass_time(&mut self, count: u32)
         requires clear { IsClear count self.old.events }
         requires time { self.old.time + count ≤ last_time }
         ensures { self.new ≡ passed_by count self.old }

@@ -14,6 +14,7 @@ mod service;
 mod transfer;
 mod turn;
 mod unit_registers;
+mod wait;
 
 pub use machine::{Machine, RunLimit, Stop, Turn};
 pub use nova_interrupts::Ints;

@@ -1,5 +1,5 @@
 // The words of input and output, one method for each definition of one.
-ghost use Rattle.std.specs.Prelude.{◌≡◌, ◌<◌, ◌+◌, None, IfSome, option_map, slice_index, false};
+ghost use Rattle.std.specs.Prelude.{◌≡◌, ◌<◌, ◌+◌, None, IfSome, option_map, is_some, slice_index, true, false};
 ghost use Rattle.event_queue.specs.EventList.{due};
 ghost use Rattle.nova_machine.specs.Run.{last_time};
 ghost use Rattle.nova_machine.specs.Transfer.{op_of, pulse_of};
@@ -7,7 +7,7 @@ ghost use Rattle.nova_machine.specs.Transfer.{op_of, pulse_of};
 use crate::instruction_end::InstructionEnd;
 use crate::machine::Machine;
 use nova_word::Word;
-use unit_list::{BusAnswer, Flags, flags_at, has_unit, io_at};
+use unit_list::{BusAnswer, flags_at, io_at};
 use unit_trait::{IoOp, Pulse, Unit, UnitName};
 
 // The function of a word, but for a skip.
@@ -89,9 +89,8 @@ impl<U: Unit> Machine<U> {
         ensures answer { end_stop result ≡ (to_device code word self.old).stop }
         ensures time { end_stop result ≡ None → self.new.time ≡ self.old.time + 1 }
     {
-        if has_unit(self.units.as_slice(), code) {
+        if self.to_unit(code, word) {
             self.begin();
-            self.to_unit(code, word);
             self.tick();
             InstructionEnd::Executed
         } else if self.stop_dev {
@@ -111,40 +110,48 @@ impl<U: Unit> Machine<U> {
         self.processor.unanswered(word);
     }
 
-    /// A word to a unit.
+    /// A word to a unit. Answers whether the unit is there.
     #[tactic(auto, unfolding(crate::specs::Transfer::to_unit))]
-    fn to_unit(&mut self, code: u8, word: u16)
+    fn to_unit(&mut self, code: u8, word: u16) -> bool
         requires none { due self.old.events ≡ None }
-        ensures machine { self.new ≡ to_unit code word self.old }
+        ensures there { result ≡ is_some (unit_at code self.old.units) }
+        ensures machine { result ≡ true → self.new ≡ to_unit code word self.old }
+        ensures same { result ≡ false → self.new ≡ self.old }
         ensures none { due self.new.events ≡ None }
         ensures time { self.new.time ≡ self.old.time }
     {
         if (word >> 8) & 7 == 7 {
-            self.test_unit(code, word);
+            self.test_unit(code, word)
         } else {
-            self.ask_unit(code, word);
+            self.ask_unit(code, word)
         }
     }
 
-    /// A skip that looks at the flags of a unit.
-    fn test_unit(&mut self, code: u8, word: u16)
-        ensures machine { self.new ≡ on_processor (tested (bits 8 9 word) (flags_in code self.old).busy
+    /// A skip that looks at the flags of a unit. Answers whether the unit is there.
+    fn test_unit(&mut self, code: u8, word: u16) -> bool
+        ensures there { result ≡ is_some (unit_at code self.old.units) }
+        ensures machine { result ≡ true → self.new ≡ on_processor (tested (bits 8 9 word) (flags_in code self.old).busy
             (flags_in code self.old).done) self.old }
+        ensures same { result ≡ false → self.new ≡ self.old }
         ensures events { self.new.events ≡ self.old.events }
         ensures time { self.new.time ≡ self.old.time }
     {
-        let flags = flags_at(self.units.as_slice(), code).unwrap_or(Flags {
-            busy: false,
-            done: false,
-        });
-        self.processor.test((word >> 6) & 3, flags.busy, flags.done);
+        match flags_at(self.units.as_slice(), code) {
+            None => false,
+            Some(flags) => {
+                self.processor.test((word >> 6) & 3, flags.busy, flags.done);
+                true
+            }
+        }
     }
 
-    /// The function and the pulse of a word go to a unit.
+    /// The function and the pulse of a word go to a unit. Answers whether the unit is there.
     #[tactic(auto, unfolding(crate::specs::Transfer::asked_unit))]
-    fn ask_unit(&mut self, code: u8, word: u16)
+    fn ask_unit(&mut self, code: u8, word: u16) -> bool
         requires none { due self.old.events ≡ None }
-        ensures machine { self.new ≡ asked_unit code word self.old }
+        ensures there { result ≡ is_some (unit_at code self.old.units) }
+        ensures machine { result ≡ true → self.new ≡ asked_unit code word self.old }
+        ensures same { result ≡ false → self.new ≡ self.old }
         ensures none { due self.new.events ≡ None }
         ensures time { self.new.time ≡ self.old.time }
     {
@@ -152,14 +159,18 @@ impl<U: Unit> Machine<U> {
         let pulse = pulse_of((word >> 6) & 3);
         let sent = self.processor.accumulator(usize::from((word >> 11) & 3));
         match self.call_unit(code, op, pulse, sent) {
-            Some(said) => self.take_answer(word, said),
-            None => self.pass_input(word, 0),
+            None => false,
+            Some(said) => {
+                self.take_answer(word, said);
+                true
+            }
         }
     }
 
     /// A function and a pulse go to a unit.
     fn call_unit(&mut self, code: u8, op: IoOp, pulse: Pulse, sent: u16) -> Option<BusAnswer>
         ensures machine { self.new ≡ record self.old { units = after_at code (Io op pulse sent) self.old.units } }
+        ensures none { result ≡ None → self.new ≡ self.old }
         ensures kind { option_map (λ a. a.kind) result ≡ option_map (λ u. u.kind) (unit_at code self.old.units) }
         ensures word { IfSome result (λ a. a.answer.word ≡ (row_at code (Io op pulse sent) self.old.units).word) }
         ensures queue { IfSome result (λ a. a.answer.queue ≡ (row_at code (Io op pulse sent) self.old.units).queue) }
@@ -169,7 +180,7 @@ impl<U: Unit> Machine<U> {
         ensures listed { IfSome result (λ a. IsAmong a.kind (kinds_of self.old.units)) }
         ensures kinds { kinds_of self.new.units ≡ kinds_of self.old.units }
     {
-        self.quiet = false;
+        self.quiet = !self.ints.on;
         io_at(self.units.as_mut_slice(), code, op, pulse, sent)
     }
 

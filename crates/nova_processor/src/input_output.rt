@@ -182,8 +182,8 @@ impl Processor {
     }
 }
 
-// Whether a skip is taken, by its test: on BUSY, on no BUSY, on DONE, on no DONE.
-fn flag_skips(test: u16, busy: bool, done: bool) -> bool
+/// Whether a skip is taken, by the number of its test: on BUSY, on no BUSY, on DONE, on no DONE.
+pub fn flag_skips(test: u16, busy: bool, done: bool) -> bool
     ensures { result ≡ flag_skips test busy done }
 {
     match test {

@@ -5,11 +5,12 @@
 mod arithmetic;
 pub mod burst;
 pub mod cpu;
-mod input_output;
+pub mod input_output;
 mod memory_reference;
 pub mod processor;
 
 pub use burst::{Burst, Step};
 pub use cpu::Cpu;
+pub use input_output::flag_skips;
 pub use processor::Processor;
 pub use std::alloc::AllocError as OutOfMemory;

@@ -1,0 +1,193 @@
+-- A loop that waits for a flag: a round of it takes two instructions of time and changes nothing else.
+use Rattle.std.proofs.Common.{◌≡◌, ◌≢◌, ℕ, zero, suc, ◌+◌, ◌-◌, ◌*◌, ◌%◌, ◌^◌, ◌<◌, ◌≤◌, ◌==◌, Bool, true, false, not, nat_lt, is_some, option_map, unwrap_or, List, Option, Some, None, refl, ap, sym, ◌∙◌, arith, if◌then◌else◌}
+use Rattle.std.proofs.lemmas.Bool.Decides.{nat_tests}
+use Rattle.nova_word.specs.Bits.{bits}
+use Rattle.nova_memory.specs.Memory.{get}
+use Rattle.nova_memory.specs.Address.{indexed, chain, address}
+use Rattle.host_files.specs.Lists.{NamedBytes}
+use Rattle.unit_trait.specs.Calls.{UnitState}
+use Rattle.unit_list.specs.declared.bus.Flags.{Flags}
+use Rattle.unit_list.specs.Bus.{unit_at, flags_of}
+use Rattle.nova_processor.specs.declared.burst.Step.TheVariants as step_end
+use Rattle.nova_processor.specs.Processor.{ProcessorState}
+use Rattle.nova_processor.specs.Instruction.{following, advanced, jump, without_accumulator, memory_reference, load, store, jump_to_subroutine, store_and_skip, arithmetic}
+use Rattle.nova_processor.specs.InputOutput.{past, tested, flag_skips, unanswered, multiply_divide}
+use Rattle.nova_processor.specs.Burst.{Stepped, steps, refers_to, refers, passes, step_of, step}
+use Rattle.nova_machine.specs.declared.machine.Stop.TheVariants.{UnknownDevice}
+use Rattle.nova_machine.specs.Machine.{MachineState, on_processor}
+use Rattle.nova_machine.specs.Notes.{RunNote, at_time}
+use Rattle.nova_machine.specs.Seen.{Seen, seen, erased, with_machine}
+use Rattle.nova_machine.specs.Parts.{silent}
+use Rattle.nova_machine.specs.Turned.{Turned, goes_on, stops, still, begun, ticked, executed}
+use Rattle.nova_machine.specs.Transfer.{no_flags, flags_in, asked_unit, to_unit, to_device, to_processor, transfer}
+use Rattle.nova_machine.specs.Turn.{refer, execute, fetch}
+use Rattle.nova_machine.specs.Run.{last_time, next_turn, turns}
+use Rattle.nova_machine.specs.Quiet.{IsPlain}
+use Rattle.nova_machine.specs.Bursts.{passed_by, IsCalm, Bursts}
+use Rattle.nova_machine.specs.Waits.{IsTest, IsUntaken, IsJump, IsWaiting}
+use Rattle.nova_machine.proofs.Runs.{next-early}
+use Rattle.nova_machine.proofs.Bursts.{behind_step, executed-is, plain-turn, plain-next, turns-silent, behind, behind-none, behind-more, behind-plain, behind-early, behind-processor, behind-is, calm-erased, erased-behind}
+
+-- ---- the skip
+
+found-there : (o : Option UnitState) (flags : Flags) → option_map flags_of o ≡ Some flags → is_some o ≡ true
+found-there None flags is = absurd (cc)
+found-there (Some u) flags is = refl
+
+not-true : (b : Bool) → not b ≡ true → b ≡ false
+not-true true is = absurd (cc)
+not-true false is = refl
+
+-- the unit's flags say that a skip is not taken
+pub untaken-here : (code test : ℕ) (m : MachineState) (flags : Flags) (skips : Bool) → option_map flags_of (unit_at code m.units) ≡ Some flags
+    → skips ≡ flag_skips test flags.busy flags.done → not skips ≡ true → IsUntaken code test m
+untaken-here code test m flags skips found is stays =
+    let same : flags_in code m ≡ flags = ap (λ (o : Option Flags). unwrap_or o no_flags) found in
+    record {
+      there = found-there (unit_at code m.units) flags found;
+      untaken = ap (λ (f : Flags). flag_skips test f.busy f.done) same ∙ sym is ∙ not-true skips stays;
+    }
+
+unit-is : (w code : ℕ) (m : MachineState) → bits 5 7 w ≡ 7 → flag_skips (bits 8 9 w) (flags_in code m).busy (flags_in code m).done ≡ false → to_unit code w m ≡ on_processor past m
+unfolding to_unit tested past
+unit-is w code m skip untaken =
+    let is : (bits 5 7 w == 7) ≡ true = ap (λ (n : ℕ). n == 7) skip in
+    ap (λ (b : Bool). if b then on_processor (tested (bits 8 9 w) (flags_in code m).busy (flags_in code m).done) m else asked_unit code w m) is
+    ∙ ap (λ (b : Bool). record m { processor = record m.processor { cpu = advanced b m.processor.cpu } }) untaken
+
+begun-unit : (w code : ℕ) (m : MachineState) → bits 5 7 w ≡ 7 → flag_skips (bits 8 9 w) (flags_in code m).busy (flags_in code m).done ≡ false
+    → to_unit code w (begun m) ≡ on_processor past (begun m)
+unfolding begun
+begun-unit w code m skip untaken = unit-is w code (begun m) skip untaken
+
+device-is : (w : ℕ) (m : MachineState) → IsTest w → IsUntaken (bits 10 15 w) (bits 8 9 w) m → to_device (bits 10 15 w) w m ≡ goes_on (executed past m)
+unfolding to_device
+device-is w m t u =
+    let code = bits 10 15 w in
+    ap (λ (b : Bool). if b then goes_on (ticked (to_unit code w (begun m))) else if m.stop_dev then stops UnknownDevice m else goes_on (executed (unanswered w) m)) u.there
+    ∙ ap (λ (x : MachineState). goes_on (ticked x)) (begun-unit w code m t.skip u.untaken)
+
+transfer-is : (w : ℕ) (m : MachineState) → IsTest w → IsUntaken (bits 10 15 w) (bits 8 9 w) m → transfer w m ≡ goes_on (executed past m)
+unfolding transfer
+transfer-is w m t u =
+    let code = bits 10 15 w in
+    let no_multiply : (code == 1) ≡ false = grind (arith, nat_tests, t.no_multiply) in
+    let no_processor : (code == 0o77) ≡ false = grind (arith, nat_tests, t.no_processor) in
+    ap (λ (b : Bool). if b then goes_on (executed (multiply_divide w) m) else if code == 0o77 then to_processor w m else to_device code w m) no_multiply
+    ∙ ap (λ (b : Bool). if b then to_processor w m else to_device code w m) no_processor
+    ∙ device-is w m t u
+
+execute-is : (w : ℕ) (m : MachineState) → IsTest w → IsUntaken (bits 10 15 w) (bits 8 9 w) m → execute w m ≡ goes_on (executed past m)
+unfolding execute
+execute-is w m t u =
+    let from : nat_lt w 0o60000 ≡ false = grind (arith, nat_tests, t.from) in
+    let to : nat_lt w 0o100000 ≡ true = grind (arith, nat_tests, t.to) in
+    ap (λ (b : Bool). if b then refer w m else if nat_lt w 0o100000 then transfer w m else goes_on (executed (arithmetic w) m)) from
+    ∙ ap (λ (b : Bool). if b then transfer w m else goes_on (executed (arithmetic w) m)) to
+    ∙ transfer-is w m t u
+
+skip-is : (m : MachineState) → IsWaiting m → fetch m ≡ goes_on (behind_step m (past m.processor))
+unfolding fetch
+skip-is m waiting = execute-is (get m.processor.memory m.processor.cpu.pc) m waiting.test waiting.untaken ∙ ap (λ (x : MachineState). goes_on x) (executed-is past m)
+
+-- ---- the jump
+
+-- a JMP without an indirect chain
+jump-step : (w to : ℕ) (p : ProcessorState) → IsJump w p.cpu.pc to p.cpu.accumulators → step_of w p ≡ steps (record p { cpu = record p.cpu { pc = to } })
+unfolding step_of refers address memory_reference without_accumulator jump
+jump-step w to p is =
+    let less = is.direct in
+    let refers_is : nat_lt w 0o60000 ≡ true = grind (arith, nat_tests, less) in
+    let direct : (bits 5 5 w == 1) ≡ false = grind (arith, nat_tests, less) in
+    let first : (bits 0 2 w == 0) ≡ true = grind (arith, nat_tests, less) in
+    let second : (bits 3 4 w == 0) ≡ true = grind (arith, nat_tests, less) in
+    let at = indexed w p.cpu.pc p.cpu.accumulators in
+    ap (λ (b : Bool). if b then refers w p else if nat_lt w 0o100000 then passes w p else steps (arithmetic w p)) refers_is
+    ∙ ap (λ (b : Bool). let reference = if b then chain 16 p.memory at else record { memory = p.memory; address = Some at } in
+    refers_to w reference.address (record p { memory = reference.memory })) direct
+    ∙ ap (λ (b : Bool). steps (if b then without_accumulator (bits 3 4 w) at p else if bits 0 2 w == 1 then load (bits 3 4 w) at p else store (bits 3 4 w) at p)) first
+    ∙ ap (λ (b : Bool). steps (if b then jump at p else if bits 3 4 w == 1 then jump_to_subroutine at p
+    else if bits 3 4 w == 2 then store_and_skip at ((get p.memory at + 1) % 2 ^ 16) p else store_and_skip at ((get p.memory at + (2 ^ 16 - 1)) % 2 ^ 16) p)) second
+    ∙ ap (λ (n : ℕ). steps (record p { cpu = record p.cpu { pc = n } })) is.target
+
+back-is : (p : ProcessorState) → IsJump (get p.memory (following p.cpu.pc)) (following p.cpu.pc) p.cpu.pc p.cpu.accumulators → step (past p) ≡ steps p
+unfolding step past advanced
+back-is p is = jump-step (get p.memory (following p.cpu.pc)) p.cpu.pc (past p) is
+
+-- ---- rounds
+
+waiting-behind : (count : ℕ) (m : MachineState) → IsWaiting m → IsWaiting (behind count m m.processor)
+unfolding behind passed_by
+waiting-behind count m waiting = record {
+  test = waiting.test;
+  untaken = record { there = waiting.untaken.there; untaken = waiting.untaken.untaken };
+  back = waiting.back;
+}
+
+skip-next : (note : Option RunNote) (s : Seen) → IsPlain s.machine → s.machine.time < last_time → IsWaiting s.machine
+    → next_turn note false s ≡ silent None (with_machine s (behind_step s.machine (past s.machine.processor)))
+skip-next note s plain early waiting =
+    next-early note false s early ∙ plain-turn (at_time s.machine.time note) false s plain ∙ ap (λ (t : Turned). still s t) (skip-is s.machine waiting)
+
+-- a round, behind so many instructions
+round : (note : Option RunNote) (one : Bool) (count most left : ℕ) (s : Seen) → IsWaiting s.machine → IsCalm most s.machine → suc count < most
+    → s.machine.time + most ≤ last_time
+    → turns note one false (suc (suc left)) (with_machine s (behind count s.machine s.machine.processor))
+    ≡ turns note one false left (with_machine s (behind (suc (suc count)) s.machine s.machine.processor))
+round note one count most left s waiting calm within end =
+    let m = s.machine in
+    let p = m.processor in
+    let at = with_machine s (behind count m p) in
+    let mid = with_machine s (behind (suc count) m (past p)) in
+    let before : count < most = omega (arith, within) in
+    let skips = skip-next note at (behind-plain count most m p calm before) (behind-early count most m p before end) (waiting-behind count m waiting) in
+    let jumps = plain-next note mid p (behind-plain (suc count) most m (past p) calm within) (behind-early (suc count) most m (past p) within end)
+    (ap step (behind-processor (suc count) m (past p)) ∙ back-is p waiting.back) in
+    turns-silent note one (suc left) at (with_machine s (behind_step at.machine (past at.machine.processor))) skips
+    ∙ ap (λ (q : ProcessorState). turns note one false (suc left) (with_machine s (behind_step at.machine (past q)))) (behind-processor count m p)
+    ∙ ap (λ (x : MachineState). turns note one false (suc left) (with_machine s x)) (behind-more count m p (past p))
+    ∙ turns-silent note one left mid (with_machine s (behind_step mid.machine p)) jumps
+    ∙ ap (λ (x : MachineState). turns note one false left (with_machine s x)) (behind-more (suc count) m (past p) p)
+
+rounds-pass : (note : Option RunNote) (one : Bool) (rounds most left : ℕ) (s : Seen) → IsWaiting s.machine → IsCalm most s.machine → rounds * 2 ≤ most
+    → s.machine.time + most ≤ last_time
+    → turns note one false (rounds * 2 + left) s ≡ turns note one false left (with_machine s (behind (rounds * 2) s.machine s.machine.processor))
+rounds-pass note one zero most left s waiting calm within end =
+    let none : zero * 2 + left ≡ left = omega arith in
+    let no_time : 0 ≡ zero * 2 = omega arith in
+    ap (λ (n : ℕ). turns note one false n s) none
+    ∙ ap (λ (x : MachineState). turns note one false left (with_machine s x)) (sym (behind-none s.machine s.machine.processor refl))
+    ∙ ap (λ (n : ℕ). turns note one false left (with_machine s (behind n s.machine s.machine.processor))) no_time
+rounds-pass note one (suc rounds) most left s waiting calm within end =
+    let both : suc rounds * 2 + left ≡ rounds * 2 + suc (suc left) = omega arith in
+    let count : suc (suc (rounds * 2)) ≡ suc rounds * 2 = omega arith in
+    ap (λ (n : ℕ). turns note one false n s) both
+    ∙ rounds-pass note one rounds most (suc (suc left)) s waiting calm (omega (arith, within)) end
+    ∙ round note one (rounds * 2) most left s waiting calm (omega (arith, within)) end
+    ∙ ap (λ (n : ℕ). turns note one false left (with_machine s (behind n s.machine s.machine.processor))) count
+
+-- ---- what the calls come to
+
+waiting-erased : (m : MachineState) → IsWaiting m → IsWaiting (erased m)
+waiting-erased m waiting = record {
+  test = waiting.test;
+  untaken = record { there = waiting.untaken.there; untaken = waiting.untaken.untaken };
+  back = waiting.back;
+}
+
+pub waits-told : (most rounds budget : ℕ) (old new : MachineState) → IsWaiting old → IsCalm budget old → old.time + budget ≤ last_time → budget ≤ most → rounds * 2 ≤ budget
+    → new ≡ passed_by (rounds * 2) old → Bursts most (rounds * 2) step_end.Executed old new
+waits-told most rounds budget old new waiting calm end few within is = λ note one keys files.
+    let all : most ≡ rounds * 2 + (most - rounds * 2) = omega (arith, few, within) in
+    let s = seen keys files old in
+    ap (λ (n : ℕ). turns note one false n s) all
+    ∙ rounds-pass note one rounds budget (most - rounds * 2) s (waiting-erased old waiting) (calm-erased budget old calm) within end
+    ∙ ap (λ (x : MachineState). turns note one false (most - rounds * 2) (with_machine s x)) (erased-behind (rounds * 2) old old.processor)
+    ∙ ap (λ (x : MachineState). turns note one false (most - rounds * 2) (seen keys files x)) (sym (is ∙ behind-is (rounds * 2) old old.processor))
+
+-- a burst, and a wait behind it
+pub burst-and-wait : (most done waited : ℕ) (old mid new : MachineState) → Bursts most done step_end.Transfer old mid → Bursts (most - done) waited step_end.Executed mid new
+    → Bursts most (done + waited) step_end.Transfer old new
+burst-and-wait most done waited old mid new first second = λ note one keys files.
+    let rest : most - done - waited ≡ most - (done + waited) = omega arith in
+    first note one keys files ∙ second note one keys files ∙ ap (λ (n : ℕ). turns note one false n (seen keys files new)) rest

@@ -1,0 +1,70 @@
+// Loops that wait for a flag of a unit, a skip and a JMP back to it: their rounds pass at once, up to the next event.
+ghost use Rattle.std.specs.Prelude.{◌≡◌, ◌≤◌, true};
+ghost use Rattle.nova_machine.specs.Waits.{IsTest};
+ghost use Rattle.nova_processor.specs.declared.burst.Step.TheVariants.{Executed};
+
+use crate::machine::Machine;
+use crate::run::LAST_TIME;
+use nova_memory::indexed;
+use nova_processor::{Cpu, flag_skips};
+use unit_list::flags_at;
+use unit_trait::Unit;
+
+impl<U: Unit> Machine<U> {
+    ghost use Rattle.nova_machine.specs.Bursts.{Bursts};
+    ghost use Rattle.nova_machine.specs.Waits.{IsUntaken, IsWaiting};
+    ghost use Rattle.nova_word.specs.Bits.{bits};
+
+    /// Where the machine is at a loop that waits for a flag, lets its rounds pass, up to the next event, and answers how
+    /// many instructions that were, as many as that at the most. All but the time is as it was then.
+    pub(crate) fn wait(&mut self, most: u64) -> u64
+        ensures few { result ≤ most }
+        ensures told { Bursts most result Executed self.old self.new }
+        ensures slots { self.new.slots ≡ self.old.slots }
+        ensures later { self.old.time ≤ self.new.time }
+    {
+        if !self.is_waiting() {
+            return 0;
+        }
+        let budget = most.min(LAST_TIME - self.time).min(self.calm());
+        let rounds = budget / 2;
+        self.pass_time((rounds * 2) as u32);
+        rounds * 2
+    }
+
+    /// Whether a skip that is not taken is next, and behind it a JMP back to it.
+    fn is_waiting(&self) -> bool
+        ensures { result ≡ true → IsWaiting self.now }
+    {
+        let Cpu {
+            accumulators,
+            pc,
+            ..
+        } = self.processor.cpu;
+        let next = pc.plus(1);
+        let jump = self.processor.memory.read(next);
+        if jump.0 >= 0o2000 || indexed(jump, next, &accumulators) != pc {
+            return false;
+        }
+        let word = self.processor.memory.read(pc).0;
+        is_test(word) && self.is_untaken(word)
+    }
+
+    /// Whether the unit that a skip names is there, and the skip is not taken.
+    fn is_untaken(&self, word: u16) -> bool
+        ensures { result ≡ true → IsUntaken (bits 10 15 word) (bits 8 9 word) self.now }
+    {
+        match flags_at(self.units.as_slice(), (word % 64) as u8) {
+            None => false,
+            Some(flags) => !flag_skips((word >> 6) % 4, flags.busy, flags.done),
+        }
+    }
+}
+
+/// Whether a word is a skip on the flags of a device, and not of the processor or the multiply and divide unit.
+fn is_test(word: u16) -> bool
+    ensures { result ≡ true → IsTest word }
+{
+    let code = word % 64;
+    word >= 0o60000 && word < 0o100000 && (word >> 8) % 8 == 7 && code != 1 && code != 0o77
+}
