@@ -12,7 +12,7 @@ mod session;
 mod words;
 
 use clock_unit::Clk;
-use host_adapters::{ReaderSource, RealFiles, WriterSink};
+use host_adapters::{PagedFiles, ReaderSource, RealFiles, WriterSink};
 use host_files::{Sink, Source};
 use paper_tape::{Lpt, Ptp, Ptr};
 use session::session;
@@ -66,24 +66,24 @@ where
     units.push(Box::new(rt.alloc(), Clk::new())?)?;
     units.push(Box::new(rt.alloc(), Tti::new())?)?;
     units.push(Box::new(rt.alloc(), Tto::new())?)?;
-    Ok(with_files(rt, words, units, &mut input, &mut output))
+    with_files(rt, words, units, &mut input, &mut output)
 }
 
-/// Runs a session with these units over any input and output, and the files of the system.
+/// Runs a session with these units over any input and output, and the files of the system, which are read by pages.
 fn with_files<U: Unit, C: Source, S: Sink, R: System + AllocGlobal>(
     rt: &R,
     words: &[String],
     units: Vec<U>,
     input: &mut C,
     output: &mut S,
-) -> ExitCode
+) -> Result<ExitCode, OutOfMemory>
 where
     R::File: FileExt,
     requires { IsStandard (map U.unit_state units.items) }
-    ensures usage { exit_status result ≡ 100 → options_of (texts_of words.now) ≡ None }
+    ensures usage { IfOk result (λ code. exit_status code ≡ 100 → options_of (texts_of words.now) ≡ None) }
     ensures bad_words { options_of (texts_of words.now) ≡ None
-        → (exit_status result ≡ 100) ⊎ (exit_status result ≡ 102) }
+        → IfOk result (λ code. (exit_status code ≡ 100) ⊎ (exit_status code ≡ 102)) }
 {
-    let mut files = RealFiles::new(rt.alloc(), rt);
-    session(rt.alloc(), words, units, input, output, &mut files)
+    let mut files = PagedFiles::new(rt.alloc(), RealFiles::new(rt.alloc(), rt))?;
+    Ok(session(rt.alloc(), words, units, input, output, &mut files))
 }
