@@ -1,0 +1,4 @@
+pub mod DumpLemmas
+pub mod GrammarLemmas
+pub mod ReadingLemmas
+pub mod StoreLemmas

@@ -1,0 +1,17 @@
+-- What was proved about loader tapes.
+use Rattle.std.specs.Prelude.{◌≡◌, ℕ, List, ◌+◌, ◌-◌, ◌<◌, ◌≤◌, ◌^◌, Some, Ok}
+use Rattle.nova_memory.specs.Memory.{MemoryState}
+use Rattle.binary_load.specs.Tape.{Tape, tape, stores_from}
+use Rattle.binary_load.specs.Grammar.{IsTape}
+use Rattle.binary_load.specs.Dump.{dumped, words_from}
+
+-- a dump says exactly the words of the memory from one address up to another, at these addresses, and the start, to every
+-- memory that has the addresses
+abbrev pub DumpsReadBack : Type 0
+DumpsReadBack = (m : MemoryState) (from to start size : ℕ) → from ≤ to → to < size → start < 2 ^ 15 →
+    tape size (dumped m from to start)
+    ≡ Ok (record { stores = stores_from from (words_from m from (to + 1 - from)); start = Some start })
+
+-- what has the form of a tape is read as that tape says
+abbrev pub TapesAreRead : Type 0
+TapesAreRead = (size : ℕ) (bytes : List ℕ) (says : Tape) → IsTape size bytes says → tape size bytes ≡ Ok says

@@ -1,0 +1,5 @@
+pub mod Dump
+pub mod Grammar
+pub mod Laws
+pub mod Pieces
+pub mod Tape

@@ -1,0 +1,12 @@
+ghost use Rattle.binary_load.specs.Laws.{DumpsReadBack, TapesAreRead};
+
+/// The law that a dump says exactly the dumped words at their addresses, and the start, to every memory that has these
+/// addresses.
+pub fn dumps_read_back()
+    ensures { DumpsReadBack }
+{}
+
+/// The law that what has the form of a tape is read as that tape says.
+pub fn tapes_are_read()
+    ensures { TapesAreRead }
+{}
