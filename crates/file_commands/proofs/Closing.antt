@@ -3,15 +3,18 @@ use Rattle.std.proofs.Common.{◌≡◌, ◌==◌, ◌&&◌, ◌||◌, ℕ, ◌+
 use Rattle.std.proofs.Common.{append_assoc, append-nil, refl, ap, sym, ◌∙◌, subst, arith, if◌then◌else◌}
 use Rattle.std.specs.List.{AllByRecursion}
 use Rattle.std.proofs.lemmas.Bool.Decides.{nat_tests}
-use Rattle.host_files.specs.declared.files.FileCall.TheVariants.{Closing}
+use Rattle.host_files.specs.declared.files.FileCall.TheVariants.{Write, Closing}
+use Rattle.host_files.specs.Lists.{NamedBytes}
 use Rattle.host_files.specs.State.{FileState}
 use Rattle.unit_trait.specs.declared.kind.UnitName.{UnitName}
 use Rattle.unit_trait.specs.Kinds.{same_unit}
 use Rattle.unit_files.specs.declared.faults.UnitFault.{UnitFault}
 use Rattle.unit_files.specs.declared.faults.DetachFault.{DetachFault}
 use Rattle.unit_files.specs.declared.faults.DetachFault.TheVariants as detach
-use Rattle.unit_files.specs.Attachments.{Attachment, attachment_at}
-use Rattle.unit_files.specs.Acts.{Failure, HadNone, Detached, failure_at, detached, detach_said}
+use Rattle.unit_files.specs.Attachments.{Attachment, attachment_at, is_disk}
+use Rattle.unit_files.specs.Buffer.{Buffer, no_buffer}
+use Rattle.unit_files.specs.Acts.{Failure, DetachSaid, HadNone, Detached, failure_at, detached, detach_said, detach_said_of, detached_by}
+use Rattle.unit_files.specs.Acts.{closing_said, flush_failure, flush_files, buffer_left}
 use Rattle.unit_files.specs.Answers.{failure_in, said_of_detach}
 use Rattle.fault_notes.specs.declared.note.Subject.{Subject}
 use Rattle.fault_notes.specs.declared.note.Subject.TheVariants as subject
@@ -22,6 +25,49 @@ use Rattle.fault_notes.proofs.Adding.{counted-both, counted-none}
 use Rattle.file_commands.specs.declared.stamp.Stamp.{Stamp}
 use Rattle.file_commands.specs.Notes.{fault_note, HoldsNothing, fault_of_detach, kept_of, own_of, own_note}
 use Rattle.file_commands.specs.AllUnits.{AreApart, closing_fails, closings, is_one_of, Closed}
+
+-- ---- a unit that holds nothing of its file
+
+-- what is said where nothing is to be written back
+abbrev closing_only : Option Failure → UnitName → List (Option Attachment) → DetachSaid
+closing_only fault u attached = if is_some (attachment_at attached u) then Detached (failure_at Closing fault) else HadNone
+
+not-due : (fault : Option Failure) (u : UnitName) (disk : Buffer) → is_disk u.kind ≡ false → flush_failure fault u disk ≡ None
+not-due fault u disk other = by-kind (is_disk u.kind) other
+  where
+    by-kind : (b : Bool) → b ≡ false → (if b && disk.written then failure_at Write fault else None) ≡ None
+    by-kind false is = refl
+    by-kind true is = absurd (cc)
+
+pub said-other : (fault : Option Failure) (u : UnitName) (attached : List (Option Attachment)) (disk : Buffer) → is_disk u.kind ≡ false
+    → detach_said fault u attached disk ≡ closing_only fault u attached
+said-other fault u attached disk other = by-file (attachment_at attached u)
+  where
+    by-file : (a : Option Attachment) → detach_said_of fault u a disk ≡ (if is_some a then Detached (failure_at Closing fault) else HadNone)
+    by-file None = refl
+    by-file (Some a) = ap (λ (f : Option Failure). closing_said f fault) (not-due fault u disk other)
+
+pub files-other : (fault : Option Failure) (u : UnitName) (a : Option Attachment) (disk : Buffer) (files : List NamedBytes) → is_disk u.kind ≡ false
+    → flush_files fault u a disk files ≡ files
+unfolding flush_files
+files-other fault u None disk files other = refl
+files-other fault u (Some a) disk files other = by-kind (is_disk u.kind) other _
+  where
+    by-kind : (b : Bool) → b ≡ false → (x : List NamedBytes) → (if b && disk.written then x else files) ≡ files
+    by-kind false is x = refl
+    by-kind true is x = absurd (cc)
+
+pub detached-other : (r : Result (Option UnitFault) DetachFault) (u : UnitName) (attached : List (Option Attachment)) → HoldsNothing r
+    → detached_by (said_of_detach r) u attached ≡ detached u attached
+detached-other (Ok fault) u attached nothing = refl
+detached-other (Err detach.NotAttached) u attached nothing = refl
+detached-other (Err (detach.Failed f)) u attached nothing = absurd nothing
+
+pub buffer-other : (r : Result (Option UnitFault) DetachFault) (u : UnitName) (disk : Buffer) → is_disk u.kind ≡ false
+    → buffer_left (said_of_detach r) u disk ≡ disk
+buffer-other (Ok fault) u disk other = ap (λ (b : Bool). if b then no_buffer else disk) other
+buffer-other (Err detach.NotAttached) u disk other = refl
+buffer-other (Err (detach.Failed f)) u disk other = refl
 
 pub closed-none : (number time : ℕ) (us : List UnitName) (attached : List (Option Attachment)) (before : List FaultNote) (s : FileState) → us ≡ []
     → Closed number time us attached before before s s
@@ -102,7 +148,7 @@ front false c is = absurd (cc)
 
 pub closed-more : (stamp : Stamp) (u : UnitName) (us all : List UnitName) (attached : List (Option Attachment)) (r : Result (Option UnitFault) DetachFault)
     (before mid after : List FaultNote) (s1 s2 s3 : FileState) → all ≡ u ∷ us → AllByRecursion (λ (v : UnitName). same_unit u v ≡ false) us
-    → said_of_detach r ≡ detach_said (failure_now stamp.time (subject.Unit u) (own_of stamp.time (fault_of_detach r))) u attached
+    → said_of_detach r ≡ closing_only (failure_now stamp.time (subject.Unit u) (own_of stamp.time (fault_of_detach r))) u attached
     → IfSome (fault_of_detach r) (λ f. f.unit ≡ u) → HoldsNothing r → mid ≡ before ++ kept_of stamp (fault_of_detach r) → AreCounted (kept_of stamp (fault_of_detach r)) s1 s2
     → Closed stamp.command stamp.time us (detached u attached) mid after s2 s3 → Closed stamp.command stamp.time all attached before after s1 s3
 closed-more stamp u us all attached r before mid after s1 s2 s3 are apart said of_unit nothing noted counted rest =
@@ -120,7 +166,7 @@ closed-more stamp u us all attached r before mid after s1 s2 s3 are apart said o
     quiet : closing_fails rest.own stamp.time u attached ≡ false
     quiet = and-none (is_some (attachment_at attached u)) (failure_now stamp.time (subject.Unit u) rest.own) (not-this stamp.time u us rest.own apart rest.among)
 
-    by-answer : (r : Result (Option UnitFault) DetachFault) → said_of_detach r ≡ detach_said (failure_now stamp.time (subject.Unit u) (own_of stamp.time (fault_of_detach r))) u attached
+    by-answer : (r : Result (Option UnitFault) DetachFault) → said_of_detach r ≡ closing_only (failure_now stamp.time (subject.Unit u) (own_of stamp.time (fault_of_detach r))) u attached
         → IfSome (fault_of_detach r) (λ f. f.unit ≡ u) → HoldsNothing r → after ≡ before ++ (kept_of stamp (fault_of_detach r) ++ rest.kept) → AreCounted (kept_of stamp (fault_of_detach r) ++ rest.kept) s1 s3
         → Closed stamp.command stamp.time (u ∷ us) attached before after s1 s3
     by-answer (Ok None) said of_unit nothing joined counted =
@@ -139,6 +185,11 @@ closed-more stamp u us all attached r before mid after s1 s2 s3 are apart said o
 pub nothing-left : {A : Type 0} (xs : List A) → length xs ≡ 0 → xs ≡ []
 nothing-left [] none = refl
 nothing-left (x ∷ xs) none = absurd (omega (arith, none))
+
+pub all-head : (P : UnitName → Type 0) (u : UnitName) (us all : List UnitName) → all ≡ u ∷ us → All P all → P u
+all-head P u us all are each =
+    let here : All P (u ∷ us) = subst (λ (l : List UnitName). All P l) are each in
+    here 0 u (omega arith)
 
 pub all-tail : (P : UnitName → Type 0) (u : UnitName) (us all : List UnitName) → all ≡ u ∷ us → All P all → All P us
 all-tail P u us all are each =

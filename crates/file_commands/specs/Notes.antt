@@ -1,7 +1,7 @@
 -- The notes that commands on the files of units keep.
 use Rattle.std.specs.Prelude.{◌≡◌, ◌⊎◌, ℕ, Bool, IsTrue, List, [], ◌∷◌, Option, Some, None, Result, Ok, Err}
 use Rattle.fault_counts.specs.Faults.{Rose}
-use Rattle.host_files.specs.declared.files.FileCall.TheVariants.{Opening, Length}
+use Rattle.host_files.specs.declared.files.FileCall.TheVariants.{Opening, Length, Read}
 use Rattle.host_files.specs.State.{FileState}
 use Rattle.unit_trait.specs.declared.kind.UnitName.{UnitName}
 use Rattle.unit_files.specs.declared.faults.UnitFault.{UnitFault}
@@ -9,6 +9,7 @@ use Rattle.unit_files.specs.declared.faults.AttachFault.{AttachFault}
 use Rattle.unit_files.specs.declared.faults.AttachFault.TheVariants as attach
 use Rattle.unit_files.specs.declared.faults.DetachFault.{DetachFault}
 use Rattle.unit_files.specs.declared.faults.DetachFault.TheVariants as detach
+use Rattle.unit_files.specs.Attachments.{is_disk}
 use Rattle.unit_files.specs.Answers.{failure_in}
 use Rattle.fault_notes.specs.declared.note.Subject.TheVariants as subject
 use Rattle.fault_notes.specs.declared.note.FaultNote.{FaultNote}
@@ -42,17 +43,18 @@ abbrev pub own_of : ℕ → Option UnitFault → List CommandNote
 own_of time None = []
 own_of time (Some f) = own_note time f ∷ []
 
--- a call that fails while a file is attached is that unit's, and it is an opening, or it asks for the length
+-- A call that fails while a file is attached is that unit's, and it is an opening, or it asks for the length; or it is
+-- a read of the disk's.
 pub record IsAttachFault (unit : UnitName) (f : UnitFault) : Type 0 where
   pub unit_is : f.unit ≡ unit
-  pub call_is : (f.call ≡ Opening) ⊎ (f.call ≡ Length)
+  pub call_is : (f.call ≡ Opening) ⊎ (f.call ≡ Length) ⊎ ((f.call ≡ Read) × IsTrue (is_disk unit.kind))
 
 -- where names are not told, a file is missing only where the count of openings rose
 abbrev pub MissingCause : Bool → Result ℕ AttachFault → FileState → FileState → Type 0
 MissingCause tells (Err attach.NoFile) old new = (IsTrue tells → ⊥) → Rose old.open_faults new.open_faults
 MissingCause tells result old new = Unit {0}
 
--- no unit holds anything of its file that could fail to be written
+-- a unit that holds nothing of its file has none that could fail to be written
 abbrev pub HoldsNothing : Result (Option UnitFault) DetachFault → Type 0
 HoldsNothing (Err (detach.Failed f)) = ⊥
 HoldsNothing result = Unit {0}

@@ -1,6 +1,6 @@
-ghost use Rattle.std.specs.Prelude.{◌≡◌, ◌+◌, ◌≤◌, List, All, IsTrue, length, vec_len, vec_capacity};
+ghost use Rattle.std.specs.Prelude.{◌≡◌, ◌+◌, ◌≤◌, false, List, All, IsTrue, length, vec_len, vec_capacity};
 ghost use Rattle.host_files.specs.State.{Opened};
-ghost use Rattle.unit_files.specs.Attachments.{attachments_of, takes_attachment};
+ghost use Rattle.unit_files.specs.Attachments.{attachments_of, takes_attachment, is_disk};
 ghost use Rattle.unit_files.specs.Open.{AllOpen, Around};
 ghost use Rattle.file_commands.specs.AllUnits.{AreApart, attachable, detached_each, Closed};
 
@@ -35,16 +35,17 @@ pub fn detach_all<F: Files>(
     notes: &mut Vec<FaultNote>,
     stamp: Stamp,
 )
-    requires open { AllOpen attached.old (F.state files.old).opened }
+    requires open { AllOpen attached.old.slots (F.state files.old).opened }
     requires room { vec_len notes.old + 3 ≤ vec_capacity notes.old }
-    ensures attached { attachments_of attached.new ≡ detached_each attachable (attachments_of attached.old) }
+    ensures attached { attachments_of attached.new.slots ≡ detached_each attachable (attachments_of attached.old.slots) }
+    ensures disk { attached.new.disk ≡ attached.old.disk }
     ensures files { (F.state files.new).files ≡ (F.state files.old).files }
-    ensures closed { Closed stamp.command stamp.time attachable (attachments_of attached.old) notes.old.items
+    ensures closed { Closed stamp.command stamp.time attachable (attachments_of attached.old.slots) notes.old.items
         notes.new.items (F.state files.old) (F.state files.new) }
     ensures capacity { vec_capacity notes.old ≤ vec_capacity notes.new }
-    ensures open { AllOpen attached.new (F.state files.new).opened }
-    ensures around { (base : List Opened) → Around attached.old base (F.state files.old).opened
-        → Around attached.new base (F.state files.new).opened }
+    ensures open { AllOpen attached.new.slots (F.state files.new).opened }
+    ensures around { (base : List Opened) → Around attached.old.slots base (F.state files.old).opened
+        → Around attached.new.slots base (F.state files.new).opened }
 {
     detach_each(attached, &ATTACHABLE, files, notes, stamp);
 }
@@ -58,17 +59,19 @@ fn detach_each<F: Files>(
     stamp: Stamp,
 )
     requires units { All (λ (u : UnitName). IsTrue (takes_attachment u)) units.now }
+    requires others { All (λ (u : UnitName). is_disk u.kind ≡ false) units.now }
     requires apart { AreApart units.now }
-    requires open { AllOpen attached.old (F.state files.old).opened }
+    requires open { AllOpen attached.old.slots (F.state files.old).opened }
     requires room { vec_len notes.old + length units.now ≤ vec_capacity notes.old }
-    ensures attached { attachments_of attached.new ≡ detached_each units.now (attachments_of attached.old) }
+    ensures attached { attachments_of attached.new.slots ≡ detached_each units.now (attachments_of attached.old.slots) }
+    ensures disk { attached.new.disk ≡ attached.old.disk }
     ensures files { (F.state files.new).files ≡ (F.state files.old).files }
-    ensures closed { Closed stamp.command stamp.time units.now (attachments_of attached.old) notes.old.items
+    ensures closed { Closed stamp.command stamp.time units.now (attachments_of attached.old.slots) notes.old.items
         notes.new.items (F.state files.old) (F.state files.new) }
     ensures capacity { vec_capacity notes.old ≤ vec_capacity notes.new }
-    ensures open { AllOpen attached.new (F.state files.new).opened }
-    ensures around { (base : List Opened) → Around attached.old base (F.state files.old).opened
-        → Around attached.new base (F.state files.new).opened }
+    ensures open { AllOpen attached.new.slots (F.state files.new).opened }
+    ensures around { (base : List Opened) → Around attached.old.slots base (F.state files.old).opened
+        → Around attached.new.slots base (F.state files.new).opened }
 {
     match units.split_first() {
         None => (),

@@ -1,7 +1,9 @@
-ghost use Rattle.std.specs.Prelude.{◌≡◌, ◌<◌, ◌≤◌, ◌+◌, ◌++◌, List, IsTrue, IfOk, IfSome, OnErr, vec_len, vec_capacity};
+ghost use Rattle.std.specs.Prelude.{◌≡◌, ◌<◌, ◌≤◌, ◌+◌, ◌++◌, false, List, IsTrue, IfOk, IfSome, OnErr, vec_len, vec_capacity};
 ghost use Rattle.host_files.specs.State.{Opened};
-ghost use Rattle.unit_files.specs.Attachments.{attachments_of, attachment_at, takes_attachment, longest_file, IsFileName};
-ghost use Rattle.unit_files.specs.Acts.{attach_said, attach_files, attached_by, detach_said, detached, refused_first};
+ghost use Rattle.host_files.specs.Lists.{bytes_of};
+ghost use Rattle.unit_files.specs.Attachments.{attachments_of, attachment_at, takes_attachment, longest_file, is_disk, IsFileName};
+ghost use Rattle.unit_files.specs.Acts.{attach_said, attach_files, attached_by, buffer_by, refused_first};
+ghost use Rattle.unit_files.specs.Acts.{detach_said, detached_by, buffer_left, flush_files};
 ghost use Rattle.unit_files.specs.Answers.{said_of_attach, said_of_detach, first_refusal, IfNoMemory};
 ghost use Rattle.unit_files.specs.Open.{AllOpen, Around};
 ghost use Rattle.fault_notes.specs.declared.note.Subject.TheVariants as subjects;
@@ -30,19 +32,22 @@ pub fn attach_unit<F: Files>(
 ) -> Result<u64, AttachFault>
     requires unit { IsTrue (takes_attachment unit) }
     requires name { IsFileName name.now }
-    requires open { AllOpen attached.old (F.state files.old).opened }
+    requires open { AllOpen attached.old.slots (F.state files.old).opened }
     requires room { vec_len notes.old < vec_capacity notes.old }
     ensures said { IsTrue F.tells → IfSome (said_of_attach result) (λ said. said
         ≡ attach_said (failure_now stamp.time (subjects.Unit unit) (own_of stamp.time (fault_of_attach result))) mode unit
-        name.now (attachments_of attached.old) (F.state files.old).files) }
-    ensures first { first_refusal result ≡ refused_first (attachment_at (attachments_of attached.old) unit) unit mode }
+        name.now (attachments_of attached.old.slots) (F.state files.old).files) }
+    ensures first { first_refusal result ≡ refused_first (attachment_at (attachments_of attached.old.slots) unit) unit mode }
     ensures bound { IfOk result (λ n. n ≤ longest_file unit.kind) }
-    ensures attached { IfSome (said_of_attach result) (λ said. attachments_of attached.new
-        ≡ attached_by said mode unit name.now (attachments_of attached.old)) }
+    ensures attached { IfSome (said_of_attach result) (λ said. attachments_of attached.new.slots
+        ≡ attached_by said mode unit name.now (attachments_of attached.old.slots)) }
+    ensures disk { IsTrue F.tells → IfSome (said_of_attach result) (λ said. attached.new.disk
+        ≡ buffer_by said unit (bytes_of (F.state files.new).files name.now) attached.old.disk) }
+    ensures other { is_disk unit.kind ≡ false → attached.new.disk ≡ attached.old.disk }
     ensures refused { OnErr result (attached.new ≡ attached.old) }
     ensures files { IsTrue F.tells → IfSome (said_of_attach result) (λ said. (F.state files.new).files
         ≡ attach_files (failure_now stamp.time (subjects.Unit unit) (own_of stamp.time (fault_of_attach result))) mode unit
-        name.now (attachments_of attached.old) (F.state files.old).files) }
+        name.now (attachments_of attached.old.slots) (F.state files.old).files) }
     ensures no_memory { IfNoMemory result ((F.state files.new).files ≡ (F.state files.old).files) }
     ensures own { IfSome (fault_of_attach result) (IsAttachFault unit) }
     ensures missing { MissingCause F.tells result (F.state files.old) (F.state files.new) }
@@ -50,9 +55,9 @@ pub fn attach_unit<F: Files>(
     ensures capacity { vec_capacity notes.old ≤ vec_capacity notes.new }
     ensures counted { AreCounted (kept_of stamp (fault_of_attach result)) (F.state files.old) (F.state files.new) }
     ensures closed { OnErr result ((F.state files.new).opened ≡ (F.state files.old).opened) }
-    ensures open { AllOpen attached.new (F.state files.new).opened }
-    ensures around { (base : List Opened) → Around attached.old base (F.state files.old).opened
-        → Around attached.new base (F.state files.new).opened }
+    ensures open { AllOpen attached.new.slots (F.state files.new).opened }
+    ensures around { (base : List Opened) → Around attached.old.slots base (F.state files.old).opened
+        → Around attached.new.slots base (F.state files.new).opened }
 {
     let result = attached.attach(alloc, unit, name, mode, files);
     match result {
@@ -64,7 +69,8 @@ pub fn attach_unit<F: Files>(
     }
 }
 
-/// Takes a unit's file away, and notes its closing, where that failed.
+/// Takes a unit's file away, behind writing back what the disk holds of it, and notes the call that failed, if one did:
+/// the write, behind which the unit still has its file, or the closing.
 pub fn detach_unit<F: Files>(
     attached: &mut Attached,
     unit: UnitName,
@@ -73,28 +79,36 @@ pub fn detach_unit<F: Files>(
     stamp: Stamp,
 ) -> Result<Option<UnitFault>, DetachFault>
     requires unit { IsTrue (takes_attachment unit) }
-    requires open { AllOpen attached.old (F.state files.old).opened }
+    requires open { AllOpen attached.old.slots (F.state files.old).opened }
     requires room { vec_len notes.old < vec_capacity notes.old }
     ensures said { said_of_detach result ≡ detach_said
         (failure_now stamp.time (subjects.Unit unit) (own_of stamp.time (fault_of_detach result))) unit
-        (attachments_of attached.old) }
-    ensures attached { attachments_of attached.new ≡ detached unit (attachments_of attached.old) }
+        (attachments_of attached.old.slots) attached.old.disk }
+    ensures attached { attachments_of attached.new.slots
+        ≡ detached_by (said_of_detach result) unit (attachments_of attached.old.slots) }
+    ensures disk { attached.new.disk ≡ buffer_left (said_of_detach result) unit attached.old.disk }
     ensures refused { OnErr result (attached.new ≡ attached.old) }
-    ensures files { (F.state files.new).files ≡ (F.state files.old).files }
+    ensures files { (F.state files.new).files ≡ flush_files
+        (failure_now stamp.time (subjects.Unit unit) (own_of stamp.time (fault_of_detach result))) unit
+        (attachment_at (attachments_of attached.old.slots) unit) attached.old.disk (F.state files.old).files }
     ensures notes { notes.new.items ≡ notes.old.items ++ kept_of stamp (fault_of_detach result) }
     ensures few { vec_len notes.new ≤ vec_len notes.old + 1 }
     ensures capacity { vec_capacity notes.old ≤ vec_capacity notes.new }
     ensures counted { AreCounted (kept_of stamp (fault_of_detach result)) (F.state files.old) (F.state files.new) }
     ensures own { IfSome (fault_of_detach result) (λ f. f.unit ≡ unit) }
-    ensures nothing { HoldsNothing result }
-    ensures open { AllOpen attached.new (F.state files.new).opened }
-    ensures around { (base : List Opened) → Around attached.old base (F.state files.old).opened
-        → Around attached.new base (F.state files.new).opened }
+    ensures nothing { is_disk unit.kind ≡ false → HoldsNothing result }
+    ensures open { AllOpen attached.new.slots (F.state files.new).opened }
+    ensures around { (base : List Opened) → Around attached.old.slots base (F.state files.old).opened
+        → Around attached.new.slots base (F.state files.new).opened }
 {
     match attached.detach(unit, files) {
         Ok(Some(fault)) => {
             keep(notes, note_of(fault, stamp));
             Ok(Some(fault))
+        }
+        Err(DetachFault::Failed(fault)) => {
+            keep(notes, note_of(fault, stamp));
+            Err(DetachFault::Failed(fault))
         }
         other => other,
     }

@@ -1,19 +1,19 @@
 -- What a unit wants of the machine, by its kind.
-use Rattle.std.proofs.Common.{◌≡◌, ◌==◌, if◌then◌else◌, ◌⊎◌, inl, inr, ℕ, ◌+◌, ◌<◌, ◌≤◌, Bool, true, false, IsTrue, List, [], ◌∷◌, refl, ap, sym, subst, ◌∙◌, arith, Option, Some, None, zero, suc, slice_get, slice_index, option_map, nat_lt, get_or}
+use Rattle.std.proofs.Common.{◌≡◌, ◌==◌, if◌then◌else◌, ◌⊎◌, inl, inr, ℕ, ◌+◌, ◌<◌, ◌≤◌, Bool, true, false, IsTrue, List, [], ◌∷◌, refl, ap, sym, subst, ◌∙◌, arith, Option, Some, None, zero, suc, slice_get, slice_index, option_map, nat_lt, get_or, codes}
 use Rattle.std.specs.Prelude.{IfSome}
 use Rattle.std.proofs.lemmas.Option.{same_Some}
 use Rattle.std.proofs.lemmas.Bool.Decides.{nat_tests}
 use Rattle.unit_trait.specs.declared.kind.Kind.{Kind}
-use Rattle.unit_trait.specs.declared.kind.Kind.TheVariants.{Lpt, Ptr, Ptp, Clk, Tti, Tto, Tti1, Tto1}
+use Rattle.unit_trait.specs.declared.kind.Kind.TheVariants.{Dsk, Lpt, Ptr, Ptp, Clk, Tti, Tto, Tti1, Tto1}
 use Rattle.unit_trait.specs.declared.calls.Want.{Want}
 use Rattle.unit_trait.specs.declared.calls.Want.TheVariants as want
-use Rattle.unit_trait.specs.Kinds.{code_of}
+use Rattle.unit_trait.specs.Kinds.{code_of, units_of}
 use Rattle.unit_trait.specs.Reader.{reader_row}
 use Rattle.unit_trait.specs.Writer.{writer_row}
 use Rattle.unit_trait.specs.Clock.{clock_row}
 use Rattle.unit_trait.specs.Keyboard.{keyboard_row}
 use Rattle.unit_trait.specs.Teleprinter.{teleprinter_row}
-use Rattle.unit_trait.specs.Device.{Register, position}
+use Rattle.unit_trait.specs.Device.{Register, position, kept_register}
 use Rattle.unit_trait.specs.Registers.{registers}
 use Rattle.unit_trait.specs.Calls.{UnitState, Due}
 use Rattle.unit_trait.specs.Row.{row, row_of, InRange, Fits}
@@ -27,6 +27,7 @@ use Rattle.unit_trait.specs.declared.kind.UnitName.{UnitName}
 use Rattle.unit_files.specs.declared.faults.ByteAnswer.{ByteAnswer}
 use Rattle.unit_files.specs.declared.faults.ByteAnswer.TheVariants as byte
 use Rattle.unit_files.specs.Attachments.{Attachment, Held, attachments_of, attachment_at, file_place}
+use Rattle.unit_files.specs.Buffer.{disk_unit, disk_sectors, said_of_reading, said_of_writing}
 use Rattle.unit_files.specs.Acts.{most_bytes, ByteSaid, ByteIs, WasWritten, AtEnd, read_act, write_act, write_said, failure_at}
 use Rattle.unit_files.specs.Answers.{said_of_byte, failure_of_byte}
 use Rattle.unit_files.specs.Shapes.{MayRead}
@@ -41,7 +42,11 @@ held-within (q ∷ rs) (v ∷ vs) zero r range at = subst (λ (x : Register). v 
 held-within (q ∷ rs) (v ∷ vs) (suc i) r range at = held-within rs vs i r range.2 at
 
 wants-of : (kind : Kind) (values : List ℕ) (n : ℕ) → InRange (registers kind) values → CanBeHosted (row_of kind values (Due n)).want kind
-unfolding row_of reader_row writer_row clock_row keyboard_row teleprinter_row most_bytes
+unfolding row_of reader_row writer_row clock_row keyboard_row teleprinter_row most_bytes disk_sectors
+wants-of Dsk values n fits =
+    let sector = held-within (registers Dsk) values 4 (kept_register (codes "DA") 0o17777) fits refl in
+    let address = held-within (registers Dsk) values 5 (kept_register (codes "MA") 0o77777) fits refl in
+    (refl, omega (arith, sector), omega (arith, address))
 wants-of Ptr values n fits = (refl, held-within (registers Ptr) values 5 position fits refl)
 wants-of Ptp values n fits = (refl, held-within (registers Ptp) values 5 position fits refl)
 wants-of Lpt values n fits = (refl, held-within (registers Lpt) values 5 position fits refl)
@@ -71,6 +76,15 @@ wants-found kind n (Some u) fits same = subst (λ (k : Kind). CanBeHosted (row u
 -- what a unit of a machine wants, the machine can do for it
 pub wants-in : (kind : Kind) (n : ℕ) (us : List UnitState) → AllFit us → CanBeHosted (row_at (code_of kind) (Due n) us).want kind
 wants-in kind n us fit = wants-found kind n (unit_at (code_of kind) us) (fits-found (code_of kind) us fit) (kind-found kind us)
+
+-- ---- a sector of the disk
+
+-- the disk is the only unit of its kind
+pub disk-is : (u : UnitName) → u.kind ≡ Dsk → u.unit < units_of u.kind → disk_unit ≡ u
+disk-is u is low =
+    let one : u.unit < units_of Dsk = subst (λ (k : Kind). u.unit < units_of k) is low in
+    let zero : 0 ≡ u.unit = omega (arith, one) in
+    λ i. record { kind = sym is i; unit = zero i }
 
 -- ---- a byte of a unit's file
 

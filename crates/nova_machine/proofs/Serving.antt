@@ -33,7 +33,7 @@ use Rattle.nova_machine.specs.Seen.{Seen, seen, erased, unnumbered, with_machine
 use Rattle.nova_machine.specs.Parts.{Part, silent, behind_made, then_part}
 use Rattle.nova_machine.specs.Turned.{Turned, still}
 use Rattle.nova_machine.specs.Wants.{answer_to, files_after, taken_after, key_stop, bytes_of, prints, IsConsole}
-use Rattle.nova_machine.specs.Service.{want_at, asked, answered, first_stop, stopping, replied, service, taken, services, serving}
+use Rattle.nova_machine.specs.Service.{want_at, done_for, asked, answered, first_stop, stopping, replied, service, taken, services, serving}
 use Rattle.nova_machine.specs.Comes.{Comes, IsBrokenOff}
 use Rattle.nova_machine.proofs.Parts.{silent-comes, own-other, own-bare, whole-comes, comes-behind, comes-then, comes-stopped}
 
@@ -176,12 +176,12 @@ prints-text w s = refl
 abbrev pub asks_of : List (ℕ × ℕ) → MachineState → Option ℕ
 asks_of keys m = due_key keys m.taken m.time
 
--- a unit was asked, and what it wants was done
-abbrev pub done_by : Want → List (ℕ × ℕ) → MachineState → MachineState
-done_by w keys m = record m { taken = taken_after m.taken (asks_of keys m) w }
-
 abbrev pub attachment_in : MachineState → UnitName → Option Attachment
 attachment_in m u = attachment_at (attached_in m) u
+
+-- a unit was asked, and what it wants was done
+abbrev pub done_by : Want → UnitName → List (ℕ × ℕ) → MachineState → MachineState
+done_by w u keys m = done_for (asks_of keys m) (attachment_in m u) w m
 
 -- the numbers of files are no part of what is attached
 erased-attached : (slots : List (Option Held)) → attachments_of (map unnumbered slots) ≡ attachments_of slots
@@ -192,24 +192,24 @@ erased-attached (Some h ∷ slots) = ap (λ (l : List (Option Attachment)). Some
 service-is : (fault : Option Failure) (u : UnitName) (keys : List (ℕ × ℕ)) (files : List NamedBytes) (m : MachineState) → service fault u (seen keys files m)
     ≡ behind_made (prints (want_at u m) (seen keys files (asked u m)))
     (replied u (key_stop (asks_of keys m) (want_at u m)) (answer_to fault (attachment_in m u) files (asks_of keys m) (want_at u m))
-    (seen keys (files_after fault (attachment_in m u) files (want_at u m)) (done_by (want_at u m) keys (asked u m))))
+    (seen keys (files_after fault (attachment_in m u) files (want_at u m)) (done_by (want_at u m) u keys (asked u m))))
 unfolding service Rattle.nova_machine.specs.Service.hosted asked
 service-is fault u keys files m =
     let same : attachment_at (attached_in (erased m)) u ≡ attachment_in m u = ap (λ (l : List (Option Attachment)). attachment_at l u) (erased-attached m.slots) in
     let w = want_at u m in
     ap (λ (a : Option Attachment). behind_made (prints w (seen keys files (asked u m)))
     (replied u (key_stop (asks_of keys m) w) (answer_to fault a files (asks_of keys m) w)
-    (seen keys (files_after fault a files w) (done_by w keys (asked u m))))) same
+    (seen keys (files_after fault a files w) (done_for (asks_of keys m) a w (asked u m))))) same
 
 -- a unit was asked, and this was made of what it wants
 pub record Hosts (u : UnitName) (keys : List (ℕ × ℕ)) (files files' : List NamedBytes) (n h : MachineState) (w : Want) (o : Hosted) : Type 0 where
-  pub machine : h ≡ done_by w keys n
+  pub machine : h ≡ done_by w u keys n
   pub said : IsHosted w (attachment_in n u) files (asks_of keys n) o
   pub changed : files' ≡ files_after (failure_of_stop (stop_in o)) (attachment_in n u) files w
 
 -- the same of the machine before it was asked
 record HostsAt (u : UnitName) (keys : List (ℕ × ℕ)) (files files' : List NamedBytes) (m h : MachineState) (o : Hosted) : Type 0 where
-  machine : h ≡ done_by (want_at u m) keys (asked u m)
+  machine : h ≡ done_by (want_at u m) u keys (asked u m)
   said : IsHosted (want_at u m) (attachment_in m u) files (asks_of keys m) o
   changed : files' ≡ files_after (failure_of_stop (stop_in o)) (attachment_in m u) files (want_at u m)
 
@@ -241,7 +241,7 @@ answered-erased u g keys files stop h = refl
 
 -- a unit got this answer, and the machine has this stop for itself
 comes-answered : (u : UnitName) (keys : List (ℕ × ℕ)) (files files' : List NamedBytes) (m h last : MachineState) (g : Got) (stop r : Option Stop) (tells : Bool) (b a : List ℕ)
-    → h ≡ done_by (want_at u m) keys (asked u m) → answer_to None (attachment_in m u) files (asks_of keys m) (want_at u m) ≡ Ok g
+    → h ≡ done_by (want_at u m) u keys (asked u m) → answer_to None (attachment_in m u) files (asks_of keys m) (want_at u m) ≡ Ok g
     → key_stop (asks_of keys m) (want_at u m) ≡ stop → files' ≡ files_after None (attachment_in m u) files (want_at u m)
     → (IsTrue tells → a ≡ b ++ bytes_of (want_at u m)) → IsOwn r → r ≡ first_stop stop (answered u g h).stop → last ≡ (answered u g h).machine
     → Comes (service None u (seen keys files m)) r (seen keys files' last) tells b a
@@ -250,11 +250,11 @@ comes-answered u keys files files' m h last g stop r tells b a machine said key 
     let made = prints w (seen keys files (asked u m)) in
     let P : Part → Type 0 = λ x. Comes x r (seen keys files' last) tells b a in
     let now : replied u (key_stop (asks_of keys m) w) (answer_to None (attachment_in m u) files (asks_of keys m) w)
-    (seen keys (files_after None (attachment_in m u) files w) (done_by w keys (asked u m)))
+    (seen keys (files_after None (attachment_in m u) files w) (done_by w u keys (asked u m)))
     ≡ silent (first_stop stop (answered u g h).stop) (seen keys files' (answered u g h).machine) =
-    ap (λ (x : Result Got Failure). replied u (key_stop (asks_of keys m) w) x (seen keys (files_after None (attachment_in m u) files w) (done_by w keys (asked u m)))) said
-    ∙ ap (λ (x : Option Stop). replied u x (Ok g) (seen keys (files_after None (attachment_in m u) files w) (done_by w keys (asked u m)))) key
-    ∙ ap (λ (x : List NamedBytes). replied u stop (Ok g) (seen keys x (done_by w keys (asked u m)))) (sym changed)
+    ap (λ (x : Result Got Failure). replied u (key_stop (asks_of keys m) w) x (seen keys (files_after None (attachment_in m u) files w) (done_by w u keys (asked u m)))) said
+    ∙ ap (λ (x : Option Stop). replied u x (Ok g) (seen keys (files_after None (attachment_in m u) files w) (done_by w u keys (asked u m)))) key
+    ∙ ap (λ (x : List NamedBytes). replied u stop (Ok g) (seen keys x (done_by w u keys (asked u m)))) (sym changed)
     ∙ ap (λ (x : MachineState). replied u stop (Ok g) (seen keys files' x)) (sym machine)
     ∙ answered-erased u g keys files' stop h in
     subst P (sym (service-is None u keys files m ∙ ap (behind_made made) now))
@@ -299,7 +299,7 @@ comes-failed u keys files files' m n h w f tells b a asks wants made printed own
     let at = hosts-at u keys files files' m n h w (Stops (FileFault f)) asks wants made in
     let fault = Some (failure_in f) in
     let v = want_at u m in
-    let s = seen keys (files_after fault (attachment_in m u) files v) (done_by v keys (asked u m)) in
+    let s = seen keys (files_after fault (attachment_in m u) files v) (done_by v u keys (asked u m)) in
     let none = silent-want fault (attachment_in m u) files (asks_of keys m) v (failure_in f) (seen keys files (asked u m)) at.said in
     let P : Part → Type 0 = λ x. Comes x (Some (FileFault f)) (seen keys files' h) tells b a in
     let now : service fault u (seen keys files m) ≡ silent (Some (file_stop u (failure_in f))) s =
@@ -309,7 +309,7 @@ comes-failed u keys files files' m n h w f tells b a asks wants made printed own
     subst P (sym now)
     (record {
       stop_is = ap (λ (x : UnitName). Some (FileFault (record { unit = x; file = None; call = f.call; done = f.done }))) own;
-      after_is = ap (λ (x : MachineState). seen keys files' x) at.machine ∙ ap (λ (x : List NamedBytes). seen keys x (done_by v keys (asked u m))) at.changed;
+      after_is = ap (λ (x : MachineState). seen keys files' x) at.machine ∙ ap (λ (x : List NamedBytes). seen keys x (done_by v u keys (asked u m))) at.changed;
       written = printed;
     })
 
@@ -320,13 +320,13 @@ broken-console (want.Console byte) s p tells b a console same = record {
 }
 broken-console w s p tells b a console same = absurd console
 
-console-done : (w : Want) (keys : List (ℕ × ℕ)) (m : MachineState) → IsConsole w → done_by w keys m ≡ m
-console-done (want.Console byte) keys m console = by-key (asks_of keys m)
+console-done : (w : Want) (u : UnitName) (keys : List (ℕ × ℕ)) (m : MachineState) → IsConsole w → done_by w u keys m ≡ m
+console-done (want.Console byte) u keys m console = by-key (asks_of keys m)
   where
-    by-key : (key : Option ℕ) → record m { taken = taken_after m.taken key (want.Console byte) } ≡ m
+    by-key : (key : Option ℕ) → done_for key (attachment_in m u) (want.Console byte) m ≡ m
     by-key None = refl
     by-key (Some k) = refl
-console-done w keys m console = absurd console
+console-done w u keys m console = absurd console
 
 console-files : (w : Want) (a : Option Attachment) (files : List NamedBytes) → IsConsole w → files_after None a files w ≡ files
 console-files (want.Console byte) a files console = refl
@@ -342,10 +342,10 @@ comes-broken u keys files files' m n h w tells b a asks wants made same =
     let s = seen keys files (asked u m) in
     let stands : seen keys files' h ≡ s =
     ap (λ (x : List NamedBytes). seen keys x h) (at.changed ∙ console-files v (attachment_in m u) files at.said)
-    ∙ ap (λ (x : MachineState). seen keys files x) (at.machine ∙ console-done v keys (asked u m) at.said) in
+    ∙ ap (λ (x : MachineState). seen keys files x) (at.machine ∙ console-done v u keys (asked u m) at.said) in
     let P : Part → Type 0 = λ x. IsBrokenOff x (seen keys files' h) tells b a in
     let p = replied u (key_stop (asks_of keys m) v) (answer_to None (attachment_in m u) files (asks_of keys m) v)
-    (seen keys (files_after None (attachment_in m u) files v) (done_by v keys (asked u m))) in
+    (seen keys (files_after None (attachment_in m u) files v) (done_by v u keys (asked u m))) in
     let Q : Seen → Type 0 = λ x. IsBrokenOff (behind_made (prints v s) p) x tells b a in
     subst P (sym (service-is None u keys files m)) (subst Q (sym stands) (broken-console v s p tells b a at.said same))
 

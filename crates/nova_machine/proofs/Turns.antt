@@ -1,5 +1,5 @@
 -- What every instruction and every turn keeps, and how time grows over a turn.
-use Rattle.std.proofs.Common.{◌≡◌, ℕ, ◌+◌, ◌≤◌, ◌==◌, Bool, true, false, List, [], ◌∷◌, Option, Some, None, Result, Ok, Err, slice_index, refl, ap, ◌∙◌, if◌then◌else◌, arith}
+use Rattle.std.proofs.Common.{◌≡◌, ℕ, zero, suc, ◌+◌, ◌≤◌, ◌==◌, Bool, true, false, List, [], ◌∷◌, Option, Some, None, Result, Ok, Err, slice_index, refl, ap, ◌∙◌, if◌then◌else◌, arith}
 use Rattle.std.proofs.lemmas.Bool.Decides.{nat_tests}
 use Rattle.observations.specs.Observations.{Observation}
 use Rattle.nova_word.specs.Bits.{bits}
@@ -19,7 +19,9 @@ use Rattle.nova_machine.specs.declared.machine.Stop.{Stop}
 use Rattle.nova_machine.specs.declared.machine.Stop.TheVariants.{Halt, ChainLimit, UnknownDevice, Wru}
 use Rattle.nova_processor.specs.Processor.{ProcessorState}
 use Rattle.nova_machine.specs.Machine.{MachineState, on_processor, reset_devices}
-use Rattle.unit_files.specs.Attachments.{attachment_at}
+use Rattle.unit_files.specs.Attachments.{Attachment, attachment_at}
+use Rattle.unit_files.specs.Buffer.{Buffer, sector_of}
+use Rattle.nova_machine.specs.Sectors.{sector_words, words_put, memory_with, memory_after}
 use Rattle.unit_files.specs.Acts.{Failure}
 use Rattle.nova_machine.specs.Notes.{UnitNote, at_unit}
 use Rattle.nova_machine.specs.Seen.{Seen, with_machine, attached_in}
@@ -328,13 +330,28 @@ replied-prepares u key w (Err f) before s stays = record { stays = stays; other 
 prepares-behind : (s : Seen) (made : List (Observation Seen)) (p : Part) → Prepares s p → Prepares s (behind_made made p)
 prepares-behind s made p prepares = record { stays = prepares.stays; other = prepares.other }
 
+words-size : (n from : ℕ) (bytes : List ℕ) (m : MemoryState) → (words_put n from bytes m).size ≡ m.size
+unfolding words_put
+words-size zero from bytes m = refl
+words-size (suc n) from bytes m = put-size (words_put n from bytes m) _ _ ∙ words-size n from bytes m
+
+size-with : (write : Bool) (a : Option Attachment) (filled m : MemoryState) → filled.size ≡ m.size → (memory_with write a filled m).size ≡ m.size
+size-with false (Some a) filled m same = same
+size-with false None filled m same = refl
+size-with true a filled m same = refl
+
+-- a sector that is read leaves the size of memory
+size-after : (a : Option Attachment) (disk : Buffer) (w : Want) (m : MemoryState) → (memory_after a disk w m).size ≡ m.size
+size-after a disk (want.Sector write n from) m = size-with write a (words_put sector_words from (sector_of disk.bytes n) m) m (words-size sector_words from (sector_of disk.bytes n) m)
+size-after a disk w m = refl
+
 service-prepares : (fault : Option Failure) (u : UnitName) (s : Seen) → Prepares s (service fault u (taken s))
 unfolding service hosted asked
 service-prepares fault u s =
     let x = taken s in
     let w = want_at u x.machine in
     prepares-behind s (prints w (with_machine x (asked u x.machine))) _
-    (replied-prepares u (key_at x) w (answer_to fault (attachment_at (attached_in x.machine) u) x.files (key_at x) w) s (hosted fault u x) (record { acts = record { time = refl; unchanged = record { size = refl; sr = refl; stop_dev = refl; slots = refl } }; hold = refl }))
+    (replied-prepares u (key_at x) w (answer_to fault (attachment_at (attached_in x.machine) u) x.files (key_at x) w) s (hosted fault u x) (record { acts = record { time = refl; unchanged = record { size = size-after _ x.machine.disk w x.machine.processor.memory; sr = refl; stop_dev = refl; slots = refl } }; hold = refl }))
 
 services-prepare : (note : Option UnitNote) (us : List UnitName) (s : Seen) → Prepares s (services note us s)
 unfolding services

@@ -1,7 +1,8 @@
 -- What the machine's own answers mean that it makes of what a unit wants.
-use Rattle.std.specs.Prelude.{◌≡◌, ℕ, ◌≤◌, ◌^◌, IsTrue, ◌==◌, List, [], Option, Some, None, Ok, Err, if◌then◌else◌}
+use Rattle.std.specs.Prelude.{◌≡◌, ℕ, ◌<◌, ◌≤◌, ◌^◌, IsTrue, ◌==◌, List, [], Option, Some, None, Ok, Err, if◌then◌else◌}
 use Rattle.host_files.specs.Lists.{NamedBytes}
 use Rattle.unit_trait.specs.declared.kind.Kind.{Kind}
+use Rattle.unit_trait.specs.declared.kind.Kind.TheVariants.{Dsk}
 use Rattle.unit_list.specs.Bus.{IsBelowEnd}
 use Rattle.unit_trait.specs.declared.calls.Want.{Want}
 use Rattle.unit_trait.specs.declared.calls.Want.TheVariants as want
@@ -10,6 +11,7 @@ use Rattle.unit_trait.specs.declared.calls.Got.TheVariants as got
 use Rattle.unit_files.specs.declared.faults.ByteAnswer.{ByteAnswer}
 use Rattle.unit_files.specs.declared.faults.ByteAnswer.TheVariants as byte
 use Rattle.unit_files.specs.Attachments.{Attachment, is_paper, only_writes}
+use Rattle.unit_files.specs.Buffer.{disk_sectors}
 use Rattle.unit_files.specs.Answers.{failure_in}
 use Rattle.nova_machine.specs.declared.machine.Stop.{Stop}
 use Rattle.nova_machine.specs.declared.machine.Stop.TheVariants.{FileFault, ConsoleFault, Wru as WruStop}
@@ -51,8 +53,10 @@ abbrev pub HasRoom : Want → Hosted → Type 0
 HasRoom want (Gets g) = IsBelowEnd want g
 HasRoom want other = Unit {0}
 
--- bytes are wanted by the paper tape units and the printer alone, each at a place that its register can hold
+-- Bytes are wanted by the paper tape units and the printer alone, each at a place that its register can hold, and sectors
+-- by the disk alone.
 abbrev pub CanBeHosted : Want → Kind → Type 0
 CanBeHosted (want.ReadByte place) kind = IsTrue (is_paper kind) × (place ≤ 8 ^ 8)
 CanBeHosted (want.WriteByte place byte) kind = IsTrue (only_writes kind) × (place ≤ 8 ^ 8)
+CanBeHosted (want.Sector write sector from) kind = (kind ≡ Dsk) × (sector < disk_sectors) × (from < 2 ^ 15)
 CanBeHosted other kind = Unit {0}

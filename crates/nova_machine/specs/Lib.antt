@@ -7,6 +7,7 @@ pub mod Parts
 pub mod Turned
 pub mod Ends
 pub mod Transfer
+pub mod Sectors
 pub mod Wants
 pub mod Hosting
 pub mod Service

@@ -4,13 +4,14 @@ use Rattle.unit_trait.specs.Calls.{UnitState}
 use Rattle.event_queue.specs.EventList.{Event}
 use Rattle.unit_list.specs.Reset.{reset_units, reset_events}
 use Rattle.unit_files.specs.Attachments.{Held, no_files}
+use Rattle.unit_files.specs.Buffer.{Buffer, AttachedFiles, no_buffer}
 use Rattle.nova_interrupts.specs.declared.interrupts.Ints.{Ints}
 use Rattle.nova_interrupts.specs.Interrupts.{no_interrupts}
 use Rattle.nova_processor.specs.Processor.{ProcessorState, new_processor}
 
 -- the processor with its memory, the interrupts, the switch register, whether a word to a device that is not there stops
 -- the machine, the units in bus order, their events that wait, the time: how many instructions were executed since the
--- session began; how many keys were taken; and what is attached to the units
+-- session began; how many keys were taken; what is attached to the units, and what the disk holds of its file
 pub record MachineState : Type 0 where
   pub processor : ProcessorState
   pub ints : Ints
@@ -21,10 +22,14 @@ pub record MachineState : Type 0 where
   pub time : ℕ
   pub taken : ℕ
   pub slots : List (Option Held)
+  pub disk : Buffer
 
--- the machine with that attached to its units
-abbrev pub with_slots : MachineState → List (Option Held) → MachineState
-with_slots m slots = record m { slots = slots }
+-- what is attached to the units of a machine, and the machine with that attached
+abbrev pub attached_files : MachineState → AttachedFiles
+attached_files m = record { slots = m.slots; disk = m.disk }
+
+abbrev pub with_attached_files : MachineState → AttachedFiles → MachineState
+with_attached_files m a = record m { slots = a.slots; disk = a.disk }
 
 -- All devices are reset: the mask is cleared, no event waits, and each unit is reset, in bus order, which may bring an
 -- event of it.
@@ -53,6 +58,7 @@ new_machine units = reset_machine (record {
   time = 0;
   taken = 0;
   slots = no_files;
+  disk = no_buffer;
 })
 
 -- the machine with its processor changed so

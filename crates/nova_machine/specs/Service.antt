@@ -7,12 +7,13 @@ use Rattle.unit_trait.specs.Kinds.{code_of}
 use Rattle.unit_trait.specs.Calls.{Due, Answered}
 use Rattle.event_queue.specs.EventList.{served, dues, wished}
 use Rattle.unit_list.specs.Bus.{row_at, after_at}
-use Rattle.unit_files.specs.Attachments.{attachment_at}
+use Rattle.unit_files.specs.Attachments.{Attachment, attachment_at}
 use Rattle.unit_files.specs.Acts.{Failure}
 use Rattle.expect_actions.specs.KeysFile.{due_key}
 use Rattle.nova_machine.specs.declared.machine.Stop.{Stop}
 use Rattle.nova_machine.specs.Machine.{MachineState}
 use Rattle.nova_machine.specs.Notes.{UnitNote, at_unit}
+use Rattle.nova_machine.specs.Sectors.{memory_after, disk_after}
 use Rattle.nova_machine.specs.Wants.{answer_to, files_after, taken_after, key_stop, prints, stop_by, file_stop}
 use Rattle.nova_machine.specs.Seen.{Seen, with_machine, attached_in}
 use Rattle.nova_machine.specs.Parts.{Part, silent, behind_made, then_part}
@@ -53,13 +54,21 @@ replied unit stop (Err f) s = silent (Some (file_stop unit f)) s
 abbrev pub key_at : Seen → Option ℕ
 key_at s = due_key s.keys s.machine.taken s.machine.time
 
+-- what a unit wants was done that has this attachment, where this key is due: a key is taken, or a sector is moved
+abbrev pub done_for : Option ℕ → Option Attachment → Want → MachineState → MachineState
+done_for key a want m = record m {
+  taken = taken_after m.taken key want;
+  processor = record m.processor { memory = memory_after a m.disk want m.processor.memory };
+  disk = disk_after a m.processor.memory want m.disk;
+}
+
 -- a unit was asked, and what it wants was done
 unfoldable pub hosted : Option Failure → UnitName → Seen → Seen
 hosted fault unit s =
     let want = want_at unit s.machine in
     let a = attachment_at (attached_in s.machine) unit in
     record s {
-      machine = record (asked unit s.machine) { taken = taken_after s.machine.taken (key_at s) want };
+      machine = done_for (key_at s) a want (asked unit s.machine);
       files = files_after fault a s.files want;
     }
 

@@ -14,6 +14,7 @@ use Rattle.unit_trait.specs.declared.calls.UnitStop.{UnitStop}
 use Rattle.unit_trait.specs.declared.calls.UnitStop.TheVariants as unit_stop
 use Rattle.unit_files.specs.Attachments.{Attachment}
 use Rattle.unit_files.specs.Acts.{Failure, ByteSaid, ByteIs, WasWritten, AtEnd, NothingThere, ByteFailed, read_act, write_act, write_files}
+use Rattle.nova_machine.specs.Sectors.{got_of_sector, said_of_sector}
 use Rattle.nova_machine.specs.declared.machine.Stop.{Stop}
 use Rattle.nova_machine.specs.declared.machine.Stop.TheVariants.{UnitEnd, UnitNone, FileFault, Wru}
 
@@ -35,8 +36,8 @@ got_of_byte NothingThere = Ok got.NoFile
 got_of_byte (ByteFailed f) = Err f
 
 -- The machine's answer to what a unit wants that has this attachment, where this key is due, or the failure of the call on
--- the unit's file. There are no disks, tapes and lines yet: no file is attached to those units, no key comes on a line, and
--- what is sent on one goes nowhere.
+-- the unit's file. There are no tapes and lines yet: no file is attached to those units, no key comes on a line, and what
+-- is sent on one goes nowhere.
 abbrev pub answer_to : Option Failure → Option Attachment → List NamedBytes → Option ℕ → Want → Result Got Failure
 answer_to fault a files key want.Nothing = Ok got.Done
 answer_to fault a files key want.Key = Ok (got_of_key key)
@@ -45,6 +46,7 @@ answer_to fault a files key (want.Console byte) = Ok got.Done
 answer_to fault a files key (want.LinePut line byte) = Ok got.Done
 answer_to fault a files key (want.ReadByte place) = got_of_byte (read_act fault a place files)
 answer_to fault a files key (want.WriteByte place byte) = got_of_byte (write_act fault a place)
+answer_to fault a files key (want.Sector write sector from) = Ok (got_of_sector (said_of_sector write a))
 answer_to fault a files key other = Ok got.NoFile
 
 -- the files once that was done

@@ -11,7 +11,7 @@ impl<U: Unit> Machine<U> {
     ghost use Rattle.nova_machine.specs.contracts.machine.Machine.{the_row};
     ghost use Rattle.unit_files.specs.contracts.attached.Attached.{the_row as attached_row};
     ghost use Rattle.nova_machine.specs.Turn.{with_memory};
-    ghost use Rattle.nova_machine.specs.Machine.{with_slots};
+    ghost use Rattle.nova_machine.specs.Machine.{attached_files, with_attached_files};
 
     /// The machine's memory, to be changed as a person at the console or a loader does. It takes no time.
     pub fn memory_mut(&mut self) -> &mut Memory
@@ -23,8 +23,8 @@ impl<U: Unit> Machine<U> {
 
     /// The files of its units, to be attached and detached as a person at the console does. It takes no time.
     pub fn attached_mut(&mut self) -> &mut Attached
-        ensures* writes_back { sem 𝓛 (Lends (the_row U.row U.Unit) attached_row self.entry result (with_slots self.old)) }
-        ensures value { result.now ≡ self.old.slots }
+        ensures* writes_back { sem 𝓛 (Lends (the_row U.row U.Unit) attached_row self.entry result (with_attached_files self.old)) }
+        ensures value { result.now ≡ attached_files self.old }
     {
         &mut self.attached
     }

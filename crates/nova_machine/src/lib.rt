@@ -10,6 +10,7 @@ mod registers;
 mod run;
 #[cfg(test)]
 mod scenario;
+mod sector;
 mod service;
 mod transfer;
 mod turn;

@@ -100,7 +100,8 @@ impl<U: Unit> Model for Machine<U> {
       events = m.events;
       time = m.time;
       taken = m.taken;
-      slots = m.attached;
+      slots = m.attached.slots;
+      disk = m.attached.disk;
     } };
 
     ghost invariant = { λ m. (m.time ≤ last_time) × IsQuiet m.quiet m.ints (map U.unit_state m.units.items)
@@ -108,7 +109,7 @@ impl<U: Unit> Model for Machine<U> {
 }
 
 impl<U: Unit> Machine<U> {
-    ghost use Rattle.nova_machine.specs.Machine.{new_machine, reset_devices, reset_machine};
+    ghost use Rattle.nova_machine.specs.Machine.{new_machine, attached_files, reset_devices, reset_machine};
     ghost use Rattle.nova_machine.specs.BusOrder.{IsBusOrder};
     ghost use Rattle.nova_machine.specs.Core.{IsCore};
     ghost use Rattle.unit_trait.specs.Processor.{largest_of, CanHold};
@@ -157,7 +158,7 @@ impl<U: Unit> Machine<U> {
 
     /// The files of its units.
     pub fn attached(&self) -> &Attached
-        ensures { result.now ≡ self.now.slots }
+        ensures { result.now ≡ attached_files self.now }
     {
         &self.attached
     }

@@ -175,7 +175,7 @@ const WRU: u8 = 5;
 
 /// What the machine made of what a unit wants.
 #[derive(Clone, Copy)]
-enum Hosted {
+pub(crate) enum Hosted {
     /// The unit gets that answer.
     Gets(Got),
     /// The key that stops a run was taken: the unit gets no key.
@@ -190,6 +190,7 @@ impl<U: Unit> Machine<U> {
     ghost use Rattle.nova_machine.specs.Seen.{attached_in};
     ghost use Rattle.nova_machine.specs.Comes.{AreTold, FileCause};
     ghost use Rattle.nova_machine.specs.Hosting.{IsHosted, HasRoom};
+    ghost use Rattle.nova_machine.specs.Service.{done_for};
 
     /// Does what a unit wants of the machine.
     fn host<S: Sink, F: Files>(
@@ -200,11 +201,15 @@ impl<U: Unit> Machine<U> {
         files: &mut F,
         out: &mut S,
     ) -> Hosted
+        requires number { unit.unit < units_of unit.kind }
         requires open { AllOpen self.old.slots (F.state files.old).opened }
         requires kind { CanBeHosted want unit.kind }
-        ensures machine { self.new ≡ record self.old {
-          taken = taken_after self.old.taken (due_key keys.now self.old.taken self.old.time) want;
-        } }
+        ensures machine { self.new ≡ done_for (due_key keys.now self.old.taken self.old.time)
+            (attachment_at (attached_in self.old) unit) want self.old }
+        ensures slots { self.new.slots ≡ self.old.slots }
+        ensures dues { dues self.new.events ≡ dues self.old.events }
+        ensures kinds { kinds_of self.new.units ≡ kinds_of self.old.units }
+        ensures time { self.new.time ≡ self.old.time }
         ensures said { AreTold F.tells self.old.slots → IsHosted want (attachment_at (attached_in self.old) unit)
             (F.state files.old).files (due_key keys.now self.old.taken self.old.time) result }
         ensures files { (F.state files.new).files ≡ files_after (failure_of_stop (stop_in result))
@@ -212,7 +217,7 @@ impl<U: Unit> Machine<U> {
         ensures printed { IsTrue S.tells → S.written out.new ≡ S.written out.old ++ bytes_printed want result }
         ensures room { HasRoom want result }
         ensures own { IfSome (unit_note (stop_in result)) (λ n. n.unit ≡ unit) }
-        ensures unit { unit.unit < units_of unit.kind → IfSome (stop_in result) HasUnit }
+        ensures unit { IfSome (stop_in result) HasUnit }
         ensures opened { (F.state files.new).opened ≡ (F.state files.old).opened }
         ensures counts { StopCounts (stop_in result) (S.fault_count out.old) (S.fault_count out.new) }
         ensures file_cause { FileCause (stop_in result) self.old.slots (F.state files.old) (F.state files.new) }
@@ -226,6 +231,16 @@ impl<U: Unit> Machine<U> {
             Want::WriteByte { place, byte } => {
                 made_of(self.attached.write_byte(unit, place, byte, files))
             }
+            Want::Sector {
+                write: false,
+                sector,
+                address,
+            } => self.read_sector(sector, address),
+            Want::Sector {
+                write: true,
+                sector,
+                address,
+            } => self.write_sector(sector, address),
             _ => Hosted::Gets(Got::NoFile),
         }
     }

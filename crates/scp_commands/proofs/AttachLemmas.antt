@@ -1,12 +1,12 @@
 -- A file is opened for a unit: what ATTACH comes to.
-use Rattle.std.proofs.Common.{◌≡◌, ℕ, ◌≤◌, ◌==◌, ◌&&◌, ◌||◌, not, Bool, true, false, IsTrue, List, [], ◌∷◌, ◌++◌, length, Option, Some, None, IfSome, is_none, Result, Ok, Err, OnErr}
+use Rattle.std.proofs.Common.{◌≡◌, ℕ, ◌≤◌, ◌==◌, ◌&&◌, ◌||◌, not, Bool, true, false, IsTrue, List, [], ◌∷◌, ◌++◌, length, Option, Some, None, IfSome, is_none, nat_lt, Result, Ok, Err, OnErr}
 use Rattle.std.proofs.Common.{inl, inr, refl, ap, sym, ◌∙◌, subst, if◌then◌else◌, append-nil, arith}
 use Rattle.std.specs.List.{AllByRecursion}
 use Rattle.std.proofs.Math.Path.{subst₃}
 use Rattle.host_files.specs.Lists.{NamedBytes, bytes_of}
 use Rattle.host_files.specs.State.{FileState}
 use Rattle.host_files.specs.declared.files.FileCall.{FileCall}
-use Rattle.host_files.specs.declared.files.FileCall.TheVariants.{Opening, Length, Closing}
+use Rattle.host_files.specs.declared.files.FileCall.TheVariants.{Opening, Length, Read, Closing}
 use Rattle.unit_trait.specs.declared.kind.Kind.{Kind}
 use Rattle.unit_trait.specs.declared.kind.Kind.TheVariants.{Lpt, Ptr, Ptp}
 use Rattle.unit_trait.specs.declared.kind.UnitName.{UnitName}
@@ -16,9 +16,10 @@ use Rattle.unit_files.specs.declared.modes.AttachMode.{AttachMode}
 use Rattle.unit_files.specs.declared.faults.UnitFault.{UnitFault}
 use Rattle.unit_files.specs.declared.faults.AttachFault.{AttachFault}
 use Rattle.unit_files.specs.declared.faults.AttachFault.TheVariants as attach
-use Rattle.unit_files.specs.Attachments.{Attachment, Held, attachments_of, attachment_at, is_paper, longest_file}
+use Rattle.unit_files.specs.Attachments.{Attachment, Held, attachments_of, attachment_at, is_paper, is_disk, longest_file}
 use Rattle.unit_files.specs.Acts.{Failure, AttachSaid, Attached, UnitHasFile, OnlyWrites, NotThere, TooLong, CallFailed, failure_at, refused_first, opened_files}
-use Rattle.unit_files.specs.Acts.{measured, opened_said, opening_said, said_unless, attach_said, files_unless_opening, files_unless, attach_files, attached_by}
+use Rattle.unit_files.specs.Buffer.{AttachedFiles, Buffer}
+use Rattle.unit_files.specs.Acts.{measured, measured_as, reading_failure, read_whole, opened_said, opening_said, said_unless, attach_said, files_unless_opening, files_unless, attach_files, attached_by, buffer_by}
 use Rattle.unit_files.specs.Answers.{failure_in, said_of_attach}
 use Rattle.fault_notes.specs.declared.note.Subject.{Subject}
 use Rattle.fault_notes.specs.declared.note.Subject.TheVariants as subject
@@ -27,7 +28,7 @@ use Rattle.fault_notes.specs.Notes.{CommandNote, Note, same_subject, numbered, f
 use Rattle.fault_notes.specs.Counts.{AreCounted}
 use Rattle.file_commands.specs.declared.stamp.Stamp.{Stamp}
 use Rattle.file_commands.specs.Notes.{IsAttachFault, MissingCause, fault_of_attach, kept_of, own_of, own_note}
-use Rattle.nova_machine.specs.Machine.{MachineState, with_slots}
+use Rattle.nova_machine.specs.Machine.{MachineState, attached_files, with_attached_files}
 use Rattle.nova_machine.specs.Seen.{erased, seen, attached_in}
 use Rattle.scp_commands.specs.declared.next.Next.TheVariants.{Go}
 use Rattle.scp_commands.specs.declared.fault.CommandFault.TheVariants.{AlreadyAttached, ReadOnly, NoFile, FileTooLong, NotBuilt, FileFailed}
@@ -36,7 +37,7 @@ use Rattle.scp_commands.specs.Reply.{Answer, Reply, refused}
 use Rattle.scp_commands.specs.FaultText.{attach_fault}
 use Rattle.scp_commands.specs.FileEffects.{lacks_unit, mode_of, attach_answer, attach_used, first_place, position_number, attached_machine, attach_with, attach_reply}
 use Rattle.scp_commands.specs.Doing.{Does, Did, ComeBehind, IsSaid, IsStamped, FileCause, Keeps}
-use Rattle.scp_commands.proofs.SeenLemmas.{attached-erased, erased-with}
+use Rattle.scp_commands.proofs.SeenLemmas.{attached-erased, erased-with, same-with}
 use Rattle.scp_commands.proofs.DidLemmas.{refused-did}
 use Rattle.scp_commands.proofs.BehindLemmas.{kept-said}
 
@@ -60,15 +61,25 @@ longest-paper m unit has = paper-bytes unit.kind (not-lacking (is_paper unit.kin
 record IsNoFailure (f : Option Failure) : Type 0 where
   opening : failure_at Opening f ≡ None
   measuring : failure_at Length f ≡ None
+  reading : failure_at Read f ≡ None
 
 said-same : (f : Option Failure) (mode : AttachMode) (unit : UnitName) (name : List ℕ) (attached : List (Option Attachment)) (files : List NamedBytes) → IsNoFailure f
     → attach_said f mode unit name attached files ≡ attach_said None mode unit name attached files
 unfolding attach_said
 said-same f mode unit name attached files clear = unless (refused_first (attachment_at attached unit) unit mode)
   where
+    read : (b : Bool) (count : ℕ) → read_whole (if b then failure_at Read f else None) count ≡ read_whole (if b then None else None) count
+    read true count = ap (λ (x : Option Failure). read_whole x count) clear.reading
+    read false count = refl
+
+    measures : (count : ℕ) → measured f unit count ≡ measured None unit count
+    measures count =
+        ap (λ (x : Option Failure). measured_as x f unit count) clear.measuring
+        ∙ ap (λ (x : AttachSaid). if nat_lt (longest_file unit.kind) count then TooLong else x) (read (is_disk unit.kind && nat_lt 0 count) count)
+
     opened : (o : Option (List NamedBytes)) → opened_said f unit name o ≡ opened_said None unit name o
     opened None = refl
-    opened (Some fs) = ap (λ (x : Option Failure). measured x unit (length (bytes_of fs name))) clear.measuring
+    opened (Some fs) = measures (length (bytes_of fs name))
 
     unless : (o : Option AttachSaid) → said_unless o f mode unit name files ≡ said_unless o None mode unit name files
     unless (Some refusal) = refl
@@ -84,12 +95,12 @@ files-same f mode unit name attached files clear = unless (refused_first (attach
     unless None = ap (λ (x : Option Failure). files_unless_opening x mode name files) clear.opening
 
 closing-if : (b : Bool) (f : Failure) → f.call ≡ Closing → IsNoFailure (if b then Some f else None)
-closing-if false f is = record { opening = refl; measuring = refl }
+closing-if false f is = record { opening = refl; measuring = refl; reading = refl }
 closing-if true f is =
-    subst (λ (c : FileCall). IsNoFailure (Some (record { call = c; done = f.done }))) (sym is) (record { opening = refl; measuring = refl })
+    subst (λ (c : FileCall). IsNoFailure (Some (record { call = c; done = f.done }))) (sym is) (record { opening = refl; measuring = refl; reading = refl })
 
 no-failure-behind : (live : Live) (time : ℕ) (s : Subject) (behind : List CommandNote) → ComeBehind live behind → IsNoFailure (failure_now time s behind)
-no-failure-behind live time s [] come = record { opening = refl; measuring = refl }
+no-failure-behind live time s [] come = record { opening = refl; measuring = refl; reading = refl }
 no-failure-behind live time s (n ∷ behind) come = closing-if ((n.time == time) && same_subject n.subject s) n.failure come.0.call
 
 -- ---- the reply, by what was said
@@ -98,7 +109,7 @@ abbrev said_reply : AttachSaid → AttachMode → UnitName → List ℕ → List
 said_reply said mode unit name files live = record {
   made = [];
   answer = attach_answer unit said;
-  after = standing (attach_used said) (record live { machine = attached_machine said mode unit name live.machine; files = files });
+  after = standing (attach_used said) (record live { machine = attached_machine said mode unit name (bytes_of files name) live.machine; files = files });
 }
 
 reply-is : (notes : List CommandNote) (live : Live) (option : ℕ) (unit : UnitName) (name : List ℕ) (said : AttachSaid) (files : List NamedBytes) → lacks_unit live.machine unit ≡ false
@@ -125,7 +136,7 @@ Leaves live mode unit name fault files =
     files ≡ attach_files (failure_now live.machine.time (subject.Unit unit) (own_of live.machine.time fault)) mode unit name (attached_in live.machine) live.files
 
 abbrev pub Becomes : Live → Live → AttachMode → UnitName → List ℕ → AttachSaid → Type 0
-Becomes live new mode unit name said = new ≡ record live { machine = attached_machine said mode unit name live.machine; files = new.files }
+Becomes live new mode unit name said = new ≡ record live { machine = attached_machine said mode unit name (bytes_of new.files name) live.machine; files = new.files }
 
 pub attach-did : (number : ℕ) (live new : Live) (option : ℕ) (unit : UnitName) (name : List ℕ) (r : Result ℕ AttachFault) (tells : Bool) (text : List ℕ) (notes notes' : List Note)
     → lacks_unit live.machine unit ≡ false → IfSome (said_of_attach r) (λ said. Says live (mode_of option) unit name (fault_of_attach r) said)
@@ -202,27 +213,29 @@ attach-done number stamp mode live new held option unit name r answer tells text
 
 -- ---- the machine that is left
 
-pub becomes-attached : (keys : List (ℕ × ℕ)) (files files' : List NamedBytes) (m m' : MachineState) (slots held : List (Option Held)) (mode : AttachMode) (unit : UnitName) (name : List ℕ) (count place : ℕ)
-    → held ≡ m.slots → attachments_of slots ≡ attached_by (Attached count) mode unit name (attachments_of held) → place ≡ first_place unit.kind count
-    → m' ≡ record (with_slots m slots) { units = with_register_in unit.kind position_number place m.units }
+pub becomes-attached : (keys : List (ℕ × ℕ)) (files files' : List NamedBytes) (m m' : MachineState) (a held : AttachedFiles) (mode : AttachMode) (unit : UnitName) (name : List ℕ) (count place : ℕ)
+    → held ≡ attached_files m → attachments_of a.slots ≡ attached_by (Attached count) mode unit name (attachments_of held.slots)
+    → a.disk ≡ buffer_by (Attached count) unit (bytes_of files' name) held.disk → place ≡ first_place unit.kind count
+    → m' ≡ record (with_attached_files m a) { units = with_register_in unit.kind position_number place m.units }
     → Becomes (seen keys files m) (seen keys files' m') mode unit name (Attached count)
-becomes-attached keys files files' m m' slots held mode unit name count place was are begins is =
+becomes-attached keys files files' m m' a held mode unit name count place was are copied begins is =
     let attached = attached_by (Attached count) mode unit name (attached_in (erased m)) in
-    let with_units = λ (x : MachineState) (p : ℕ). seen keys files' (record x { units = with_register_in unit.kind position_number p m.units }) in
+    let disk = buffer_by (Attached count) unit (bytes_of files' name) m.disk in
     ap (λ (x : MachineState). seen keys files' x) is
-    ∙ ap (λ (p : ℕ). seen keys files' (record (with_slots m slots) { units = with_register_in unit.kind position_number p m.units })) begins
+    ∙ ap (λ (p : ℕ). seen keys files' (record (with_attached_files m a) { units = with_register_in unit.kind position_number p m.units })) begins
     ∙ ap (λ (x : MachineState). record { machine = record x { units = with_register_in unit.kind position_number (first_place unit.kind count) m.units }; keys = keys; files = files' })
-    (erased-with m slots attached
-    (are ∙ ap (λ (l : List (Option Attachment)). attached_by (Attached count) mode unit name l) (ap attachments_of was ∙ sym (attached-erased m))))
+    (erased-with m a attached disk
+    (are ∙ ap (λ (l : List (Option Attachment)). attached_by (Attached count) mode unit name l) (ap (λ (x : AttachedFiles). attachments_of x.slots) was ∙ sym (attached-erased m)))
+    (copied ∙ ap (λ (x : AttachedFiles). buffer_by (Attached count) unit (bytes_of files' name) x.disk) was))
 
-pub becomes-refused : (keys : List (ℕ × ℕ)) (files files' : List NamedBytes) (m : MachineState) (slots held : List (Option Held)) (mode : AttachMode) (unit : UnitName) (name : List ℕ) (fault : AttachFault)
-    → held ≡ m.slots → slots ≡ held → IfSome (said_of_attach (Err fault)) (λ said. Becomes (seen keys files m) (seen keys files' (with_slots m slots)) mode unit name said)
-becomes-refused keys files files' m slots held mode unit name fault was stays = by-fault fault
+pub becomes-refused : (keys : List (ℕ × ℕ)) (files files' : List NamedBytes) (m : MachineState) (a held : AttachedFiles) (mode : AttachMode) (unit : UnitName) (name : List ℕ) (fault : AttachFault)
+    → held ≡ attached_files m → a ≡ held → IfSome (said_of_attach (Err fault)) (λ said. Becomes (seen keys files m) (seen keys files' (with_attached_files m a)) mode unit name said)
+becomes-refused keys files files' m a held mode unit name fault was stays = by-fault fault
   where
-    same : seen keys files' (with_slots m slots) ≡ seen keys files' m
-    same = ap (λ (l : List (Option Held)). seen keys files' (with_slots m l)) (stays ∙ was)
+    same : seen keys files' (with_attached_files m a) ≡ seen keys files' m
+    same = ap (λ (x : MachineState). seen keys files' x) (same-with m a held was stays)
 
-    by-fault : (fault : AttachFault) → IfSome (said_of_attach (Err fault)) (λ said. Becomes (seen keys files m) (seen keys files' (with_slots m slots)) mode unit name said)
+    by-fault : (fault : AttachFault) → IfSome (said_of_attach (Err fault)) (λ said. Becomes (seen keys files m) (seen keys files' (with_attached_files m a)) mode unit name said)
     by-fault attach.AlreadyAttached = same
     by-fault attach.ReadOnly = same
     by-fault attach.NoFile = same
@@ -251,7 +264,10 @@ stamped-note number time (Some f) = ((refl, refl), tt)
 no-closing : (unit : UnitName) (f : UnitFault) → IsAttachFault unit f → f.call ≡ Closing → ⊥
 no-closing unit f of_unit is = elim of_unit.call_is [
   | inl opening ↦ absurd (let both = sym is ∙ opening in cc)
-  | inr measuring ↦ absurd (let both = sym is ∙ measuring in cc)
+  | inr later ↦ elim later [
+    | inl measuring ↦ absurd (let both = sym is ∙ measuring in cc)
+    | inr reading ↦ absurd (let both = sym is ∙ reading.0 in cc)
+  ]
 ]
 
 attach-cause : (stamp : Stamp) (tells : Bool) (unit : UnitName) (r : Result ℕ AttachFault) (old new : FileState) → IfSome (fault_of_attach r) (IsAttachFault unit) → MissingCause tells r old new

@@ -3,7 +3,9 @@ use Rattle.std.proofs.Common.{◌≡◌, ℕ, ◌≤◌, ◌==◌, ◌&&◌, Boo
 use Rattle.std.proofs.Common.{refl, ap, sym, ◌∙◌, subst, if◌then◌else◌, append-nil, arith}
 use Rattle.std.proofs.lemmas.Bool.{eq-eqb}
 use Rattle.std.specs.List.{AllByRecursion}
-use Rattle.host_files.specs.declared.files.FileCall.TheVariants.{Closing}
+use Rattle.std.proofs.Math.Path.{subst₃}
+use Rattle.host_files.specs.declared.files.FileCall.{FileCall}
+use Rattle.host_files.specs.declared.files.FileCall.TheVariants.{Opening, Length, Read, Write, SetLength, Closing}
 use Rattle.host_files.specs.State.{FileState}
 use Rattle.unit_trait.specs.Kinds.{same_unit}
 use Rattle.fault_notes.specs.Counts.{AreCounted}
@@ -12,24 +14,26 @@ use Rattle.unit_trait.specs.declared.kind.UnitName.{UnitName}
 use Rattle.unit_files.specs.declared.faults.UnitFault.{UnitFault}
 use Rattle.unit_files.specs.declared.faults.DetachFault.{DetachFault}
 use Rattle.unit_files.specs.declared.faults.DetachFault.TheVariants as detach
-use Rattle.unit_files.specs.Attachments.{Attachment, Held, attachments_of, attachment_at}
-use Rattle.unit_files.specs.Acts.{Failure, DetachSaid, HadNone, Detached, same_call, detach_said, detached}
+use Rattle.unit_files.specs.Attachments.{Attachment, Held, attachments_of, attachment_at, is_disk}
+use Rattle.unit_files.specs.Buffer.{Buffer, AttachedFiles}
+use Rattle.unit_files.specs.Acts.{Failure, DetachSaid, HadNone, StillHeld, Detached, same_call, failure_at, detach_said, detach_said_of, closing_said, flush_failure, flush_files}
+use Rattle.unit_files.specs.Acts.{is_due_back, detached, detached_by, buffer_left}
 use Rattle.unit_files.specs.Answers.{failure_in, said_of_detach}
 use Rattle.fault_notes.specs.declared.note.Subject.TheVariants as subject
 use Rattle.fault_notes.specs.declared.note.FaultNote.{FaultNote}
 use Rattle.fault_notes.specs.Notes.{CommandNote, Note, numbered, failure_now, notes_said}
 use Rattle.file_commands.specs.declared.stamp.Stamp.{Stamp}
-use Rattle.file_commands.specs.Notes.{HoldsNothing, fault_of_detach, kept_of, own_of}
-use Rattle.nova_machine.specs.Machine.{MachineState, with_slots}
+use Rattle.file_commands.specs.Notes.{fault_of_detach, kept_of, own_of, own_note}
+use Rattle.nova_machine.specs.Machine.{MachineState, attached_files, with_attached_files}
 use Rattle.nova_machine.specs.Seen.{erased, seen, attached_in}
 use Rattle.scp_commands.specs.declared.next.Next.TheVariants.{Go}
-use Rattle.scp_commands.specs.declared.fault.CommandFault.TheVariants.{NotBuilt}
+use Rattle.scp_commands.specs.declared.fault.CommandFault.TheVariants.{NotBuilt, FileFailed}
 use Rattle.scp_commands.specs.Live.{Live, standing, with_machine}
 use Rattle.scp_commands.specs.Reply.{Answer, Reply, refused}
 use Rattle.scp_commands.specs.FaultText.{detach_fault}
-use Rattle.scp_commands.specs.FileEffects.{lacks_unit, detach_answer, detach_used, detached_machine, detach_with, detach_reply}
+use Rattle.scp_commands.specs.FileEffects.{lacks_unit, detach_answer, detach_used, detached_machine, flushed_files, detach_with, detach_reply}
 use Rattle.scp_commands.specs.Doing.{Does, Did, ComeBehind, IsSaid, IsStamped, FileCause, Keeps}
-use Rattle.scp_commands.proofs.SeenLemmas.{attached-erased, attached-with, seen-with}
+use Rattle.scp_commands.proofs.SeenLemmas.{attached-erased, attached-with, seen-with, same-with}
 use Rattle.scp_commands.proofs.CloseLemmas.{same-self, closing-call, detached-none}
 use Rattle.scp_commands.proofs.DidLemmas.{refused-did}
 use Rattle.scp_commands.proofs.BehindLemmas.{kept-said, none-behind, handed-own}
@@ -39,71 +43,109 @@ abbrev pub detach_result : Result (Option UnitFault) DetachFault → Answer
 detach_result (Ok fault) = Ok Go
 detach_result (Err fault) = Err (detach_fault fault)
 
--- what is left behind it
-pub detached-live : (keys : List (ℕ × ℕ)) (before after : List NamedBytes) (m : MachineState) (slots held : List (Option Held)) (unit : UnitName) (r : Result (Option UnitFault) DetachFault)
-    → held ≡ m.slots → attachments_of slots ≡ detached unit (attachments_of held) → OnErr r (slots ≡ held) → after ≡ before
-    → seen keys after (with_slots m slots) ≡ with_machine (seen keys before m) (detached_machine (said_of_detach r) unit (erased m))
-detached-live keys before after m slots held unit (Ok fault) was are refused same =
-    seen-with keys before after m slots (detached unit (attached_in (erased m)))
-    (are ∙ ap (λ (l : List (Option Attachment)). detached unit l) (ap attachments_of was ∙ sym (attached-erased m))) same
-detached-live keys before after m slots held unit (Err fault) was are refused same = by-fault fault refused
+-- ---- what is left behind it
+
+pub detached-live : (keys : List (ℕ × ℕ)) (after : List NamedBytes) (m : MachineState) (a held : AttachedFiles) (unit : UnitName) (r : Result (Option UnitFault) DetachFault)
+    → held ≡ attached_files m → attachments_of a.slots ≡ detached_by (said_of_detach r) unit (attachments_of held.slots) → a.disk ≡ buffer_left (said_of_detach r) unit held.disk
+    → OnErr r (a ≡ held) → seen keys after (with_attached_files m a) ≡ record { machine = detached_machine (said_of_detach r) unit (erased m); keys = keys; files = after }
+detached-live keys after m a held unit (Ok fault) was are holds refused =
+    let said = said_of_detach (Ok fault) in
+    seen-with keys after m a (detached unit (attached_in (erased m))) (buffer_left said unit m.disk)
+    (are ∙ ap (λ (l : List (Option Attachment)). detached unit l) (ap (λ (x : AttachedFiles). attachments_of x.slots) was ∙ sym (attached-erased m)))
+    (holds ∙ ap (λ (x : AttachedFiles). buffer_left said unit x.disk) was)
+detached-live keys after m a held unit (Err fault) was are holds refused = by-fault fault
   where
-    kept : slots ≡ held → seen keys after (with_slots m slots) ≡ seen keys before m
-    kept stays = ap (λ (l : List NamedBytes). seen keys l (with_slots m slots)) same ∙ ap (λ (l : List (Option Held)). seen keys before (with_slots m l)) (stays ∙ was)
+    kept : seen keys after (with_attached_files m a) ≡ seen keys after m
+    kept = ap (λ (x : MachineState). seen keys after x) (same-with m a held was refused)
 
-    by-fault : (fault : DetachFault) → slots ≡ held
-        → seen keys after (with_slots m slots) ≡ with_machine (seen keys before m) (detached_machine (said_of_detach (Err fault)) unit (erased m))
-    by-fault detach.NotAttached stays = kept stays
-    by-fault (detach.Failed f) stays = kept stays
+    by-fault : (fault : DetachFault)
+        → seen keys after (with_attached_files m a) ≡ record { machine = detached_machine (said_of_detach (Err fault)) unit (erased m); keys = keys; files = after }
+    by-fault detach.NotAttached = kept
+    by-fault (detach.Failed f) = kept
 
-had-none : (a : Option Attachment) (f : Option Failure) → HadNone ≡ (if is_some a then Detached f else HadNone) → a ≡ None
-had-none None f is = refl
-had-none (Some a) f is = absurd (cc)
+had-none : (fault : Option Failure) (unit : UnitName) (a : Option Attachment) (disk : Buffer) → HadNone ≡ detach_said_of fault unit a disk → a ≡ None
+had-none fault unit None disk is = refl
+had-none fault unit (Some a) disk is = by-failure (flush_failure fault unit disk) is
+  where
+    by-failure : (f : Option Failure) → HadNone ≡ closing_said f fault → Some a ≡ None
+    by-failure None is = absurd (cc)
+    by-failure (Some f) is = absurd (cc)
 
--- the reply, by what was said
-abbrev said_reply : DetachSaid → UnitName → Live → Reply
-said_reply said unit live = record { made = []; answer = detach_answer said; after = standing (detach_used said) (with_machine live (detached_machine said unit live.machine)) }
+-- ---- the reply, by what was said
 
-reply-is : (notes : List CommandNote) (live : Live) (unit : UnitName) (said : DetachSaid) → lacks_unit live.machine unit ≡ false
-    → said ≡ detach_said (failure_now live.machine.time (subject.Unit unit) notes) unit (attached_in live.machine)
-    → detach_reply notes live unit ≡ said_reply said unit live
+abbrev said_reply : DetachSaid → UnitName → List NamedBytes → Live → Reply
+said_reply said unit files live = record {
+  made = [];
+  answer = detach_answer unit said;
+  after = standing (detach_used said) (record live { machine = detached_machine said unit live.machine; files = files });
+}
+
+reply-is : (notes : List CommandNote) (live : Live) (unit : UnitName) (fault : Option Failure) (said : DetachSaid) (files : List NamedBytes) → lacks_unit live.machine unit ≡ false
+    → failure_now live.machine.time (subject.Unit unit) notes ≡ fault → said ≡ detach_said fault unit (attached_in live.machine) live.machine.disk → files ≡ flushed_files fault unit live
+    → detach_reply notes live unit ≡ said_reply said unit files live
 unfolding detach_reply
-reply-is notes live unit said has is =
+reply-is notes live unit fault said files has handed is left =
     ap (λ (b : Bool). if b then refused NotBuilt live else detach_with (failure_now live.machine.time (subject.Unit unit) notes) unit live) has
-    ∙ ap (λ (s : DetachSaid). said_reply s unit live) (sym is)
+    ∙ ap (λ (f : Option Failure). detach_with f unit live) handed
+    ∙ (λ i. said_reply (sym is i) unit (sym left i) live)
+
+-- what its call says, with the failure that it was handed
+abbrev Says : Live → UnitName → Result (Option UnitFault) DetachFault → Type 0
+Says live unit r =
+    said_of_detach r ≡ detach_said (failure_now live.machine.time (subject.Unit unit) (own_of live.machine.time (fault_of_detach r))) unit (attached_in live.machine) live.machine.disk
+
+abbrev Leaves : Live → UnitName → Result (Option UnitFault) DetachFault → List NamedBytes → Type 0
+Leaves live unit r files = files ≡ flushed_files (failure_now live.machine.time (subject.Unit unit) (own_of live.machine.time (fault_of_detach r))) unit live
+
+abbrev Becomes : Live → Live → UnitName → Result (Option UnitFault) DetachFault → Type 0
+Becomes live new unit r = new ≡ record live { machine = detached_machine (said_of_detach r) unit live.machine; files = new.files }
 
 pub detach-did : (number : ℕ) (live new : Live) (unit : UnitName) (r : Result (Option UnitFault) DetachFault) (tells : Bool) (text : List ℕ) (notes notes' : List Note)
-    → lacks_unit live.machine unit ≡ false
-    → said_of_detach r ≡ detach_said (failure_now live.machine.time (subject.Unit unit) (own_of live.machine.time (fault_of_detach r))) unit (attached_in live.machine)
-    → new ≡ with_machine live (detached_machine (said_of_detach r) unit live.machine) → HoldsNothing r
+    → lacks_unit live.machine unit ≡ false → Says live unit r → Leaves live unit r new.files → Becomes live new unit r → IfSome (fault_of_detach r) (λ (f : UnitFault). f.unit ≡ unit)
     → notes' ≡ notes ++ numbered number (own_of live.machine.time (fault_of_detach r))
     → Did (λ (own : List CommandNote). detach_reply own live unit) number (detach_result r) new tells text text notes notes'
-detach-did number live new unit r tells text notes notes' has said after nothing noted = record {
+detach-did number live new unit r tells text notes notes' has said left after of_unit noted = record {
   own = own_of live.machine.time (fault_of_detach r);
   kept = noted;
-  does = λ behind come.
-      let time = live.machine.time in
-      let none = none-behind new unit time behind (ap (λ (l : Live). attachment_at (attached_in l.machine) unit) after ∙ emptied r said) come in
-      let handed = handed-own time unit (fault_of_detach r) behind none in
-      let is = reply-is (own_of time (fault_of_detach r) ++ behind) live unit (said_of_detach r) has
-      (said ∙ ap (λ (f : Option Failure). detach_said f unit (attached_in live.machine)) (sym handed)) in
-      subst (λ (x : Reply). Does x (detach_result r) (standing (length (own_of time (fault_of_detach r))) new) tells text text) (sym is) (by-answer r nothing after);
+  does = λ behind come. by-answer r said left after of_unit behind come;
 }
   where
-    emptied : (r : Result (Option UnitFault) DetachFault)
-        → said_of_detach r ≡ detach_said (failure_now live.machine.time (subject.Unit unit) (own_of live.machine.time (fault_of_detach r))) unit (attached_in live.machine)
-        → attachment_at (attached_in (detached_machine (said_of_detach r) unit live.machine)) unit ≡ None
-    emptied (Ok fault) said =
-        ap (λ (l : List (Option Attachment)). attachment_at l unit) (attached-with live.machine (detached unit (attached_in live.machine))) ∙ detached-none unit (attached_in live.machine)
-    emptied (Err detach.NotAttached) said = had-none (attachment_at (attached_in live.machine) unit) _ said
-    emptied (Err (detach.Failed f)) said = had-none (attachment_at (attached_in live.machine) unit) _ said
+    time : ℕ
+    time = live.machine.time
 
-    by-answer : (r : Result (Option UnitFault) DetachFault) → HoldsNothing r → new ≡ with_machine live (detached_machine (said_of_detach r) unit live.machine)
-        → Does (said_reply (said_of_detach r) unit live) (detach_result r) (standing (length (own_of live.machine.time (fault_of_detach r))) new) tells text text
-    by-answer (Ok None) nothing after = (refl, record { after_is = ap (standing 0) after; written = λ _. sym (append-nil text) })
-    by-answer (Ok (Some f)) nothing after = (refl, record { after_is = ap (standing 1) after; written = λ _. sym (append-nil text) })
-    by-answer (Err detach.NotAttached) nothing after = (refl, record { after_is = ap (standing 0) after; written = λ _. sym (append-nil text) })
-    by-answer (Err (detach.Failed f)) nothing after = absurd nothing
+    -- the notes behind are none of a unit that has no file then
+    does-handed : (r : Result (Option UnitFault) DetachFault) (behind : List CommandNote) (answer : Answer)
+        → failure_now time (subject.Unit unit) (own_of time (fault_of_detach r) ++ behind) ≡ failure_now time (subject.Unit unit) (own_of time (fault_of_detach r))
+        → Says live unit r → Leaves live unit r new.files → Does (said_reply (said_of_detach r) unit new.files live) answer (standing (length (own_of time (fault_of_detach r))) new) tells text text
+        → Does (detach_reply (own_of time (fault_of_detach r) ++ behind) live unit) answer (standing (length (own_of time (fault_of_detach r))) new) tells text text
+    does-handed r behind answer handed said left does =
+        subst (λ (x : Reply). Does x answer (standing (length (own_of time (fault_of_detach r))) new) tells text text)
+        (sym (reply-is (own_of time (fault_of_detach r) ++ behind) live unit _ (said_of_detach r) new.files has handed said left)) does
+
+    quiet : (r : Result (Option UnitFault) DetachFault) (behind : List CommandNote) → attachment_at (attached_in (detached_machine (said_of_detach r) unit live.machine)) unit ≡ None
+        → Becomes live new unit r → ComeBehind new behind
+        → failure_now time (subject.Unit unit) (own_of time (fault_of_detach r) ++ behind) ≡ failure_now time (subject.Unit unit) (own_of time (fault_of_detach r))
+    quiet r behind emptied after come =
+        handed-own time unit (fault_of_detach r) behind
+        (none-behind new unit time behind (ap (λ (l : Live). attachment_at (attached_in l.machine) unit) after ∙ emptied) come)
+
+    emptied : (fault : Option UnitFault) → attachment_at (attached_in (detached_machine (said_of_detach (Ok fault)) unit live.machine)) unit ≡ None
+    emptied fault =
+        ap (λ (l : List (Option Attachment)). attachment_at l unit) (attached-with live.machine (detached unit (attached_in live.machine))) ∙ detached-none unit (attached_in live.machine)
+
+    by-answer : (r : Result (Option UnitFault) DetachFault) → Says live unit r → Leaves live unit r new.files → Becomes live new unit r → IfSome (fault_of_detach r) (λ (f : UnitFault). f.unit ≡ unit)
+        → (behind : List CommandNote) → ComeBehind new behind
+        → Does (detach_reply (own_of time (fault_of_detach r) ++ behind) live unit) (detach_result r) (standing (length (own_of time (fault_of_detach r))) new) tells text text
+    by-answer (Ok None) said left after of_unit behind come =
+        does-handed (Ok None) behind (Ok Go) (quiet (Ok None) behind (emptied None) after come) said left (refl, record { after_is = ap (standing 0) after; written = λ _. sym (append-nil text) })
+    by-answer (Ok (Some f)) said left after of_unit behind come =
+        does-handed (Ok (Some f)) behind (Ok Go) (quiet (Ok (Some f)) behind (emptied (Some f)) after come) said left (refl, record { after_is = ap (standing 1) after; written = λ _. sym (append-nil text) })
+    by-answer (Err detach.NotAttached) said left after of_unit behind come =
+        does-handed (Err detach.NotAttached) behind (detach_result (Err detach.NotAttached)) (quiet (Err detach.NotAttached) behind (had-none (failure_now time (subject.Unit unit) (own_of time None)) unit (attachment_at (attached_in live.machine) unit) live.machine.disk said) after come) said left
+        (refl, record { after_is = ap (standing 0) after; written = λ _. sym (append-nil text) })
+    by-answer (Err (detach.Failed f)) said left after of_unit behind come =
+        does-handed (Err (detach.Failed f)) behind (detach_result (Err (detach.Failed f))) refl said left
+        (ap (λ (u : UnitName). Err (FileFailed (subject.Unit u))) of_unit, record { after_is = ap (standing 1) after; written = λ _. sym (append-nil text) })
 
 -- there is no such unit
 pub detach-not-built : (number : ℕ) (live : Live) (unit : UnitName) (tells : Bool) (text : List ℕ) (notes : List Note) → lacks_unit live.machine unit ≡ true
@@ -113,23 +155,25 @@ detach-not-built number live unit tells text notes lacks =
     refused-did (λ (own : List CommandNote). detach_reply own live unit) NotBuilt number live tells text notes tt
     (λ own. ap (λ (b : Bool). if b then refused NotBuilt live else detach_with (failure_now live.machine.time (subject.Unit unit) own) unit live) lacks)
 
+-- what its calls say
+pub record Calls (stamp : Stamp) (held : List (Option Attachment)) (disk : Buffer) (live new : Live) (unit : UnitName) (r : Result (Option UnitFault) DetachFault) (before after : List FaultNote) : Type 0 where
+  pub said : said_of_detach r ≡ detach_said (failure_now stamp.time (subject.Unit unit) (own_of stamp.time (fault_of_detach r))) unit held disk
+  pub left : new.files ≡ flush_files (failure_now stamp.time (subject.Unit unit) (own_of stamp.time (fault_of_detach r))) unit (attachment_at held unit) disk live.files
+  pub noted : after ≡ before ++ kept_of stamp (fault_of_detach r)
+
 -- the same as its call says it
-pub detach-done : (number : ℕ) (stamp : Stamp) (live new : Live) (held : List (Option Attachment)) (unit : UnitName) (r : Result (Option UnitFault) DetachFault) (answer : Answer)
-    (tells : Bool) (text : List ℕ) (before after : List FaultNote) → stamp ≡ record { command = number; time = live.machine.time } → held ≡ attached_in live.machine
-    → answer ≡ detach_result r → lacks_unit live.machine unit ≡ false
-    → said_of_detach r ≡ detach_said (failure_now stamp.time (subject.Unit unit) (own_of stamp.time (fault_of_detach r))) unit held
-    → new ≡ with_machine live (detached_machine (said_of_detach r) unit live.machine) → HoldsNothing r → after ≡ before ++ kept_of stamp (fault_of_detach r)
+pub detach-done : (number : ℕ) (stamp : Stamp) (live new : Live) (held : List (Option Attachment)) (disk : Buffer) (unit : UnitName) (r : Result (Option UnitFault) DetachFault) (answer : Answer)
+    (tells : Bool) (text : List ℕ) (before after : List FaultNote) → stamp ≡ record { command = number; time = live.machine.time } → held ≡ attached_in live.machine → disk ≡ live.machine.disk
+    → answer ≡ detach_result r → lacks_unit live.machine unit ≡ false → Calls stamp held disk live new unit r before after
+    → new ≡ record live { machine = detached_machine (said_of_detach r) unit live.machine; files = new.files } → IfSome (fault_of_detach r) (λ (f : UnitFault). f.unit ≡ unit)
     → Did (λ (own : List CommandNote). detach_reply own live unit) number answer new tells text text (notes_said before) (notes_said after)
-detach-done number stamp live new held unit r answer tells text before after is are answered has said left nothing noted =
-    subst (λ (s : Stamp). said_of_detach r ≡ detach_said (failure_now s.time (subject.Unit unit) (own_of s.time (fault_of_detach r))) unit held → after ≡ before ++ kept_of s (fault_of_detach r)
-    → Did (λ (own : List CommandNote). detach_reply own live unit) number answer new tells text text (notes_said before) (notes_said after))
-    (sym is)
-    (λ said noted.
+detach-done number stamp live new held disk unit r answer tells text before after stamped are holds answered has calls becomes of_unit =
+    let own : Stamp = record { command = number; time = live.machine.time } in
+    let here : Calls own (attached_in live.machine) live.machine.disk live new unit r before after =
+    subst₃ (λ (s : Stamp) (l : List (Option Attachment)) (d : Buffer). Calls s l d live new unit r before after) stamped are holds calls in
     subst (λ (a : Answer). Did (λ (own : List CommandNote). detach_reply own live unit) number a new tells text text (notes_said before) (notes_said after)) (sym answered)
-    (detach-did number live new unit r tells text (notes_said before) (notes_said after) has
-    (said ∙ ap (λ (l : List (Option Attachment)). detach_said (failure_now live.machine.time (subject.Unit unit) (own_of live.machine.time (fault_of_detach r))) unit l) are)
-    left nothing (kept-said (record { command = number; time = live.machine.time }) (fault_of_detach r) before after noted)))
-    said noted
+    (detach-did number live new unit r tells text (notes_said before) (notes_said after) has here.said here.left becomes of_unit
+    (kept-said own (fault_of_detach r) before after here.noted))
 
 -- ---- the notes that are kept
 
@@ -141,36 +185,63 @@ stamped-note : (number time : ℕ) (fault : Option UnitFault) → AllByRecursion
 stamped-note number time None = tt
 stamped-note number time (Some f) = ((refl, refl), tt)
 
--- the call that failed was the closing
-failed-closing : (there same : Bool) (f g : Failure) → Detached (Some g) ≡ (if there then Detached (if same then Some f else None) else HadNone) → same ≡ true
-failed-closing true true f g is = refl
-failed-closing true false f g is = absurd (cc)
-failed-closing false same f g is = absurd (cc)
-
 -- the first of the command's notes is that call
 handed-first : (time : ℕ) (unit : UnitName) (f : UnitFault) → f.unit ≡ unit → failure_now time (subject.Unit unit) (own_of time (Some f)) ≡ Some (failure_in f)
 handed-first time unit f is =
     ap (λ (b : Bool). if b then Some (failure_in f) else None)
     ((λ i. eq-eqb time time refl i && same_unit f.unit (sym is i)) ∙ same-self f.unit)
 
-detach-cause : (stamp : Stamp) (tells : Bool) (unit : UnitName) (attached : List (Option Attachment)) (r : Result (Option UnitFault) DetachFault) (old new : FileState)
-    → said_of_detach r ≡ detach_said (failure_now stamp.time (subject.Unit unit) (own_of stamp.time (fault_of_detach r))) unit attached
-    → IfSome (fault_of_detach r) (λ (f : UnitFault). f.unit ≡ unit) → HoldsNothing r → FileCause stamp tells (detach_result r) (kept_of stamp (fault_of_detach r)) old new
-detach-cause stamp tells unit attached (Ok None) old new said of_unit nothing = tt
-detach-cause stamp tells unit attached (Ok (Some f)) old new said of_unit nothing =
-    let handed = said ∙ ap (λ (o : Option Failure). detach_said o unit attached) (handed-first stamp.time unit f of_unit) in
-    (closing-call f.call (failed-closing (is_some (attachment_at attached unit)) (same_call f.call Closing) (failure_in f) (failure_in f) handed), tt)
-detach-cause stamp tells unit attached (Err detach.NotAttached) old new said of_unit nothing = refl
-detach-cause stamp tells unit attached (Err (detach.Failed f)) old new said of_unit nothing = absurd nothing
+-- the call that failed was the closing, and where the unit still has its file it was the write
+module _ (unit : UnitName) (disk : Buffer) (f g : Failure) where
+  failed-closing : (a : Option Attachment) → Detached (Some g) ≡ detach_said_of (Some f) unit a disk → same_call f.call Closing ≡ true
+  failed-closing None is = absurd (cc)
+  failed-closing (Some a) is = by-flush (flush_failure (Some f) unit disk) is
+    where
+      by-call : (b : Bool) → Detached (Some g) ≡ Detached (if b then Some f else None) → b ≡ true
+      by-call true is = refl
+      by-call false is = absurd (cc)
 
-pub detach-keeps : (number time : ℕ) (stamp : Stamp) (tells : Bool) (unit : UnitName) (attached : List (Option Attachment)) (r : Result (Option UnitFault) DetachFault) (answer : Answer)
+      by-flush : (o : Option Failure) → Detached (Some g) ≡ closing_said o (Some f) → same_call f.call Closing ≡ true
+      by-flush None is = by-call (same_call f.call Closing) is
+      by-flush (Some h) is = absurd (cc)
+
+  failed-write : (a : Option Attachment) → StillHeld g ≡ detach_said_of (Some f) unit a disk → same_call f.call Write ≡ true
+  failed-write None is = absurd (cc)
+  failed-write (Some a) is = by-due (is_due_back unit disk) (same_call f.call Write) is
+    where
+      by-due : (due same : Bool) → StillHeld g ≡ closing_said (if due then (if same then Some f else None) else None) (Some f) → same ≡ true
+      by-due true true is = refl
+      by-due true false is = absurd (cc)
+      by-due false same is = absurd (cc)
+
+not-closing : (c : FileCall) → same_call c Write ≡ true → c ≡ Closing → ⊥
+not-closing Opening is closing = absurd (cc)
+not-closing Length is closing = absurd (cc)
+not-closing Read is closing = absurd (cc)
+not-closing Write is closing = absurd (cc)
+not-closing SetLength is closing = absurd (cc)
+not-closing Closing is closing = absurd (cc)
+
+detach-cause : (stamp : Stamp) (tells : Bool) (unit : UnitName) (attached : List (Option Attachment)) (disk : Buffer) (r : Result (Option UnitFault) DetachFault) (old new : FileState)
+    → said_of_detach r ≡ detach_said (failure_now stamp.time (subject.Unit unit) (own_of stamp.time (fault_of_detach r))) unit attached disk
+    → IfSome (fault_of_detach r) (λ (f : UnitFault). f.unit ≡ unit) → FileCause stamp tells (detach_result r) (kept_of stamp (fault_of_detach r)) old new
+detach-cause stamp tells unit attached disk (Ok None) old new said of_unit = tt
+detach-cause stamp tells unit attached disk (Ok (Some f)) old new said of_unit =
+    let handed = said ∙ ap (λ (o : Option Failure). detach_said o unit attached disk) (handed-first stamp.time unit f of_unit) in
+    (closing-call f.call (failed-closing unit disk (failure_in f) (failure_in f) (attachment_at attached unit) handed), tt)
+detach-cause stamp tells unit attached disk (Err detach.NotAttached) old new said of_unit = refl
+detach-cause stamp tells unit attached disk (Err (detach.Failed f)) old new said of_unit =
+    let handed = said ∙ ap (λ (o : Option Failure). detach_said o unit attached disk) (handed-first stamp.time unit f of_unit) in
+    ((refl, not-closing f.call (failed-write unit disk (failure_in f) (failure_in f) (attachment_at attached unit) handed)), tt)
+
+pub detach-keeps : (number time : ℕ) (stamp : Stamp) (tells : Bool) (unit : UnitName) (attached : List (Option Attachment)) (disk : Buffer) (r : Result (Option UnitFault) DetachFault) (answer : Answer)
     (notes notes' : List FaultNote) (old new : FileState) → stamp ≡ record { command = number; time = time } → answer ≡ detach_result r → notes' ≡ notes ++ kept_of stamp (fault_of_detach r)
     → AreCounted (kept_of stamp (fault_of_detach r)) old new
-    → said_of_detach r ≡ detach_said (failure_now stamp.time (subject.Unit unit) (own_of stamp.time (fault_of_detach r))) unit attached
-    → IfSome (fault_of_detach r) (λ (f : UnitFault). f.unit ≡ unit) → HoldsNothing r → Keeps number time tells answer notes notes' old new
-detach-keeps number time stamp tells unit attached r answer notes notes' old new stamped answered added counted said of_unit nothing =
+    → said_of_detach r ≡ detach_said (failure_now stamp.time (subject.Unit unit) (own_of stamp.time (fault_of_detach r))) unit attached disk
+    → IfSome (fault_of_detach r) (λ (f : UnitFault). f.unit ≡ unit) → Keeps number time tells answer notes notes' old new
+detach-keeps number time stamp tells unit attached disk r answer notes notes' old new stamped answered added counted said of_unit =
     let own : Stamp = record { command = number; time = time } in
-    let cause = detach-cause stamp tells unit attached r old new said of_unit nothing in
+    let cause = detach-cause stamp tells unit attached disk r old new said of_unit in
     record {
       kept = kept_of own (fault_of_detach r);
       added = added ∙ ap (λ (s : Stamp). notes ++ kept_of s (fault_of_detach r)) stamped;

@@ -6,8 +6,12 @@ use Rattle.observations.specs.Observations.{Prints, reads_of, map_made}
 use Rattle.observations.proofs.MadeLemmas.{reads_of-append, reads_of-map}
 use Rattle.unit_trait.specs.declared.kind.UnitName.{UnitName}
 use Rattle.unit_files.specs.declared.modes.AttachMode.{AttachMode}
-use Rattle.unit_files.specs.Acts.{Failure, AttachSaid, Attached, UnitHasFile, OnlyWrites, NotThere, TooLong, CallFailed, DetachSaid, HadNone, Detached}
-use Rattle.unit_files.specs.Acts.{attach_said, detach_said}
+use Rattle.unit_files.specs.Attachments.{Attachment, attachment_at}
+use Rattle.unit_files.specs.Buffer.{Buffer}
+use Rattle.unit_files.specs.Acts.{AttachSaid, Attached, UnitHasFile, OnlyWrites, NotThere, TooLong, CallFailed}
+use Rattle.host_files.specs.Lists.{NamedBytes, bytes_of, changed}
+use Rattle.unit_files.specs.Acts.{Failure, DetachSaid, HadNone, StillHeld, Detached, attach_said, attach_files, detach_said, detach_said_of}
+use Rattle.unit_files.specs.Acts.{closing_said, flush_failure, flush_files, is_due_back, written_back}
 use Rattle.fault_notes.specs.declared.note.Subject.TheVariants as subject
 use Rattle.whole_files.specs.Whole.{WholeSaid, WholeIs, whole_act}
 use Rattle.whole_files.specs.Whole as whole
@@ -27,14 +31,14 @@ use Rattle.scp_examine.specs.declared.fault.ExamineFault.{ExamineFault}
 use Rattle.scp_examine.specs.Effect.{examine_fault, fault_of_deposit, tested}
 use Rattle.scp_commands.specs.declared.next.Next.TheVariants.{Go, Ran, Do, Goto, Exit}
 use Rattle.scp_commands.specs.declared.fault.CommandFault.{CommandFault}
-use Rattle.scp_commands.specs.declared.fault.CommandFault.TheVariants.{OutOfRange, NotBuilt}
+use Rattle.scp_commands.specs.declared.fault.CommandFault.TheVariants.{OutOfRange, NotBuilt, FileFailed}
 use Rattle.scp_commands.specs.Live.{Live, Standing, standing, with_machine}
 use Rattle.scp_commands.specs.Reply.{Answer, Reply, goes, says, refused}
 use Rattle.scp_commands.specs.Doing.{Does, IsExitAnswer}
 use Rattle.scp_commands.specs.RunEffects.{stop_line, run_answer, used_by, run_failure, ran, address_fits, started, run_from, stepped, step_of, reset_reply}
 use Rattle.scp_commands.specs.ListEffects.{lacks_device, examine_after, examine_reply, handed, deposit_after, deposit_reply}
 use Rattle.scp_commands.specs.FileEffects.{lacks_unit, mode_of, attach_answer, attached_machine, attach_with, attach_reply}
-use Rattle.scp_commands.specs.FileEffects.{detach_answer, detach_used, detached_machine, detach_with, detach_reply, detach_all_reply, detach_one_or_all, all_closings, detached_all}
+use Rattle.scp_commands.specs.FileEffects.{detach_answer, detach_used, detached_machine, flushed_files, detach_with, detach_reply, detach_all_reply, detach_one_or_all, all_closings, detached_all}
 use Rattle.scp_commands.specs.ShowEffects.{show_reply}
 use Rattle.scp_commands.specs.ExitEffects.{exit_reply}
 use Rattle.scp_commands.specs.SetEffects.{set_size_reply}
@@ -149,7 +153,7 @@ fair-attach_with fault mode unit name option live = record {
     answer-exit TooLong = tt
     answer-exit (CallFailed f) = tt
 
-    machine-kept : (said : AttachSaid) (other : CommandFault) → attach_answer unit said ≡ Err other → attached_machine said mode unit name live.machine ≡ live.machine
+    machine-kept : (said : AttachSaid) (other : CommandFault) → attach_answer unit said ≡ Err other → attached_machine said mode unit name (bytes_of (attach_files fault mode unit name (attached_in live.machine) live.files) name) live.machine ≡ live.machine
     machine-kept (Attached count) other h = absurd (cc)
     machine-kept UnitHasFile other h = refl
     machine-kept OnlyWrites other h = refl
@@ -164,29 +168,52 @@ fair-attach notes live option unit name =
     fair-if (lacks_unit live.machine unit) live _ _ (fair-refused _ live)
     (fair-attach_with (failure_now live.machine.time (subject.Unit unit) notes) (mode_of option) unit name option live)
 
-fair-detach_with : {W : CommandFault → Type 0} (fault : Option Failure) (unit : UnitName) (live : Live) → Fair W live (detach_with fault unit live)
-fair-detach_with {W} fault unit live = by-said (detach_said fault unit (attached_in live.machine))
+-- a unit without a file has nothing that is written back
+none-flushed : (fault : Option Failure) (unit : UnitName) (a : Option Attachment) (disk : Buffer) (files : List NamedBytes)
+    → HadNone ≡ detach_said_of fault unit a disk → flush_files fault unit a disk files ≡ files
+unfolding flush_files
+none-flushed fault unit None disk files is = refl
+none-flushed fault unit (Some a) disk files is = by-failure (flush_failure fault unit disk) is
   where
-    by-said : (said : DetachSaid)
-        → Fair W live (record { made = []; answer = detach_answer said; after = standing (detach_used said) (with_machine live (detached_machine said unit live.machine)) })
-    by-said HadNone = record {
+    by-failure : (f : Option Failure) → HadNone ≡ closing_said f fault → (if is_due_back unit disk then changed files a.name (written_back fault disk.bytes) else files) ≡ files
+    by-failure None is = absurd (cc)
+    by-failure (Some f) is = absurd (cc)
+
+fair-detach_with : (where_ : Option UnitName) (fault : Option Failure) (unit : UnitName) (live : Live) → Fair (LeavesTraces (request.Detach where_)) live (detach_with fault unit live)
+fair-detach_with where_ fault unit live = by-said (detach_said fault unit (attached_in live.machine) live.machine.disk) refl
+  where
+    by-said : (said : DetachSaid) → said ≡ detach_said fault unit (attached_in live.machine) live.machine.disk
+        → Fair (LeavesTraces (request.Detach where_)) live (record {
+          made = [];
+          answer = detach_answer unit said;
+          after = standing (detach_used said) (record live { machine = detached_machine said unit live.machine; files = flushed_files fault unit live });
+        })
+    by-said HadNone is = record {
       reads = refl;
       exit = tt;
       untouched = λ other h. record { machine = refl; keys = refl; text = refl };
-      files = λ other h none. refl;
+      files = λ other h none. none-flushed fault unit (attachment_at (attached_in live.machine) unit) live.machine.disk live.files is;
     }
-    by-said (Detached f) = record { reads = refl; exit = tt; untouched = λ other h. absurd (cc); files = λ other h none. absurd (cc) }
+    by-said (StillHeld f) is = record {
+      reads = refl;
+      exit = tt;
+      untouched = λ other h. record { machine = refl; keys = refl; text = refl };
+      files = λ other h none.
+          let same : FileFailed (subject.Unit unit) ≡ other = cc in
+          absurd (none (subst (λ (x : CommandFault). LeavesTraces (request.Detach where_) x) same tt));
+    }
+    by-said (Detached f) is = record { reads = refl; exit = tt; untouched = λ other h. absurd (cc); files = λ other h none. absurd (cc) }
 
-fair-detach : {W : CommandFault → Type 0} (notes : List CommandNote) (live : Live) (unit : UnitName) → Fair W live (detach_reply notes live unit)
+fair-detach : (notes : List CommandNote) (live : Live) (unit : UnitName) → Fair (LeavesTraces (request.Detach (Some unit))) live (detach_reply notes live unit)
 unfolding detach_reply
 fair-detach notes live unit =
-    fair-if (lacks_unit live.machine unit) live _ _ (fair-refused _ live) (fair-detach_with (failure_now live.machine.time (subject.Unit unit) notes) unit live)
+    fair-if (lacks_unit live.machine unit) live _ _ (fair-refused _ live) (fair-detach_with (Some unit) (failure_now live.machine.time (subject.Unit unit) notes) unit live)
 
 fair-detach_all : {W : CommandFault → Type 0} (notes : List CommandNote) (live : Live) → Fair W live (detach_all_reply notes live)
 unfolding detach_all_reply
 fair-detach_all notes live = record { reads = refl; exit = tt; untouched = λ other h. absurd (cc); files = λ other h none. absurd (cc) }
 
-fair-detach_where : {W : CommandFault → Type 0} (notes : List CommandNote) (live : Live) (unit : Option UnitName) → Fair W live (detach_one_or_all notes live unit)
+fair-detach_where : (notes : List CommandNote) (live : Live) (unit : Option UnitName) → Fair (LeavesTraces (request.Detach unit)) live (detach_one_or_all notes live unit)
 fair-detach_where notes live None = fair-detach_all notes live
 fair-detach_where notes live (Some unit) = fair-detach notes live unit
 

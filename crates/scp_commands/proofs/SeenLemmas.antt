@@ -2,7 +2,8 @@
 use Rattle.std.proofs.Common.{◌≡◌, ℕ, List, [], ◌∷◌, map, Option, Some, None, refl, ap, sym, ◌∙◌}
 use Rattle.host_files.specs.Lists.{NamedBytes}
 use Rattle.unit_files.specs.Attachments.{Attachment, Held, attachments_of}
-use Rattle.nova_machine.specs.Machine.{MachineState, with_slots}
+use Rattle.unit_files.specs.Buffer.{Buffer, AttachedFiles}
+use Rattle.nova_machine.specs.Machine.{MachineState, attached_files, with_attached_files}
 use Rattle.nova_machine.specs.Seen.{unnumbered, erased, seen, attached_in}
 use Rattle.scp_commands.specs.Live.{Live, numberless, with_attached, with_machine}
 
@@ -29,12 +30,18 @@ pub attached-with : (m : MachineState) (attached : List (Option Attachment)) →
 attached-with m attached = attached-numberless attached
 
 -- a machine with other files, erased
-pub erased-with : (m : MachineState) (slots : List (Option Held)) (attached : List (Option Attachment)) → attachments_of slots ≡ attached
-    → erased (with_slots m slots) ≡ with_attached (erased m) attached
-erased-with m slots attached are = ap (λ (l : List (Option Held)). record m { slots = l }) (unnumbered-is slots ∙ ap numberless are)
+pub erased-with : (m : MachineState) (a : AttachedFiles) (attached : List (Option Attachment)) (disk : Buffer) → attachments_of a.slots ≡ attached → a.disk ≡ disk
+    → erased (with_attached_files m a) ≡ record (with_attached (erased m) attached) { disk = disk }
+erased-with m a attached disk are holds =
+    let slots = unnumbered-is a.slots ∙ ap numberless are in
+    λ i. record m { slots = slots i; disk = holds i }
 
-pub seen-with : (keys : List (ℕ × ℕ)) (before after : List NamedBytes) (m : MachineState) (slots : List (Option Held)) (attached : List (Option Attachment))
-    → attachments_of slots ≡ attached → after ≡ before → seen keys after (with_slots m slots) ≡ with_machine (seen keys before m) (with_attached (erased m) attached)
-seen-with keys before after m slots attached are same =
-    ap (λ (l : List NamedBytes). seen keys l (with_slots m slots)) same
-    ∙ ap (λ (x : MachineState). record { machine = x; keys = keys; files = before }) (erased-with m slots attached are)
+pub seen-with : (keys : List (ℕ × ℕ)) (after : List NamedBytes) (m : MachineState) (a : AttachedFiles) (attached : List (Option Attachment)) (disk : Buffer)
+    → attachments_of a.slots ≡ attached → a.disk ≡ disk
+    → seen keys after (with_attached_files m a) ≡ record { machine = record (with_attached (erased m) attached) { disk = disk }; keys = keys; files = after }
+seen-with keys after m a attached disk are holds =
+    ap (λ (x : MachineState). record { machine = x; keys = keys; files = after }) (erased-with m a attached disk are holds)
+
+-- what is attached to a machine is given back to it
+pub same-with : (m : MachineState) (a held : AttachedFiles) → held ≡ attached_files m → a ≡ held → with_attached_files m a ≡ m
+same-with m a held was stays = ap (λ (x : AttachedFiles). with_attached_files m x) (stays ∙ was)

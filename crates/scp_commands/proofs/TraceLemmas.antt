@@ -1,15 +1,15 @@
 -- ATTACH changes files only where it is done, or where a call on the file fails.
-use Rattle.std.proofs.Common.{◌≡◌, ℕ, Bool, true, false, List, [], ◌∷◌, length, is_some, nat_lt, unwrap_or, Option, Some, None, Err, refl, ap, subst, ◌∙◌, if◌then◌else◌, arith}
+use Rattle.std.proofs.Common.{◌≡◌, ◌&&◌, ℕ, Bool, true, false, List, [], ◌∷◌, length, is_some, nat_lt, unwrap_or, Option, Some, None, Err, refl, ap, subst, ◌∙◌, if◌then◌else◌, arith}
 use Rattle.std.proofs.lemmas.Bool.Decides.{nat_tests}
 use Rattle.std.specs.Prelude.{bytes_eq}
-use Rattle.host_files.specs.declared.files.FileCall.TheVariants.{Opening, Length}
+use Rattle.host_files.specs.declared.files.FileCall.TheVariants.{Opening, Length, Read}
 use Rattle.host_files.specs.Lists.{NamedBytes, find_file, bytes_of, with_file}
 use Rattle.unit_trait.specs.declared.kind.UnitName.{UnitName}
 use Rattle.unit_files.specs.declared.modes.AttachMode.{AttachMode}
 use Rattle.unit_files.specs.declared.modes.AttachMode.TheVariants.{Any, MustExist, New, ReadOnly}
-use Rattle.unit_files.specs.Attachments.{Attachment, attachment_at, longest_file}
+use Rattle.unit_files.specs.Attachments.{Attachment, attachment_at, is_disk, longest_file}
 use Rattle.unit_files.specs.Acts.{Failure, AttachSaid, Attached, UnitHasFile, OnlyWrites, NotThere, TooLong, CallFailed, failure_at, refused_first, opened_files}
-use Rattle.unit_files.specs.Acts.{measured, opened_said, opening_said, said_unless, attach_said, files_where, files_unless_opening, files_unless, attach_files}
+use Rattle.unit_files.specs.Acts.{measured_as, reading_failure, read_whole, opened_said, opening_said, said_unless, attach_said, files_where, files_unless_opening, files_unless, attach_files}
 use Rattle.scp_parser.specs.Command as request
 use Rattle.fault_notes.specs.declared.note.Subject.TheVariants as subject
 use Rattle.scp_commands.specs.declared.fault.CommandFault.{CommandFault}
@@ -40,22 +40,27 @@ made-empty (f ∷ files) name = by-test (bytes_eq f.0 name) refl (made-empty fil
     by-test true is later = ap (λ (b : Bool). unwrap_or (if b then Some no_bytes else find_file files name) []) is
     by-test false is later = ap (λ (b : Bool). unwrap_or (if b then Some f.1 else find_file (with_file files name []) name) []) is ∙ later
 
--- an empty file is not too long
-fits-empty : (unit : UnitName) (files : List NamedBytes) (name : List ℕ) → IsPlainRefusal (measured None unit (length (bytes_of (with_file files name []) name))) → ⊥
-fits-empty unit files name refusal =
+-- an empty file is not too long, and nothing of it is read
+fits-empty : (fault : Option Failure) (unit : UnitName) (files : List NamedBytes) (name : List ℕ)
+    → IsPlainRefusal (measured_as None fault unit (length (bytes_of (with_file files name []) name))) → ⊥
+fits-empty fault unit files name refusal =
     by-test (nat_lt (longest_file unit.kind) 0) (grind (arith, nat_tests))
-    (subst (λ (bytes : List ℕ). IsPlainRefusal (measured None unit (length bytes))) (made-empty files name) refusal)
+    (subst (λ (bytes : List ℕ). IsPlainRefusal (measured_as None fault unit (length bytes))) (made-empty files name) refusal)
   where
-    by-test : (b : Bool) → b ≡ false → IsPlainRefusal (if b then TooLong else Attached 0) → ⊥
+    by-disk : (b : Bool) → IsPlainRefusal (read_whole (if b && nat_lt 0 0 then failure_at Read fault else None) 0) → ⊥
+    by-disk true refusal = refusal
+    by-disk false refusal = refusal
+
+    by-test : (b : Bool) → b ≡ false → IsPlainRefusal (if b then TooLong else read_whole (reading_failure fault unit 0) 0) → ⊥
     by-test true is refusal = cc
-    by-test false is refusal = refusal
+    by-test false is refusal = by-disk (is_disk unit.kind) refusal
 
 made-fits : (fault : Option Failure) (unit : UnitName) (name : List ℕ) (files : List NamedBytes) → IsPlainRefusal (opened_said fault unit name (Some (with_file files name []))) → ⊥
 made-fits fault unit name files refusal = by-failure (failure_at Length fault) refusal
   where
-    by-failure : (o : Option Failure) → IsPlainRefusal (measured o unit (length (bytes_of (with_file files name []) name))) → ⊥
+    by-failure : (o : Option Failure) → IsPlainRefusal (measured_as o fault unit (length (bytes_of (with_file files name []) name))) → ⊥
     by-failure (Some f) refusal = refusal
-    by-failure None refusal = fits-empty unit files name refusal
+    by-failure None refusal = fits-empty fault unit files name refusal
 
 where-there : (b : Bool) (files : List NamedBytes) → files_where (if b then Some files else None) files ≡ files
 where-there true files = refl

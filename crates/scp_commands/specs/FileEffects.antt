@@ -7,8 +7,9 @@ use Rattle.unit_list.specs.Bus.{unit_at, with_register_in}
 use Rattle.unit_files.specs.declared.modes.AttachMode.{AttachMode}
 use Rattle.unit_files.specs.declared.modes.AttachMode.TheVariants.{Any, MustExist, New, ReadOnly as Reading}
 use Rattle.unit_files.specs.Attachments.{Attachment, attachment_at, is_paper, only_writes}
-use Rattle.unit_files.specs.Acts.{AttachSaid, Attached, UnitHasFile, OnlyWrites, NotThere, TooLong, CallFailed, attach_said, attach_files, attached_by}
-use Rattle.unit_files.specs.Acts.{Failure, DetachSaid, HadNone, Detached, detach_said, detached}
+use Rattle.unit_files.specs.Acts.{AttachSaid, Attached, UnitHasFile, OnlyWrites, NotThere, TooLong, CallFailed, attach_said, attach_files, attached_by, buffer_by}
+use Rattle.unit_files.specs.Acts.{Failure, DetachSaid, HadNone, StillHeld, Detached, detach_said, detached, buffer_left, flush_files}
+use Rattle.host_files.specs.Lists.{NamedBytes, bytes_of}
 use Rattle.fault_notes.specs.declared.note.Subject.TheVariants as subject
 use Rattle.fault_notes.specs.Notes.{CommandNote, failure_now}
 use Rattle.file_commands.specs.AllUnits.{attachable, detached_each, closings}
@@ -50,21 +51,25 @@ first_place kind count = if only_writes kind then count else 0
 abbrev pub position_number : ℕ
 position_number = 5
 
--- the unit has its file, and POS is the place where it goes on
-abbrev pub attached_machine : AttachSaid → AttachMode → UnitName → List ℕ → MachineState → MachineState
-attached_machine (Attached count) mode unit name m =
-    record (with_attached m (attached_by (Attached count) mode unit name (attached_in m))) { units = with_register_in unit.kind position_number (first_place unit.kind count) m.units }
-attached_machine said mode unit name m = m
+-- the unit has its file, which has these bytes, and POS is the place where it goes on; the disk holds a copy of them
+abbrev pub attached_machine : AttachSaid → AttachMode → UnitName → List ℕ → List ℕ → MachineState → MachineState
+attached_machine (Attached count) mode unit name bytes m =
+    record (with_attached m (attached_by (Attached count) mode unit name (attached_in m))) {
+      units = with_register_in unit.kind position_number (first_place unit.kind count) m.units;
+      disk = buffer_by (Attached count) unit bytes m.disk;
+    }
+attached_machine said mode unit name bytes m = m
 
 abbrev pub attach_with : Option Failure → AttachMode → UnitName → List ℕ → Live → Reply
 attach_with fault mode unit name live =
     let said = attach_said fault mode unit name (attached_in live.machine) live.files in
+    let files = attach_files fault mode unit name (attached_in live.machine) live.files in
     record {
       made = [];
       answer = attach_answer unit said;
       after = standing (attach_used said) (record live {
-        machine = attached_machine said mode unit name live.machine;
-        files = attach_files fault mode unit name (attached_in live.machine) live.files;
+        machine = attached_machine said mode unit name (bytes_of files name) live.machine;
+        files = files;
       });
     }
 
@@ -76,29 +81,42 @@ attach_reply notes live option unit name =
 
 -- ---- DETACH
 
-abbrev pub detach_answer : DetachSaid → Answer
-detach_answer HadNone = Err NotAttached
-detach_answer (Detached fault) = Ok Go
+abbrev pub detach_answer : UnitName → DetachSaid → Answer
+detach_answer unit HadNone = Err NotAttached
+detach_answer unit (StillHeld f) = Err (FileFailed (subject.Unit unit))
+detach_answer unit (Detached fault) = Ok Go
 
--- it uses a note where the closing failed
+-- it uses a note where a call failed
 abbrev pub detach_used : DetachSaid → ℕ
+detach_used HadNone = 0
+detach_used (StillHeld f) = 1
+detach_used (Detached None) = 0
 detach_used (Detached (Some f)) = 1
-detach_used said = 0
 
 abbrev pub detached_machine : DetachSaid → UnitName → MachineState → MachineState
-detached_machine HadNone unit m = m
-detached_machine (Detached fault) unit m = with_attached m (detached unit (attached_in m))
+detached_machine (Detached fault) unit m =
+    record (with_attached m (detached unit (attached_in m))) { disk = buffer_left (Detached fault) unit m.disk }
+detached_machine said unit m = m
+
+-- what the disk holds is written back
+abbrev pub flushed_files : Option Failure → UnitName → Live → List NamedBytes
+flushed_files fault unit live =
+    flush_files fault unit (attachment_at (attached_in live.machine) unit) live.machine.disk live.files
 
 abbrev pub detach_with : Option Failure → UnitName → Live → Reply
 detach_with fault unit live =
-    let said = detach_said fault unit (attached_in live.machine) in
+    let said = detach_said fault unit (attached_in live.machine) live.machine.disk in
     record {
       made = [];
-      answer = detach_answer said;
-      after = standing (detach_used said) (with_machine live (detached_machine said unit live.machine));
+      answer = detach_answer unit said;
+      after = standing (detach_used said) (record live {
+        machine = detached_machine said unit live.machine;
+        files = flushed_files fault unit live;
+      });
     }
 
--- DETACH closes a unit's file. Where the closing fails, the unit has none all the same.
+-- DETACH writes back what the disk holds of its file, and closes a unit's file. Where the write fails, the unit keeps its
+-- file; where the closing fails, it has none all the same.
 unfoldable pub detach_reply : List CommandNote → Live → UnitName → Reply
 detach_reply notes live unit =
     if lacks_unit live.machine unit then refused NotBuilt live

@@ -88,7 +88,7 @@ fn show_unit<U: Unit, S: Sink>(
 fn put_unit<S: Sink>(attached: &Attached, unit: UnitName, out: &mut S) -> Result<(), Failed>
     requires { unit.unit < units_of unit.kind }
     ensures told { IsTrue S.tells → Puts (S.written out.old)
-        (unit_line unit (attachment_at (attachments_of attached.now) unit)) result (S.written out.new) }
+        (unit_line unit (attachment_at (attachments_of attached.now.slots) unit)) result (S.written out.new) }
     ensures counts { CountsFault (S.fault_count out.old) (S.fault_count out.new) result }
 {
     let name = unit_name(unit);

@@ -3,7 +3,7 @@ use Rattle.std.proofs.Common.{ℕ, ◌<◌, Bool, true, false, List, length, sym
 use Rattle.fault_notes.specs.declared.note.Subject.TheVariants as subject
 use Rattle.fault_notes.specs.Notes.{CommandNote, failure_now}
 use Rattle.unit_trait.specs.declared.kind.UnitName.{UnitName}
-use Rattle.unit_files.specs.Acts.{AttachSaid, Attached, UnitHasFile, OnlyWrites, NotThere, TooLong, CallFailed, DetachSaid, HadNone, Detached}
+use Rattle.unit_files.specs.Acts.{AttachSaid, Attached, UnitHasFile, OnlyWrites, NotThere, TooLong, CallFailed, DetachSaid, HadNone, StillHeld, Detached}
 use Rattle.unit_files.specs.Acts.{attach_said, detach_said}
 use Rattle.nova_memory.specs.Memory.{fits_size}
 use Rattle.nova_machine.specs.Seen.{attached_in}
@@ -94,14 +94,15 @@ attach-none notes live option unit name =
     none-if (lacks_unit live.machine unit) _ _ tt
     (attach_answer-none unit (attach_said (failure_now live.machine.time (subject.Unit unit) notes) (mode_of option) unit name (attached_in live.machine) live.files))
 
-detach_answer-none : (said : DetachSaid) → NoScript (detach_answer said)
-detach_answer-none HadNone = tt
-detach_answer-none (Detached f) = tt
+detach_answer-none : (unit : UnitName) (said : DetachSaid) → NoScript (detach_answer unit said)
+detach_answer-none unit HadNone = tt
+detach_answer-none unit (StillHeld f) = tt
+detach_answer-none unit (Detached f) = tt
 
 detach-none : (notes : List CommandNote) (live : Live) (unit : UnitName) → NoScript (detach_reply notes live unit).answer
 unfolding detach_reply
 detach-none notes live unit =
-    none-if (lacks_unit live.machine unit) _ _ tt (detach_answer-none (detach_said (failure_now live.machine.time (subject.Unit unit) notes) unit (attached_in live.machine)))
+    none-if (lacks_unit live.machine unit) _ _ tt (detach_answer-none unit (detach_said (failure_now live.machine.time (subject.Unit unit) notes) unit (attached_in live.machine) live.machine.disk))
 
 detach_all-none : (notes : List CommandNote) (live : Live) → NoScript (detach_all_reply notes live).answer
 unfolding detach_all_reply

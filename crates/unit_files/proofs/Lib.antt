@@ -2,3 +2,5 @@ pub mod Places
 pub mod Opened
 pub mod Entries
 pub mod Attaching
+pub mod Copies
+pub mod Sectors

@@ -8,7 +8,8 @@ use Rattle.host_files.specs.Lists.{NamedBytes, find_file, bytes_of, with_file, c
 use Rattle.unit_trait.specs.declared.kind.UnitName.{UnitName}
 use Rattle.unit_files.specs.declared.modes.AttachMode.{AttachMode}
 use Rattle.unit_files.specs.declared.modes.AttachMode.TheVariants.{Any, MustExist, New, ReadOnly}
-use Rattle.unit_files.specs.Attachments.{Attachment, attachment_at, with_attachment, longest_file, only_writes}
+use Rattle.unit_files.specs.Attachments.{Attachment, attachment_at, with_attachment, longest_file, is_disk, only_writes}
+use Rattle.unit_files.specs.Buffer.{Buffer, no_buffer}
 
 -- the call that fails, and how many bytes it wrote
 pub record Failure : Type 0 where
@@ -56,14 +57,26 @@ opened_files New name files = Some (with_file files name [])
 opened_files MustExist name files = if is_some (find_file files name) then Some files else None
 opened_files ReadOnly name files = if is_some (find_file files name) then Some files else None
 
+-- the read that fails, if one is made: the disk reads its file, where that has any bytes
+abbrev pub reading_failure : Option Failure → UnitName → ℕ → Option Failure
+reading_failure fault unit count = if is_disk unit.kind && nat_lt 0 count then failure_at Read fault else None
+
+abbrev pub read_whole : Option Failure → ℕ → AttachSaid
+read_whole (Some f) count = CallFailed f
+read_whole None count = Attached count
+
+abbrev pub measured_as : Option Failure → Option Failure → UnitName → ℕ → AttachSaid
+measured_as (Some f) fault unit count = CallFailed f
+measured_as None fault unit count =
+    if nat_lt (longest_file unit.kind) count then TooLong else read_whole (reading_failure fault unit count) count
+
 -- an open file of so many bytes becomes a unit's where it is not too long
 abbrev pub measured : Option Failure → UnitName → ℕ → AttachSaid
-measured (Some f) unit count = CallFailed f
-measured None unit count = if nat_lt (longest_file unit.kind) count then TooLong else Attached count
+measured fault unit count = measured_as (failure_at Length fault) fault unit count
 
 abbrev pub opened_said : Option Failure → UnitName → List ℕ → Option (List NamedBytes) → AttachSaid
 opened_said fault unit name None = NotThere
-opened_said fault unit name (Some files) = measured (failure_at Length fault) unit (length (bytes_of files name))
+opened_said fault unit name (Some files) = measured fault unit (length (bytes_of files name))
 
 abbrev pub opening_said : Option Failure → Option Failure → AttachMode → UnitName → List ℕ → List NamedBytes
     → AttachSaid
@@ -76,7 +89,7 @@ said_unless (Some refusal) fault mode unit name files = refusal
 said_unless None fault mode unit name files = opening_said (failure_at Opening fault) fault mode unit name files
 
 -- A unit takes a file: it is refused where the unit has one, and where a unit that only writes is to read only. Then
--- the file is opened, its length is asked for, and a file that is too long is refused.
+-- the file is opened, its length is asked for, and a file that is too long is refused. The disk reads it whole.
 unfoldable pub attach_said : Option Failure → AttachMode → UnitName → List ℕ → List (Option Attachment)
     → List NamedBytes → AttachSaid
 attach_said fault mode unit name attached files =
@@ -107,19 +120,86 @@ attached_by (Attached count) mode unit name attached =
     with_attachment attached unit (Some (record { name = name; read_only = is_read_only mode }))
 attached_by said mode unit name attached = attached
 
--- ---- a file is detached: it is closed, and the unit has none behind that, also where the closing fails
+-- the disk's copy behind that, where its file has these bytes
+abbrev pub buffer_by : AttachSaid → UnitName → List ℕ → Buffer → Buffer
+buffer_by (Attached count) unit bytes disk = if is_disk unit.kind then record { bytes = bytes; written = false } else disk
+buffer_by said unit bytes disk = disk
 
--- what a detaching says: the unit had no file, or it has none now; then its closing may have failed
+-- ---- what the disk holds of its file is written back
+
+-- whether there is something to write back
+abbrev pub is_due_back : UnitName → Buffer → Bool
+is_due_back unit disk = is_disk unit.kind && disk.written
+
+-- the write that fails, if one is made
+abbrev pub flush_failure : Option Failure → UnitName → Buffer → Option Failure
+flush_failure fault unit disk = if is_due_back unit disk then failure_at Write fault else None
+
+-- what it says: the unit has no file, or the write failed, or the copy and the file are one
+pub data FlushSaid : Type 0 where
+  HasNone : FlushSaid
+  NotFlushed : Failure → FlushSaid
+  Flushed : FlushSaid
+
+abbrev pub flushed_as : Option Failure → FlushSaid
+flushed_as (Some f) = NotFlushed f
+flushed_as None = Flushed
+
+abbrev pub flush_said : Option Failure → UnitName → Option Attachment → Buffer → FlushSaid
+flush_said fault unit None disk = HasNone
+flush_said fault unit (Some a) disk = flushed_as (flush_failure fault unit disk)
+
+abbrev pub piece_of : Option Failure → List ℕ → List ℕ
+piece_of (Some f) piece = take f.done piece
+piece_of None piece = piece
+
+-- the bytes of a file once the copy was written over it: a failed write wrote its first `done` bytes
+abbrev pub written_back : Option Failure → List ℕ → List ℕ → List ℕ
+written_back fault bytes old = overwritten old 0 (piece_of (failure_at Write fault) bytes)
+
+-- the files behind that
+unfoldable pub flush_files : Option Failure → UnitName → Option Attachment → Buffer → List NamedBytes → List NamedBytes
+flush_files fault unit None disk files = files
+flush_files fault unit (Some a) disk files =
+    if is_due_back unit disk then changed files a.name (written_back fault disk.bytes) else files
+
+-- the disk's copy behind that
+abbrev pub buffer_flushed : FlushSaid → UnitName → Buffer → Buffer
+buffer_flushed Flushed unit disk = if is_disk unit.kind then record disk { written = false } else disk
+buffer_flushed said unit disk = disk
+
+-- ---- A file is detached: what the disk holds of it is written back, and then it is closed. The unit has none behind
+-- that, also where the closing fails; where the write fails, it keeps it.
+
+-- what a detaching says: the unit had no file, or it still has it, or it has none now; then its closing may have failed
 pub data DetachSaid : Type 0 where
   HadNone : DetachSaid
+  StillHeld : Failure → DetachSaid
   Detached : Option Failure → DetachSaid
 
-abbrev pub detach_said : Option Failure → UnitName → List (Option Attachment) → DetachSaid
-detach_said fault unit attached =
-    if is_some (attachment_at attached unit) then Detached (failure_at Closing fault) else HadNone
+abbrev pub closing_said : Option Failure → Option Failure → DetachSaid
+closing_said (Some f) fault = StillHeld f
+closing_said None fault = Detached (failure_at Closing fault)
+
+abbrev pub detach_said_of : Option Failure → UnitName → Option Attachment → Buffer → DetachSaid
+detach_said_of fault unit None disk = HadNone
+detach_said_of fault unit (Some a) disk = closing_said (flush_failure fault unit disk) fault
+
+abbrev pub detach_said : Option Failure → UnitName → List (Option Attachment) → Buffer → DetachSaid
+detach_said fault unit attached disk = detach_said_of fault unit (attachment_at attached unit) disk
 
 abbrev pub detached : UnitName → List (Option Attachment) → List (Option Attachment)
 detached unit attached = with_attachment attached unit None
+
+-- what is attached behind that
+abbrev pub detached_by : DetachSaid → UnitName → List (Option Attachment) → List (Option Attachment)
+detached_by (StillHeld f) unit attached = attached
+detached_by said unit attached = detached unit attached
+
+-- the disk's copy behind that
+abbrev pub buffer_left : DetachSaid → UnitName → Buffer → Buffer
+buffer_left (Detached fault) unit disk = if is_disk unit.kind then no_buffer else disk
+buffer_left said unit disk = disk
 
 -- ---- a byte of a unit's file
 
@@ -156,10 +236,6 @@ write_said None = WasWritten
 unfoldable pub write_act : Option Failure → Option Attachment → ℕ → ByteSaid
 write_act fault None place = NothingThere
 write_act fault (Some a) place = if nat_lt place most_bytes then write_said (failure_at Write fault) else AtEnd
-
-abbrev pub piece_of : Option Failure → List ℕ → List ℕ
-piece_of (Some f) piece = take f.done piece
-piece_of None piece = piece
 
 -- the bytes of a file once one was written at a place
 abbrev pub byte_written : Option Failure → ℕ → ℕ → List ℕ → List ℕ

@@ -8,7 +8,8 @@ use Rattle.unit_files.specs.declared.faults.DetachFault.TheVariants as detach
 use Rattle.unit_files.specs.declared.faults.ByteAnswer.{ByteAnswer}
 use Rattle.unit_files.specs.declared.faults.ByteAnswer.TheVariants as byte
 use Rattle.unit_files.specs.Acts.{Failure, AttachSaid, Attached, UnitHasFile, OnlyWrites, NotThere, TooLong, CallFailed}
-use Rattle.unit_files.specs.Acts.{DetachSaid, HadNone, Detached, ByteSaid, ByteIs, WasWritten, AtEnd, NothingThere}
+use Rattle.unit_files.specs.Acts.{FlushSaid, HasNone, NotFlushed, Flushed}
+use Rattle.unit_files.specs.Acts.{DetachSaid, HadNone, StillHeld, Detached, ByteSaid, ByteIs, WasWritten, AtEnd, NothingThere}
 use Rattle.unit_files.specs.Acts.{ByteFailed}
 
 abbrev pub failure_in : UnitFault → Failure
@@ -40,11 +41,21 @@ abbrev pub IfNoMemory : Result ℕ AttachFault → Type 0 → Type 0
 IfNoMemory (Err attach.OutOfMemory) P = P
 IfNoMemory result P = Unit {0}
 
+-- what a writing back says
+abbrev pub said_of_flush : Result (Unit {0}) DetachFault → FlushSaid
+said_of_flush (Ok u) = Flushed
+said_of_flush (Err detach.NotAttached) = HasNone
+said_of_flush (Err (detach.Failed f)) = NotFlushed (failure_in f)
+
+abbrev pub failure_of_flush : Result (Unit {0}) DetachFault → Option Failure
+failure_of_flush (Err (detach.Failed f)) = Some (failure_in f)
+failure_of_flush result = None
+
 -- what a detaching says
 abbrev pub said_of_detach : Result (Option UnitFault) DetachFault → DetachSaid
 said_of_detach (Ok fault) = Detached (option_map failure_in fault)
 said_of_detach (Err detach.NotAttached) = HadNone
-said_of_detach (Err (detach.Failed f)) = HadNone
+said_of_detach (Err (detach.Failed f)) = StillHeld (failure_in f)
 
 abbrev pub failure_of_detach : Result (Option UnitFault) DetachFault → Option Failure
 failure_of_detach (Ok fault) = option_map failure_in fault

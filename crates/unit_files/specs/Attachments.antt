@@ -40,14 +40,20 @@ is_paper Ptr = true
 is_paper Ptp = true
 is_paper kind = false
 
--- whether a unit of that kind takes a file that it holds no copy of
-abbrev pub is_unbuffered : Kind → Bool
-is_unbuffered Mta = true
-is_unbuffered kind = is_paper kind
+-- whether that is the disk, which holds a copy of its file
+abbrev pub is_disk : Kind → Bool
+is_disk Dsk = true
+is_disk kind = false
 
--- the reader, the punch, the printer, or a tape drive
+-- whether a unit of that kind takes a file
+abbrev pub takes_files : Kind → Bool
+takes_files Dsk = true
+takes_files Mta = true
+takes_files kind = is_paper kind
+
+-- the disk, the reader, the punch, the printer, or a tape drive
 abbrev pub takes_attachment : UnitName → Bool
-takes_attachment unit = is_unbuffered unit.kind && nat_lt unit.unit (units_of unit.kind)
+takes_attachment unit = takes_files unit.kind && nat_lt unit.unit (units_of unit.kind)
 
 -- whether a unit only writes
 abbrev pub only_writes : Kind → Bool
@@ -57,6 +63,7 @@ only_writes kind = false
 
 -- how many bytes the file of a unit may have
 unfoldable pub longest_file : Kind → ℕ
+longest_file Dsk = 4 * (2 ^ 20)
 longest_file Mta = 64 * (2 ^ 20)
 longest_file kind = 16 * (2 ^ 20)
 

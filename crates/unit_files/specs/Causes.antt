@@ -2,7 +2,7 @@
 use Rattle.std.specs.Prelude.{◌≡◌, ◌⊎◌, ℕ, ◌<◌, ◌≤◌, Bool, IsTrue, List, Option, Some, None, Result, Ok, Err}
 use Rattle.fault_counts.specs.Faults.{raised, Rose}
 use Rattle.host_files.specs.declared.files.FileId.{FileId}
-use Rattle.host_files.specs.declared.files.FileCall.TheVariants.{Opening, Length, Closing}
+use Rattle.host_files.specs.declared.files.FileCall.TheVariants.{Opening, Length, Read, Write, Closing}
 use Rattle.host_files.specs.State.{FileState}
 use Rattle.unit_trait.specs.declared.kind.UnitName.{UnitName}
 use Rattle.unit_files.specs.declared.faults.UnitFault.{UnitFault}
@@ -12,7 +12,7 @@ use Rattle.unit_files.specs.declared.faults.DetachFault.{DetachFault}
 use Rattle.unit_files.specs.declared.faults.DetachFault.TheVariants as detach
 use Rattle.unit_files.specs.declared.faults.ByteAnswer.{ByteAnswer}
 use Rattle.unit_files.specs.declared.faults.ByteAnswer.TheVariants as byte
-use Rattle.unit_files.specs.Attachments.{Held, held_at}
+use Rattle.unit_files.specs.Attachments.{Held, held_at, is_disk}
 
 -- no count has changed, and no file was opened
 pub record IsQuiet (old new : FileState) : Type 0 where
@@ -37,12 +37,24 @@ abbrev pub ByteCause : ByteAnswer → UnitName → List (Option Held) → FileSt
 ByteCause (byte.Failed f) unit slots old new = IsFaultOf f unit slots old new
 ByteCause answer unit slots old new = IsQuiet old new
 
+-- the disk's copy could not be written back
+pub record IsFlushFault (f : UnitFault) (unit : UnitName) (slots : List (Option Held)) (old new : FileState) : Type 0 where
+  pub disk : IsTrue (is_disk unit.kind)
+  pub call : f.call ≡ Write
+  pub fault : IsFaultOf f unit slots old new
+
+-- what a writing back leaves of the counts, by its answer
+abbrev pub FlushCause : Result (Unit {0}) DetachFault → UnitName → List (Option Held) → FileState → FileState → Type 0
+FlushCause (Ok u) unit slots old new = IsQuiet old new
+FlushCause (Err detach.NotAttached) unit slots old new = IsQuiet old new
+FlushCause (Err (detach.Failed f)) unit slots old new = IsFlushFault f unit slots old new
+
 abbrev pub DetachCause : Result (Option UnitFault) DetachFault → UnitName → List (Option Held) → FileState → FileState
     → Type 0
 DetachCause (Ok (Some f)) unit slots old new = (f.call ≡ Closing) × (f.done ≡ 0) × IsFaultOf f unit slots old new
 DetachCause (Ok None) unit slots old new = IsQuiet old new
 DetachCause (Err detach.NotAttached) unit slots old new = IsQuiet old new
-DetachCause (Err (detach.Failed f)) unit slots old new = ⊥
+DetachCause (Err (detach.Failed f)) unit slots old new = IsFlushFault f unit slots old new
 
 -- the counts of the files that were open or had been are as they were, and none has fallen
 pub record OnlyNewCounts (old new : FileState) : Type 0 where
@@ -55,7 +67,7 @@ pub record OnlyNewCounts (old new : FileState) : Type 0 where
 pub record IsNewFault (f : UnitFault) (unit : UnitName) (old new : FileState) : Type 0 where
   pub unit_is : f.unit ≡ unit
   pub none_done : f.done ≡ 0
-  pub calls : (f.call ≡ Opening) ⊎ (f.call ≡ Length)
+  pub calls : (f.call ≡ Opening) ⊎ (f.call ≡ Length) ⊎ ((f.call ≡ Read) × IsTrue (is_disk unit.kind))
   pub opening : f.call ≡ Opening → (f.file ≡ None) × Rose old.open_faults new.open_faults
   pub other : (f.call ≡ Opening → ⊥) → (id : FileId) × (f.file ≡ Some id) × (old.given ≤ id.0) × (id.0 < new.given)
       × Rose (old.faults id.0) (new.faults id.0)

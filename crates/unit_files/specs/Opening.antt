@@ -1,7 +1,8 @@
--- A file is opened for a unit, and its length is asked for.
-use Rattle.std.specs.Prelude.{◌≡◌, ◌≢◌, ℕ, ◌+◌, ◌≤◌, Bool, IsTrue, List, ◌∷◌, Some, None, Result, Ok, Err}
+-- A file is opened for a unit, its length is asked for, and the disk reads it whole.
+use Rattle.std.specs.Prelude.{◌≡◌, ◌≢◌, ◌⊎◌, ℕ, ◌+◌, ◌<◌, ◌≤◌, Bool, IsTrue, List, ◌∷◌, Some, None, Result, Ok, Err}
 use Rattle.fault_counts.specs.Faults.{Rose}
 use Rattle.host_files.specs.declared.files.FileId.{FileId}
+use Rattle.host_files.specs.declared.files.FileCall.{FileCall}
 use Rattle.host_files.specs.declared.files.FileCall.TheVariants as call
 use Rattle.host_files.specs.declared.files.OpenMode.{OpenMode}
 use Rattle.host_files.specs.declared.files.OpenFault.{OpenFault}
@@ -13,6 +14,7 @@ use Rattle.unit_files.specs.declared.faults.UnitFault.{UnitFault}
 use Rattle.unit_files.specs.declared.faults.AttachFault.{AttachFault}
 use Rattle.unit_files.specs.declared.faults.AttachFault.TheVariants as attach
 use Rattle.unit_files.specs.declared.opening.Taken.{Taken}
+use Rattle.unit_files.specs.Attachments.{is_disk, longest_file}
 use Rattle.unit_files.specs.Acts.{is_read_only, opened_files}
 use Rattle.unit_files.specs.Open.{is_reading}
 
@@ -59,12 +61,30 @@ fault_of_opening unit opening.NoFile = attach.NoFile
 fault_of_opening unit opening.Failed = attach.Failed (failed_opening unit)
 fault_of_opening unit opening.OutOfMemory = attach.OutOfMemory
 
--- the answer of a measuring, with what it leaves of the counts of its file
+-- a call on the file that was opened, which failed
+abbrev pub failed_at : FileCall → UnitName → FileId → UnitFault
+failed_at c unit id = record { unit = unit; file = Some id; call = c; done = 0 }
+
+-- the answer of a measuring of a file with so many bytes
+abbrev pub HasLength : UnitName → ℕ → Result ℕ AttachFault → Type 0
+HasLength unit all (Ok count) = count ≡ all
+HasLength unit all (Err attach.TooLong) = longest_file unit.kind < all
+HasLength unit all (Err fault) = Unit {0}
+
+-- .. with what it leaves of the counts of that file
+abbrev pub LengthCause : Result ℕ AttachFault → UnitName → FileId → FileState → FileState → Type 0
+LengthCause (Ok count) unit id old new = new.faults ≡ old.faults
+LengthCause (Err attach.TooLong) unit id old new = Unit {0}
+LengthCause (Err (attach.Failed f)) unit id old new =
+    (f ≡ failed_at call.Length unit id) × Rose (old.faults id.0) (new.faults id.0)
+LengthCause (Err fault) unit id old new = ⊥
+
+-- the answer of a measuring and reading, with what it leaves of the counts of its file
 abbrev pub MeasureCause : Result ℕ AttachFault → UnitName → FileId → FileState → FileState → Type 0
 MeasureCause (Ok count) unit id old new = new.faults ≡ old.faults
 MeasureCause (Err attach.TooLong) unit id old new = Unit {0}
 MeasureCause (Err (attach.Failed f)) unit id old new =
-    (f ≡ record { unit = unit; file = Some id; call = call.Length; done = 0 })
+    ((f ≡ failed_at call.Length unit id) ⊎ ((f ≡ failed_at call.Read unit id) × IsTrue (is_disk unit.kind)))
     × Rose (old.faults id.0) (new.faults id.0)
 MeasureCause (Err fault) unit id old new = ⊥
 

@@ -1,5 +1,5 @@
 -- What the byte calls may answer, whether names are told or not.
-use Rattle.std.specs.Prelude.{◌≡◌, ◌≢◌, ℕ, ◌<◌, ◌≤◌, ◌^◌, Option, Some, None}
+use Rattle.std.specs.Prelude.{◌≡◌, ◌≢◌, ℕ, ◌<◌, ◌≤◌, ◌^◌, length, Option, Some, None, IfSome}
 use Rattle.fault_counts.specs.Faults.{raised}
 use Rattle.host_files.specs.declared.files.FileId.{FileId}
 use Rattle.host_files.specs.declared.files.FileCall.TheVariants as call
@@ -9,6 +9,8 @@ use Rattle.unit_files.specs.declared.faults.UnitFault.{UnitFault}
 use Rattle.unit_files.specs.declared.faults.ByteAnswer.{ByteAnswer}
 use Rattle.unit_files.specs.declared.faults.ByteAnswer.TheVariants as byte
 use Rattle.unit_files.specs.Attachments.{Attachment}
+use Rattle.unit_files.specs.Acts.{Failure}
+use Rattle.unit_files.specs.Buffer.{Buffer}
 use Rattle.unit_files.specs.Causes.{IsQuiet}
 
 -- A reading answers that nothing is there exactly where nothing is attached. A byte comes only from places below
@@ -44,6 +46,15 @@ pub record IsFaultAt (f : UnitFault) (unit : UnitName) (id : FileId) (old new : 
 abbrev pub OpenCause : ByteAnswer → UnitName → FileId → FileState → FileState → Type 0
 OpenCause (byte.Failed f) unit id old new = IsFaultAt f unit id old new
 OpenCause answer unit id old new = IsQuiet old new
+
+-- what a writing back of the disk's copy leaves of them
+abbrev pub WriteCause : Option UnitFault → UnitName → FileId → FileState → FileState → Type 0
+WriteCause None unit id old new = IsQuiet old new
+WriteCause (Some f) unit id old new = (f.call ≡ call.Write) × IsFaultAt f unit id old new
+
+-- a write that failed wrote no more bytes than there are
+abbrev pub IsPart : Option Failure → Buffer → Type 0
+IsPart fault disk = IfSome fault (λ f. f.done ≤ length disk.bytes)
 
 -- what a closing leaves of the counts
 abbrev pub CloseCause : Option UnitFault → UnitName → FileId → FileState → FileState → Type 0

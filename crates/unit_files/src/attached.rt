@@ -1,21 +1,28 @@
-ghost use Rattle.std.specs.Prelude.{◌≡◌, ◌≤◌, ◌<◌, List, IsTrue, IfOk, IfSome, OnErr, length, option_map, Some, None};
-ghost use Rattle.std.specs.Prelude.{true, false};
+ghost use Rattle.std.specs.Prelude.{◌≡◌, ◌≤◌, ◌<◌, List, IsTrue, IfOk, IfSome, OnErr, Ok, length, option_map, is_some, Some, None};
+ghost use Rattle.std.specs.Prelude.{true, false, if◌then◌else◌, vec_capacity};
+ghost use Rattle.host_files.specs.Lists.{bytes_of};
 ghost use Rattle.host_files.specs.State.{Opened, IsOpen, without};
-ghost use Rattle.unit_files.specs.Attachments.{no_files, held_at, with_held, attachments_of, with_attachment};
+ghost use Rattle.unit_files.specs.Attachments.{held_at, with_held, attachments_of, with_attachment, is_disk};
+ghost use Rattle.unit_files.specs.Buffer.{nothing_attached, no_buffer};
 ghost use Rattle.unit_files.specs.Attachments.{attachment_at, takes_attachment, may_write, read_only_at, only_writes};
 ghost use Rattle.unit_files.specs.Attachments.{longest_file, file_place, IsFileName};
-ghost use Rattle.unit_files.specs.Acts.{attach_said, attach_files, attached_by, refused_first, detach_said, detached};
+ghost use Rattle.unit_files.specs.Acts.{attach_said, attach_files, attached_by, buffer_by, refused_first};
+ghost use Rattle.unit_files.specs.Acts.{detach_said, detached_by, buffer_left, flush_said, flush_files, buffer_flushed};
 ghost use Rattle.unit_files.specs.Answers.{said_of_attach, failure_of_attach, first_refusal, IfNoMemory};
-ghost use Rattle.unit_files.specs.Answers.{said_of_detach, failure_of_detach};
+ghost use Rattle.unit_files.specs.Answers.{said_of_detach, failure_of_detach, said_of_flush, failure_of_flush};
 ghost use Rattle.unit_files.specs.Open.{AllOpen, Around};
-ghost use Rattle.unit_files.specs.Causes.{OnlyNewCounts, AttachCause, DetachCause};
-ghost use Rattle.unit_files.specs.Shapes.{CloseCause};
-ghost use Rattle.unit_files.specs.View.{held_of, Holds};
+ghost use Rattle.unit_files.specs.Causes.{OnlyNewCounts, AttachCause, DetachCause, FlushCause};
+ghost use Rattle.unit_files.specs.Shapes.{CloseCause, WriteCause, IsPart};
+ghost use Rattle.unit_files.specs.Acts.{detached, is_due_back, written_back};
+ghost use Rattle.unit_files.specs.Answers.{failure_in};
+ghost use Rattle.host_files.specs.Lists.{changed};
+ghost use Rattle.host_files.specs.State.{IsWritable, name_at};
+ghost use Rattle.unit_files.specs.View.{held_of, buffer_of, disk_bytes, Holds};
 
 use crate::faults::{AttachFault, DetachFault, UnitFault};
 use crate::modes::AttachMode;
-use crate::opening::take_file;
-use crate::slots::{FILE_UNITS, UnitFile, only_writes, place_of};
+use crate::opening::{room_for, take_file};
+use crate::slots::{DiskCopy, FILE_UNITS, UnitFile, is_disk, only_writes, place_of};
 use host_files::{Failed, FileCall, FileId, Files, OutOfMemory};
 use std::alloc::{AllocError, Global};
 use std::marker::Model;
@@ -25,38 +32,46 @@ use unit_trait::UnitName;
 #[derive(Drop)]
 pub struct Attached {
     slots: Vec<Option<UnitFile>>,
+    pub(crate) disk: DiskCopy,
 }
 
 impl Model for Attached {
-    ghost use Rattle.std.specs.Prelude.{◌≡◌, List, Option, map, length, IsTrue};
-    ghost use Rattle.unit_files.specs.Attachments.{Held, file_units, writers_write};
-    ghost use Rattle.unit_files.specs.View.{slot_of};
+    ghost use Rattle.std.specs.Prelude.{◌≡◌, map, length, IsTrue};
+    ghost use Rattle.unit_files.specs.Attachments.{file_units, writers_write};
+    ghost use Rattle.unit_files.specs.Buffer.{AttachedFiles};
+    ghost use Rattle.unit_files.specs.View.{slot_of, buffer_of, CanWrite};
 
-    ghost Value = { List (Option Held) };
+    ghost Value = { AttachedFiles };
 
-    ghost view = { λ a. map slot_of a.slots.items };
+    ghost view = { λ a. record { slots = map slot_of a.slots.items; disk = buffer_of a.disk } };
 
-    ghost invariant = { λ a. (length a.slots.items ≡ file_units) × IsTrue (writers_write (map slot_of a.slots.items)) };
+    ghost invariant = { λ a. (length a.slots.items ≡ file_units) × IsTrue (writers_write (map slot_of a.slots.items))
+        × CanWrite (map slot_of a.slots.items) a.disk };
 }
 
 impl Attached {
     /// Nothing is attached.
     pub fn new(alloc: Global) -> Result<Attached, OutOfMemory>
-        ensures none { IfOk result (λ a. a ≡ no_files) }
-        ensures open { IfOk result (λ a. (opened : List Opened) → AllOpen a opened) }
-        ensures around { IfOk result (λ a. (opened : List Opened) → Around a opened opened) }
+        ensures none { IfOk result (λ a. a ≡ nothing_attached) }
+        ensures open { IfOk result (λ a. (opened : List Opened) → AllOpen a.slots opened) }
+        ensures around { IfOk result (λ a. (opened : List Opened) → Around a.slots opened opened) }
     {
         let mut slots = Vec::with_capacity(alloc, FILE_UNITS)?;
         for _place in 0..FILE_UNITS {
             slots.push(None)?;
         }
-        Ok(Attached { slots })
+        let disk = DiskCopy {
+            bytes: Vec::new(alloc),
+            written: false,
+        };
+        Ok(Attached { slots, disk })
     }
 
     /// Attaches a file to a unit, and answers its length in bytes. The refusals, in this order: `AlreadyAttached` where
     /// the unit has a file; `ReadOnly` where a unit that only writes is to read only; `OutOfMemory`; `NoFile`, or
-    /// `Failed` of the opening; `Failed` of the length; `TooLong`. A refusal leaves all units as they were, and closes
-    /// the file that it opened; that file may have been made or emptied.
+    /// `Failed` of the opening; `Failed` of the length; `TooLong`; `Failed` of a read, which the disk alone makes: it
+    /// reads the file whole, into memory that it takes before the opening. A refusal leaves all units as they were, and
+    /// closes the file that it opened; that file may have been made or emptied.
     #[tactic(auto, unfolding(crate::specs::Acts::attach_said, crate::specs::Acts::attach_files))]
     pub fn attach<F: Files>(
         &mut self,
@@ -68,23 +83,26 @@ impl Attached {
     ) -> Result<u64, AttachFault>
         requires unit { IsTrue (takes_attachment unit) }
         requires name { IsFileName name.now }
-        requires open { AllOpen self.old (F.state files.old).opened }
+        requires open { AllOpen self.old.slots (F.state files.old).opened }
         ensures said { IsTrue F.tells → IfSome (said_of_attach result) (λ said. said
-            ≡ attach_said (failure_of_attach result) mode unit name.now (attachments_of self.old)
+            ≡ attach_said (failure_of_attach result) mode unit name.now (attachments_of self.old.slots)
             (F.state files.old).files) }
-        ensures first { first_refusal result ≡ refused_first (attachment_at (attachments_of self.old) unit) unit mode }
+        ensures first { first_refusal result ≡ refused_first (attachment_at (attachments_of self.old.slots) unit) unit mode }
         ensures bound { IfOk result (λ n. n ≤ longest_file unit.kind) }
-        ensures attached { IfSome (said_of_attach result) (λ said. attachments_of self.new
-            ≡ attached_by said mode unit name.now (attachments_of self.old)) }
+        ensures attached { IfSome (said_of_attach result) (λ said. attachments_of self.new.slots
+            ≡ attached_by said mode unit name.now (attachments_of self.old.slots)) }
+        ensures disk { IsTrue F.tells → IfSome (said_of_attach result) (λ said. self.new.disk
+            ≡ buffer_by said unit (bytes_of (F.state files.new).files name.now) self.old.disk) }
+        ensures other { is_disk unit.kind ≡ false → self.new.disk ≡ self.old.disk }
         ensures refused { OnErr result (self.new ≡ self.old) }
         ensures files { IsTrue F.tells → IfSome (said_of_attach result) (λ said. (F.state files.new).files
-            ≡ attach_files (failure_of_attach result) mode unit name.now (attachments_of self.old)
+            ≡ attach_files (failure_of_attach result) mode unit name.now (attachments_of self.old.slots)
             (F.state files.old).files) }
         ensures no_memory { IfNoMemory result ((F.state files.new).files ≡ (F.state files.old).files) }
         ensures closed { OnErr result ((F.state files.new).opened ≡ (F.state files.old).opened) }
-        ensures open { AllOpen self.new (F.state files.new).opened }
-        ensures around { (base : List Opened) → Around self.old base (F.state files.old).opened
-            → Around self.new base (F.state files.new).opened }
+        ensures open { AllOpen self.new.slots (F.state files.new).opened }
+        ensures around { (base : List Opened) → Around self.old.slots base (F.state files.old).opened
+            → Around self.new.slots base (F.state files.new).opened }
         ensures counts { OnlyNewCounts (F.state files.old) (F.state files.new) }
         ensures cause { AttachCause F.tells result unit (F.state files.old) (F.state files.new) }
     {
@@ -98,58 +116,128 @@ impl Attached {
             Ok(text) => text,
             Err(AllocError) => return Err(AttachFault::OutOfMemory),
         };
-        match take_file(alloc, unit, name, mode, files) {
+        let bytes = match room_for(alloc, unit.kind) {
+            Ok(bytes) => bytes,
+            Err(AllocError) => return Err(AttachFault::OutOfMemory),
+        };
+        match take_file(alloc, unit, name, mode, bytes, files) {
             Ok(taken) => {
                 let held = UnitFile {
                     file: taken.file,
                     name: text,
                     read_only: mode.is_read_only(),
                 };
-                self.put(unit, held);
+                self.put(unit, held, taken.bytes);
                 Ok(taken.length)
             }
             Err(fault) => Err(fault),
         }
     }
 
-    /// Closes a unit's file. Behind that nothing is attached to the unit, also where the closing failed, which is
-    /// answered as a fault. `NotAttached` comes exactly where nothing was attached, and `Failed` never, since no unit
-    /// holds bytes of its file.
+    /// Writes back what the disk holds of its file, where a sector was written since the file was attached or last
+    /// written back, and then closes a unit's file. Behind that nothing is attached to the unit, also where the closing
+    /// failed, which is answered as a fault. `NotAttached` comes exactly where nothing was attached. `Failed` comes where
+    /// the file could not be written: it is still attached, and holds as many first bytes of the copy as the fault says,
+    /// and behind them its own.
+    #[tactic(auto, unfolding(crate::specs::Acts::flush_files))]
     pub fn detach<F: Files>(
         &mut self,
         unit: UnitName,
         files: &mut F,
     ) -> Result<Option<UnitFault>, DetachFault>
         requires unit { IsTrue (takes_attachment unit) }
-        requires open { AllOpen self.old (F.state files.old).opened }
-        ensures said { said_of_detach result ≡ detach_said (failure_of_detach result) unit (attachments_of self.old) }
-        ensures attached { attachments_of self.new ≡ detached unit (attachments_of self.old) }
+        requires open { AllOpen self.old.slots (F.state files.old).opened }
+        ensures said { said_of_detach result
+            ≡ detach_said (failure_of_detach result) unit (attachments_of self.old.slots) self.old.disk }
+        ensures attached { attachments_of self.new.slots
+            ≡ detached_by (said_of_detach result) unit (attachments_of self.old.slots) }
+        ensures disk { self.new.disk ≡ buffer_left (said_of_detach result) unit self.old.disk }
         ensures refused { OnErr result (self.new ≡ self.old) }
-        ensures files { (F.state files.new).files ≡ (F.state files.old).files }
-        ensures open { AllOpen self.new (F.state files.new).opened }
-        ensures around { (base : List Opened) → Around self.old base (F.state files.old).opened
-            → Around self.new base (F.state files.new).opened }
-        ensures cause { DetachCause result unit self.old (F.state files.old) (F.state files.new) }
+        ensures part { OnErr result (IsPart (failure_of_detach result) self.old.disk) }
+        ensures files { (F.state files.new).files ≡ flush_files (failure_of_detach result) unit
+            (attachment_at (attachments_of self.old.slots) unit) self.old.disk (F.state files.old).files }
+        ensures open { AllOpen self.new.slots (F.state files.new).opened }
+        ensures around { (base : List Opened) → Around self.old.slots base (F.state files.old).opened
+            → Around self.new.slots base (F.state files.new).opened }
+        ensures cause { DetachCause result unit self.old.slots (F.state files.old) (F.state files.new) }
+    {
+        match self.flush(unit, files) {
+            Err(fault) => Err(fault),
+            Ok(()) => Ok(self.release(unit, files)),
+        }
+    }
+
+    /// Writes back what the disk holds of its file, where a sector was written since the file was attached or last
+    /// written back; for another unit it does nothing. `NotAttached` comes exactly where nothing is attached. After
+    /// `Failed` the file holds as many first bytes of the copy as the fault says, and behind them its own.
+    #[tactic(auto, unfolding(crate::specs::Acts::flush_files))]
+    pub fn flush<F: Files>(&mut self, unit: UnitName, files: &mut F) -> Result<(), DetachFault>
+        requires unit { IsTrue (takes_attachment unit) }
+        requires open { AllOpen self.old.slots (F.state files.old).opened }
+        ensures said { said_of_flush result ≡ flush_said (failure_of_flush result) unit
+            (attachment_at (attachments_of self.old.slots) unit) self.old.disk }
+        ensures slots { self.new.slots ≡ self.old.slots }
+        ensures disk { self.new.disk ≡ buffer_flushed (said_of_flush result) unit self.old.disk }
+        ensures part { OnErr result (IsPart (failure_of_flush result) self.old.disk) }
+        ensures files { (F.state files.new).files ≡ flush_files (failure_of_flush result) unit
+            (attachment_at (attachments_of self.old.slots) unit) self.old.disk (F.state files.old).files }
+        ensures opened { (F.state files.new).opened ≡ (F.state files.old).opened }
+        ensures cause { FlushCause result unit self.old.slots (F.state files.old) (F.state files.new) }
     {
         match self.held_file(unit) {
             None => Err(DetachFault::NotAttached),
+            Some(_) if !self.is_due_back(unit) => Ok(()),
+            Some(file) => match write_copy(unit, file, self.disk.bytes.as_slice(), files) {
+                None => {
+                    self.disk.written = false;
+                    Ok(())
+                }
+                Some(fault) => Err(DetachFault::Failed(fault)),
+            },
+        }
+    }
+
+    // Whether what the disk holds is to be written back.
+    fn is_due_back(&self, unit: UnitName) -> bool
+        requires { IsTrue (takes_attachment unit) }
+        ensures due { result ≡ is_due_back unit self.now.disk }
+        ensures writable { IsTrue result → read_only_at self.now.slots unit ≡ false }
+    {
+        is_disk(unit.kind) && self.disk.written
+    }
+
+    // Closes a unit's file, of which nothing is to be written back. Nothing is attached to the unit behind that.
+    fn release<F: Files>(&mut self, unit: UnitName, files: &mut F) -> Option<UnitFault>
+        requires unit { IsTrue (takes_attachment unit) }
+        requires there { IsTrue (is_some (held_at self.old.slots unit)) }
+        requires open { AllOpen self.old.slots (F.state files.old).opened }
+        ensures attached { attachments_of self.new.slots ≡ detached unit (attachments_of self.old.slots) }
+        ensures disk { self.new.disk ≡ (if is_disk unit.kind then no_buffer else self.old.disk) }
+        ensures files { (F.state files.new).files ≡ (F.state files.old).files }
+        ensures open { AllOpen self.new.slots (F.state files.new).opened }
+        ensures around { (base : List Opened) → Around self.old.slots base (F.state files.old).opened
+            → Around self.new.slots base (F.state files.new).opened }
+        ensures cause { DetachCause (Ok result) unit self.old.slots (F.state files.old) (F.state files.new) }
+    {
+        match self.held_file(unit) {
+            None => None,
             Some(file) => {
                 self.take(unit);
-                Ok(close_one(unit, file, files))
+                close_one(unit, file, files)
             }
         }
     }
 
     /// The number of a unit's open file; none where nothing is attached.
     pub fn file_of(&self, unit: UnitName) -> Option<FileId>
-        ensures { option_map (λ id. id.0) result ≡ option_map (λ h. h.file) (held_at self.now unit) }
+        ensures { option_map (λ id. id.0) result ≡ option_map (λ h. h.file) (held_at self.now.slots unit) }
     {
         self.held_file(unit)
     }
 
     /// The name of a unit's file; none where nothing is attached.
     pub fn name_of(&self, unit: UnitName) -> Option<&str>
-        ensures { option_map (λ n. n.now) result ≡ option_map (λ h. h.attachment.name) (held_at self.now unit) }
+        ensures { option_map (λ n. n.now) result ≡ option_map (λ h. h.attachment.name) (held_at self.now.slots unit) }
     {
         match self.unit_file(unit) {
             Some(held) => Some(held.name.as_str()),
@@ -159,7 +247,7 @@ impl Attached {
 
     /// Whether a unit's file is only read: never where nothing is attached, and never at a unit that only writes.
     pub fn is_read_only(&self, unit: UnitName) -> bool
-        ensures read_only { result ≡ read_only_at self.now unit }
+        ensures read_only { result ≡ read_only_at self.now.slots unit }
         ensures writers { only_writes unit.kind ≡ true → result ≡ false }
     {
         match self.unit_file(unit) {
@@ -170,7 +258,7 @@ impl Attached {
 
     // The number of a unit's open file.
     pub(crate) fn held_file(&self, unit: UnitName) -> Option<FileId>
-        ensures { Holds self.now unit result }
+        ensures { Holds self.now.slots unit result }
     {
         match self.unit_file(unit) {
             Some(held) => Some(held.file),
@@ -180,9 +268,9 @@ impl Attached {
 
     // The number of a unit's open file, which may be written.
     pub(crate) fn writable_file(&self, unit: UnitName) -> Option<FileId>
-        requires { IsTrue (may_write self.now unit) }
-        ensures holds { Holds self.now unit result }
-        ensures writable { read_only_at self.now unit ≡ false }
+        requires { IsTrue (may_write self.now.slots unit) }
+        ensures holds { Holds self.now.slots unit result }
+        ensures writable { read_only_at self.now.slots unit ≡ false }
     {
         match self.unit_file(unit) {
             Some(held) => Some(held.file),
@@ -192,8 +280,8 @@ impl Attached {
 
     // What is attached to a unit.
     fn unit_file(&self, unit: UnitName) -> Option<&UnitFile>
-        ensures held { option_map (λ f. held_of f.now) result ≡ held_at self.now unit }
-        ensures writers { only_writes unit.kind ≡ true → read_only_at self.now unit ≡ false }
+        ensures held { option_map (λ f. held_of f.now) result ≡ held_at self.now.slots unit }
+        ensures writers { only_writes unit.kind ≡ true → read_only_at self.now.slots unit ≡ false }
     {
         match self.slots.get(place_of(unit)) {
             Some(slot) => slot.as_ref(),
@@ -201,25 +289,65 @@ impl Attached {
         }
     }
 
-    // Attaches a file to a unit.
-    fn put(&mut self, unit: UnitName, held: UnitFile)
+    // Attaches a file to a unit, with its bytes where the unit is the disk.
+    fn put(&mut self, unit: UnitName, held: UnitFile, bytes: Vec<u8>)
         requires unit { IsTrue (takes_attachment unit) }
         requires writers { only_writes unit.kind ≡ true → held.read_only ≡ false }
-        ensures within { file_place unit < length self.old }
-        ensures held { self.new ≡ with_held self.old unit (Some (held_of held)) }
-        ensures attachments { attachments_of self.new
-            ≡ with_attachment (attachments_of self.old) unit (Some (held_of held).attachment) }
+        requires room { IsTrue (is_disk unit.kind) → disk_bytes ≤ vec_capacity bytes }
+        ensures within { file_place unit < length self.old.slots }
+        ensures held { self.new.slots ≡ with_held self.old.slots unit (Some (held_of held)) }
+        ensures attachments { attachments_of self.new.slots
+            ≡ with_attachment (attachments_of self.old.slots) unit (Some (held_of held).attachment) }
+        ensures disk { self.new.disk
+            ≡ (if is_disk unit.kind then record { bytes = bytes.items; written = false } else self.old.disk) }
     {
         self.slots[place_of(unit)] = Some(held);
+        if is_disk(unit.kind) {
+            self.disk = DiskCopy {
+                bytes,
+                written: false,
+            };
+        }
     }
 
     // Leaves nothing attached to a unit.
     fn take(&mut self, unit: UnitName)
         requires { IsTrue (takes_attachment unit) }
-        ensures held { self.new ≡ with_held self.old unit None }
-        ensures attachments { attachments_of self.new ≡ with_attachment (attachments_of self.old) unit None }
+        ensures held { self.new.slots ≡ with_held self.old.slots unit None }
+        ensures attachments { attachments_of self.new.slots ≡ with_attachment (attachments_of self.old.slots) unit None }
+        ensures disk { self.new.disk ≡ (if is_disk unit.kind then no_buffer else self.old.disk) }
     {
         self.slots[place_of(unit)] = None;
+        if is_disk(unit.kind) {
+            self.disk.bytes.clear();
+            self.disk.written = false;
+        }
+    }
+}
+
+// Writes all that the disk holds over its file, from the front.
+fn write_copy<F: Files>(
+    unit: UnitName,
+    file: FileId,
+    bytes: &[u8],
+    files: &mut F,
+) -> Option<UnitFault>
+    requires open { IsOpen (F.state files.old) file.0 }
+    requires writable { IsWritable (F.state files.old) file.0 }
+    ensures files { (F.state files.new).files ≡ changed (F.state files.old).files
+        (name_at (F.state files.old).opened file.0) (written_back (option_map failure_in result) bytes.now) }
+    ensures opened { (F.state files.new).opened ≡ (F.state files.old).opened }
+    ensures part { IfSome result (λ f. f.done ≤ length bytes.now) }
+    ensures cause { WriteCause result unit file (F.state files.old) (F.state files.new) }
+{
+    match files.write_at(file, 0, bytes) {
+        Ok(()) => None,
+        Err(fault) => Some(UnitFault {
+            unit,
+            file: Some(file),
+            call: FileCall::Write,
+            done: fault.done as u64,
+        }),
     }
 }
 

@@ -26,14 +26,14 @@ impl Attached {
     pub fn read_byte<F: Files>(&mut self, unit: UnitName, place: u64, files: &mut F) -> ByteAnswer
         requires unit { IsTrue (is_paper unit.kind) }
         requires place { place ≤ 8 ^ 8 }
-        requires open { AllOpen self.old (F.state files.old).opened }
+        requires open { AllOpen self.old.slots (F.state files.old).opened }
         ensures said { IsTrue F.tells → said_of_byte result ≡ read_act (failure_of_byte result)
-            (attachment_at (attachments_of self.old) unit) place (F.state files.old).files }
-        ensures may { MayRead result (attachment_at (attachments_of self.old) unit) place }
+            (attachment_at (attachments_of self.old.slots) unit) place (F.state files.old).files }
+        ensures may { MayRead result (attachment_at (attachments_of self.old.slots) unit) place }
         ensures same { self.new ≡ self.old }
         ensures files { (F.state files.new).files ≡ (F.state files.old).files }
         ensures opened { (F.state files.new).opened ≡ (F.state files.old).opened }
-        ensures cause { ByteCause result unit self.old (F.state files.old) (F.state files.new) }
+        ensures cause { ByteCause result unit self.old.slots (F.state files.old) (F.state files.new) }
     {
         match self.held_file(unit) {
             None => ByteAnswer::NoFile,
@@ -55,16 +55,16 @@ impl Attached {
     ) -> ByteAnswer
         requires unit { IsTrue (is_paper unit.kind) }
         requires place { place ≤ 8 ^ 8 }
-        requires writable { IsTrue (may_write self.old unit) }
-        requires open { AllOpen self.old (F.state files.old).opened }
+        requires writable { IsTrue (may_write self.old.slots unit) }
+        requires open { AllOpen self.old.slots (F.state files.old).opened }
         ensures said { said_of_byte result ≡ write_act (failure_of_byte result)
-            (attachment_at (attachments_of self.old) unit) place }
+            (attachment_at (attachments_of self.old.slots) unit) place }
         ensures part { WroteAtMostOne result }
         ensures same { self.new ≡ self.old }
         ensures files { (F.state files.new).files ≡ write_files (failure_of_byte result)
-            (attachment_at (attachments_of self.old) unit) place byte (F.state files.old).files }
+            (attachment_at (attachments_of self.old.slots) unit) place byte (F.state files.old).files }
         ensures opened { (F.state files.new).opened ≡ (F.state files.old).opened }
-        ensures cause { ByteCause result unit self.old (F.state files.old) (F.state files.new) }
+        ensures cause { ByteCause result unit self.old.slots (F.state files.old) (F.state files.new) }
     {
         match self.writable_file(unit) {
             None => ByteAnswer::NoFile,

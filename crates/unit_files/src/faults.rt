@@ -35,6 +35,16 @@ pub enum DetachFault {
     Failed(UnitFault),
 }
 
+/// What came of a sector of the disk.
+#[derive(Clone, Copy, Debug, PartialEq, Eq)]
+pub enum SectorAnswer {
+    Done,
+    /// The disk has no file.
+    NoFile,
+    /// Its file is only read.
+    ReadOnly,
+}
+
 /// What came of a byte of a unit's file.
 #[derive(Clone, Copy, Debug, PartialEq, Eq)]
 pub enum ByteAnswer {

@@ -3,11 +3,13 @@
 
 pub mod attached;
 pub mod bytes;
+pub mod disk;
 pub mod faults;
 pub mod modes;
 mod opening;
 mod slots;
 
 pub use attached::Attached;
-pub use faults::{AttachFault, ByteAnswer, DetachFault, UnitFault};
+pub use disk::SECTOR_BYTES;
+pub use faults::{AttachFault, ByteAnswer, DetachFault, SectorAnswer, UnitFault};
 pub use modes::AttachMode;

@@ -1,5 +1,5 @@
 ghost use Rattle.std.specs.Prelude.{◌≡◌, ◌≤◌};
-ghost use Rattle.unit_files.specs.Attachments.{file_place, only_writes, longest_file};
+ghost use Rattle.unit_files.specs.Attachments.{file_place, is_disk, only_writes, longest_file};
 
 use host_files::FileId;
 use unit_trait::{Kind, UnitName, units_of};
@@ -7,12 +7,23 @@ use unit_trait::{Kind, UnitName, units_of};
 /// How many units can have a file.
 pub(crate) const FILE_UNITS: usize = 12;
 
+/// How many bytes the image of a disk may have.
+pub(crate) const DISK_BYTES: usize = 4_194_304;
+
 /// The file of a unit: its number, its name, and whether it is only read.
 #[derive(Drop)]
 pub(crate) struct UnitFile {
     pub(crate) file: FileId,
     pub(crate) name: String,
     pub(crate) read_only: bool,
+}
+
+/// The disk's copy of its file, and whether a sector was written that is not written back yet. No bytes where it has no
+/// file.
+#[derive(Drop)]
+pub(crate) struct DiskCopy {
+    pub(crate) bytes: Vec<u8>,
+    pub(crate) written: bool,
 }
 
 /// The place of a unit among those that can have a file, in bus order; past them for any other.
@@ -32,6 +43,13 @@ pub(crate) fn place_of(unit: UnitName) -> usize
     }
 }
 
+/// Whether that is the disk.
+pub(crate) fn is_disk(kind: Kind) -> bool
+    ensures { result ≡ is_disk kind }
+{
+    matches!(kind, Kind::Dsk)
+}
+
 /// Whether the units of a kind only write.
 pub(crate) fn only_writes(kind: Kind) -> bool
     ensures { result ≡ only_writes kind }
@@ -48,6 +66,7 @@ pub(crate) fn longest_file(kind: Kind) -> u64
     ensures { result ≡ longest_file kind }
 {
     match kind {
+        Kind::Dsk => DISK_BYTES as u64,
         Kind::Mta => 67_108_864,
         _ => 16_777_216,
     }

@@ -1,8 +1,8 @@
--- The device table: what a device says to each call, by its kind and what its registers hold. Devices that this version
--- of the program does not have say nothing.
+-- The device table: what a device says to each call, by its kind and what its registers hold. Kinds that are not built
+-- yet say nothing.
 use Rattle.std.specs.Prelude.{ℕ, ◌<◌, ◌≤◌, ◌%◌, ◌^◌, ◌&&◌, Bool, IsTrue, true, false, nat_le, List, [], ◌∷◌, slice_index, map, Option, Some, None}
 use Rattle.unit_trait.specs.declared.kind.Kind.{Kind}
-use Rattle.unit_trait.specs.declared.kind.Kind.TheVariants.{Lpt, Ptr, Ptp, Clk, Tti, Tto, Tti1, Tto1}
+use Rattle.unit_trait.specs.declared.kind.Kind.TheVariants.{Dsk, Lpt, Ptr, Ptp, Clk, Tti, Tto, Tti1, Tto1}
 use Rattle.unit_trait.specs.declared.calls.Queue.{Queue}
 use Rattle.unit_trait.specs.declared.calls.Queue.TheVariants.{Keep, Cancel, After}
 use Rattle.unit_trait.specs.declared.calls.Want.{Want}
@@ -12,6 +12,7 @@ use Rattle.unit_trait.specs.declared.calls.Got.TheVariants.{Done, Byte}
 use Rattle.unit_trait.specs.Device.{Register, position}
 use Rattle.unit_trait.specs.Registers.{registers}
 use Rattle.unit_trait.specs.Calls.{UnitState, UnitCall, Row, holds}
+use Rattle.unit_trait.specs.Disk.{disk_row}
 use Rattle.unit_trait.specs.Printer.{printer_row}
 use Rattle.unit_trait.specs.Reader.{reader_row}
 use Rattle.unit_trait.specs.Punch.{punch_row}
@@ -28,6 +29,7 @@ abbrev pub line_want : ℕ → ℕ → Want
 line_want line character = LinePut line character
 
 unfoldable pub row_of : Kind → List ℕ → UnitCall → Row
+row_of Dsk registers call = disk_row registers call
 row_of Lpt registers call = printer_row registers call
 row_of Ptr registers call = reader_row registers call
 row_of Ptp registers call = punch_row registers call

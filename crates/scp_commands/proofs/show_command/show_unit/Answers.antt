@@ -1,6 +1,7 @@
-use Rattle.std.proofs.Common.{◌∙◌, List, Option, sym, subst}
+use Rattle.std.proofs.Common.{◌∙◌, sym, subst}
 use Rattle.host_files.specs.Streams.{Puts}
-use Rattle.unit_files.specs.Attachments.{Held, attachments_of, attachment_at}
+use Rattle.unit_files.specs.Attachments.{attachments_of, attachment_at}
+use Rattle.unit_files.specs.Buffer.{AttachedFiles}
 use Rattle.scp_commands.specs.FileEffects.{unit_line}
 use Rattle.scp_commands.proofs.ShowLemmas.{unit-refused, unit-does}
 use Rattle.scp_commands.proofs.show_command.show_unit.Goals as goal
@@ -15,5 +16,5 @@ returns-clause-told g c = λ keys files.
     let after = g.S.Sink.written c.put_unit-printed.new.out in
     unit-does c.args.machine.now keys files c.args.unit c.put_unit-printed.result c.told_or_console.result g.S.Sink.tells before after (sym c.lacks_unit.ensures ∙ c.if-lacks_unit.false)
     c.told_or_console.ensures
-    (λ t. subst (λ (slots : List (Option Held)). Puts before (unit_line c.args.unit (attachment_at (attachments_of slots) c.args.unit)) c.put_unit-printed.result after) c.attached.ensures
+    (λ t. subst (λ (a : AttachedFiles). Puts before (unit_line c.args.unit (attachment_at (attachments_of a.slots) c.args.unit)) c.put_unit-printed.result after) c.attached.ensures
     (c.put_unit-printed.ensures.told t))

@@ -1,7 +1,8 @@
 use Rattle.std.proofs.Common.{Ok, Err, ◌≡◌, ℕ, refl, ap, sym, ◌∙◌, subst, arith}
 use Rattle.unit_files.specs.Attachments.{attachments_of}
 use Rattle.fault_notes.specs.Notes.{notes_said}
-use Rattle.nova_machine.specs.Machine.{MachineState, with_slots}
+use Rattle.unit_files.specs.Buffer.{AttachedFiles}
+use Rattle.nova_machine.specs.Machine.{MachineState, with_attached_files}
 use Rattle.nova_machine.specs.Seen.{seen}
 use Rattle.scp_commands.specs.declared.next.Next.TheVariants.{Go}
 use Rattle.scp_commands.specs.Doing.{Keeps}
@@ -32,15 +33,15 @@ returns-in-Ok-clause-told g c = λ tells text told.
     let held = c.attached_mut.result.now in
     let done = c.in-Ok.ensures in
     rw (← c.session.view_is)
-    (attach-done s.command c.stamp_of-stamp.result c.mode_of-mode.result (seen s.keys before.files s.machine) (seen s.keys after.files c.set_position.new.machine) (attachments_of held)
+    (attach-done s.command c.stamp_of-stamp.result c.mode_of-mode.result (seen s.keys before.files s.machine) (seen s.keys after.files c.set_position.new.machine) (attachments_of held.slots)
     c.args.option c.args.unit c.args.name.now (Ok c.in-Ok.count) (Ok Go) tells text s.notes.items new.notes.items
-    (c.stamp_of-stamp.ensures ∙ ap stamp_in (sym c.session.view_is)) c.mode_of-mode.ensures (ap attachments_of c.attached_mut.ensures.value ∙ sym (attached-erased s.machine))
+    (c.stamp_of-stamp.ensures ∙ ap stamp_in (sym c.session.view_is)) c.mode_of-mode.ensures (ap (λ (a : AttachedFiles). attachments_of a.slots) c.attached_mut.ensures.value ∙ sym (attached-erased s.machine))
     refl (sym c.lacks_unit.ensures ∙ c.if-lacks_unit.false) tt
     (record {
       said = done.said told;
       left = done.files told;
       becomes = becomes-attached s.keys before.files after.files s.machine c.set_position.new.machine new.attached held c.mode_of-mode.result c.args.unit c.args.name.now c.in-Ok.count c.first_place.result
-          c.attached_mut.ensures.value done.attached c.first_place.ensures.place c.set_position.ensures;
+          c.attached_mut.ensures.value done.attached (done.disk told) c.first_place.ensures.place c.set_position.ensures;
       noted = done.notes;
     }))
 
@@ -53,9 +54,9 @@ returns-in-Err-clause-told g c = λ tells text told.
     let held = c.attached_mut.result.now in
     let done = c.in-Err.ensures in
     rw (← c.session.view_is)
-    (attach-done s.command c.stamp_of-stamp.result c.mode_of-mode.result (seen s.keys before.files s.machine) (seen s.keys after.files (with_slots s.machine new.attached)) (attachments_of held)
+    (attach-done s.command c.stamp_of-stamp.result c.mode_of-mode.result (seen s.keys before.files s.machine) (seen s.keys after.files (with_attached_files s.machine new.attached)) (attachments_of held.slots)
     c.args.option c.args.unit c.args.name.now (Err c.in-Err.fault) (Err c.of_attach.result) tells text s.notes.items new.notes.items
-    (c.stamp_of-stamp.ensures ∙ ap stamp_in (sym c.session.view_is)) c.mode_of-mode.ensures (ap attachments_of c.attached_mut.ensures.value ∙ sym (attached-erased s.machine))
+    (c.stamp_of-stamp.ensures ∙ ap stamp_in (sym c.session.view_is)) c.mode_of-mode.ensures (ap (λ (a : AttachedFiles). attachments_of a.slots) c.attached_mut.ensures.value ∙ sym (attached-erased s.machine))
     (ap Err c.of_attach.ensures) (sym c.lacks_unit.ensures ∙ c.if-lacks_unit.false) done.own
     (record {
       said = done.said told;

@@ -1,7 +1,8 @@
 use Rattle.std.proofs.Common.{Err, ◌≡◌, ap, sym, ◌∙◌}
 use Rattle.unit_files.specs.Attachments.{attachments_of}
 use Rattle.fault_notes.specs.Notes.{notes_said}
-use Rattle.nova_machine.specs.Machine.{with_slots}
+use Rattle.unit_files.specs.Buffer.{AttachedFiles}
+use Rattle.nova_machine.specs.Machine.{with_attached_files}
 use Rattle.nova_machine.specs.Seen.{seen}
 use Rattle.scp_commands.proofs.SeenLemmas.{attached-erased}
 use Rattle.scp_commands.proofs.BehindLemmas.{stamp_in}
@@ -26,14 +27,15 @@ returns-clause-told g c = λ tells text.
     let after = g.F.Files.state c.detach_unit.new.files in
     let new = c.detach_unit.new in
     let held = c.attached_mut.result.now in
+    let are = ap (λ (a : AttachedFiles). attachments_of a.slots) c.attached_mut.ensures.value ∙ sym (attached-erased s.machine) in
     rw (← c.session.view_is)
-    (detach-done s.command c.stamp_of-stamp.result (seen s.keys before.files s.machine) (seen s.keys after.files (with_slots s.machine new.attached)) (attachments_of held)
+    (detach-done s.command c.stamp_of-stamp.result (seen s.keys before.files s.machine) (seen s.keys after.files (with_attached_files s.machine new.attached)) (attachments_of held.slots) held.disk
     c.args.unit c.detach_unit.result c.match-detach_unit.result tells text s.notes.items new.notes.items
-    (c.stamp_of-stamp.ensures ∙ ap stamp_in (sym c.session.view_is)) (ap attachments_of c.attached_mut.ensures.value ∙ sym (attached-erased s.machine)) answered (sym c.lacks_unit.ensures ∙ c.if-lacks_unit.false)
-    c.detach_unit.ensures.said
-    (detached-live s.keys before.files after.files s.machine new.attached held c.args.unit c.detach_unit.result c.attached_mut.ensures.value
-    c.detach_unit.ensures.attached c.detach_unit.ensures.refused c.detach_unit.ensures.files)
-    c.detach_unit.ensures.nothing c.detach_unit.ensures.notes)
+    (c.stamp_of-stamp.ensures ∙ ap stamp_in (sym c.session.view_is)) are (ap (λ (a : AttachedFiles). a.disk) c.attached_mut.ensures.value) answered (sym c.lacks_unit.ensures ∙ c.if-lacks_unit.false)
+    (record { said = c.detach_unit.ensures.said; left = c.detach_unit.ensures.files; noted = c.detach_unit.ensures.notes })
+    (detached-live s.keys after.files s.machine new.attached held c.args.unit c.detach_unit.result c.attached_mut.ensures.value
+    c.detach_unit.ensures.attached c.detach_unit.ensures.disk c.detach_unit.ensures.refused)
+    c.detach_unit.ensures.own)
 
 pub returns-clause-keeps : goal.returns-clause-keeps
 returns-clause-keeps g c =
@@ -43,7 +45,6 @@ returns-clause-keeps g c =
     ] in
     let s = c.session.inside in
     rw (← c.session.view_is)
-    (detach-keeps s.command s.machine.time c.stamp_of-stamp.result g.F.Files.tells c.args.unit (attachments_of c.attached_mut.result.now) c.detach_unit.result c.match-detach_unit.result
+    (detach-keeps s.command s.machine.time c.stamp_of-stamp.result g.F.Files.tells c.args.unit (attachments_of c.attached_mut.result.now.slots) c.attached_mut.result.now.disk c.detach_unit.result c.match-detach_unit.result
     s.notes.items c.detach_unit.new.notes.items (g.F.Files.state c.args.files.now) (g.F.Files.state c.detach_unit.new.files)
-    (c.stamp_of-stamp.ensures ∙ ap stamp_in (sym c.session.view_is)) answered c.detach_unit.ensures.notes c.detach_unit.ensures.counted c.detach_unit.ensures.said c.detach_unit.ensures.own
-    c.detach_unit.ensures.nothing)
+    (c.stamp_of-stamp.ensures ∙ ap stamp_in (sym c.session.view_is)) answered c.detach_unit.ensures.notes c.detach_unit.ensures.counted c.detach_unit.ensures.said c.detach_unit.ensures.own)

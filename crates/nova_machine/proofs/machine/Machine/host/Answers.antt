@@ -14,7 +14,7 @@ use Rattle.nova_machine.proofs.machine.Machine.host.Goals as goal
 pub returns-in-ReadByte-clause-said : goal.returns-in-ReadByte-clause-said
 returns-in-ReadByte-clause-said g c = λ told.
     let slots = c.args.self.now.slots in
-    let same : c.self.inside.attached ≡ slots = ap (λ (m : MachineState). m.slots) c.self.view_is in
+    let same : c.self.inside.attached.slots ≡ slots = ap (λ (m : MachineState). m.slots) c.self.view_is in
     let a = attachment_at (attachments_of slots) c.args.unit in
     let files = (g.F.Files.state c.args.files.now).files in
     let key = due_key c.args.keys.now c.args.self.now.taken c.args.self.now.time in
@@ -31,11 +31,11 @@ pub returns-in-ReadByte-clause-room : goal.returns-in-ReadByte-clause-room
 returns-in-ReadByte-clause-room g c =
     subst (λ (o : Hosted). HasRoom c.args.want o) (sym c.made_of.ensures)
     (subst (λ (w : Want). HasRoom w (hosted_of c.read_byte.result)) (sym c.in-ReadByte.is)
-    (read-room c.read_byte.result (attachment_at (attachments_of c.self.inside.attached) c.args.unit) c.in-ReadByte.place c.read_byte.ensures.may))
+    (read-room c.read_byte.result (attachment_at (attachments_of c.self.inside.attached.slots) c.args.unit) c.in-ReadByte.place c.read_byte.ensures.may))
 
 pub returns-in-WriteByte-clause-room : goal.returns-in-WriteByte-clause-room
 returns-in-WriteByte-clause-room g c =
     subst (λ (o : Hosted). HasRoom c.args.want o) (sym c.made_of-in-WriteByte.ensures)
     (subst (λ (w : Want). HasRoom w (hosted_of c.write_byte.result)) (sym c.in-WriteByte.is)
-    (write-room c.write_byte.result (attachment_at (attachments_of c.self-in-WriteByte.inside.attached) c.args.unit) c.in-WriteByte.place c.in-WriteByte.byte
+    (write-room c.write_byte.result (attachment_at (attachments_of c.self-in-WriteByte.inside.attached.slots) c.args.unit) c.in-WriteByte.place c.in-WriteByte.byte
     c.write_byte.ensures.said))

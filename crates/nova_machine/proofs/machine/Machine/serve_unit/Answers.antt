@@ -36,6 +36,3 @@ returns-in-Stops-clause-told g c = λ told.
     comes-stops c.args.unit c.args.keys.now files (g.F.Files.state c.host.new.files).files c.args.self.now c.ask-want.new.self c.host.new.self
     c.ask-want.result c.in-Stops.stop g.S.Sink.tells (g.S.Sink.written c.args.out.now) (g.S.Sink.written c.host.new.out)
     c.ask-want.ensures.machine c.ask-want.ensures.want made c.in-Stops.ensures.printed c.in-Stops.ensures.own
-
-pub returns-in-Stops-clause-unit : goal.returns-in-Stops-clause-unit
-returns-in-Stops-clause-unit g c = c.in-Stops.ensures.unit c.requires.number

@@ -19,8 +19,8 @@ returns-in-Ok-take_file-clause-open g c =
           record { name = c.args.name.now; read_only = is_read_only c.args.mode };
     } in
     let entry : Opened = record { file = c.in-Ok-take_file.taken.file.0; name = c.args.name.now; mode = is.how } in
-    let held : c.put.new.self ≡ with_held c.args.self.now c.args.unit (Some h) = search rules in
-    let all = open-attached c.args.self.now old.opened (file_place c.args.unit) h entry refl refl is.reading is.fresh
+    let held : c.put.new.self.slots ≡ with_held c.args.self.now.slots c.args.unit (Some h) = search rules in
+    let all = open-attached c.args.self.now.slots old.opened (file_place c.args.unit) h entry refl refl is.reading is.fresh
     c.requires.«open» in
     subst (λ (x : List (Option Held) × List Opened). AllOpen x.0 x.1) (λ i. (sym held i, sym is.opened i)) all
 
@@ -36,8 +36,8 @@ returns-in-Ok-take_file-clause-around g c = λ base around.
           record { name = c.args.name.now; read_only = is_read_only c.args.mode };
     } in
     let entry : Opened = record { file = c.in-Ok-take_file.taken.file.0; name = c.args.name.now; mode = is.how } in
-    let held : c.put.new.self ≡ with_held c.args.self.now c.args.unit (Some h) = search rules in
-    let none : held_at c.args.self.now c.args.unit ≡ None = search rules in
-    let more = around-attached c.args.self.now base old.opened (file_place c.args.unit) h entry refl none
+    let held : c.put.new.self.slots ≡ with_held c.args.self.now.slots c.args.unit (Some h) = search rules in
+    let none : held_at c.args.self.now.slots c.args.unit ≡ None = search rules in
+    let more = around-attached c.args.self.now.slots base old.opened (file_place c.args.unit) h entry refl none
     c.put.ensures.within is.fresh c.requires.«open» around in
     subst (λ (x : List (Option Held) × List Opened). Around x.0 base x.1) (λ i. (sym held i, sym is.opened i)) more

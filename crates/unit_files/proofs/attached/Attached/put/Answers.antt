@@ -1,9 +1,11 @@
-use Rattle.std.proofs.Common.{◌≡◌, map, length, Option, Some, ap, sym, ◌∙◌, refl}
+use Rattle.std.proofs.Common.{◌≡◌, ◌<◌, true, false, map, length, List, Option, Some, ap, sym, subst, ◌∙◌, refl, rules}
 use Rattle.std.proofs.lemmas.List.{length-set, length-map}
-use Rattle.unit_files.specs.Attachments.{attachments_of, writers_write}
-use Rattle.unit_files.specs.View.{slot_of, held_of}
+use Rattle.unit_files.specs.Attachments.{Held, attachments_of, writers_write, is_disk, file_place}
+use Rattle.unit_files.specs.Buffer.{AttachedFiles}
+use Rattle.unit_files.specs.View.{slot_of, held_of, CanWrite}
 use Rattle.unit_files.specs.declared.slots.UnitFile.{UnitFile}
 use Rattle.unit_files.proofs.Places.{view-set, attachments-set, writers-set, within}
+use Rattle.unit_files.proofs.Copies.{can-new, can-other}
 use Rattle.unit_files.proofs.attached.Attached.put.Goals as goal
 
 pub invariant_of-self : goal.invariant_of-self
@@ -11,26 +13,63 @@ invariant_of-self c =
     let items = c.self.inside.slots.items in
     let h : Option UnitFile = Some c.args.held in
     let view = view-set items c.place_of.result _ h (map slot_of items) c.place_of.ensures refl in
-    let long : length (map slot_of items) ≡ 12 = length-map items slot_of ∙ c.self.invariant.0 in (
+    let long : length (map slot_of items) ≡ 12 = length-map items slot_of ∙ c.self.invariant.0 in
+    let is : is_disk c.args.unit.kind ≡ true = search rules in (
       length-set items c.place_of.result h ∙ c.self.invariant.0,
       ap writers_write view
           ∙ writers-set (map slot_of items) c.args.unit (Some (held_of c.args.held)) long c.self.invariant.1
           c.requires.writers,
+      can-new _ _ (c.requires.room is) refl,
     )
 
-pub returns-clause-held : goal.returns-clause-held
-returns-clause-held c =
-    view-set c.self.inside.slots.items c.place_of.result _ (Some c.args.held) c.args.self.now c.place_of.ensures
-    c.self.view_is
+pub invariant_of-self-else-is_disk : goal.invariant_of-self-else-is_disk
+invariant_of-self-else-is_disk c =
+    let items = c.self.inside.slots.items in
+    let h : Option UnitFile = Some c.args.held in
+    let view = view-set items c.place_of.result _ h (map slot_of items) c.place_of.ensures refl in
+    let long : length (map slot_of items) ≡ 12 = length-map items slot_of ∙ c.self.invariant.0 in
+    let other : is_disk c.args.unit.kind ≡ false = search rules in (
+      length-set items c.place_of.result h ∙ c.self.invariant.0,
+      ap writers_write view
+          ∙ writers-set (map slot_of items) c.args.unit (Some (held_of c.args.held)) long c.self.invariant.1
+          c.requires.writers,
+      subst (λ (s : List (Option Held)). CanWrite s c.self.inside.disk) (sym view)
+          (can-other (map slot_of items) c.args.unit (Some (held_of c.args.held)) c.self.inside.disk other
+          c.self.invariant.2),
+    )
 
-pub returns-clause-attachments : goal.returns-clause-attachments
-returns-clause-attachments c =
-    ap attachments_of (view-set c.self.inside.slots.items c.place_of.result _ (Some c.args.held) c.args.self.now
-    c.place_of.ensures c.self.view_is)
-    ∙ attachments-set c.args.self.now c.args.unit (Some (held_of c.args.held))
+pub returns-then-is_disk-clause-held : goal.returns-then-is_disk-clause-held
+returns-then-is_disk-clause-held c =
+    view-set c.self.inside.slots.items c.place_of.result _ (Some c.args.held) c.args.self.now.slots c.place_of.ensures
+    (ap (λ (a : AttachedFiles). a.slots) c.self.view_is)
 
-pub returns-clause-within : goal.returns-clause-within
-returns-clause-within c =
-    let long : length c.args.self.now ≡ 12 = ap length (sym c.self.view_is)
+pub returns-then-is_disk-clause-attachments : goal.returns-then-is_disk-clause-attachments
+returns-then-is_disk-clause-attachments c =
+    ap attachments_of (view-set c.self.inside.slots.items c.place_of.result _ (Some c.args.held) c.args.self.now.slots
+    c.place_of.ensures (ap (λ (a : AttachedFiles). a.slots) c.self.view_is))
+    ∙ attachments-set c.args.self.now.slots c.args.unit (Some (held_of c.args.held))
+
+pub returns-then-is_disk-clause-within : goal.returns-then-is_disk-clause-within
+returns-then-is_disk-clause-within c =
+    let long : length c.args.self.now.slots ≡ 12 =
+    ap (λ (a : AttachedFiles). length a.slots) (sym c.self.view_is)
     ∙ length-map c.self.inside.slots.items slot_of ∙ c.self.invariant.0 in
-    within c.args.self.now c.args.unit long c.requires.unit
+    within c.args.self.now.slots c.args.unit long c.requires.unit
+
+pub returns-else-is_disk-clause-held : goal.returns-else-is_disk-clause-held
+returns-else-is_disk-clause-held c =
+    view-set c.self.inside.slots.items c.place_of.result _ (Some c.args.held) c.args.self.now.slots c.place_of.ensures
+    (ap (λ (a : AttachedFiles). a.slots) c.self.view_is)
+
+pub returns-else-is_disk-clause-attachments : goal.returns-else-is_disk-clause-attachments
+returns-else-is_disk-clause-attachments c =
+    ap attachments_of (view-set c.self.inside.slots.items c.place_of.result _ (Some c.args.held) c.args.self.now.slots
+    c.place_of.ensures (ap (λ (a : AttachedFiles). a.slots) c.self.view_is))
+    ∙ attachments-set c.args.self.now.slots c.args.unit (Some (held_of c.args.held))
+
+pub returns-else-is_disk-clause-within : goal.returns-else-is_disk-clause-within
+returns-else-is_disk-clause-within c =
+    let long : length c.args.self.now.slots ≡ 12 =
+    ap (λ (a : AttachedFiles). length a.slots) (sym c.self.view_is)
+    ∙ length-map c.self.inside.slots.items slot_of ∙ c.self.invariant.0 in
+    within c.args.self.now.slots c.args.unit long c.requires.unit

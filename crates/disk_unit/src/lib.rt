@@ -1,0 +1,6 @@
+//! The fixed-head disk, a device of the machine.
+#![tactic(auto)]
+
+pub mod disk;
+
+pub use disk::Dsk;

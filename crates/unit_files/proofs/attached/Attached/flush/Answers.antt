@@ -1,0 +1,45 @@
+use Rattle.std.proofs.Common.{◌≡◌, true, Option, Some, None, IsTrue, List, ℕ, sym, ap, ◌∙◌, refl, rules}
+use Rattle.host_files.specs.Lists.{changed}
+use Rattle.host_files.specs.State.{name_at}
+use Rattle.unit_files.specs.Acts.{Failure, is_due_back, written_back}
+use Rattle.unit_files.specs.Answers.{failure_in}
+use Rattle.unit_files.specs.Buffer.{AttachedFiles}
+use Rattle.unit_files.specs.View.{HoldsFile}
+use Rattle.unit_files.proofs.Opened.{file-of, written-back-file}
+use Rattle.unit_files.proofs.attached.Attached.flush.Goals as goal
+
+pub write_copy-requires-clause-open : goal.write_copy-requires-clause-open
+write_copy-requires-clause-open g c =
+    let holds : HoldsFile c.args.self.now.slots c.args.unit c.in-Some.field-0 = c.in-Some.ensures in
+    (file-of _ _ _ (g.F.Files.state c.args.files.now).opened c.requires.«open» holds).is_open
+
+pub write_copy-requires-clause-writable : goal.write_copy-requires-clause-writable
+write_copy-requires-clause-writable g c =
+    let holds : HoldsFile c.args.self.now.slots c.args.unit c.in-Some.field-0 = c.in-Some.ensures in
+    (file-of _ _ _ (g.F.Files.state c.args.files.now).opened c.requires.«open» holds).writable
+    (c.is_due_back.ensures.writable (search rules))
+
+pub returns-in-None-write_copy-clause-files : goal.returns-in-None-write_copy-clause-files
+returns-in-None-write_copy-clause-files g c =
+    let old = g.F.Files.state c.args.files.now in
+    let holds : HoldsFile c.args.self.now.slots c.args.unit c.in-Some.field-0 = c.in-Some.ensures in
+    let of = file-of _ _ _ old.opened c.requires.«open» holds in
+    let due : is_due_back c.args.unit c.args.self.now.disk ≡ true = search rules in
+    let same = c.as_slice.ensures.value ∙ ap (λ (a : AttachedFiles). a.disk.bytes) c.self.view_is in
+    c.in-None-write_copy.ensures.files
+    ∙ (λ i. changed old.files (name_at old.opened c.in-Some.field-0.0) (written_back None (same i)))
+    ∙ sym (written-back-file None c.args.unit _ holds.held.attachment c.args.self.now.disk old.files _ holds.attachment
+    of.name due)
+
+pub returns-in-Some-write_copy-clause-files : goal.returns-in-Some-write_copy-clause-files
+returns-in-Some-write_copy-clause-files g c =
+    let old = g.F.Files.state c.args.files.now in
+    let fault = Some (failure_in c.in-Some-write_copy.fault) in
+    let holds : HoldsFile c.args.self.now.slots c.args.unit c.in-Some.field-0 = c.in-Some.ensures in
+    let of = file-of _ _ _ old.opened c.requires.«open» holds in
+    let due : is_due_back c.args.unit c.args.self.now.disk ≡ true = search rules in
+    let same = c.as_slice.ensures.value ∙ ap (λ (a : AttachedFiles). a.disk.bytes) c.self.view_is in
+    c.in-Some-write_copy.ensures.files
+    ∙ (λ i. changed old.files (name_at old.opened c.in-Some.field-0.0) (written_back fault (same i)))
+    ∙ sym (written-back-file fault c.args.unit _ holds.held.attachment c.args.self.now.disk old.files _ holds.attachment
+    of.name due)
