@@ -2,5 +2,6 @@
 #![tactic(auto)]
 
 pub mod disk;
+pub mod dsk;
 
-pub use disk::Dsk;
+pub use dsk::Dsk;

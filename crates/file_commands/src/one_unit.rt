@@ -4,6 +4,7 @@ ghost use Rattle.host_files.specs.Lists.{bytes_of};
 ghost use Rattle.unit_files.specs.Attachments.{attachments_of, attachment_at, takes_attachment, longest_file, is_disk, IsFileName};
 ghost use Rattle.unit_files.specs.Acts.{attach_said, attach_files, attached_by, buffer_by, refused_first};
 ghost use Rattle.unit_files.specs.Acts.{detach_said, detached_by, buffer_left, flush_files};
+ghost use Rattle.unit_files.specs.Causes.{DetachCause};
 ghost use Rattle.unit_files.specs.Answers.{said_of_attach, said_of_detach, first_refusal, IfNoMemory};
 ghost use Rattle.unit_files.specs.Open.{AllOpen, Around};
 ghost use Rattle.fault_notes.specs.declared.note.Subject.TheVariants as subjects;
@@ -97,6 +98,7 @@ pub fn detach_unit<F: Files>(
     ensures counted { AreCounted (kept_of stamp (fault_of_detach result)) (F.state files.old) (F.state files.new) }
     ensures own { IfSome (fault_of_detach result) (λ f. f.unit ≡ unit) }
     ensures nothing { is_disk unit.kind ≡ false → HoldsNothing result }
+    ensures cause { DetachCause result unit attached.old.slots (F.state files.old) (F.state files.new) }
     ensures open { AllOpen attached.new.slots (F.state files.new).opened }
     ensures around { (base : List Opened) → Around attached.old.slots base (F.state files.old).opened
         → Around attached.new.slots base (F.state files.new).opened }

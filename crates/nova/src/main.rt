@@ -4,6 +4,10 @@
 #![tactic(auto)]
 
 ghost use Rattle.std.specs.Prelude.{◌≡◌, ◌⊎◌, None, IfOk, map};
+ghost use Rattle.unit_trait.specs.declared.kind.Kind.TheVariants.{Dsk as disks, Lpt as printers, Ptr as readers};
+ghost use Rattle.unit_trait.specs.declared.kind.Kind.TheVariants.{Ptp as punches, Clk as clocks, Tti as keyboards};
+ghost use Rattle.unit_trait.specs.declared.kind.Kind.TheVariants.{Tto as teleprinters};
+ghost use Rattle.unit_trait.specs.Row.{initial_unit};
 ghost use Rattle.nova_top.specs.Standard.{IsStandard};
 ghost use Rattle.std.specs.Process.{exit_status};
 ghost use Rattle.nova_top.specs.Words.{options_of, texts_of};
@@ -12,6 +16,7 @@ mod session;
 mod words;
 
 use clock_unit::Clk;
+use disk_unit::Dsk;
 use host_adapters::{PagedFiles, ReaderSource, RealFiles, WriterSink};
 use host_files::{Sink, Source};
 use paper_tape::{Lpt, Ptp, Ptr};
@@ -57,15 +62,77 @@ where
     ensures bad_words { options_of (texts_of words.now) ≡ None
         → IfOk result (λ code. (exit_status code ≡ 100) ⊎ (exit_status code ≡ 102)) }
 {
+    let disk: Box<dyn Unit> = Box::new(rt.alloc(), Dsk::new())?;
+    let printer: Box<dyn Unit> = Box::new(rt.alloc(), Lpt::new())?;
+    let reader: Box<dyn Unit> = Box::new(rt.alloc(), Ptr::new())?;
+    let punch: Box<dyn Unit> = Box::new(rt.alloc(), Ptp::new())?;
+    let clock: Box<dyn Unit> = Box::new(rt.alloc(), Clk::new())?;
+    let keyboard: Box<dyn Unit> = Box::new(rt.alloc(), Tti::new())?;
+    let teleprinter: Box<dyn Unit> = Box::new(rt.alloc(), Tto::new())?;
+    with_units(
+        rt,
+        words,
+        disk,
+        printer,
+        reader,
+        punch,
+        clock,
+        keyboard,
+        teleprinter,
+    )
+}
+
+/// Runs a session with these units, in bus order.
+fn with_units<U: Unit, R: Input + Print + AllocGlobal + System>(
+    rt: &R,
+    words: &[String],
+    disk: U,
+    printer: U,
+    reader: U,
+    punch: U,
+    clock: U,
+    keyboard: U,
+    teleprinter: U,
+) -> Result<ExitCode, OutOfMemory>
+where
+    R::File: FileExt,
+    requires disk { U.unit_state disk ≡ initial_unit disks }
+    requires printer { U.unit_state printer ≡ initial_unit printers }
+    requires reader { U.unit_state reader ≡ initial_unit readers }
+    requires punch { U.unit_state punch ≡ initial_unit punches }
+    requires clock { U.unit_state clock ≡ initial_unit clocks }
+    requires keyboard { U.unit_state keyboard ≡ initial_unit keyboards }
+    requires teleprinter { U.unit_state teleprinter ≡ initial_unit teleprinters }
+    ensures usage { IfOk result (λ code. exit_status code ≡ 100 → options_of (texts_of words.now) ≡ None) }
+    ensures bad_words { options_of (texts_of words.now) ≡ None
+        → IfOk result (λ code. (exit_status code ≡ 100) ⊎ (exit_status code ≡ 102)) }
+{
+    let mut units = Vec::new(rt.alloc());
+    units.push(disk)?;
+    units.push(printer)?;
+    units.push(reader)?;
+    units.push(punch)?;
+    units.push(clock)?;
+    units.push(keyboard)?;
+    units.push(teleprinter)?;
+    with_streams(rt, words, units)
+}
+
+/// Runs a session with these units over the runtime's standard streams and files.
+fn with_streams<U: Unit, R: Input + Print + AllocGlobal + System>(
+    rt: &R,
+    words: &[String],
+    units: Vec<U>,
+) -> Result<ExitCode, OutOfMemory>
+where
+    R::File: FileExt,
+    requires { IsStandard (map U.unit_state units.items) }
+    ensures usage { IfOk result (λ code. exit_status code ≡ 100 → options_of (texts_of words.now) ≡ None) }
+    ensures bad_words { options_of (texts_of words.now) ≡ None
+        → IfOk result (λ code. (exit_status code ≡ 100) ⊎ (exit_status code ≡ 102)) }
+{
     let mut input = ReaderSource::new(rt.alloc(), rt.reader())?;
     let mut output = WriterSink::new(io::writer(rt));
-    let mut units: Vec<Box<dyn Unit>> = Vec::new(rt.alloc());
-    units.push(Box::new(rt.alloc(), Lpt::new())?)?;
-    units.push(Box::new(rt.alloc(), Ptr::new())?)?;
-    units.push(Box::new(rt.alloc(), Ptp::new())?)?;
-    units.push(Box::new(rt.alloc(), Clk::new())?)?;
-    units.push(Box::new(rt.alloc(), Tti::new())?)?;
-    units.push(Box::new(rt.alloc(), Tto::new())?)?;
     with_files(rt, words, units, &mut input, &mut output)
 }
 

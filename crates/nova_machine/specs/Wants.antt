@@ -1,9 +1,10 @@
 -- What the machine does for a unit whose event is due.
-use Rattle.std.specs.Prelude.{ℕ, ◌+◌, ◌<◌, ◌==◌, ◌≡◌, List, [], ◌∷◌, Option, Some, None, Result, Ok, Err, if◌then◌else◌}
+use Rattle.std.specs.Prelude.{ℕ, ◌+◌, ◌<◌, ◌==◌, ◌≡◌, false, List, [], ◌∷◌, Option, Some, None, Result, Ok, Err, if◌then◌else◌}
 use Rattle.observations.specs.Observations.{Observation, Prints}
 use Rattle.host_files.specs.declared.files.FileCall.{FileCall}
 use Rattle.host_files.specs.declared.files.FileCall.TheVariants as call
 use Rattle.host_files.specs.Lists.{NamedBytes}
+use Rattle.unit_trait.specs.declared.kind.Kind.{Kind}
 use Rattle.unit_trait.specs.declared.kind.UnitName.{UnitName}
 use Rattle.unit_trait.specs.Kinds.{units_of}
 use Rattle.unit_trait.specs.declared.calls.Want.{Want}
@@ -12,7 +13,7 @@ use Rattle.unit_trait.specs.declared.calls.Got.{Got}
 use Rattle.unit_trait.specs.declared.calls.Got.TheVariants as got
 use Rattle.unit_trait.specs.declared.calls.UnitStop.{UnitStop}
 use Rattle.unit_trait.specs.declared.calls.UnitStop.TheVariants as unit_stop
-use Rattle.unit_files.specs.Attachments.{Attachment}
+use Rattle.unit_files.specs.Attachments.{Attachment, is_disk}
 use Rattle.unit_files.specs.Acts.{Failure, ByteSaid, ByteIs, WasWritten, AtEnd, NothingThere, ByteFailed, read_act, write_act, write_files}
 use Rattle.nova_machine.specs.Sectors.{got_of_sector, said_of_sector}
 use Rattle.nova_machine.specs.declared.machine.Stop.{Stop}
@@ -89,15 +90,15 @@ stop_by unit unit_stop.NoFile = Some (UnitNone unit)
 abbrev pub file_stop : UnitName → Failure → Stop
 file_stop unit f = FileFault (record { unit = unit; file = None; call = f.call; done = f.done })
 
--- a run makes no other call on a file
-abbrev pub IsByteCall : FileCall → Type 0
-IsByteCall call.Read = Unit {0}
-IsByteCall call.Write = Unit {0}
-IsByteCall call = ⊥
+-- a run makes no other call on a file, and none on the disk's
+abbrev pub IsByteCall : Kind → FileCall → Type 0
+IsByteCall kind call.Read = is_disk kind ≡ false
+IsByteCall kind call.Write = is_disk kind ≡ false
+IsByteCall kind call = ⊥
 
 -- The unit that a stop names, if it names one, is a unit of its kind, and a call of a run is one on a byte.
 abbrev pub HasUnit : Stop → Type 0
 HasUnit (UnitEnd unit) = unit.unit < units_of unit.kind
 HasUnit (UnitNone unit) = unit.unit < units_of unit.kind
-HasUnit (FileFault f) = (f.unit.unit < units_of f.unit.kind) × IsByteCall f.call
+HasUnit (FileFault f) = (f.unit.unit < units_of f.unit.kind) × IsByteCall f.unit.kind f.call
 HasUnit stop = Unit {0}

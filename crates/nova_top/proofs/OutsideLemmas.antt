@@ -9,7 +9,7 @@ use Rattle.expect_actions.specs.KeysFile.{Key}
 use Rattle.nova_machine.specs.Machine.{MachineState}
 use Rattle.nova_machine.specs.Seen.{seen}
 use Rattle.scp_script.specs.declared.progress.Finish.{Finish}
-use Rattle.scp_script.specs.declared.progress.Finish.TheVariants.{Exit, EndOfInput, Commands, Console, Input, OutOfMemory}
+use Rattle.scp_script.specs.declared.progress.Finish.TheVariants.{Exit, EndOfInput, FlushFailed, Commands, Console, Input, OutOfMemory}
 use Rattle.scp_script.specs.Lines.{reads_left}
 use Rattle.scp_script.specs.Session.{State, trace}
 use Rattle.scp_script.specs.Loop.{IsExitStatus, LetsThrough, status_of}
@@ -96,6 +96,7 @@ session-cut words options keys script files input own takes gives status made ta
 failed-lets : (finish : Finish) (gives made all : ℕ) → LetsThrough finish gives made all → IsExitStatus finish → status_of finish ≡ 106 → gives ≡ made
 failed-lets (Exit status) gives made all h small s = absurd (omega (arith, small, s))
 failed-lets EndOfInput gives made all h small s = absurd (omega (arith, s))
+failed-lets FlushFailed gives made all h small s = absurd (omega (arith, s))
 failed-lets Commands gives made all h small s = absurd (omega (arith, s))
 failed-lets Console gives made all h small s = absurd (omega (arith, s))
 failed-lets Input gives made all h small s = h
@@ -104,6 +105,7 @@ failed-lets OutOfMemory gives made all h small s = absurd (omega (arith, s))
 other-lets : (finish : Finish) (gives made all : ℕ) → LetsThrough finish gives made all → status_of finish ≢ 106 → gives ≡ all
 other-lets (Exit status) gives made all h s = h
 other-lets EndOfInput gives made all h s = h
+other-lets FlushFailed gives made all h s = h
 other-lets Commands gives made all h s = h
 other-lets Console gives made all h s = h
 other-lets Input gives made all h s = absurd (s refl)

@@ -17,22 +17,24 @@ use Rattle.fault_notes.specs.declared.note.FaultNote.{FaultNote}
 use Rattle.fault_notes.specs.Notes.{CommandNote, Note, numbered, Follow, notes_said}
 use Rattle.fault_notes.specs.Counts.{one_if, is_of, is_opening, noted, openings_noted, RoseBy, AreCounted}
 use Rattle.fault_notes.proofs.Adding.{counted-both}
+use Rattle.file_commands.specs.AllUnits.{IsUnwritten}
+use Rattle.file_commands.proofs.Emptying.{unwritten-since}
 use Rattle.expect_actions.specs.KeysFile.{Key}
 use Rattle.nova_machine.specs.Machine.{MachineState, new_machine, reset_machine, reset_devices}
 use Rattle.nova_machine.specs.Seen.{seen, erased, attached_in}
 use Rattle.scp_commands.specs.Live.{Live, CommandState, live_in}
-use Rattle.scp_commands.specs.Doing.{IsClosing, ComeBehind}
+use Rattle.scp_commands.specs.Doing.{IsLate, ComeBehind}
 use Rattle.scp_script.specs.declared.progress.Finish.{Finish}
-use Rattle.scp_script.specs.declared.progress.Finish.TheVariants.{Exit, EndOfInput, Commands, Console, Input, OutOfMemory}
+use Rattle.scp_script.specs.declared.progress.Finish.TheVariants.{Exit, EndOfInput, FlushFailed, Commands, Console, Input, OutOfMemory}
 use Rattle.scp_script.specs.Session.{Session}
-use Rattle.scp_script.specs.Loop.{IsExitStatus, FinishCause, AreKept, MayFollow, status_of}
+use Rattle.scp_script.specs.Loop.{IsExitStatus, FinishCause, AreKept, KeptCause, MayFollow, status_of}
 use Rattle.scp_script.specs.declared.perform_session.Opening.{Opening}
 use Rattle.scp_script.specs.Perform.{beginning, beginning_with, IsSession, RunsShort, IsPerformed, Performed}
 use Rattle.nova_top.specs.declared.options.Options.{Options}
 use Rattle.nova_top.specs.Standard.{IsStandard, standard_units}
 use Rattle.nova_top.specs.Words.{options_of, texts_of}
 use Rattle.nova_top.specs.Outside.{Denial, Begins, Refused, denied, start_of, session_with, opening, usage_text, unopened_text}
-use Rattle.nova_top.specs.Ends.{IsOutcome, IsCutShort, HasKeysFile, HasScript, StatusCause, NoneFailed, IsComplete}
+use Rattle.nova_top.specs.Ends.{IsOutcome, IsCutShort, HasKeysFile, HasScript, StatusCause, NoneFailed, IsComplete, KeptUnwritten}
 use Rattle.nova_top.specs.declared.word_files.Refusal.{Refusal}
 use Rattle.nova_top.specs.declared.word_files.Refusal.TheVariants.{Unopened, BadKeys}
 use Rattle.nova_top.specs.declared.word_files.Refusal.TheVariants as refusal
@@ -51,7 +53,7 @@ no-slots : (units : List UnitState) (unit : UnitName) → attachment_at (attache
 unfolding new_machine reset_machine reset_devices
 no-slots units unit = none-attached file_units (file_place unit)
 
-no-closing : (units : List UnitState) (live : Live) (n : CommandNote) → live.machine ≡ erased (new_machine units) → IsClosing live n → ⊥
+no-closing : (units : List UnitState) (live : Live) (n : CommandNote) → live.machine ≡ erased (new_machine units) → IsLate live n → ⊥
 no-closing units live n new closing =
     let none = ap (λ (m : MachineState). attachment_at (attached_in m) closing.unit) new ∙ no-slots units closing.unit in
     let no : false ≡ true = subst (λ (a : Option Attachment). IsTrue (is_some a)) none closing.there in
@@ -147,6 +149,7 @@ performed-session : (start : Session) (finish : Finish) (live : Live) (left befo
     → IsSession start finish live left before after
 performed-session start (Exit status) live left before after s h = h
 performed-session start EndOfInput live left before after s h = h
+performed-session start FlushFailed live left before after s h = h
 performed-session start Commands live left before after s h = h
 performed-session start Console live left before after s h = h
 performed-session start Input live left before after s h = h
@@ -156,6 +159,7 @@ performed-short : (start : Session) (finish : Finish) (live : Live) (left before
     → RunsShort start live left before after
 performed-short start (Exit status) live left before after small s h = absurd (omega (arith, small, s))
 performed-short start EndOfInput live left before after small s h = absurd (omega (arith, s))
+performed-short start FlushFailed live left before after small s h = absurd (omega (arith, s))
 performed-short start Commands live left before after small s h = absurd (omega (arith, s))
 performed-short start Console live left before after small s h = absurd (omega (arith, s))
 performed-short start Input live left before after small s h = absurd (omega (arith, s))
@@ -256,6 +260,17 @@ finish-cause words options EndOfInput sink sink_now source source_now chosen c =
   input_only = λ _. c.input_only (λ e. cc);
   listed = inl (omega arith);
 }
+finish-cause words options FlushFailed sink sink_now source source_now chosen c = record {
+  usage = λ s. absurd (omega (arith, s));
+  bad_words = λ none. absurd (let both = sym chosen ∙ none in cc);
+  unopened = λ s. absurd (omega (arith, s));
+  bad_keys = λ s. absurd (omega (arith, s));
+  console = λ s. absurd (omega (arith, s));
+  input = λ s. absurd (omega (arith, s));
+  console_only = λ _. c.console_only (λ e. cc);
+  input_only = λ _. c.input_only (λ e. cc);
+  listed = inr (inr (inr (inr (inr (inr (inr (inr refl)))))));
+}
 finish-cause words options Commands sink sink_now source source_now chosen c = record {
   usage = λ s. absurd (omega (arith, s));
   bad_words = λ none. absurd (let both = sym chosen ∙ none in cc);
@@ -287,7 +302,7 @@ finish-cause words options Input sink sink_now source source_now chosen c = reco
   input = λ _. c.input refl;
   console_only = λ _. c.console_only (λ e. cc);
   input_only = λ s. absurd (s refl);
-  listed = inr (inr (inr (inr (inr (inr (inr refl))))));
+  listed = inr (inr (inr (inr (inr (inr (inr (inl refl)))))));
 }
 finish-cause words options OutOfMemory sink sink_now source source_now chosen c = record {
   usage = λ s. absurd (omega (arith, s));
@@ -463,3 +478,33 @@ complete-answer words input left before after files files' status machine items 
 pub session-status : (words : List (List ℕ)) (status sink sink_now source source_now : ℕ) → StatusCause words status sink sink_now source source_now → (Rose sink sink_now → ⊥) → (Rose source source_now → ⊥)
     → (status ≢ 102) × (status ≢ 106)
 session-status words status sink sink_now source source_now cause quiet fed = (λ s. quiet (rose sink sink_now (cause.console s)), λ s. fed (rose source source_now (cause.input s)))
+
+-- ---- a disk that kept its file
+
+pub unwritten-finish : (finish : Finish) (m : MachineState) (notes : List FaultNote) (old new : FileState) → IsExitStatus finish → status_of finish ≡ 107 → KeptCause finish m.slots notes old new
+    → IsUnwritten m.slots notes old new
+unwritten-finish FlushFailed m notes old new small is kept = kept
+unwritten-finish (Exit status) m notes old new small is kept = absurd (omega (arith, small, is))
+unwritten-finish EndOfInput m notes old new small is kept = absurd (omega (arith, is))
+unwritten-finish Commands m notes old new small is kept = absurd (omega (arith, is))
+unwritten-finish Console m notes old new small is kept = absurd (omega (arith, is))
+unwritten-finish Input m notes old new small is kept = absurd (omega (arith, is))
+unwritten-finish OutOfMemory m notes old new small is kept = absurd (omega (arith, is))
+
+-- since before its files of the words were read
+pub unwritten-whole : (machine : Option MachineState) (notes before before' : List FaultNote) (old mid new : FileState) → AreKept before before' old mid → KeptUnwritten machine notes mid new
+    → KeptUnwritten machine notes old new
+unwritten-whole None notes before before' old mid new a k = k
+unwritten-whole (Some m) notes before before' old mid new a k = unwritten-since m.slots notes old mid new (λ file. (a.counted.files file).0) k
+
+-- a refusal has another status
+pub never-unwritten : (there status sink sink_now : ℕ) (machine : Option MachineState) (notes : List FaultNote) (old new : FileState) → RefusedCause there status sink sink_now → there ≤ 106 → status ≡ 107
+    → KeptUnwritten machine notes old new
+never-unwritten there status sink sink_now machine notes old new (inl h) low is = absurd (let h0 = h.0 in omega (arith, h0, low, is))
+never-unwritten there status sink sink_now machine notes old new (inr h) low is = absurd (let h0 = h.0 in omega (arith, h0, is))
+
+pub denied-unwritten : (words : List (List ℕ)) (refusal : Refusal) (status sink sink_now : ℕ) (machine : Option MachineState) (notes : List FaultNote) (old new : FileState)
+    → DeniedCause (denial_of words refusal) status sink sink_now → status ≡ 107 → KeptUnwritten machine notes old new
+denied-unwritten words (Unopened place) status sink sink_now machine notes old new h is = never-unwritten 101 status sink sink_now machine notes old new h (omega arith) is
+denied-unwritten words (BadKeys place) status sink sink_now machine notes old new h is = never-unwritten 105 status sink sink_now machine notes old new h (omega arith) is
+denied-unwritten words refusal.OutOfMemory status sink sink_now machine notes old new h is = absurd (let h0 = h.0 in omega (arith, h0, is))

@@ -7,7 +7,9 @@ use Rattle.observations.specs.Cut.{ends}
 use Rattle.host_files.specs.Lists.{NamedBytes}
 use Rattle.host_files.specs.State.{Opened, FileState}
 use Rattle.unit_files.specs.Open.{AllOpen, Around}
+use Rattle.fault_notes.specs.declared.note.FaultNote.{FaultNote}
 use Rattle.fault_notes.specs.Notes.{Note}
+use Rattle.file_commands.specs.AllUnits.{IsUnwritten}
 use Rattle.expect_actions.specs.KeysFile.{Key}
 use Rattle.nova_machine.specs.Machine.{MachineState}
 use Rattle.nova_machine.specs.Seen.{erased}
@@ -84,7 +86,7 @@ pub record StatusCause (words : List (List ℕ)) (status sink sink_now source so
   pub input : status ≡ 106 → source_now ≡ raised source
   pub console_only : status ≢ 102 → sink_now ≡ sink
   pub input_only : status ≢ 106 → source_now ≡ source
-  pub listed : (status ≤ 99) ⊎ (status ≡ 100) ⊎ (status ≡ 101) ⊎ (status ≡ 102) ⊎ (status ≡ 103) ⊎ (status ≡ 104) ⊎ (status ≡ 105) ⊎ (status ≡ 106)
+  pub listed : (status ≤ 99) ⊎ (status ≡ 100) ⊎ (status ≡ 101) ⊎ (status ≡ 102) ⊎ (status ≡ 103) ⊎ (status ≡ 104) ⊎ (status ≡ 105) ⊎ (status ≡ 106) ⊎ (status ≡ 107)
 
 -- There is no machine where the words are outside their grammar, or where the keys file or the script was refused. Else there
 -- may be none only where memory ran out, or where there is a keys file or a script and the console refused a byte.
@@ -93,6 +95,12 @@ pub record MachineThere (words : List (List ℕ)) (status : ℕ) (machine : Opti
   pub refused : (status ≡ 101) ⊎ (status ≡ 105) → machine ≡ None
   pub some : (options : Options) → options_of words ≡ Some options → options.keys ≡ None → options.script ≡ None → status ≢ 103 → IsSome machine
   pub with_files : (options : Options) → options_of words ≡ Some options → status ≢ 101 → status ≢ 102 → status ≢ 103 → status ≢ 105 → IsSome machine
+
+-- The disk has kept its file at the end of the input only where a write of it failed: its note is the last one, and the
+-- count of that file has risen.
+abbrev pub KeptUnwritten : Option MachineState → List FaultNote → FileState → FileState → Type 0
+KeptUnwritten None notes old new = ⊥
+KeptUnwritten (Some m) notes old new = IsUnwritten m.slots notes old new
 
 -- The files of the machine's units are open, and beside them those that were open before, and no others; without a machine
 -- these alone.

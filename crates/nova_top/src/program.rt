@@ -11,7 +11,7 @@ ghost use Rattle.scp_script.specs.Perform.{beginning, Performed};
 ghost use Rattle.nova_top.specs.Standard.{IsStandard};
 ghost use Rattle.nova_top.specs.Words.{texts_of};
 ghost use Rattle.nova_top.specs.Outside.{usage_text, unopened_text, bad_keys_text};
-ghost use Rattle.nova_top.specs.Ends.{IsOutcome, IsCutShort, StatusCause, MachineThere, IsComplete, FilesAtEnd};
+ghost use Rattle.nova_top.specs.Ends.{IsOutcome, IsCutShort, StatusCause, MachineThere, IsComplete, FilesAtEnd, KeptUnwritten};
 ghost use Rattle.nova_top.specs.Ends.{NoneFailed};
 ghost use Rattle.nova_top.specs.Program.{IsRefused, RefusedCause, RefusalCause, SessionEnds};
 ghost use Rattle.nova_top.specs.Program.{denial_of, IsDenied, DeniedCause, status_printed};
@@ -35,7 +35,7 @@ const USAGE: &[u8] =
 /// How the program ended.
 #[derive(Drop)]
 pub struct Ending<U: Unit> {
-    /// The exit status of the process: 0 to 99, 100 to 106.
+    /// The exit status of the process, from 0 to 107.
     pub status: u8,
     /// The machine as it was left, where there was one. Files that are still attached to it are still open.
     pub machine: Option<Machine<U>>,
@@ -47,7 +47,8 @@ pub struct Ending<U: Unit> {
 /// the standard ones (`is_standard`); the program is the same over whichever types they have, so they may be boxes.
 ///
 /// The keys file of `-k` and then the script are read before the session begins. Files that are attached at the end of
-/// the input, or at EXIT, are closed; at any other end they stay open.
+/// the input, or at EXIT, are closed, behind writing back what the disk holds; at any other end they stay open, and where
+/// that can't be written back, which is status 107 at the end of the input.
 pub fn simulate<U: Unit, C: Source, S: Sink, F: Files>(
     alloc: Global,
     words: &[String],
@@ -74,6 +75,8 @@ pub fn simulate<U: Unit, C: Source, S: Sink, F: Files>(
     ensures cause { StatusCause (texts_of words.now) result.status (S.fault_count output.old) (S.fault_count output.new)
         (C.fault_count input.old) (C.fault_count input.new) }
     ensures notes { AreCounted result.faults.items (F.state files.old) (F.state files.new) }
+    ensures unwritten { result.status ≡ 107
+        → KeptUnwritten result.machine result.faults.items (F.state files.old) (F.state files.new) }
     ensures machine { MachineThere (texts_of words.now) result.status result.machine }
     ensures files { FilesAtEnd result.machine (F.state files.old).opened (F.state files.new).opened }
     ensures unread { result.machine ≡ None → input.new ≡ input.old }
@@ -200,6 +203,8 @@ fn lines<U: Unit, C: Source, S: Sink, F: Files>(
         (λ finish. FinishCause finish (S.fault_count output.old) (S.fault_count output.new) (C.fault_count input.old)
         (C.fault_count input.new)) }
     ensures keeps { AreKept session.notes result.faults.items (F.state files.old) (F.state files.new) }
+    ensures unwritten { result.status ≡ 107
+        → KeptUnwritten result.machine result.faults.items (F.state files.old) (F.state files.new) }
     ensures files { (base : List Opened) → Around session.machine.slots base (F.state files.old).opened
         → FilesAtEnd result.machine base (F.state files.new).opened }
     ensures there { IsSome result.machine }

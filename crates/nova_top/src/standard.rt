@@ -6,7 +6,8 @@ ghost use Rattle.nova_top.specs.Standard.{IsStandard};
 use unit_trait::{Kind, Unit, reg_initial};
 
 /// The kinds that are built, in bus order.
-const STANDARD_KINDS: [Kind; 6] = [
+const STANDARD_KINDS: [Kind; 7] = [
+    Kind::Dsk,
     Kind::Lpt,
     Kind::Ptr,
     Kind::Ptp,

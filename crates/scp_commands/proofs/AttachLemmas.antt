@@ -6,9 +6,9 @@ use Rattle.std.proofs.Math.Path.{subst₃}
 use Rattle.host_files.specs.Lists.{NamedBytes, bytes_of}
 use Rattle.host_files.specs.State.{FileState}
 use Rattle.host_files.specs.declared.files.FileCall.{FileCall}
-use Rattle.host_files.specs.declared.files.FileCall.TheVariants.{Opening, Length, Read, Closing}
+use Rattle.host_files.specs.declared.files.FileCall.TheVariants.{Opening, Length, Read, Write, SetLength, Closing}
 use Rattle.unit_trait.specs.declared.kind.Kind.{Kind}
-use Rattle.unit_trait.specs.declared.kind.Kind.TheVariants.{Lpt, Ptr, Ptp}
+use Rattle.unit_trait.specs.declared.kind.Kind.TheVariants.{Dsk, Lpt, Ptr, Ptp}
 use Rattle.unit_trait.specs.declared.kind.UnitName.{UnitName}
 use Rattle.unit_trait.specs.Kinds.{code_of}
 use Rattle.unit_list.specs.Bus.{unit_at, with_register_in}
@@ -16,7 +16,7 @@ use Rattle.unit_files.specs.declared.modes.AttachMode.{AttachMode}
 use Rattle.unit_files.specs.declared.faults.UnitFault.{UnitFault}
 use Rattle.unit_files.specs.declared.faults.AttachFault.{AttachFault}
 use Rattle.unit_files.specs.declared.faults.AttachFault.TheVariants as attach
-use Rattle.unit_files.specs.Attachments.{Attachment, Held, attachments_of, attachment_at, is_paper, is_disk, longest_file}
+use Rattle.unit_files.specs.Attachments.{Attachment, Held, attachments_of, attachment_at, is_disk, longest_file}
 use Rattle.unit_files.specs.Acts.{Failure, AttachSaid, Attached, UnitHasFile, OnlyWrites, NotThere, TooLong, CallFailed, failure_at, refused_first, opened_files}
 use Rattle.unit_files.specs.Buffer.{AttachedFiles, Buffer}
 use Rattle.unit_files.specs.Acts.{measured, measured_as, reading_failure, read_whole, opened_said, opening_said, said_unless, attach_said, files_unless_opening, files_unless, attach_files, attached_by, buffer_by}
@@ -35,15 +35,16 @@ use Rattle.scp_commands.specs.declared.fault.CommandFault.TheVariants.{AlreadyAt
 use Rattle.scp_commands.specs.Live.{Live, standing, with_machine}
 use Rattle.scp_commands.specs.Reply.{Answer, Reply, refused}
 use Rattle.scp_commands.specs.FaultText.{attach_fault}
-use Rattle.scp_commands.specs.FileEffects.{lacks_unit, mode_of, attach_answer, attach_used, first_place, position_number, attached_machine, attach_with, attach_reply}
-use Rattle.scp_commands.specs.Doing.{Does, Did, ComeBehind, IsSaid, IsStamped, FileCause, Keeps}
+use Rattle.scp_commands.specs.FileEffects.{has_files, lacks_unit, mode_of, attach_answer, attach_used, first_place, positioned, attached_machine, attach_with, attach_reply}
+use Rattle.scp_commands.specs.Doing.{Does, Did, IsLastCall, ComeBehind, IsSaid, IsStamped, FileCause, Keeps}
 use Rattle.scp_commands.proofs.SeenLemmas.{attached-erased, erased-with, same-with}
 use Rattle.scp_commands.proofs.DidLemmas.{refused-did}
 use Rattle.scp_commands.proofs.BehindLemmas.{kept-said}
 
--- the files of paper tapes and of the printer
-paper-bytes : (kind : Kind) → is_paper kind ≡ true → longest_file kind ≤ 16777216
+-- the files of the disk, of paper tapes and of the printer
+paper-bytes : (kind : Kind) → has_files kind ≡ true → longest_file kind ≤ 16777216
 unfolding longest_file
+paper-bytes Dsk is = omega arith
 paper-bytes Lpt is = omega arith
 paper-bytes Ptr is = omega arith
 paper-bytes Ptp is = omega arith
@@ -54,7 +55,7 @@ not-lacking true c is = refl
 not-lacking false c is = absurd (cc)
 
 pub longest-paper : (m : MachineState) (unit : UnitName) → lacks_unit m unit ≡ false → longest_file unit.kind ≤ 16777216
-longest-paper m unit has = paper-bytes unit.kind (not-lacking (is_paper unit.kind) (is_none (unit_at (code_of unit.kind) m.units)) has)
+longest-paper m unit has = paper-bytes unit.kind (not-lacking (has_files unit.kind) (is_none (unit_at (code_of unit.kind) m.units)) has)
 
 -- ---- an attaching makes no closing
 
@@ -94,14 +95,21 @@ files-same f mode unit name attached files clear = unless (refused_first (attach
     unless (Some refusal) = refl
     unless None = ap (λ (x : Option Failure). files_unless_opening x mode name files) clear.opening
 
-closing-if : (b : Bool) (f : Failure) → f.call ≡ Closing → IsNoFailure (if b then Some f else None)
-closing-if false f is = record { opening = refl; measuring = refl; reading = refl }
-closing-if true f is =
-    subst (λ (c : FileCall). IsNoFailure (Some (record { call = c; done = f.done }))) (sym is) (record { opening = refl; measuring = refl; reading = refl })
+closing-if : (kind : Kind) (b : Bool) (f : Failure) → IsLastCall kind f.call → IsNoFailure (if b then Some f else None)
+closing-if kind false f is = record { opening = refl; measuring = refl; reading = refl }
+closing-if kind true f is = by-call f.call is
+  where
+    by-call : (c : FileCall) → IsLastCall kind c → IsNoFailure (Some (record { call = c; done = f.done }))
+    by-call Closing last = record { opening = refl; measuring = refl; reading = refl }
+    by-call Write last = record { opening = refl; measuring = refl; reading = refl }
+    by-call Opening last = absurd last
+    by-call Length last = absurd last
+    by-call Read last = absurd last
+    by-call SetLength last = absurd last
 
 no-failure-behind : (live : Live) (time : ℕ) (s : Subject) (behind : List CommandNote) → ComeBehind live behind → IsNoFailure (failure_now time s behind)
 no-failure-behind live time s [] come = record { opening = refl; measuring = refl; reading = refl }
-no-failure-behind live time s (n ∷ behind) come = closing-if ((n.time == time) && same_subject n.subject s) n.failure come.0.call
+no-failure-behind live time s (n ∷ behind) come = closing-if come.0.unit.kind ((n.time == time) && same_subject n.subject s) n.failure come.0.call
 
 -- ---- the reply, by what was said
 
@@ -216,14 +224,14 @@ attach-done number stamp mode live new held option unit name r answer tells text
 pub becomes-attached : (keys : List (ℕ × ℕ)) (files files' : List NamedBytes) (m m' : MachineState) (a held : AttachedFiles) (mode : AttachMode) (unit : UnitName) (name : List ℕ) (count place : ℕ)
     → held ≡ attached_files m → attachments_of a.slots ≡ attached_by (Attached count) mode unit name (attachments_of held.slots)
     → a.disk ≡ buffer_by (Attached count) unit (bytes_of files' name) held.disk → place ≡ first_place unit.kind count
-    → m' ≡ record (with_attached_files m a) { units = with_register_in unit.kind position_number place m.units }
+    → m' ≡ record (with_attached_files m a) { units = positioned unit.kind place m.units }
     → Becomes (seen keys files m) (seen keys files' m') mode unit name (Attached count)
 becomes-attached keys files files' m m' a held mode unit name count place was are copied begins is =
     let attached = attached_by (Attached count) mode unit name (attached_in (erased m)) in
     let disk = buffer_by (Attached count) unit (bytes_of files' name) m.disk in
     ap (λ (x : MachineState). seen keys files' x) is
-    ∙ ap (λ (p : ℕ). seen keys files' (record (with_attached_files m a) { units = with_register_in unit.kind position_number p m.units })) begins
-    ∙ ap (λ (x : MachineState). record { machine = record x { units = with_register_in unit.kind position_number (first_place unit.kind count) m.units }; keys = keys; files = files' })
+    ∙ ap (λ (p : ℕ). seen keys files' (record (with_attached_files m a) { units = positioned unit.kind p m.units })) begins
+    ∙ ap (λ (x : MachineState). record { machine = record x { units = positioned unit.kind (first_place unit.kind count) m.units }; keys = keys; files = files' })
     (erased-with m a attached disk
     (are ∙ ap (λ (l : List (Option Attachment)). attached_by (Attached count) mode unit name l) (ap (λ (x : AttachedFiles). attachments_of x.slots) was ∙ sym (attached-erased m)))
     (copied ∙ ap (λ (x : AttachedFiles). buffer_by (Attached count) unit (bytes_of files' name) x.disk) was))

@@ -1,4 +1,5 @@
--- Closings that failed: each is the note of a unit that had a file, and behind all of them nothing is attached.
+-- Units lose their files: each note that is kept for it is of one that had a file, and behind it nothing is attached, or a
+-- unit has kept its file.
 use Rattle.std.proofs.Common.{◌≡◌, ◌==◌, ◌&&◌, ◌||◌, ℕ, ◌+◌, ◌≤◌, Bool, true, false, IsTrue, List, [], ◌∷◌, ◌++◌, zero, suc, drop, length, get_or, set, Option, Some, None, is_some}
 use Rattle.std.proofs.Common.{Ok, refl, ap, sym, ◌∙◌, subst, arith, if◌then◌else◌, append-nil}
 use Rattle.std.specs.List.{AllByRecursion, list_any}
@@ -8,26 +9,30 @@ use Rattle.host_files.specs.declared.files.FileCall.{FileCall}
 use Rattle.host_files.specs.declared.files.FileCall.TheVariants.{Opening, Length, Read, Write, SetLength, Closing}
 use Rattle.host_files.specs.State.{FileState}
 use Rattle.unit_trait.specs.declared.kind.Kind.{Kind}
+use Rattle.unit_trait.specs.declared.kind.Kind.TheVariants.{Lpt, Ptr, Ptp}
 use Rattle.unit_trait.specs.declared.kind.UnitName.{UnitName}
 use Rattle.unit_trait.specs.Kinds.{code_of, same_unit}
 use Rattle.unit_trait.proofs.Codes.{same-code}
 use Rattle.event_queue.proofs.SoundLists.{same-unit-flips}
-use Rattle.unit_files.specs.Attachments.{Attachment, file_place, attachment_at}
-use Rattle.unit_files.specs.Acts.{Failure, same_call, failure_at, detached}
+use Rattle.unit_files.specs.Attachments.{Attachment, Held, attachments_of, file_place, attachment_at, is_disk}
+use Rattle.unit_files.specs.Buffer.{AttachedFiles}
+use Rattle.unit_files.specs.Acts.{Failure, DetachSaid, HadNone, StillHeld, Detached, same_call, failure_at, detached, detach_said_of, closing_said, flush_failure, is_due_back, flush_files}
 use Rattle.fault_notes.specs.declared.note.Subject.{Subject}
 use Rattle.fault_notes.specs.declared.note.Subject.TheVariants as subject
 use Rattle.fault_notes.specs.declared.note.FaultNote.{FaultNote}
 use Rattle.fault_notes.specs.Notes.{CommandNote, Note, same_subject, numbered, failure_now, notes_said, said_of}
-use Rattle.file_commands.specs.AllUnits.{attachable, detached_each, closing_fails, closings, Closed}
-use Rattle.nova_machine.specs.Machine.{MachineState}
-use Rattle.nova_machine.specs.Seen.{attached_in}
+use Rattle.file_commands.specs.AllUnits.{attachable, Filed, Emptied, more_used, emptied_as, said_in, written_in, without_file, filed_of, emptied, Empties}
+use Rattle.file_commands.proofs.Emptying.{emptied-nothing, emptied-more}
+use Rattle.nova_machine.specs.Machine.{MachineState, attached_files, with_attached_files}
+use Rattle.host_files.specs.Lists.{NamedBytes}
+use Rattle.nova_machine.specs.Seen.{attached_in, erased, seen}
 use Rattle.scp_commands.specs.declared.next.Next.{Next}
 use Rattle.scp_commands.specs.declared.next.Next.TheVariants.{Go, Exit}
-use Rattle.scp_commands.specs.Live.{Live, standing}
+use Rattle.scp_commands.specs.Live.{Live, Standing, standing, with_attached, numberless}
 use Rattle.scp_commands.specs.Reply.{Reply, bare_answer}
-use Rattle.scp_commands.specs.FileEffects.{detached_all, all_closings}
-use Rattle.scp_commands.specs.Doing.{IsClosing, ComeBehind, IsStamped, AllClosings, Closes, Keeps, Did}
-use Rattle.scp_commands.proofs.SeenLemmas.{attached-erased, attached-numberless}
+use Rattle.scp_commands.specs.FileEffects.{filed_in, emptied_all, left_by, emptied_live, kept_answer, emptied_reply}
+use Rattle.scp_commands.specs.Doing.{IsLastCall, ComeBehind, IsStamped, AreRefusalOf, AllClosings, FileCause, Closes, Keeps, Does, IsSaid, Did}
+use Rattle.scp_commands.proofs.SeenLemmas.{attached-erased, attached-numberless, unnumbered-is, seen-with}
 
 -- ---- units with one name are one
 
@@ -63,42 +68,120 @@ empty-stays (a ∷ l) zero (suc q) is = is
 empty-stays (a ∷ l) (suc p) zero is = is
 empty-stays (a ∷ l) (suc p) (suc q) is = empty-stays l p q is
 
-emptied : (l : List (Option Attachment)) (p : ℕ) → get_or (set l p None) p None ≡ None
-emptied [] p = refl
-emptied (a ∷ l) zero = refl
-emptied (a ∷ l) (suc p) = emptied l p
+place-emptied : (l : List (Option Attachment)) (p : ℕ) → get_or (set l p None) p None ≡ None
+place-emptied [] p = refl
+place-emptied (a ∷ l) zero = refl
+place-emptied (a ∷ l) (suc p) = place-emptied l p
 
 pub detached-none : (u : UnitName) (attached : List (Option Attachment)) → attachment_at (detached u attached) u ≡ None
-detached-none u attached = emptied attached (file_place u)
-
-each-none : (us : List UnitName) (attached : List (Option Attachment)) (u : UnitName) → attachment_at attached u ≡ None
-    → attachment_at (detached_each us attached) u ≡ None
-each-none [] attached u none = none
-each-none (v ∷ us) attached u none = each-none us (detached v attached) u (empty-stays attached (file_place v) (file_place u) none)
-
-each-emptied : (us : List UnitName) (attached : List (Option Attachment)) (u : UnitName) → IsTrue (list_any (λ (v : UnitName). same_unit v u) us)
-    → attachment_at (detached_each us attached) u ≡ None
-each-emptied [] attached u among = absurd (cc)
-each-emptied (v ∷ us) attached u among = by-first (same_unit v u) refl among (each-emptied us (detached v attached) u)
-  where
-    by-first : (b : Bool) → same_unit v u ≡ b → IsTrue (b || list_any (λ (w : UnitName). same_unit w u) us)
-        → (IsTrue (list_any (λ (w : UnitName). same_unit w u) us) → attachment_at (detached_each us (detached v attached)) u ≡ None)
-        → attachment_at (detached_each us (detached v attached)) u ≡ None
-    by-first true is among more = each-none us (detached v attached) u (subst (λ (w : UnitName). attachment_at (detached v attached) w ≡ None) (one-unit v u is) (detached-none v attached))
-    by-first false is among more = more among
+detached-none u attached = place-emptied attached (file_place u)
 
 pub some-none : (a : Option Attachment) → a ≡ None → IsTrue (is_some a) → ⊥
 some-none None is there = absurd (cc)
 some-none (Some x) is there = absurd (cc)
 
--- ---- each closing that failed is the note of a unit that had a file
+-- ---- subjects
+
+pub is-of-unit : (s : Subject) (u : UnitName) → same_subject s (subject.Unit u) ≡ true → s ≡ subject.Unit u
+is-of-unit (subject.Unit w) u is = ap subject.Unit (one-unit w u is)
+is-of-unit subject.Script u is = absurd (cc)
+is-of-unit subject.Keys u is = absurd (cc)
+is-of-unit subject.State u is = absurd (cc)
+is-of-unit subject.Load u is = absurd (cc)
+is-of-unit subject.Dump u is = absurd (cc)
+
+-- ---- what a unit says that loses its file, with the failure of the first of some notes
+
+abbrev says_of : ℕ → UnitName → Filed → List CommandNote → DetachSaid
+says_of time u s own = said_in (failure_now time (subject.Unit u) own) u s
+
+write-call : (c : FileCall) → same_call c Write ≡ true → c ≡ Write
+write-call Opening is = absurd (cc)
+write-call Length is = absurd (cc)
+write-call Read is = absurd (cc)
+write-call Write is = refl
+write-call SetLength is = absurd (cc)
+write-call Closing is = absurd (cc)
+
+-- a call failed only where its note is the first, and of this unit
+record IsFirst (time : ℕ) (u : UnitName) (s : Filed) (n : CommandNote) : Type 0 where
+  time_is : n.time ≡ time
+  subject_is : n.subject ≡ subject.Unit u
+  there : IsTrue (is_some (attachment_at s.attached u))
+
+module _ (time : ℕ) (u : UnitName) (s : Filed) where
+  no-closing : (a : Option Attachment) (g : Failure) → detach_said_of None u a s.disk ≡ Detached (Some g) → ⊥
+  no-closing None g is = absurd (cc)
+  no-closing (Some a) g is = by-due (is_due_back u s.disk) is
+    where
+      by-due : (b : Bool) → closing_said (if b then None else None) None ≡ Detached (Some g) → ⊥
+      by-due true is = absurd (cc)
+      by-due false is = absurd (cc)
+
+  no-write : (a : Option Attachment) (g : Failure) → detach_said_of None u a s.disk ≡ StillHeld g → ⊥
+  no-write None g is = absurd (cc)
+  no-write (Some a) g is = by-due (is_due_back u s.disk) is
+    where
+      by-due : (b : Bool) → closing_said (if b then None else None) None ≡ StillHeld g → ⊥
+      by-due true is = absurd (cc)
+      by-due false is = absurd (cc)
+
+  some-closing : (f : Failure) (a : Option Attachment) (g : Failure) → detach_said_of (Some f) u a s.disk ≡ Detached (Some g) → (same_call f.call Closing ≡ true) × IsTrue (is_some a)
+  some-closing f None g is = absurd (cc)
+  some-closing f (Some a) g is = (by-flush (flush_failure (Some f) u s.disk) is, refl)
+    where
+      by-call : (b : Bool) → Detached (if b then Some f else None) ≡ Detached (Some g) → b ≡ true
+      by-call true is = refl
+      by-call false is = absurd (cc)
+
+      by-flush : (o : Option Failure) → closing_said o (Some f) ≡ Detached (Some g) → same_call f.call Closing ≡ true
+      by-flush None is = by-call (same_call f.call Closing) is
+      by-flush (Some h) is = absurd (cc)
+
+  some-write : (f : Failure) (a : Option Attachment) (g : Failure) → detach_said_of (Some f) u a s.disk ≡ StillHeld g
+      → (same_call f.call Write ≡ true) × (is_disk u.kind ≡ true) × IsTrue (is_some a)
+  some-write f None g is = absurd (cc)
+  some-write f (Some a) g is =
+      let both = by-due (is_disk u.kind) s.disk.written (same_call f.call Write) is in (both.0, both.1, refl)
+    where
+      by-due : (d w same : Bool) → closing_said (if d && w then (if same then Some f else None) else None) (Some f) ≡ StillHeld g → (same ≡ true) × (d ≡ true)
+      by-due true true true is = (refl, refl)
+      by-due true true false is = absurd (cc)
+      by-due true false same is = absurd (cc)
+      by-due false w same is = absurd (cc)
+
+  -- .. by the note that was first
+  module _ (n : CommandNote) (own : List CommandNote) (g : Failure) where
+    closing-first : says_of time u s (n ∷ own) ≡ Detached (Some g) → IsFirst time u s n × (n.failure.call ≡ Closing)
+    closing-first is = by-tests (n.time == time) (same_subject n.subject (subject.Unit u)) refl refl is
+      where
+        by-tests : (b c : Bool) → (n.time == time) ≡ b → same_subject n.subject (subject.Unit u) ≡ c
+            → said_in (if b && c then Some n.failure else None) u s ≡ Detached (Some g) → IsFirst time u s n × (n.failure.call ≡ Closing)
+        by-tests true true at of is =
+            let some = some-closing n.failure (attachment_at s.attached u) g is in
+            (record { time_is = grind (arith, nat_tests); subject_is = is-of-unit n.subject u of; there = some.1 }, closing-call n.failure.call some.0)
+        by-tests true false at of is = absurd (no-closing (attachment_at s.attached u) g is)
+        by-tests false c at of is = absurd (no-closing (attachment_at s.attached u) g is)
+
+    write-first : says_of time u s (n ∷ own) ≡ StillHeld g → IsFirst time u s n × (n.failure.call ≡ Write) × (is_disk u.kind ≡ true)
+    write-first is = by-tests (n.time == time) (same_subject n.subject (subject.Unit u)) refl refl is
+      where
+        by-tests : (b c : Bool) → (n.time == time) ≡ b → same_subject n.subject (subject.Unit u) ≡ c
+            → said_in (if b && c then Some n.failure else None) u s ≡ StillHeld g → IsFirst time u s n × (n.failure.call ≡ Write) × (is_disk u.kind ≡ true)
+        by-tests true true at of is =
+            let some = some-write n.failure (attachment_at s.attached u) g is in
+            (record { time_is = grind (arith, nat_tests); subject_is = is-of-unit n.subject u of; there = some.2 }, write-call n.failure.call some.0, some.1)
+        by-tests true false at of is = absurd (no-write (attachment_at s.attached u) g is)
+        by-tests false c at of is = absurd (no-write (attachment_at s.attached u) g is)
+
+-- ---- each note is of a unit that had a file
 
 record IsOneOf (time : ℕ) (us : List UnitName) (attached : List (Option Attachment)) (n : CommandNote) : Type 0 where
   unit : UnitName
   time_is : n.time ≡ time
   subject_is : n.subject ≡ subject.Unit unit
   among : IsTrue (list_any (λ (u : UnitName). same_unit u unit) us)
-  call : n.failure.call ≡ Closing
+  call : IsLastCall unit.kind n.failure.call
   there : IsTrue (is_some (attachment_at attached unit))
 
 was-there : (attached : List (Option Attachment)) (u v : UnitName) → IsTrue (is_some (attachment_at (detached u attached) v)) → IsTrue (is_some (attachment_at attached v))
@@ -132,67 +215,189 @@ wider time u us attached (n ∷ own) all =
       wider time u us attached own all.1,
     )
 
-some-of-if : (b : Bool) (f : Failure) → IsTrue (is_some (failure_at Closing (if b then Some f else None))) → (b ≡ true) × (same_call f.call Closing ≡ true)
-some-of-if true f is = (refl, by-call (same_call f.call Closing) f is)
+first-of : (time : ℕ) (u : UnitName) (us : List UnitName) (s : Filed) (n : CommandNote) → IsFirst time u s n → IsLastCall u.kind n.failure.call → IsOneOf time (u ∷ us) s.attached n
+first-of time u us s n first call =
+    record { unit = u; time_is = first.time_is; subject_is = first.subject_is; among = or-first (same_unit u u) _ (same-self u); call = call; there = first.there }
+
+closing-last : (kind : Kind) (c : FileCall) → c ≡ Closing → IsLastCall kind c
+closing-last kind c is = subst (λ (x : FileCall). IsLastCall kind x) (sym is) tt
+
+write-last : (kind : Kind) (c : FileCall) → c ≡ Write → is_disk kind ≡ true → IsLastCall kind c
+write-last kind c is disk = subst (λ (x : FileCall). IsLastCall kind x) (sym is) disk
+
+one-step : (time : ℕ) (u : UnitName) (us : List UnitName) (s : Filed) (own : List CommandNote)
+    → emptied time (u ∷ us) s own ≡ emptied_as (says_of time u s own) u (written_in (failure_now time (subject.Unit u) own) u s)
+    (λ more. emptied time us (without_file (failure_now time (subject.Unit u) own) u s) more) own
+one-step time u us s own = emptied-more time u us s own _ _ refl refl
+
+are-of : (time : ℕ) (us : List UnitName) (s : Filed) (own : List CommandNote) → (emptied time us s own).used ≡ length own → AllByRecursion (IsOneOf time us s.attached) own
+are-of time [] s own used = none own (sym (ap (λ (e : Emptied). e.used) (emptied-nothing time s own)) ∙ used)
   where
-    by-call : (b : Bool) (f : Failure) → IsTrue (is_some (if b then Some f else None)) → b ≡ true
-    by-call true f is = refl
-    by-call false f is = absurd (cc)
-some-of-if false f is = absurd (cc)
-
-pub is-of-unit : (s : Subject) (u : UnitName) → same_subject s (subject.Unit u) ≡ true → s ≡ subject.Unit u
-is-of-unit (subject.Unit w) u is = ap subject.Unit (one-unit w u is)
-is-of-unit subject.Script u is = absurd (cc)
-is-of-unit subject.Keys u is = absurd (cc)
-is-of-unit subject.State u is = absurd (cc)
-is-of-unit subject.Load u is = absurd (cc)
-is-of-unit subject.Dump u is = absurd (cc)
-
-first-is : (time : ℕ) (u : UnitName) (us : List UnitName) (attached : List (Option Attachment)) (n : CommandNote) (own : List CommandNote)
-    → closing_fails (n ∷ own) time u attached ≡ true → IsOneOf time (u ∷ us) attached n
-first-is time u us attached n own fails =
-    let both = both-parts (is_some (attachment_at attached u)) (is_some (failure_at Closing (failure_now time (subject.Unit u) (n ∷ own)))) fails in
-    let met = some-of-if ((n.time == time) && same_subject n.subject (subject.Unit u)) n.failure both.1 in
-    let here = both-parts (n.time == time) (same_subject n.subject (subject.Unit u)) met.0 in
-    record {
-      unit = u;
-      time_is = let first = here.0 in grind (arith, nat_tests);
-      subject_is = is-of-unit n.subject u here.1;
-      among = or-first (same_unit u u) _ (same-self u);
-      call = closing-call n.failure.call met.1;
-      there = both.0;
-    }
-
-fails-of-none : (b : Bool) → (b && false) ≡ true → ⊥
-fails-of-none true is = absurd (cc)
-fails-of-none false is = absurd (cc)
-
-are-of : (time : ℕ) (us : List UnitName) (attached : List (Option Attachment)) (own : List CommandNote) → closings own time us attached ≡ length own
-    → AllByRecursion (IsOneOf time us attached) own
-are-of time [] attached [] used = tt
-are-of time [] attached (n ∷ own) used = absurd (omega (arith, used))
-are-of time (u ∷ us) attached own used = by-first (closing_fails own time u attached) own refl used (are-of time us (detached u attached))
+    none : (own : List CommandNote) → 0 ≡ length own → AllByRecursion (IsOneOf time [] s.attached) own
+    none [] is = tt
+    none (n ∷ own) is = absurd (omega (arith, is))
+are-of time (u ∷ us) s own used =
+    by-said own (says_of time u s own) refl (sym (ap (λ (e : Emptied). e.used) (one-step time u us s own)) ∙ used)
+    (are-of time us (without_file (failure_now time (subject.Unit u) own) u s))
   where
-    by-first : (b : Bool) (own : List CommandNote) → closing_fails own time u attached ≡ b
-        → (if b then 1 + closings (drop 1 own) time us (detached u attached) else closings own time us (detached u attached)) ≡ length own
-        → ((rest : List CommandNote) → closings rest time us (detached u attached) ≡ length rest → AllByRecursion (IsOneOf time us (detached u attached)) rest)
-        → AllByRecursion (IsOneOf time (u ∷ us) attached) own
-    by-first false own is used more = wider time u us attached own (more own used)
-    by-first true [] is used more = absurd (fails-of-none (is_some (attachment_at attached u)) is)
-    by-first true (n ∷ own) is used more =
-        (first-is time u us attached n own is, wider time u us attached own (more own (omega (arith, used))))
+    by-said : (own : List CommandNote) (said : DetachSaid) → says_of time u s own ≡ said
+        → (emptied_as said u (written_in (failure_now time (subject.Unit u) own) u s) (λ more. emptied time us (without_file (failure_now time (subject.Unit u) own) u s) more) own).used ≡ length own
+        → ((rest : List CommandNote) → (emptied time us (without_file (failure_now time (subject.Unit u) own) u s) rest).used ≡ length rest → AllByRecursion (IsOneOf time us (detached u s.attached)) rest)
+        → AllByRecursion (IsOneOf time (u ∷ us) s.attached) own
+    by-said own HadNone is used more = wider time u us s.attached own (more own used)
+    by-said own (Detached None) is used more = wider time u us s.attached own (more own used)
+    by-said [] (Detached (Some f)) is used more = absurd (no-closing time u s (attachment_at s.attached u) f is)
+    by-said (n ∷ own) (Detached (Some f)) is used more =
+        let first = closing-first time u s n own f is in
+        (first-of time u us s n first.0 (closing-last u.kind n.failure.call first.1), wider time u us s.attached own (more own (omega (arith, used))))
+    by-said [] (StillHeld f) is used more = absurd (no-write time u s (attachment_at s.attached u) f is)
+    by-said (n ∷ []) (StillHeld f) is used more =
+        let first = write-first time u s n [] f is in
+        (first-of time u us s n first.0 (write-last u.kind n.failure.call first.1 first.2), tt)
+    by-said (n ∷ m ∷ own) (StillHeld f) is used more = absurd (omega (arith, used))
 
-at-most : (own : List CommandNote) (time : ℕ) (us : List UnitName) (attached : List (Option Attachment)) → closings own time us attached ≤ length us
-at-most own time [] attached = omega arith
-at-most own time (u ∷ us) attached =
-    by-first (closing_fails own time u attached) (at-most (drop 1 own) time us (detached u attached)) (at-most own time us (detached u attached))
+at-most : (time : ℕ) (us : List UnitName) (s : Filed) (own : List CommandNote) → (emptied time us s own).used ≤ length us
+at-most time [] s own = subst (λ (e : Emptied). e.used ≤ 0) (sym (emptied-nothing time s own)) (omega arith)
+at-most time (u ∷ us) s own =
+    subst (λ (e : Emptied). e.used ≤ length (u ∷ us)) (sym (one-step time u us s own))
+    (by-said (says_of time u s own) (at-most time us (without_file (failure_now time (subject.Unit u) own) u s)))
   where
-    by-first : (b : Bool) → closings (drop 1 own) time us (detached u attached) ≤ length us → closings own time us (detached u attached) ≤ length us
-        → (if b then 1 + closings (drop 1 own) time us (detached u attached) else closings own time us (detached u attached)) ≤ length (u ∷ us)
-    by-first true first second = omega (arith, first)
-    by-first false first second = omega (arith, second)
+    by-said : (said : DetachSaid) → ((rest : List CommandNote) → (emptied time us (without_file (failure_now time (subject.Unit u) own) u s) rest).used ≤ length us)
+        → (emptied_as said u (written_in (failure_now time (subject.Unit u) own) u s) (λ more. emptied time us (without_file (failure_now time (subject.Unit u) own) u s) more) own).used ≤ length (u ∷ us)
+    by-said HadNone more = let less = more own in omega (arith, less)
+    by-said (Detached None) more = let less = more own in omega (arith, less)
+    by-said (Detached (Some f)) more = let less = more (drop 1 own) in omega (arith, less)
+    by-said (StillHeld f) more = omega arith
 
--- ---- the files of all units are closed
+-- where no unit has kept its file, all notes are of closings
+all-closing : (time : ℕ) (us : List UnitName) (s : Filed) (own : List CommandNote) → (emptied time us s own).used ≡ length own → (emptied time us s own).kept ≡ None
+    → AllByRecursion (λ (n : CommandNote). n.failure.call ≡ Closing) own
+all-closing time [] s own used kept = none own (sym (ap (λ (e : Emptied). e.used) (emptied-nothing time s own)) ∙ used)
+  where
+    none : (own : List CommandNote) → 0 ≡ length own → AllByRecursion (λ (n : CommandNote). n.failure.call ≡ Closing) own
+    none [] is = tt
+    none (n ∷ own) is = absurd (omega (arith, is))
+all-closing time (u ∷ us) s own used kept =
+    by-said own (says_of time u s own) refl (sym (ap (λ (e : Emptied). e.used) (one-step time u us s own)) ∙ used) (sym (ap (λ (e : Emptied). e.kept) (one-step time u us s own)) ∙ kept)
+    (all-closing time us (without_file (failure_now time (subject.Unit u) own) u s))
+  where
+    by-said : (own : List CommandNote) (said : DetachSaid) → says_of time u s own ≡ said
+        → (emptied_as said u (written_in (failure_now time (subject.Unit u) own) u s) (λ more. emptied time us (without_file (failure_now time (subject.Unit u) own) u s) more) own).used ≡ length own
+        → (emptied_as said u (written_in (failure_now time (subject.Unit u) own) u s) (λ more. emptied time us (without_file (failure_now time (subject.Unit u) own) u s) more) own).kept ≡ None
+        → ((rest : List CommandNote) → (emptied time us (without_file (failure_now time (subject.Unit u) own) u s) rest).used ≡ length rest
+        → (emptied time us (without_file (failure_now time (subject.Unit u) own) u s) rest).kept ≡ None → AllByRecursion (λ (n : CommandNote). n.failure.call ≡ Closing) rest)
+        → AllByRecursion (λ (n : CommandNote). n.failure.call ≡ Closing) own
+    by-said own HadNone is used kept more = more own used kept
+    by-said own (Detached None) is used kept more = more own used kept
+    by-said [] (Detached (Some f)) is used kept more = tt
+    by-said (n ∷ own) (Detached (Some f)) is used kept more = ((closing-first time u s n own f is).1, more own (omega (arith, used)) kept)
+    by-said own (StillHeld f) is used kept more = absurd (cc)
+
+-- .. and none has one then
+stays-none : (time : ℕ) (us : List UnitName) (s : Filed) (own : List CommandNote) (v : UnitName) → attachment_at s.attached v ≡ None → attachment_at (emptied time us s own).left.attached v ≡ None
+stays-none time [] s own v none = ap (λ (e : Emptied). attachment_at e.left.attached v) (emptied-nothing time s own) ∙ none
+stays-none time (u ∷ us) s own v none =
+    ap (λ (e : Emptied). attachment_at e.left.attached v) (one-step time u us s own)
+    ∙ by-said (says_of time u s own) (λ rest. stays-none time us (without_file (failure_now time (subject.Unit u) own) u s) rest v (empty-stays s.attached (file_place u) (file_place v) none))
+  where
+    by-said : (said : DetachSaid) → ((rest : List CommandNote) → attachment_at (emptied time us (without_file (failure_now time (subject.Unit u) own) u s) rest).left.attached v ≡ None)
+        → attachment_at (emptied_as said u (written_in (failure_now time (subject.Unit u) own) u s) (λ more. emptied time us (without_file (failure_now time (subject.Unit u) own) u s) more) own).left.attached v
+        ≡ None
+    by-said HadNone more = more own
+    by-said (Detached None) more = more own
+    by-said (Detached (Some f)) more = more (drop 1 own)
+    by-said (StillHeld f) more = none
+
+all-emptied : (time : ℕ) (us : List UnitName) (s : Filed) (own : List CommandNote) (v : UnitName) → (emptied time us s own).kept ≡ None
+    → IsTrue (list_any (λ (u : UnitName). same_unit u v) us) → attachment_at (emptied time us s own).left.attached v ≡ None
+all-emptied time [] s own v kept among = absurd (cc)
+all-emptied time (u ∷ us) s own v kept among =
+    ap (λ (e : Emptied). attachment_at e.left.attached v) (one-step time u us s own)
+    ∙ by-said (says_of time u s own) (sym (ap (λ (e : Emptied). e.kept) (one-step time u us s own)) ∙ kept) (λ rest kept. by-first (same_unit u v) refl among rest kept (λ later. all-emptied time us (without_file (failure_now time (subject.Unit u) own) u s) rest v kept later))
+  where
+    next : Filed
+    next = without_file (failure_now time (subject.Unit u) own) u s
+
+    by-first : (b : Bool) → same_unit u v ≡ b → IsTrue (b || list_any (λ (w : UnitName). same_unit w v) us) → (rest : List CommandNote) → (emptied time us next rest).kept ≡ None
+        → (IsTrue (list_any (λ (w : UnitName). same_unit w v) us) → attachment_at (emptied time us next rest).left.attached v ≡ None)
+        → attachment_at (emptied time us next rest).left.attached v ≡ None
+    by-first true is among rest kept more =
+        stays-none time us next rest v (subst (λ (w : UnitName). attachment_at (detached u s.attached) w ≡ None) (one-unit u v is) (detached-none u s.attached))
+    by-first false is among rest kept more = more among
+
+    by-said : (said : DetachSaid) → (emptied_as said u (written_in (failure_now time (subject.Unit u) own) u s) (λ more. emptied time us next more) own).kept ≡ None
+        → ((rest : List CommandNote) → (emptied time us next rest).kept ≡ None → attachment_at (emptied time us next rest).left.attached v ≡ None)
+        → attachment_at (emptied_as said u (written_in (failure_now time (subject.Unit u) own) u s) (λ more. emptied time us next more) own).left.attached v ≡ None
+    by-said HadNone kept more = more own kept
+    by-said (Detached None) kept more = more own kept
+    by-said (Detached (Some f)) kept more = more (drop 1 own) kept
+    by-said (StillHeld f) kept more = absurd (cc)
+
+-- ---- a unit has kept its file: the disk, which comes first
+
+abbrev AreOthers : List UnitName → Type 0
+AreOthers us = AllByRecursion (λ (u : UnitName). is_disk u.kind ≡ false) us
+
+not-held : (u : UnitName) (s : Filed) (fault : Option Failure) (g : Failure) → is_disk u.kind ≡ false → said_in fault u s ≡ StillHeld g → ⊥
+not-held u s None g other is = no-write 0 u s (attachment_at s.attached u) g is
+not-held u s (Some f) g other is =
+    let some = some-write 0 u s f (attachment_at s.attached u) g is in
+    let both : true ≡ false = sym some.1 ∙ other in absurd (cc)
+
+none-kept : (time : ℕ) (us : List UnitName) (s : Filed) (own : List CommandNote) → AreOthers us → (emptied time us s own).kept ≡ None
+none-kept time [] s own others = ap (λ (e : Emptied). e.kept) (emptied-nothing time s own)
+none-kept time (u ∷ us) s own others =
+    ap (λ (e : Emptied). e.kept) (one-step time u us s own)
+    ∙ by-said (says_of time u s own) refl (λ rest. none-kept time us (without_file (failure_now time (subject.Unit u) own) u s) rest others.1)
+  where
+    by-said : (said : DetachSaid) → says_of time u s own ≡ said → ((rest : List CommandNote) → (emptied time us (without_file (failure_now time (subject.Unit u) own) u s) rest).kept ≡ None)
+        → (emptied_as said u (written_in (failure_now time (subject.Unit u) own) u s) (λ more. emptied time us (without_file (failure_now time (subject.Unit u) own) u s) more) own).kept ≡ None
+    by-said HadNone is more = more own
+    by-said (Detached None) is more = more own
+    by-said (Detached (Some f)) is more = more (drop 1 own)
+    by-said (StillHeld f) is more = absurd (not-held u s _ f others.0 is)
+
+-- the one note is that of its write, whatever comes behind
+pub record IsKept (time : ℕ) (u : UnitName) (us : List UnitName) (s : Filed) (own : List CommandNote) (k : UnitName) : Type 0 where
+  pub unit_is : k ≡ u
+  pub note : CommandNote
+  pub own_is : own ≡ note ∷ []
+  pub subject_is : note.subject ≡ subject.Unit u
+  pub call : note.failure.call ≡ Write
+  pub always : (behind : List CommandNote) → emptied time (u ∷ us) s (note ∷ behind) ≡ record { left = written_in (failure_now time (subject.Unit u) (note ∷ [])) u s; used = 1; kept = Some u }
+
+some-same : (a b : UnitName) → Some a ≡ Some b → b ≡ a
+some-same a b is = cc
+
+kept-is : (time : ℕ) (u : UnitName) (us : List UnitName) (s : Filed) (own : List CommandNote) (k : UnitName) → AreOthers us → (emptied time (u ∷ us) s own).used ≡ length own
+    → (emptied time (u ∷ us) s own).kept ≡ Some k → IsKept time u us s own k
+kept-is time u us s own k others used kept =
+    by-said own (says_of time u s own) refl (sym (ap (λ (e : Emptied). e.used) (one-step time u us s own)) ∙ used) (sym (ap (λ (e : Emptied). e.kept) (one-step time u us s own)) ∙ kept)
+  where
+    none-some : (x : Option UnitName) → x ≡ None → x ≡ Some k → ⊥
+    none-some x none some = absurd (cc)
+
+    by-said : (own : List CommandNote) (said : DetachSaid) → says_of time u s own ≡ said
+        → (emptied_as said u (written_in (failure_now time (subject.Unit u) own) u s) (λ more. emptied time us (without_file (failure_now time (subject.Unit u) own) u s) more) own).used ≡ length own
+        → (emptied_as said u (written_in (failure_now time (subject.Unit u) own) u s) (λ more. emptied time us (without_file (failure_now time (subject.Unit u) own) u s) more) own).kept ≡ Some k
+        → IsKept time u us s own k
+    by-said own HadNone is used kept = absurd (none-some _ (none-kept time us _ own others) kept)
+    by-said own (Detached None) is used kept = absurd (none-some _ (none-kept time us _ own others) kept)
+    by-said own (Detached (Some f)) is used kept = absurd (none-some _ (none-kept time us _ (drop 1 own) others) kept)
+    by-said [] (StillHeld f) is used kept = absurd (no-write time u s (attachment_at s.attached u) f is)
+    by-said (n ∷ []) (StillHeld f) is used kept =
+        let first = write-first time u s n [] f is in
+        record {
+          unit_is = some-same u k kept;
+          note = n;
+          own_is = refl;
+          subject_is = first.0.subject_is;
+          call = first.1;
+          always = λ behind. emptied-more time u us s (n ∷ behind) (failure_now time (subject.Unit u) (n ∷ [])) (StillHeld f) refl is;
+        }
+    by-said (n ∷ m ∷ own) (StillHeld f) is used kept = absurd (omega (arith, used))
+
+-- ---- the files of all units
 
 stamped : (number time : ℕ) (us : List UnitName) (attached : List (Option Attachment)) (kept : List FaultNote) (own : List CommandNote)
     → notes_said kept ≡ numbered number own → AllByRecursion (IsOneOf time us attached) own → AllByRecursion (IsStamped number time) kept
@@ -203,14 +408,13 @@ stamped number time us attached (k ∷ kept) (n ∷ own) said all =
     let rest : notes_said kept ≡ numbered number own = cc in
     ((ap (λ (x : Note). x.command) first, ap (λ (x : Note). x.note.time) first ∙ all.0.time_is), stamped number time us attached kept own rest all.1)
 
-all-closings : (number time : ℕ) (us : List UnitName) (attached : List (Option Attachment)) (kept : List FaultNote) (own : List CommandNote)
-    → notes_said kept ≡ numbered number own → AllByRecursion (IsOneOf time us attached) own → AllClosings kept
-all-closings number time us attached [] own said all = tt
-all-closings number time us attached (k ∷ kept) [] said all = absurd (cc)
-all-closings number time us attached (k ∷ kept) (n ∷ own) said all =
+all-closings : (number : ℕ) (kept : List FaultNote) (own : List CommandNote) → notes_said kept ≡ numbered number own → AllByRecursion (λ (n : CommandNote). n.failure.call ≡ Closing) own → AllClosings kept
+all-closings number [] own said all = tt
+all-closings number (k ∷ kept) [] said all = absurd (cc)
+all-closings number (k ∷ kept) (n ∷ own) said all =
     let first : said_of k ≡ record { command = number; note = n } = cc in
     let rest : notes_said kept ≡ numbered number own = cc in
-    (ap (λ (x : Note). x.note.failure.call) first ∙ all.0.call, all-closings number time us attached kept own rest all.1)
+    (ap (λ (x : Note). x.note.failure.call) first ∙ all.0, all-closings number kept own rest all.1)
 
 come-behind : (live : Live) (own : List CommandNote) → AllByRecursion (IsOneOf live.machine.time attachable (attached_in live.machine)) own → ComeBehind live own
 come-behind live [] all = tt
@@ -222,20 +426,6 @@ pub said-append : (before kept : List FaultNote) → notes_said (before ++ kept)
 said-append [] kept = refl
 said-append (n ∷ before) kept = ap (λ (l : List Note). said_of n ∷ l) (said-append before kept)
 
-pub closes-of : (number time : ℕ) (live : Live) (attached : List (Option Attachment)) (before after : List FaultNote) (old new : FileState)
-    → time ≡ live.machine.time → attached ≡ attached_in live.machine → Closed number time attachable attached before after old new
-    → Closes number live (notes_said before) (notes_said after)
-closes-of number time live attached before after old new at are closed =
-    let own = closed.own in
-    let used : all_closings own live ≡ length own = ap (λ (t : ℕ). closings own t attachable (attached_in live.machine)) (sym at)
-    ∙ ap (λ (a : List (Option Attachment)). closings own time attachable a) (sym are) ∙ closed.used in
-    record {
-      own = own;
-      kept = ap notes_said closed.added ∙ said-append before closed.kept ∙ ap (λ (l : List Note). notes_said before ++ l) closed.said;
-      used = used;
-      behind = come-behind live own (are-of live.machine.time attachable (attached_in live.machine) own used);
-    }
-
 same-length : (number : ℕ) (kept : List FaultNote) (own : List CommandNote) → notes_said kept ≡ numbered number own → length kept ≡ length own
 same-length number [] [] said = refl
 same-length number [] (n ∷ own) said = absurd (cc)
@@ -244,55 +434,131 @@ same-length number (k ∷ kept) (n ∷ own) said =
     let rest : notes_said kept ≡ numbered number own = cc in
     ap suc (same-length number kept own rest)
 
-pub keeps-of : (number time now : ℕ) (tells : Bool) (attached : List (Option Attachment)) (before after : List FaultNote) (old new : FileState)
-    → time ≡ now → Closed number time attachable attached before after old new → Keeps number now tells (Ok Go) before after old new
-keeps-of number time now tells attached before after old new at closed = record {
-  kept = closed.kept;
-  added = closed.added;
-  few =
-      let same = same-length number closed.kept closed.own closed.said in
-      let most = at-most closed.own time attachable attached in
-      let used = closed.used in
-      omega (arith, same, most, used);
-  stamped = subst (λ (t : ℕ). AllByRecursion (IsStamped number t) closed.kept) at
-      (stamped number time attachable attached closed.kept closed.own closed.said (are-of time attachable attached closed.own closed.used));
-  counted = closed.counted;
-  cause = all-closings number time attachable attached closed.kept closed.own closed.said (are-of time attachable attached closed.own closed.used);
-}
+-- the emptying that a call has claimed, of what commands work on
+module _ (number time : ℕ) (live : Live) (from to : Filed) (k : Option UnitName) (before after : List FaultNote) (old now : FileState)
+    (at : time ≡ live.machine.time) (are : from ≡ filed_in live) (e : Empties number time attachable from to k before after old now) where
+  all-is : emptied_all e.own live ≡ record { left = to; used = length e.own; kept = k }
+  all-is = (λ i. emptied (sym at i) attachable (sym are i) e.own) ∙ e.is
+
+  pub closes-of : (new : Live) → new ≡ left_by k to live → Closes number live new k (notes_said before) (notes_said after)
+  closes-of new left =
+      let used : (emptied_all e.own live).used ≡ length e.own = ap (λ (x : Emptied). x.used) all-is in
+      record {
+        own = e.own;
+        kept = ap notes_said e.added ∙ said-append before e.kept ∙ ap (λ (l : List Note). notes_said before ++ l) e.said;
+        used = used;
+        keeps = ap (λ (x : Emptied). x.kept) all-is;
+        after = left ∙ sym (ap (λ (x : Emptied). emptied_live x live) all-is);
+        behind = come-behind live e.own (are-of live.machine.time attachable (filed_in live) e.own used);
+      }
+
+none-other : AreOthers (record { kind = Lpt; unit = 0 } ∷ record { kind = Ptr; unit = 0 } ∷ record { kind = Ptp; unit = 0 } ∷ [])
+none-other = (refl, (refl, (refl, tt)))
+
+-- a unit that has kept its file is the disk, and then only files have changed
+kept-left : (number time : ℕ) (from to : Filed) (u : UnitName) (before after : List FaultNote) (old now : FileState) → Empties number time attachable from to (Some u) before after old now
+    → (to.attached ≡ from.attached) × (to.disk ≡ from.disk)
+kept-left number time from to u before after old now e =
+    let used : (emptied time attachable from e.own).used ≡ length e.own = ap (λ (x : Emptied). x.used) e.is in
+    let is = kept-is time _ _ from e.own u none-other used (ap (λ (x : Emptied). x.kept) e.is) in
+    let left : to ≡ written_in _ _ from = sym (ap (λ (x : Emptied). x.left) e.is) ∙ ap (λ (l : List CommandNote). (emptied time attachable from l).left) is.own_is ∙ ap (λ (x : Emptied). x.left) (is.always []) in
+    (ap (λ (s : Filed). s.attached) left, ap (λ (s : Filed). s.disk) left)
+
+-- a machine with what is attached to it
+same-attached : (m : MachineState) → with_attached (erased m) (attached_in (erased m)) ≡ erased m
+same-attached m = ap (λ (l : List (Option Held)). record m { slots = l }) (ap numberless (attached-erased m) ∙ sym (unnumbered-is m.slots))
+
+pub left-is : (number time : ℕ) (keys : List (ℕ × ℕ)) (files files' : List NamedBytes) (m : MachineState) (a held : AttachedFiles) (k : Option UnitName) (before after : List FaultNote) (old now : FileState)
+    → held ≡ attached_files m → Empties number time attachable (filed_of held files) (filed_of a files') k before after old now
+    → seen keys files' (with_attached_files m a) ≡ left_by k (filed_of a files') (seen keys files m)
+left-is number time keys files files' m a held None before after old now was e = seen-with keys files' m a (attachments_of a.slots) a.disk refl refl
+left-is number time keys files files' m a held (Some u) before after old now was e =
+    let same = kept-left number time (filed_of held files) (filed_of a files') u before after old now e in
+    seen-with keys files' m a (attached_in (erased m)) m.disk (same.0 ∙ ap (λ (x : AttachedFiles). attachments_of x.slots) was ∙ sym (attached-erased m)) (same.1 ∙ ap (λ (x : AttachedFiles). x.disk) was)
+    ∙ ap (λ (x : MachineState). record { machine = x; keys = keys; files = files' }) (same-attached m)
+
+-- the notes that are kept
+pub keeps-of : (number time now : ℕ) (tells : Bool) (from to : Filed) (k : Option UnitName) (before after : List FaultNote) (old new : FileState)
+    → time ≡ now → Empties number time attachable from to k before after old new → Keeps number now tells (kept_answer k Go) before after old new
+keeps-of number time now tells from to k before after old new at e =
+    let used : (emptied time attachable from e.own).used ≡ length e.own = ap (λ (x : Emptied). x.used) e.is in
+    record {
+      kept = e.kept;
+      added = e.added;
+      few =
+          let same = same-length number e.kept e.own e.said in
+          let most = at-most time attachable from e.own in
+          omega (arith, same, most, used);
+      stamped = subst (λ (t : ℕ). AllByRecursion (IsStamped number t) e.kept) at
+          (stamped number time attachable from.attached e.kept e.own e.said (are-of time attachable from e.own used));
+      counted = e.counted;
+      cause = by-keeper k e;
+    }
+  where
+    refusal : (kept : List FaultNote) (n : CommandNote) (u : UnitName) → notes_said kept ≡ numbered number (n ∷ []) → n.subject ≡ subject.Unit u → n.failure.call ≡ Write → AreRefusalOf (subject.Unit u) kept
+    refusal [] n u said of call = absurd (cc)
+    refusal (x ∷ y ∷ kept) n u said of call = absurd (cc)
+    refusal (x ∷ []) n u said of call =
+        let first : said_of x ≡ record { command = number; note = n } = cc in
+        let made : x.call ≡ Write = ap (λ (y : Note). y.note.failure.call) first ∙ call in
+        ((ap (λ (y : Note). y.note.subject) first ∙ of, λ closing. absurd (let both : Write ≡ Closing = sym made ∙ closing in cc)), tt)
+
+    by-keeper : (k : Option UnitName) (e : Empties number time attachable from to k before after old new)
+        → FileCause (record { command = number; time = now }) tells (kept_answer k Go) e.kept old new
+    by-keeper None e =
+        let used : (emptied time attachable from e.own).used ≡ length e.own = ap (λ (x : Emptied). x.used) e.is in
+        all-closings number e.kept e.own e.said (all-closing time attachable from e.own used (ap (λ (x : Emptied). x.kept) e.is))
+    by-keeper (Some u) e =
+        let used : (emptied time attachable from e.own).used ≡ length e.own = ap (λ (x : Emptied). x.used) e.is in
+        let is = kept-is time _ _ from e.own u none-other used (ap (λ (x : Emptied). x.kept) e.is) in
+        refusal e.kept is.note u (e.said ∙ ap (numbered number) is.own_is) (is.subject_is ∙ ap subject.Unit (sym is.unit_is)) is.call
 
 -- the same where the session ends then
-pub keeps-exit : (number time status : ℕ) (tells : Bool) (before after : List FaultNote) (old new : FileState) → Keeps number time tells (Ok Go) before after old new
-    → Keeps number time tells (Ok (Exit status)) before after old new
-keeps-exit number time status tells before after old new k =
+pub keeps-exit : (number time status : ℕ) (tells : Bool) (k : Option UnitName) (before after : List FaultNote) (old new : FileState) → Keeps number time tells (kept_answer k Go) before after old new
+    → Keeps number time tells (kept_answer k (Exit status)) before after old new
+keeps-exit number time status tells None before after old new k =
     record { kept = k.kept; added = k.added; few = k.few; stamped = k.stamped; counted = k.counted; cause = k.cause }
+keeps-exit number time status tells (Some u) before after old new k = k
 
--- ---- behind that nothing is attached, so no closing comes behind
+-- ---- where none has kept its file, nothing is attached, so no note comes behind
 
-pub no-behind : (live : Live) (behind : List CommandNote) → ComeBehind (detached_all live) behind → behind ≡ []
-no-behind live [] come = refl
-no-behind live (n ∷ behind) come =
-    let first = come.0 in
-    let each = detached_each attachable (attached_in live.machine) in
-    absurd (some-none (attachment_at (attached_in (detached_all live).machine) first.unit)
-    (ap (λ (a : List (Option Attachment)). attachment_at a first.unit) (attached-numberless each) ∙ each-emptied attachable (attached_in live.machine) first.unit first.among) first.there)
+pub no-behind : (live : Live) (own behind : List CommandNote) → (emptied_all own live).kept ≡ None → ComeBehind (emptied_live (emptied_all own live) live) behind → behind ≡ []
+no-behind live own [] kept come = refl
+no-behind live own (n ∷ behind) kept come =
+    let e = emptied_all own live in
+    let at : ComeBehind (left_by None e.left live) (n ∷ behind) = subst (λ (k : Option UnitName). ComeBehind (left_by k e.left live) (n ∷ behind)) kept come in
+    let first = at.0 in
+    absurd (some-none (attachment_at (attached_in (left_by None e.left live).machine) first.unit)
+    (ap (λ (a : List (Option Attachment)). attachment_at a first.unit) (attached-numberless e.left.attached)
+    ∙ all-emptied live.machine.time attachable (filed_in live) own first.unit kept first.among) first.there)
 
--- all files are closed, and then that comes
-abbrev pub closing_reply : Next → List CommandNote → Live → Reply
-closing_reply next notes live = record { made = []; answer = Ok next; after = standing (all_closings notes live) (detached_all live) }
+-- whatever comes behind, it is the same
+unmoved : (live : Live) (own behind : List CommandNote) (k : Option UnitName) → (emptied_all own live).used ≡ length own → (emptied_all own live).kept ≡ k
+    → ComeBehind (emptied_live (emptied_all own live) live) behind → emptied_all (own ++ behind) live ≡ emptied_all own live
+unmoved live own behind None used kept come =
+    ap (λ (l : List CommandNote). emptied_all (own ++ l) live) (no-behind live own behind kept come) ∙ ap (λ (l : List CommandNote). emptied_all l live) (append-nil own)
+unmoved live own behind (Some u) used kept come =
+    let is = kept-is live.machine.time _ _ (filed_in live) own u none-other used kept in
+    ap (λ (l : List CommandNote). emptied_all (l ++ behind) live) is.own_is ∙ is.always behind ∙ sym (is.always []) ∙ sym (ap (λ (l : List CommandNote). emptied_all l live) is.own_is)
 
-pub all-did : (next : Next) (number : ℕ) (live new : Live) (tells : Bool) (text : List ℕ) (notes notes' : List Note) → bare_answer (Ok next) ≡ Ok next
-    → new ≡ detached_all live → Closes number live notes notes' → Did (λ (own : List CommandNote). closing_reply next own live) number (Ok next) new tells text text notes notes'
-all-did next number live new tells text notes notes' plain is closes = record {
+pub all-did : (next : Next) (number : ℕ) (live new : Live) (k : Option UnitName) (tells : Bool) (text : List ℕ) (notes notes' : List Note) → bare_answer (Ok next) ≡ Ok next
+    → ((at : Standing) (reply : Reply) → (bare_answer (Ok next) ≡ reply.answer) × IsSaid reply at tells text text → Does reply (Ok next) at tells text text)
+    → Closes number live new k notes notes' → Did (λ (own : List CommandNote). emptied_reply next (emptied_all own live) live) number (kept_answer k next) new tells text text notes notes'
+all-did next number live new k tells text notes notes' plain does closes = record {
   own = closes.own;
   kept = closes.kept;
   does = λ behind come.
-      let none = no-behind live behind (subst (λ (l : Live). ComeBehind l behind) is come) in
-      let all : closes.own ++ behind ≡ closes.own = ap (λ (l : List CommandNote). closes.own ++ l) none ∙ append-nil closes.own in
-      let used : all_closings (closes.own ++ behind) live ≡ length closes.own = ap (λ (l : List CommandNote). all_closings l live) all ∙ closes.used in (
-        plain,
-        record {
-          after_is = λ i. standing (sym used i) (is i);
-          written = λ _. sym (append-nil text);
-        },
-      );
+      let same = unmoved live closes.own behind k closes.used closes.keeps (subst (λ (l : Live). ComeBehind l behind) closes.after come) in
+      let e = emptied_all closes.own live in
+      subst (λ (x : Emptied). Does (emptied_reply next x live) (kept_answer k next) (standing (length closes.own) new) tells text text) (sym same)
+      (by-keeper k (sym (ap (λ (x : Option UnitName). kept_answer x next) closes.keeps)) (record {
+        after_is = λ i. standing (sym closes.used i) (closes.after i);
+        written = λ _. sym (append-nil text);
+      }));
 }
+  where
+    by-keeper : (k : Option UnitName) → kept_answer k next ≡ (emptied_reply next (emptied_all closes.own live) live).answer
+        → IsSaid (emptied_reply next (emptied_all closes.own live) live) (standing (length closes.own) new) tells text text
+        → Does (emptied_reply next (emptied_all closes.own live) live) (kept_answer k next) (standing (length closes.own) new) tells text text
+    by-keeper None is said = does _ _ (plain ∙ is, said)
+    by-keeper (Some u) is said = (is, said)

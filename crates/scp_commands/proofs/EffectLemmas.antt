@@ -38,11 +38,20 @@ use Rattle.scp_commands.specs.Doing.{Does, IsExitAnswer}
 use Rattle.scp_commands.specs.RunEffects.{stop_line, run_answer, used_by, run_failure, ran, address_fits, started, run_from, stepped, step_of, reset_reply}
 use Rattle.scp_commands.specs.ListEffects.{lacks_device, examine_after, examine_reply, handed, deposit_after, deposit_reply}
 use Rattle.scp_commands.specs.FileEffects.{lacks_unit, mode_of, attach_answer, attached_machine, attach_with, attach_reply}
-use Rattle.scp_commands.specs.FileEffects.{detach_answer, detach_used, detached_machine, flushed_files, detach_with, detach_reply, detach_all_reply, detach_one_or_all, all_closings, detached_all}
+use Rattle.scp_commands.specs.FileEffects.{detach_answer, detach_used, detached_machine, flushed_files, detach_with, detach_reply, detach_all_reply, detach_one_or_all, emptied_all, left_by, kept_answer, emptied_reply}
+use Rattle.file_commands.specs.AllUnits.{Emptied}
+use Rattle.scp_commands.specs.declared.next.Next.{Next}
 use Rattle.scp_commands.specs.ShowEffects.{show_reply}
 use Rattle.scp_commands.specs.ExitEffects.{exit_reply}
 use Rattle.scp_commands.specs.SetEffects.{set_size_reply}
-use Rattle.scp_commands.specs.ScriptEffects.{test_answer, assert_answer, echo_reply, assert_reply, script_calls, do_answer, do_reply, goto_reply}
+use Rattle.scp_commands.specs.ScriptEffects.{test_answer, assert_answer, echo_reply, assert_reply, do_answer, do_reply, goto_reply}
+use Rattle.scp_commands.specs.WholeCalls.{whole_calls, write_calls}
+use Rattle.scp_commands.specs.TapeEffects.{tape_in, tape_answer, tape_machine, loaded_machine, load_answer, load_reply, can_dump, dump_of, dump_answer, dump_after, dump_reply}
+use Rattle.binary_load.specs.declared.faults.LoadFault.{LoadFault}
+use Rattle.binary_load.specs.declared.faults.LoadFault.TheVariants as tape
+use Rattle.binary_load.specs.Tape.{Tape}
+use Rattle.whole_files.specs.Writing.{WriteSaid, AllWritten, WriteFailed, WriteAct, write_act}
+use Rattle.nova_machine.specs.Machine.{MachineState}
 use Rattle.scp_commands.specs.Effect.{effect, Asked, does}
 use Rattle.scp_commands.specs.Laws.{LeavesTraces, IsUntouched, RefusalsChangeNothing}
 use Rattle.scp_commands.proofs.TraceLemmas.{files-kept}
@@ -209,12 +218,27 @@ unfolding detach_reply
 fair-detach notes live unit =
     fair-if (lacks_unit live.machine unit) live _ _ (fair-refused _ live) (fair-detach_with (Some unit) (failure_now live.machine.time (subject.Unit unit) notes) unit live)
 
-fair-detach_all : {W : CommandFault → Type 0} (notes : List CommandNote) (live : Live) → Fair W live (detach_all_reply notes live)
+-- all units lose their files, and then that comes
+fair-emptied : (W : CommandFault → Type 0) (next : Next) (e : Emptied) (live : Live) → IsExitAnswer (Ok next) → ((u : UnitName) → W (FileFailed (subject.Unit u))) → Fair W live (emptied_reply next e live)
+fair-emptied W next e live small leaves = by-keeper e.kept
+  where
+    by-keeper : (k : Option UnitName) → Fair W live (record { made = []; answer = kept_answer k next; after = standing e.used (left_by k e.left live) })
+    by-keeper None = record { reads = refl; exit = small; untouched = λ other h. absurd (cc); files = λ other h none. absurd (cc) }
+    by-keeper (Some u) = record {
+      reads = refl;
+      exit = tt;
+      untouched = λ other h. record { machine = refl; keys = refl; text = refl };
+      files = λ other h none.
+          let same : FileFailed (subject.Unit u) ≡ other = cc in
+          absurd (none (subst W same (leaves u)));
+    }
+
+fair-detach_all : (where_ : Option UnitName) (notes : List CommandNote) (live : Live) → Fair (LeavesTraces (request.Detach where_)) live (detach_all_reply notes live)
 unfolding detach_all_reply
-fair-detach_all notes live = record { reads = refl; exit = tt; untouched = λ other h. absurd (cc); files = λ other h none. absurd (cc) }
+fair-detach_all where_ notes live = fair-emptied (LeavesTraces (request.Detach where_)) Go (emptied_all notes live) live tt (λ u. tt)
 
 fair-detach_where : (notes : List CommandNote) (live : Live) (unit : Option UnitName) → Fair (LeavesTraces (request.Detach unit)) live (detach_one_or_all notes live unit)
-fair-detach_where notes live None = fair-detach_all notes live
+fair-detach_where notes live None = fair-detach_all None notes live
 fair-detach_where notes live (Some unit) = fair-detach notes live unit
 
 -- ---- SHOW and EXIT
@@ -228,18 +252,14 @@ fair-show live shown.Version = fair-says _ live live
 fair-show live (shown.Unit unit) = fair-if (lacks_unit live.machine unit) live _ _ (fair-refused _ live) (fair-says _ live live)
 fair-show live subject = fair-refused _ live
 
-fair-exit : {W : CommandFault → Type 0} (notes : List CommandNote) (live : Live) (status : Option ℕ) → Fair W live (exit_reply notes live status)
+fair-exit : (notes : List CommandNote) (live : Live) (status : Option ℕ) → Fair (LeavesTraces (request.Exit status)) live (exit_reply notes live status)
 unfolding exit_reply
-fair-exit {W} notes live status = exit-if (nat_le (unwrap_or status 0) 99) refl
+fair-exit notes live status = exit-if (nat_le (unwrap_or status 0) 99) refl
   where
     exit-if : (b : Bool) → nat_le (unwrap_or status 0) 99 ≡ b
-        → Fair W live (if b then record { made = []; answer = Ok (Exit (unwrap_or status 0)); after = standing (all_closings notes live) (detached_all live) } else refused OutOfRange live)
-    exit-if true is = record {
-      reads = refl;
-      exit = leb-true (unwrap_or status 0) 99 is;
-      untouched = λ fault h. absurd (cc);
-      files = λ fault h none. absurd (cc);
-    }
+        → Fair (LeavesTraces (request.Exit status)) live (if b then emptied_reply (Exit (unwrap_or status 0)) (emptied_all notes live) live else refused OutOfRange live)
+    exit-if true is =
+        fair-emptied (LeavesTraces (request.Exit status)) (Exit (unwrap_or status 0)) (emptied_all notes live) live (leb-true (unwrap_or status 0) 99 is) (λ u. tt)
     exit-if false is = fair-refused OutOfRange live
 
 -- ---- SET
@@ -275,7 +295,7 @@ fair-do : {W : CommandFault → Type 0} (notes : List CommandNote) (live : Live)
 unfolding do_reply
 fair-do notes live echo strict name = record {
   reads = refl;
-  exit = do-exit (whole_act (script_calls live.machine.time notes) name live.files).0;
+  exit = do-exit (whole_act (whole_calls subject.Script live.machine.time notes) name live.files).0;
   untouched = λ fault h. record { machine = refl; keys = refl; text = refl };
   files = λ fault h none. refl;
 }
@@ -288,6 +308,65 @@ fair-do notes live echo strict name = record {
 
 fair-goto : {W : CommandFault → Type 0} (live : Live) → Fair W live (goto_reply live)
 fair-goto live = record { reads = refl; exit = tt; untouched = λ fault h. absurd (cc); files = λ fault h none. absurd (cc) }
+
+-- ---- LOAD and DUMP
+
+fair-load : {W : CommandFault → Type 0} (notes : List CommandNote) (live : Live) (name : List ℕ) → Fair W live (load_reply notes live name)
+unfolding load_reply
+fair-load notes live name = record {
+  reads = refl;
+  exit = load-exit said;
+  untouched = λ fault h. record { machine = load-kept said fault h; keys = refl; text = refl };
+  files = λ fault h none. refl;
+}
+  where
+    said : WholeSaid
+    said = (whole_act (whole_calls subject.Load live.machine.time notes) name live.files).0
+
+    tape-exit : (r : Result Tape LoadFault) → IsExitAnswer (tape_answer r)
+    tape-exit (Ok says) = tt
+    tape-exit (Err (tape.Truncated place)) = tt
+    tape-exit (Err (tape.BadSum place)) = tt
+    tape-exit (Err (tape.PastMemory origin)) = tt
+
+    load-exit : (said : WholeSaid) → IsExitAnswer (load_answer live.machine said)
+    load-exit (WholeIs bytes) = tape-exit (tape_in live.machine bytes)
+    load-exit whole.NotThere = tt
+    load-exit whole.TooLong = tt
+    load-exit whole.CallFailed = tt
+
+    tape-kept : (r : Result Tape LoadFault) (fault : CommandFault) → tape_answer r ≡ Err fault → tape_machine r live.machine ≡ live.machine
+    tape-kept (Ok says) fault h = absurd (cc)
+    tape-kept (Err why) fault h = refl
+
+    load-kept : (said : WholeSaid) (fault : CommandFault) → load_answer live.machine said ≡ Err fault → loaded_machine said live.machine ≡ live.machine
+    load-kept (WholeIs bytes) fault h = tape-kept (tape_in live.machine bytes) fault h
+    load-kept whole.NotThere fault h = refl
+    load-kept whole.TooLong fault h = refl
+    load-kept whole.CallFailed fault h = refl
+
+fair-dump_after : (from to : ℕ) (name : List ℕ) (act : WriteAct) (live : Live) → Fair (LeavesTraces (request.Dump from to name)) live (dump_after act live)
+fair-dump_after from to name act live = by-said act.said
+  where
+    by-said : (said : WriteSaid) → Fair (LeavesTraces (request.Dump from to name)) live
+        (record { made = []; answer = dump_answer said; after = standing act.met (record live { files = act.files }) })
+    by-said AllWritten = record { reads = refl; exit = tt; untouched = λ fault h. absurd (cc); files = λ fault h none. absurd (cc) }
+    by-said WriteFailed = record {
+      reads = refl;
+      exit = tt;
+      untouched = λ fault h. record { machine = refl; keys = refl; text = refl };
+      files = λ fault h none.
+          let same : FileFailed subject.Dump ≡ fault = cc in
+          absurd (none (subst (λ (x : CommandFault). LeavesTraces (request.Dump from to name) x) same tt));
+    }
+
+fair-dump : (notes : List CommandNote) (live : Live) (from to : ℕ) (name : List ℕ)
+    → Fair (LeavesTraces (request.Dump from to name)) live (dump_reply notes live from to name)
+unfolding dump_reply
+fair-dump notes live from to name =
+    fair-if (can_dump live.machine from to) live _ _
+    (fair-dump_after from to name (write_act (write_calls subject.Dump live.machine.time notes) name (dump_of live.machine from to) live.files) live)
+    (fair-refused _ live)
 
 pub fair-effect : (limit : ℕ) (notes : List CommandNote) (live : Live) (r : Request) → Fair (LeavesTraces r) live (effect limit notes live r)
 unfolding effect
@@ -308,6 +387,8 @@ fair-effect limit notes live (request.Goto label) = fair-goto live
 fair-effect limit notes live (request.Assert test) = fair-assert live test
 fair-effect limit notes live (request.Echo text) = fair-echo live text
 fair-effect limit notes live (request.Exit status) = fair-exit notes live status
+fair-effect limit notes live (request.Load name) = fair-load notes live name
+fair-effect limit notes live (request.Dump from to name) = fair-dump notes live from to name
 fair-effect limit notes live r = fair-refused _ live
 
 -- a command reads nothing

@@ -6,34 +6,35 @@ use Rattle.scp_commands.specs.declared.next.Next.TheVariants.{Exit}
 use Rattle.scp_commands.specs.declared.fault.CommandFault.TheVariants.{OutOfRange}
 use Rattle.scp_commands.specs.Live.{Live}
 use Rattle.scp_commands.specs.Reply.{Reply, refused}
-use Rattle.scp_commands.specs.FileEffects.{detached_all}
+use Rattle.unit_trait.specs.declared.kind.UnitName.{UnitName}
+use Rattle.scp_commands.specs.FileEffects.{emptied_all, emptied_reply, kept_answer}
 use Rattle.scp_commands.specs.ExitEffects.{exit_reply}
 use Rattle.scp_commands.specs.Doing.{Did, Closes}
-use Rattle.scp_commands.proofs.CloseLemmas.{closing_reply, all-did}
+use Rattle.scp_commands.proofs.CloseLemmas.{all-did}
 use Rattle.scp_commands.proofs.DidLemmas.{refused-did}
 
 within : (notes : List CommandNote) (live : Live) (status : Option ℕ) (number : ℕ) → number ≡ unwrap_or status 0 → number ≤ 99
-    → exit_reply notes live status ≡ closing_reply (Exit number) notes live
+    → exit_reply notes live status ≡ emptied_reply (Exit number) (emptied_all notes live) live
 unfolding exit_reply
 within notes live status number is low =
     let small : nat_le (unwrap_or status 0) 99 ≡ true = grind (arith, nat_tests) in
-    ap (λ (b : Bool). if b then closing_reply (Exit (unwrap_or status 0)) notes live else refused OutOfRange live) small
-    ∙ ap (λ (n : ℕ). closing_reply (Exit n) notes live) (sym is)
+    ap (λ (b : Bool). if b then emptied_reply (Exit (unwrap_or status 0)) (emptied_all notes live) live else refused OutOfRange live) small
+    ∙ ap (λ (n : ℕ). emptied_reply (Exit n) (emptied_all notes live) live) (sym is)
 
 past : (notes : List CommandNote) (live : Live) (status : Option ℕ) (number : ℕ) → number ≡ unwrap_or status 0 → 99 < number
     → exit_reply notes live status ≡ refused OutOfRange live
 unfolding exit_reply
 past notes live status number is high =
     let large : nat_le (unwrap_or status 0) 99 ≡ false = grind (arith, nat_tests) in
-    ap (λ (b : Bool). if b then closing_reply (Exit (unwrap_or status 0)) notes live else refused OutOfRange live) large
+    ap (λ (b : Bool). if b then emptied_reply (Exit (unwrap_or status 0)) (emptied_all notes live) live else refused OutOfRange live) large
 
-pub exit-did : (status : Option ℕ) (code number : ℕ) (live new : Live) (tells : Bool) (text : List ℕ) (notes notes' : List Note)
-    → code ≡ unwrap_or status 0 → code ≤ 99 → new ≡ detached_all live → Closes number live notes notes'
-    → Did (λ (own : List CommandNote). exit_reply own live status) number (Ok (Exit code)) new tells text text notes notes'
-exit-did status code number live new tells text notes notes' is low after closes =
-    subst (λ (reply : List CommandNote → Reply). Did reply number (Ok (Exit code)) new tells text text notes notes')
+pub exit-did : (status : Option ℕ) (code number : ℕ) (live new : Live) (k : Option UnitName) (tells : Bool) (text : List ℕ) (notes notes' : List Note)
+    → code ≡ unwrap_or status 0 → code ≤ 99 → Closes number live new k notes notes'
+    → Did (λ (own : List CommandNote). exit_reply own live status) number (kept_answer k (Exit code)) new tells text text notes notes'
+exit-did status code number live new k tells text notes notes' is low closes =
+    subst (λ (reply : List CommandNote → Reply). Did reply number (kept_answer k (Exit code)) new tells text text notes notes')
     (λ i own. sym (within own live status code is low) i)
-    (all-did (Exit code) number live new tells text notes notes' refl after closes)
+    (all-did (Exit code) number live new k tells text notes notes' refl (λ at reply both. both) closes)
 
 pub exit-refused : (status : Option ℕ) (code number : ℕ) (live : Live) (tells : Bool) (text : List ℕ) (notes : List Note)
     → code ≡ unwrap_or status 0 → 99 < code → Did (λ (own : List CommandNote). exit_reply own live status) number (Err OutOfRange) live tells text text notes notes

@@ -17,7 +17,9 @@ pub mod BehindLemmas
 pub mod DetachLemmas
 pub mod AttachLemmas
 pub mod ObeyLemmas
+pub mod WholeLemmas
 pub mod DoLemmas
+pub mod TapeLemmas
 pub mod ScriptLemmas
 pub mod SetLemmas
 pub mod AskedLemmas

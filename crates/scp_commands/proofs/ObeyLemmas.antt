@@ -15,12 +15,13 @@ use Rattle.operand_forms.specs.declared.listing.Test.{Test}
 use Rattle.scp_parser.specs.declared.command.Piece.{Piece}
 use Rattle.scp_parser.specs.declared.command.Verb.{Verb}
 use Rattle.scp_parser.specs.declared.command.Verb.TheVariants as verb
-use Rattle.scp_parser.specs.Command.{Request, Attach, Do, piece_of, request_of, file_name_of}
+use Rattle.scp_parser.specs.Command.{Request, Attach, Do, Load, Dump, piece_of, request_of, file_name_of}
 use Rattle.scp_examine.specs.declared.fault.ExamineFault.{ExamineFault}
 use Rattle.scp_examine.specs.declared.fault.ExamineFault.TheVariants as list
 use Rattle.scp_examine.specs.Effect.{examine_fault, fault_of_deposit, tested}
 use Rattle.scp_commands.specs.declared.next.Next.TheVariants.{Go, Goto, Ran}
 use Rattle.scp_commands.specs.declared.fault.CommandFault.TheVariants.{Console, OutOfMemory, NoFile, FileTooLong, FileFailed, NotBuilt}
+use Rattle.scp_commands.specs.declared.fault.CommandFault.TheVariants.{LoadTruncated, LoadSum, PastMemory}
 use Rattle.scp_commands.specs.Live.{Live, Standing, standing}
 use Rattle.scp_commands.specs.Reply.{Answer, Reply, bare_answer, goes, refused}
 use Rattle.scp_commands.specs.RunEffects.{reset_reply}
@@ -56,6 +57,19 @@ do-named line v echo strict file rest r name read is named =
     let asks = read ∙ ap (request_of line) is in
     (piece_of line rest, asks ∙ ap (λ (n : List ℕ). Do echo strict n (piece_of line rest)) (sym (named ∙ ap file_name_of asks)))
 
+-- a LOAD and a DUMP
+pub load-named : (line : List ℕ) (v : Verb) (file : Piece) (r : Request) (name : List ℕ) → r ≡ request_of line v → v ≡ verb.Load file
+    → name ≡ file_name_of r → r ≡ Load name
+load-named line v file r name read is named =
+    let asks = read ∙ ap (request_of line) is in
+    asks ∙ ap Load (sym (named ∙ ap file_name_of asks))
+
+pub dump-named : (line : List ℕ) (v : Verb) (from to : ℕ) (file : Piece) (r : Request) (name : List ℕ) → r ≡ request_of line v
+    → v ≡ verb.Dump from to file → name ≡ file_name_of r → r ≡ Dump from to name
+dump-named line v from to file r name read is named =
+    let asks = read ∙ ap (request_of line) is in
+    asks ∙ ap (Dump from to) (sym (named ∙ ap file_name_of asks))
+
 -- nothing is done
 pub goes-does : (live : Live) (tells : Bool) (text : List ℕ) → Does (goes live) (Ok Go) (standing 0 live) tells text text
 goes-does live tells text = (refl, record { after_is = refl; written = λ _. sym (append-nil text) })
@@ -89,6 +103,9 @@ keeps-none number time tells answer notes notes' state none own = record {
     cause (Err NoFile) own = absurd own
     cause (Err (FileFailed who)) own = absurd own
     cause (Err FileTooLong) own = tt
+    cause (Err (LoadTruncated place)) own = tt
+    cause (Err (LoadSum place)) own = tt
+    cause (Err (PastMemory origin)) own = tt
     cause (Err Console) own = (ConsoleFault, refl)
     cause (Err fault) own = refl
     cause (Ok (Ran (FileFault f))) own = absurd own
@@ -172,6 +189,8 @@ reset-slots m = refl
 pub may-want : (spare : ℕ) (request : Request) → spare < 16 → MayWant spare request
 may-want spare (Attach option unit name) few = tt
 may-want spare (Do echo strict name arguments) few = tt
+may-want spare (Load name) few = tt
+may-want spare (Dump from to name) few = tt
 may-want spare request few = few
 
 -- ---- what is not built
@@ -194,6 +213,8 @@ pub record IsOther (v : Verb) : Type 0 where
   pub assert : (test : Test) → v ≡ verb.Assert test → ⊥
   pub echo : (text : Piece) → v ≡ verb.Echo text → ⊥
   pub exit : (status : Option ℕ) → v ≡ verb.Exit status → ⊥
+  pub load : (name : Piece) → v ≡ verb.Load name → ⊥
+  pub dump : (from to : ℕ) (name : Piece) → v ≡ verb.Dump from to name → ⊥
 
 pub other-is : (limit : ℕ) (own : List CommandNote) (live : Live) (line : List ℕ) (v : Verb) → IsOther v → effect limit own live (request_of line v) ≡ refused NotBuilt live
 unfolding effect
@@ -214,4 +235,6 @@ other-is limit own live line (verb.Goto label) o = absurd (o.goto label refl)
 other-is limit own live line (verb.Assert test) o = absurd (o.assert test refl)
 other-is limit own live line (verb.Echo text) o = absurd (o.echo text refl)
 other-is limit own live line (verb.Exit status) o = absurd (o.exit status refl)
+other-is limit own live line (verb.Load name) o = absurd (o.load name refl)
+other-is limit own live line (verb.Dump from to name) o = absurd (o.dump from to name refl)
 other-is limit own live line v o = refl

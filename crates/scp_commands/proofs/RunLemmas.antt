@@ -1,5 +1,6 @@
 -- What a run comes to: what it printed with its stop, and the note that is kept of the call that stopped it.
-use Rattle.std.proofs.Common.{◌≡◌, ◌≢◌, ◌⊎◌, inl, ⊎_elim, ℕ, ◌+◌, ◌==◌, ◌≤◌, Bool, true, false, IsTrue, List, [], ◌∷◌, ◌++◌, length, refl, ap, sym, ◌∙◌, subst, append-nil, Option, Some, None, Result, Ok, Err, if◌then◌else◌, arith}
+use Rattle.unit_trait.specs.declared.kind.Kind.{Kind}
+use Rattle.std.proofs.Common.{not, ◌≡◌, ◌≢◌, ◌⊎◌, inl, ⊎_elim, ℕ, ◌+◌, ◌==◌, ◌≤◌, Bool, true, false, IsTrue, List, [], ◌∷◌, ◌++◌, length, refl, ap, sym, ◌∙◌, subst, append-nil, Option, Some, None, Result, Ok, Err, if◌then◌else◌, arith}
 use Rattle.std.proofs.lemmas.List.{map-append}
 use Rattle.std.proofs.lemmas.Bool.Decides.{nat_tests}
 use Rattle.std.specs.List.{AllByRecursion}
@@ -41,7 +42,7 @@ use Rattle.scp_commands.specs.declared.fault.CommandFault.TheVariants.{Console}
 use Rattle.scp_commands.specs.Live.{Live, Standing, standing}
 use Rattle.scp_commands.specs.Reply.{Answer, Reply, bare_answer}
 use Rattle.scp_commands.specs.RunEffects.{ran, stop_line, stop_text, run_answer, used_by, is_byte_call, met_by_run, run_failure}
-use Rattle.scp_commands.specs.Doing.{Does, Did, IsBrokenOff, IsClosing, ComeBehind, IsStamped, Keeps, FileCause, stop_notes, told_or_console}
+use Rattle.scp_commands.specs.Doing.{Does, Did, IsBrokenOff, IsLastCall, IsLate, ComeBehind, IsStamped, Keeps, FileCause, stop_notes, told_or_console}
 use Rattle.scp_commands.proofs.ReplyLemmas.{behind-said, behind-refused}
 
 -- ---- the note of a run
@@ -51,19 +52,24 @@ abbrev pub own_run : ℕ → Stop → List CommandNote
 own_run time (FileFault f) = own_note time f ∷ []
 own_run time stop = []
 
-byte-call : (call : FileCall) → IsByteCall call → is_byte_call call ≡ true
-byte-call call.Read byte = refl
-byte-call call.Write byte = refl
-byte-call call byte = absurd byte
+byte-call : (kind : Kind) (call : FileCall) → IsByteCall kind call → is_byte_call kind call ≡ true
+byte-call kind call.Read byte = ap not byte
+byte-call kind call.Write byte = ap not byte
+byte-call kind call byte = absurd byte
 
-met-byte : (time : ℕ) (f : UnitFault) → IsByteCall f.call → met_by_run time (subject.Unit f.unit) (failure_in f) ≡ run_note time (Some (FileFault f))
+met-byte : (time : ℕ) (f : UnitFault) → IsByteCall f.unit.kind f.call → met_by_run time (subject.Unit f.unit) (failure_in f) ≡ run_note time (Some (FileFault f))
 met-byte time f byte =
-    ap (λ (b : Bool). if b then Some (record { time = time; note = record { unit = f.unit; failure = failure_in f } }) else None) (byte-call f.call byte)
+    ap (λ (b : Bool). if b then Some (record { time = time; note = record { unit = f.unit; failure = failure_in f } }) else None) (byte-call f.unit.kind f.call byte)
 
-met-closing : (time : ℕ) (who : Subject) (f : Failure) (live : Live) (unit_is : IsClosing live (record { time = time; subject = who; failure = f })) → met_by_run time who f ≡ None
-met-closing time who f live closing =
-    ap (λ (s : Subject). met_by_run time s f) closing.subject_is
-    ∙ ap (λ (c : FileCall). if is_byte_call c then Some (record { time = time; note = record { unit = closing.unit; failure = f } }) else None) closing.call
+last-call : (kind : Kind) (call : FileCall) → IsLastCall kind call → is_byte_call kind call ≡ false
+last-call kind call.Closing last = refl
+last-call kind call.Write last = ap not last
+last-call kind call last = absurd last
+
+met-closing : (time : ℕ) (who : Subject) (f : Failure) (live : Live) (unit_is : IsLate live (record { time = time; subject = who; failure = f })) → met_by_run time who f ≡ None
+met-closing time who f live late =
+    ap (λ (s : Subject). met_by_run time s f) late.subject_is
+    ∙ ap (λ (b : Bool). if b then Some (record { time = time; note = record { unit = late.unit; failure = f } }) else None) (last-call late.unit.kind f.call late.call)
 
 -- a closing that comes behind is no failure of the run
 closing-unmet : (live : Live) (behind : List CommandNote) → ComeBehind live behind → run_failure behind ≡ None

@@ -4,11 +4,13 @@ use Rattle.std.specs.List.{AllByRecursion, list_any}
 use Rattle.fault_counts.specs.Faults.{raised, Rose}
 use Rattle.observations.specs.Observations.{text_of, StandsAt}
 use Rattle.observations.specs.Cut.{BreaksOff}
-use Rattle.host_files.specs.declared.files.FileCall.TheVariants.{Closing}
+use Rattle.host_files.specs.declared.files.FileCall.{FileCall}
+use Rattle.host_files.specs.declared.files.FileCall.TheVariants.{Write, Closing}
 use Rattle.host_files.specs.State.{FileState}
+use Rattle.unit_trait.specs.declared.kind.Kind.{Kind}
 use Rattle.unit_trait.specs.declared.kind.UnitName.{UnitName}
 use Rattle.unit_trait.specs.Kinds.{same_unit}
-use Rattle.unit_files.specs.Attachments.{Held, attachment_at}
+use Rattle.unit_files.specs.Attachments.{Held, attachment_at, is_disk}
 use Rattle.fault_notes.specs.declared.note.Subject.{Subject}
 use Rattle.fault_notes.specs.declared.note.Subject.TheVariants as subject
 use Rattle.fault_notes.specs.declared.note.FaultNote.{FaultNote}
@@ -21,13 +23,14 @@ use Rattle.nova_machine.specs.declared.machine.Stop.{Stop}
 use Rattle.nova_machine.specs.declared.machine.Stop.TheVariants.{ConsoleFault, FileFault}
 use Rattle.nova_machine.specs.Comes.{AreFree}
 use Rattle.nova_machine.specs.Seen.{attached_in}
-use Rattle.scp_parser.specs.Command.{Request, Attach, Do}
+use Rattle.scp_parser.specs.Command.{Request, Attach, Do, Load, Dump}
 use Rattle.scp_commands.specs.declared.next.Next.{Next}
 use Rattle.scp_commands.specs.declared.next.Next.TheVariants.{Exit, Ran}
 use Rattle.scp_commands.specs.declared.fault.CommandFault.TheVariants.{Console, OutOfMemory, NoFile, FileTooLong, FileFailed}
+use Rattle.scp_commands.specs.declared.fault.CommandFault.TheVariants.{LoadTruncated, LoadSum, PastMemory}
 use Rattle.scp_commands.specs.Live.{Live, Standing, standing, CommandState}
 use Rattle.scp_commands.specs.Reply.{Answer, Reply, bare_answer}
-use Rattle.scp_commands.specs.FileEffects.{all_closings}
+use Rattle.scp_commands.specs.FileEffects.{emptied_all, emptied_live}
 
 -- ---- what is printed, and what is left
 
@@ -57,18 +60,24 @@ Does reply answer at tells before after = (bare_answer answer ≡ reply.answer) 
 
 -- ---- the notes of a command
 
--- a note of the closing of a file that is still attached where a command has left off
-pub record IsClosing (live : Live) (n : CommandNote) : Type 0 where
+-- the calls by which a unit loses its file: a closing, or a write of what the disk holds
+abbrev pub IsLastCall : Kind → FileCall → Type 0
+IsLastCall kind Closing = Unit {0}
+IsLastCall kind Write = is_disk kind ≡ true
+IsLastCall kind call = ⊥
+
+-- a note of such a call on a file that is still attached where a command has left off
+pub record IsLate (live : Live) (n : CommandNote) : Type 0 where
   pub unit : UnitName
   pub subject_is : n.subject ≡ subject.Unit unit
   pub among : IsTrue (list_any (λ u. same_unit u unit) attachable)
-  pub call : n.failure.call ≡ Closing
+  pub call : IsLastCall unit.kind n.failure.call
   pub there : IsTrue (is_some (attachment_at (attached_in live.machine) unit))
 
--- Notes that may come behind a command's own under its number: where the session ends with it, the files are closed that
--- are still attached, and a closing that fails has the number of the last command.
+-- Notes that may come behind a command's own under its number: where the session ends with it, the units lose their files
+-- that still have one, and a call of that which fails has the number of the last command.
 abbrev pub ComeBehind : Live → List CommandNote → Type 0
-ComeBehind live notes = AllByRecursion (IsClosing live) notes
+ComeBehind live notes = AllByRecursion (IsLate live) notes
 
 -- A command was done, with the notes that were kept in it: it has used all of them and no others, whatever comes behind.
 pub record Did (reply : List CommandNote → Reply) (number : ℕ) (answer : Answer) (new : Live) (tells : Bool) (before after : List ℕ) (notes notes' : List Note) : Type 0 where
@@ -80,6 +89,8 @@ pub record Did (reply : List CommandNote → Reply) (number : ℕ) (answer : Ans
 abbrev pub IsTold : Bool → List (Option Held) → Request → Type 0
 IsTold tells slots (Attach option unit name) = IsTrue tells
 IsTold tells slots (Do echo strict name arguments) = IsTrue tells
+IsTold tells slots (Load name) = IsTrue tells
+IsTold tells slots (Dump from to name) = IsTrue tells
 IsTold tells slots request = IsTrue tells ⊎ AreFree slots
 
 -- ---- causes, whether anything is told or not
@@ -109,11 +120,15 @@ stop_notes stamp stop = []
 -- Why an answer comes, by the notes that were kept. A file was missing only where none was kept and, if names are not told,
 -- the count of openings rose. A call on a file failed only where its note is the first. A run keeps the note of the call
 -- for which it stopped, if it did for one, also where the console refused a byte of the stop's text. What was done
--- otherwise, and a file that is too long, has only notes of closings, and what was refused otherwise has none.
+-- otherwise, a file that is too long, and a tape with a fault have only notes of closings, and what was refused otherwise
+-- has none.
 abbrev pub FileCause : Stamp → Bool → Answer → List FaultNote → FileState → FileState → Type 0
 FileCause stamp tells (Err NoFile) kept old new = (kept ≡ []) × ((IsTrue tells → ⊥) → Rose old.open_faults new.open_faults)
 FileCause stamp tells (Err (FileFailed who)) kept old new = AreRefusalOf who kept
 FileCause stamp tells (Err FileTooLong) kept old new = AllClosings kept
+FileCause stamp tells (Err (LoadTruncated place)) kept old new = AllClosings kept
+FileCause stamp tells (Err (LoadSum place)) kept old new = AllClosings kept
+FileCause stamp tells (Err (PastMemory origin)) kept old new = AllClosings kept
 FileCause stamp tells (Err Console) kept old new = (stop : Stop) × (kept ≡ stop_notes stamp stop)
 FileCause stamp tells (Err fault) kept old new = kept ≡ []
 FileCause stamp tells (Ok (Ran stop)) kept old new = kept ≡ stop_notes stamp stop
@@ -168,15 +183,19 @@ IsRunAnswer answer = Unit {0}
 
 -- ---- want of memory
 
--- memory may be wanted where the room of 16 notes is not there yet, and by ATTACH and DO
+-- memory may be wanted where the room of 16 notes is not there yet, and by ATTACH, DO, LOAD and DUMP
 abbrev pub MayWant : ℕ → Request → Type 0
 MayWant spare (Attach option unit name) = Unit {0}
 MayWant spare (Do echo strict name arguments) = Unit {0}
+MayWant spare (Load name) = Unit {0}
+MayWant spare (Dump from to name) = Unit {0}
 MayWant spare request = spare < 16
 
--- Whether it is said of all files that they are as they were: of those that DO was reading only where they are told.
+-- Whether it is said of all files that they are as they were: behind DO and LOAD, which were reading one, only where files
+-- are told.
 abbrev pub says_files : Bool → Request → Bool
 says_files tells (Do echo strict name arguments) = tells
+says_files tells (Load name) = tells
 says_files tells request = true
 
 -- nothing was done
@@ -188,12 +207,14 @@ pub record IsUndone (says : Bool) (old new : CommandState) (before after : List 
 
 -- ---- the end of the input
 
--- All files were closed at the end, with the notes that were kept for it: they are used, and they may come behind those
--- of the last command.
-pub record Closes (number : ℕ) (live : Live) (notes notes' : List Note) : Type 0 where
+-- All units have lost their files at the end, up to one that has kept it, with the notes that were kept for it: they are
+-- used, and they may come behind those of the last command.
+pub record Closes (number : ℕ) (live new : Live) (keeper : Option UnitName) (notes notes' : List Note) : Type 0 where
   pub own : List CommandNote
   pub kept : notes' ≡ notes ++ numbered number own
-  pub used : all_closings own live ≡ length own
+  pub used : (emptied_all own live).used ≡ length own
+  pub keeps : (emptied_all own live).kept ≡ keeper
+  pub after : new ≡ emptied_live (emptied_all own live) live
   pub behind : ComeBehind live own
 
 -- the status of an exit is 0 to 99

@@ -2,7 +2,7 @@
 use Rattle.std.specs.Prelude.{ℕ, List, unwrap_or, true, false, Result, Ok, Err, if◌then◌else◌}
 use Rattle.fault_notes.specs.Notes.{CommandNote}
 use Rattle.scp_parser.specs.declared.fault.ParseFault.{ParseFault}
-use Rattle.scp_parser.specs.Command.{Request, Nothing, Examine, Deposit, Run, Go, Cont, Step, Reset, Attach, Detach, SetSize, Show, Do, Goto, Assert, Echo, Exit}
+use Rattle.scp_parser.specs.Command.{Request, Nothing, Examine, Deposit, Run, Go, Cont, Step, Reset, Attach, Detach, SetSize, Show, Do, Goto, Assert, Echo, Exit, Load, Dump}
 use Rattle.scp_parser.specs.Reading.{reading}
 use Rattle.scp_commands.specs.declared.fault.CommandFault.{CommandFault}
 use Rattle.scp_commands.specs.declared.fault.CommandFault.TheVariants.{Parse, NotBuilt}
@@ -15,6 +15,7 @@ use Rattle.scp_commands.specs.ShowEffects.{show_reply}
 use Rattle.scp_commands.specs.ExitEffects.{exit_reply}
 use Rattle.scp_commands.specs.ScriptEffects.{do_reply, goto_reply, echo_reply, assert_reply}
 use Rattle.scp_commands.specs.SetEffects.{set_size_reply}
+use Rattle.scp_commands.specs.TapeEffects.{load_reply, dump_reply}
 use Rattle.scp_commands.specs.Unbuilt.{names_unbuilt}
 
 -- a command, where a run may execute so many instructions, and where these calls on files fail
@@ -36,6 +37,8 @@ effect limit notes live (Echo text) = echo_reply live text
 effect limit notes live (Do echo strict name arguments) = do_reply notes live echo strict name
 effect limit notes live (Goto label) = goto_reply live
 effect limit notes live (Exit status) = exit_reply notes live status
+effect limit notes live (Load name) = load_reply notes live name
+effect limit notes live (Dump from to name) = dump_reply notes live from to name
 effect limit notes live request = refused NotBuilt live
 
 -- what a line asks for: a command, or the fault by which it is refused before any command

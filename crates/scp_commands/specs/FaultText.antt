@@ -1,17 +1,26 @@
 -- The faults of commands, and what each prints.
 use Rattle.std.specs.Prelude.{ℕ, List, [], ◌∷◌, ◌++◌, codes, decimal, Option, Some, None}
+use Rattle.nova_word.specs.Numbers.{octal_digits}
+use Rattle.binary_load.specs.declared.faults.LoadFault.{LoadFault}
+use Rattle.binary_load.specs.declared.faults.LoadFault.TheVariants as tape
+use Rattle.whole_files.specs.declared.whole.WholeFault.{WholeFault}
+use Rattle.whole_files.specs.declared.whole.WholeFault.TheVariants as whole
 use Rattle.scp_parser.specs.declared.fault.ParseFault.{ParseFault}
 use Rattle.scp_parser.specs.declared.fault.ParseFault.TheVariants as parse
 use Rattle.unit_files.specs.declared.faults.AttachFault.{AttachFault}
 use Rattle.unit_files.specs.declared.faults.AttachFault.TheVariants as attach
 use Rattle.unit_files.specs.declared.faults.DetachFault.{DetachFault}
 use Rattle.unit_files.specs.declared.faults.DetachFault.TheVariants as detach
+use Rattle.fault_notes.specs.declared.note.Subject.{Subject}
 use Rattle.fault_notes.specs.declared.note.Subject.TheVariants as subject
 use Rattle.scp_examine.specs.declared.fault.ExamineFault.{ExamineFault}
 use Rattle.scp_examine.specs.declared.fault.ExamineFault.TheVariants as list
 use Rattle.scp_commands.specs.declared.fault.CommandFault.{CommandFault}
+use Rattle.scp_commands.specs.declared.fault.Detail.{Detail}
+use Rattle.scp_commands.specs.declared.fault.Detail.TheVariants.{Nothing, Place, Address}
 use Rattle.scp_commands.specs.declared.fault.CommandFault.TheVariants.{Parse, NoSuchName, OutOfRange, ReadOnlyName, Console, NotBuilt}
 use Rattle.scp_commands.specs.declared.fault.CommandFault.TheVariants.{AlreadyAttached, NotAttached, ReadOnly, NoFile, FileTooLong, FileFailed, AssertFailed, TooDeep, NoLabel, NotInDo, OutOfMemory}
+use Rattle.scp_commands.specs.declared.fault.CommandFault.TheVariants.{LoadTruncated, LoadSum, PastMemory}
 
 -- the fault of a list
 abbrev pub list_fault : ExamineFault → CommandFault
@@ -33,6 +42,19 @@ abbrev pub detach_fault : DetachFault → CommandFault
 detach_fault detach.NotAttached = NotAttached
 detach_fault (detach.Failed f) = FileFailed (subject.Unit f.unit)
 
+-- the fault of a file that was not read or written whole
+abbrev pub whole_fault : Subject → WholeFault → CommandFault
+whole_fault whose whole.NoFile = NoFile
+whole_fault whose whole.TooLong = FileTooLong
+whole_fault whose whole.Failed = FileFailed whose
+whole_fault whose whole.OutOfMemory = OutOfMemory
+
+-- the fault of a loader tape
+abbrev pub tape_fault : LoadFault → CommandFault
+tape_fault (tape.Truncated place) = LoadTruncated place
+tape_fault (tape.BadSum place) = LoadSum place
+tape_fault (tape.PastMemory origin) = PastMemory origin
+
 -- the words of the fault of a line that is no command
 abbrev pub parse_words : ParseFault → List ℕ
 parse_words parse.Unknown = codes "Unknown command"
@@ -44,12 +66,12 @@ parse_words (parse.BadSymbol place) = codes "Invalid instruction at "
 parse_words (parse.Extra place) = codes "Too many arguments at "
 
 -- its place, if it has one, counted in bytes from 0
-abbrev pub parse_place : ParseFault → Option ℕ
-parse_place (parse.BadNumber place) = Some place
-parse_place (parse.BadName place) = Some place
-parse_place (parse.BadSymbol place) = Some place
-parse_place (parse.Extra place) = Some place
-parse_place fault = None
+abbrev pub parse_detail : ParseFault → Detail
+parse_detail (parse.BadNumber place) = Place place
+parse_detail (parse.BadName place) = Place place
+parse_detail (parse.BadSymbol place) = Place place
+parse_detail (parse.Extra place) = Place place
+parse_detail fault = Nothing
 
 -- the words of a fault; those that end the session have none
 abbrev pub fault_words : CommandFault → Option (List ℕ)
@@ -67,26 +89,35 @@ fault_words AssertFailed = Some (codes "Assertion failed")
 fault_words TooDeep = Some (codes "DO nested too deeply")
 fault_words NoLabel = Some (codes "Label not found")
 fault_words NotInDo = Some (codes "Not in a DO file")
+fault_words (LoadTruncated place) = Some (codes "Load file truncated at ")
+fault_words (LoadSum place) = Some (codes "Load checksum error at ")
+fault_words (PastMemory origin) = Some (codes "Load origin past memory: ")
 fault_words Console = None
 fault_words OutOfMemory = None
 fault_words NotBuilt = Some (codes "Not built")
 
-abbrev pub fault_place : CommandFault → Option ℕ
-fault_place (Parse fault) = parse_place fault
-fault_place fault = None
+-- what stands behind these words: a place, or the origin of a block
+abbrev pub fault_detail : CommandFault → Detail
+fault_detail (Parse fault) = parse_detail fault
+fault_detail (LoadTruncated place) = Place place
+fault_detail (LoadSum place) = Place place
+fault_detail (PastMemory origin) = Address origin
+fault_detail fault = Nothing
 
-abbrev pub place_text : Option ℕ → List ℕ
-place_text None = []
-place_text (Some place) = decimal place
+-- a place is decimal, and an address has six octal digits
+abbrev pub detail_text : Detail → List ℕ
+detail_text Nothing = []
+detail_text (Place place) = decimal place
+detail_text (Address address) = octal_digits 6 address
 
--- words and a place, as a line
-abbrev pub words_line : List ℕ → Option ℕ → List ℕ
-words_line words place = words ++ place_text place ++ 10 ∷ []
+-- words and what stands behind them, as a line
+abbrev pub words_line : List ℕ → Detail → List ℕ
+words_line words detail = words ++ detail_text detail ++ 10 ∷ []
 
-abbrev pub line_where : Option (List ℕ) → Option ℕ → List ℕ
-line_where None place = []
-line_where (Some words) place = words_line words place
+abbrev pub line_with : Option (List ℕ) → Detail → List ℕ
+line_with None detail = []
+line_with (Some words) detail = words_line words detail
 
 -- what a fault prints
 abbrev pub fault_text : CommandFault → List ℕ
-fault_text fault = line_where (fault_words fault) (fault_place fault)
+fault_text fault = line_with (fault_words fault) (fault_detail fault)

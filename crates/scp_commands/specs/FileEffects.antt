@@ -3,26 +3,32 @@ use Rattle.std.specs.Prelude.{ℕ, ◌==◌, ◌||◌, Bool, not, is_none, List,
 use Rattle.unit_trait.specs.declared.kind.Kind.{Kind}
 use Rattle.unit_trait.specs.declared.kind.UnitName.{UnitName}
 use Rattle.unit_trait.specs.Kinds.{code_of, unit_name}
+use Rattle.unit_trait.specs.Calls.{UnitState}
 use Rattle.unit_list.specs.Bus.{unit_at, with_register_in}
 use Rattle.unit_files.specs.declared.modes.AttachMode.{AttachMode}
 use Rattle.unit_files.specs.declared.modes.AttachMode.TheVariants.{Any, MustExist, New, ReadOnly as Reading}
-use Rattle.unit_files.specs.Attachments.{Attachment, attachment_at, is_paper, only_writes}
+use Rattle.unit_files.specs.Attachments.{Attachment, attachment_at, is_paper, is_disk, only_writes}
 use Rattle.unit_files.specs.Acts.{AttachSaid, Attached, UnitHasFile, OnlyWrites, NotThere, TooLong, CallFailed, attach_said, attach_files, attached_by, buffer_by}
 use Rattle.unit_files.specs.Acts.{Failure, DetachSaid, HadNone, StillHeld, Detached, detach_said, detached, buffer_left, flush_files}
 use Rattle.host_files.specs.Lists.{NamedBytes, bytes_of}
 use Rattle.fault_notes.specs.declared.note.Subject.TheVariants as subject
 use Rattle.fault_notes.specs.Notes.{CommandNote, failure_now}
-use Rattle.file_commands.specs.AllUnits.{attachable, detached_each, closings}
+use Rattle.file_commands.specs.AllUnits.{attachable, Filed, Emptied, emptied}
 use Rattle.nova_machine.specs.Machine.{MachineState}
 use Rattle.nova_machine.specs.Seen.{attached_in}
+use Rattle.scp_commands.specs.declared.next.Next.{Next}
 use Rattle.scp_commands.specs.declared.next.Next.TheVariants.{Go}
 use Rattle.scp_commands.specs.declared.fault.CommandFault.TheVariants.{AlreadyAttached, NotAttached, ReadOnly, NoFile, FileTooLong, FileFailed, NotBuilt}
 use Rattle.scp_commands.specs.Live.{Live, standing, with_machine, with_attached}
 use Rattle.scp_commands.specs.Reply.{Answer, Reply, refused}
 
+-- whether this version has files for the units of a kind
+abbrev pub has_files : Kind → Bool
+has_files kind = is_disk kind || is_paper kind
+
 -- this version has no file for the unit, or the machine has no unit of its kind
 abbrev pub lacks_unit : MachineState → UnitName → Bool
-lacks_unit m unit = not (is_paper unit.kind) || is_none (unit_at (code_of unit.kind) m.units)
+lacks_unit m unit = not (has_files unit.kind) || is_none (unit_at (code_of unit.kind) m.units)
 
 -- ---- ATTACH
 
@@ -51,11 +57,15 @@ first_place kind count = if only_writes kind then count else 0
 abbrev pub position_number : ℕ
 position_number = 5
 
+-- the units, where POS of a unit that reads or writes its file byte by byte is that place
+abbrev pub positioned : Kind → ℕ → List UnitState → List UnitState
+positioned kind place units = if is_paper kind then with_register_in kind position_number place units else units
+
 -- the unit has its file, which has these bytes, and POS is the place where it goes on; the disk holds a copy of them
 abbrev pub attached_machine : AttachSaid → AttachMode → UnitName → List ℕ → List ℕ → MachineState → MachineState
 attached_machine (Attached count) mode unit name bytes m =
     record (with_attached m (attached_by (Attached count) mode unit name (attached_in m))) {
-      units = with_register_in unit.kind position_number (first_place unit.kind count) m.units;
+      units = positioned unit.kind (first_place unit.kind count) m.units;
       disk = buffer_by (Attached count) unit bytes m.disk;
     }
 attached_machine said mode unit name bytes m = m
@@ -122,17 +132,33 @@ detach_reply notes live unit =
     if lacks_unit live.machine unit then refused NotBuilt live
     else detach_with (failure_now live.machine.time (subject.Unit unit) notes) unit live
 
--- all files are closed, in bus order
-abbrev pub detached_all : Live → Live
-detached_all live = with_machine live (with_attached live.machine (detached_each attachable (attached_in live.machine)))
+-- the files of a machine's units, with all files
+abbrev pub filed_in : Live → Filed
+filed_in live = record { attached = attached_in live.machine; disk = live.machine.disk; files = live.files }
 
--- how many of the notes that uses
-abbrev pub all_closings : List CommandNote → Live → ℕ
-all_closings notes live = closings notes live.machine.time attachable (attached_in live.machine)
+-- what all units lose their files to, with the command's notes
+abbrev pub emptied_all : List CommandNote → Live → Emptied
+emptied_all notes live = emptied live.machine.time attachable (filed_in live) notes
 
--- DETACH ALL closes all files
+-- what stands behind that: where one has kept its file, all have, and only files may have changed
+abbrev pub left_by : Option UnitName → Filed → Live → Live
+left_by None s live = record live { machine = record (with_attached live.machine s.attached) { disk = s.disk }; files = s.files }
+left_by (Some unit) s live = record live { files = s.files }
+
+abbrev pub emptied_live : Emptied → Live → Live
+emptied_live e live = left_by e.kept e.left live
+
+-- what is answered then, where that comes next
+abbrev pub kept_answer : Option UnitName → Next → Answer
+kept_answer None next = Ok next
+kept_answer (Some unit) next = Err (FileFailed (subject.Unit unit))
+
+abbrev pub emptied_reply : Next → Emptied → Live → Reply
+emptied_reply next e live = record { made = []; answer = kept_answer e.kept next; after = standing e.used (emptied_live e live) }
+
+-- DETACH ALL takes the files of all units away, in bus order, up to one that could not be written back
 unfoldable pub detach_all_reply : List CommandNote → Live → Reply
-detach_all_reply notes live = record { made = []; answer = Ok Go; after = standing (all_closings notes live) (detached_all live) }
+detach_all_reply notes live = emptied_reply Go (emptied_all notes live) live
 
 abbrev pub detach_one_or_all : List CommandNote → Live → Option UnitName → Reply
 detach_one_or_all notes live None = detach_all_reply notes live

@@ -10,7 +10,7 @@ use Rattle.nova_interrupts.specs.Interrupts.{no_interrupts}
 use Rattle.nova_memory.specs.Memory.{IsMemory, fits_size, get}
 use Rattle.nova_machine.specs.Machine.{MachineState}
 use Rattle.nova_machine.specs.Turn.{with_memory}
-use Rattle.scp_parser.specs.Command.{Request, Reset, Run, Attach, Detach, SetSize}
+use Rattle.scp_parser.specs.Command.{Request, Reset, Run, Attach, Detach, Exit, SetSize, Dump}
 use Rattle.scp_commands.specs.declared.fault.CommandFault.{CommandFault}
 use Rattle.scp_commands.specs.declared.fault.CommandFault.TheVariants.{FileFailed}
 use Rattle.scp_commands.specs.Live.{Live, with_machine}
@@ -19,10 +19,13 @@ use Rattle.scp_commands.specs.RunEffects.{address_fits, starting_at, running}
 use Rattle.scp_commands.specs.Effect.{effect}
 
 -- the commands that may leave something behind where they are refused with that fault: ATTACH, which may have made or
--- emptied its file before a call on it failed, and DETACH, whose write may have changed a first part of the disk's file
+-- emptied its file before a call on it failed; DETACH and EXIT, whose write may have changed a first part of the disk's
+-- file; and DUMP, whose file may have a first part of the tape
 abbrev pub LeavesTraces : Request → CommandFault → Type 0
 LeavesTraces (Attach option unit name) (FileFailed who) = Unit {0}
 LeavesTraces (Detach unit) (FileFailed who) = Unit {0}
+LeavesTraces (Exit status) (FileFailed who) = Unit {0}
+LeavesTraces (Dump from to name) (FileFailed who) = Unit {0}
 LeavesTraces request fault = ⊥
 
 -- it has printed nothing, and changed nothing but files

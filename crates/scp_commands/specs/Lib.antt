@@ -6,8 +6,9 @@ pub mod ListEffects
 pub mod FileEffects
 pub mod ShowEffects
 pub mod ExitEffects
+pub mod WholeCalls
 pub mod ScriptEffects
-pub mod ScriptCalls
+pub mod TapeEffects
 pub mod SetEffects
 pub mod Unbuilt
 pub mod Effect

@@ -1,13 +1,15 @@
 -- RUN, GO, CONT, STEP and RESET (SIMH Users' Guide, "Running A Simulated Program" and "Resetting Devices"), and what a stop
 -- prints.
-use Rattle.std.specs.Prelude.{ℕ, ◌^◌, ◌-◌, min, nat_le, ◌&&◌, List, [], ◌∷◌, ◌++◌, codes, Bool, true, false, Option, Some, None, Ok, if◌then◌else◌}
+use Rattle.std.specs.Prelude.{ℕ, ◌^◌, ◌-◌, min, nat_le, ◌&&◌, List, [], ◌∷◌, ◌++◌, codes, Bool, true, false, not, Option, Some, None, Ok, if◌then◌else◌}
 use Rattle.observations.specs.Observations.{Prints, map_made}
 use Rattle.nova_word.specs.Numbers.{octal_digits}
 use Rattle.nova_memory.specs.Memory.{get}
 use Rattle.unit_trait.specs.declared.processor.CpuReg.TheVariants.{Pc}
+use Rattle.unit_trait.specs.declared.kind.Kind.{Kind}
 use Rattle.unit_trait.specs.Kinds.{unit_name}
 use Rattle.host_files.specs.declared.files.FileCall.{FileCall}
 use Rattle.host_files.specs.declared.files.FileCall.TheVariants.{Read, Write}
+use Rattle.unit_files.specs.Attachments.{is_disk}
 use Rattle.unit_files.specs.Acts.{Failure}
 use Rattle.fault_notes.specs.declared.note.Subject.{Subject}
 use Rattle.fault_notes.specs.declared.note.Subject.TheVariants as subject
@@ -51,15 +53,15 @@ abbrev pub run_answer : Option Stop → Answer
 run_answer (Some stop) = Ok (Ran stop)
 run_answer None = Ok Go
 
--- a run makes no other calls on a file than those for a byte
-abbrev pub is_byte_call : FileCall → Bool
-is_byte_call Read = true
-is_byte_call Write = true
-is_byte_call call = false
+-- a run makes no other calls on a file than those for a byte, and none on the disk's
+abbrev pub is_byte_call : Kind → FileCall → Bool
+is_byte_call kind Read = not (is_disk kind)
+is_byte_call kind Write = not (is_disk kind)
+is_byte_call kind call = false
 
 -- a failing call as a run meets it
 abbrev pub met_by_run : ℕ → Subject → Failure → Option RunNote
-met_by_run time (subject.Unit unit) f = if is_byte_call f.call then Some (record { time = time; note = record { unit = unit; failure = f } }) else None
+met_by_run time (subject.Unit unit) f = if is_byte_call unit.kind f.call then Some (record { time = time; note = record { unit = unit; failure = f } }) else None
 met_by_run time subject f = None
 
 -- the failing call that a run is handed: the first of the command's notes, where it is one for a byte

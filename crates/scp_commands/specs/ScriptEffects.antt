@@ -1,18 +1,18 @@
 -- DO, GOTO, ECHO and ASSERT (SIMH Users' Guide, "Executing Command Files").
-use Rattle.std.specs.Prelude.{ℕ, ◌==◌, ◌&&◌, Bool, true, false, List, [], ◌∷◌, ◌++◌, map, take_while, Result, Ok, Err, if◌then◌else◌}
-use Rattle.host_files.specs.declared.files.FileCall.{FileCall}
+use Rattle.std.specs.Prelude.{ℕ, Bool, true, false, List, [], ◌∷◌, ◌++◌, Result, Ok, Err, if◌then◌else◌}
 use Rattle.fault_notes.specs.declared.note.Subject.TheVariants as subject
-use Rattle.fault_notes.specs.Notes.{CommandNote, same_subject}
-use Rattle.whole_files.specs.Whole.{WholeSaid, WholeIs, NotThere, TooLong, CallFailed, whole_act}
+use Rattle.fault_notes.specs.Notes.{CommandNote}
+use Rattle.whole_files.specs.Whole.{WholeSaid, whole_act}
 use Rattle.nova_machine.specs.Machine.{MachineState}
 use Rattle.operand_forms.specs.declared.listing.Test.{Test}
 use Rattle.scp_examine.specs.declared.fault.ExamineFault.{ExamineFault}
 use Rattle.scp_examine.specs.Effect.{tested}
 use Rattle.scp_commands.specs.declared.next.Next.TheVariants.{Go, Do, Goto}
-use Rattle.scp_commands.specs.declared.fault.CommandFault.TheVariants.{AssertFailed, NoFile, FileTooLong, FileFailed, NotBuilt}
+use Rattle.scp_commands.specs.declared.fault.CommandFault.TheVariants.{AssertFailed, NotBuilt}
 use Rattle.scp_commands.specs.Live.{Live, standing}
 use Rattle.scp_commands.specs.Reply.{Answer, Reply, says}
 use Rattle.scp_commands.specs.FaultText.{list_fault}
+use Rattle.scp_commands.specs.WholeCalls.{whole_calls, said_answer}
 use Rattle.scp_commands.specs.ListEffects.{lacks_device}
 
 -- ECHO prints its text and a newline
@@ -34,23 +34,17 @@ assert_reply live test = record { made = []; answer = assert_answer live.machine
 
 -- ---- DO and GOTO
 
--- the calls on a script that fail stand first among the notes of its command
-abbrev pub is_of_script : ℕ → CommandNote → Bool
-is_of_script time n = (n.time == time) && same_subject n.subject subject.Script
-
-abbrev pub script_calls : ℕ → List CommandNote → List FileCall
-script_calls time notes = map (λ (n : CommandNote). n.failure.call) (take_while (is_of_script time) notes)
+-- a script's bytes, and how its lines are done
+abbrev pub script_of : Bool → Bool → List ℕ → Answer
+script_of echo strict bytes = Ok (Do (record { text = bytes; echo = echo; strict = strict }))
 
 abbrev pub do_answer : Bool → Bool → WholeSaid → Answer
-do_answer echo strict (WholeIs bytes) = Ok (Do (record { text = bytes; echo = echo; strict = strict }))
-do_answer echo strict NotThere = Err NoFile
-do_answer echo strict TooLong = Err FileTooLong
-do_answer echo strict CallFailed = Err (FileFailed subject.Script)
+do_answer echo strict said = said_answer subject.Script (script_of echo strict) said
 
 -- DO reads a script whole, and closes it again. It prints nothing and changes nothing: who asked for it does its lines.
 unfoldable pub do_reply : List CommandNote → Live → Bool → Bool → List ℕ → Reply
 do_reply notes live echo strict name =
-    let read = whole_act (script_calls live.machine.time notes) name live.files in
+    let read = whole_act (whole_calls subject.Script live.machine.time notes) name live.files in
     record { made = []; answer = do_answer echo strict read.0; after = standing read.1 live }
 
 -- GOTO leaves it to who asked for it to find the label

@@ -1,15 +1,13 @@
 -- Lines that name a command which this version does not have. They are refused before their operands are read.
 use Rattle.std.specs.Prelude.{ℕ, Bool, true, false, not, ◌&&◌, nat_le, List, length, Option, Some, None}
 use Rattle.scp_parser.specs.declared.names.CommandName.{CommandName}
-use Rattle.scp_parser.specs.declared.names.CommandName.TheVariants.{Load, Dump, Save, Restore, Break, NoBreak, Expect, NoExpect, Send, NoSend}
+use Rattle.scp_parser.specs.declared.names.CommandName.TheVariants.{Save, Restore, Break, NoBreak, Expect, NoExpect, Send, NoSend}
 use Rattle.scp_parser.specs.Names.{command_named}
 use Rattle.scp_parser.specs.Grammar.{longest_line}
 use Rattle.scp_parser.specs.Reading.{begins_with_mark, next_word}
 
 -- the commands that this version does not have
 abbrev pub is_unbuilt : CommandName → Bool
-is_unbuilt Load = true
-is_unbuilt Dump = true
 is_unbuilt Save = true
 is_unbuilt Restore = true
 is_unbuilt Break = true

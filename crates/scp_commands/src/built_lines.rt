@@ -9,7 +9,7 @@ use scp_parser::{CommandName, LONGEST_LINE, command_named};
 /// Whether a line is to be read.
 ///
 /// It is not where its first word names, in either case and maybe abbreviated, a command that this version does not
-/// have: LOAD, DUMP, SAVE, RESTORE, BREAK, NOBREAK, EXPECT, NOEXPECT, SEND or NOSEND. Such a line is refused as
+/// have: SAVE, RESTORE, BREAK, NOBREAK, EXPECT, NOEXPECT, SEND or NOSEND. Such a line is refused as
 /// `NotBuilt`, whatever follows that word. A line of more than 512 bytes, a comment, a label and a blank line name
 /// none.
 #[tactic(auto, unfolding(crate::specs::Unbuilt::names_unbuilt))]
@@ -46,9 +46,7 @@ fn is_unbuilt(name: CommandName) -> bool
 {
     matches!(
         name,
-        CommandName::Load
-            | CommandName::Dump
-            | CommandName::Save
+        CommandName::Save
             | CommandName::Restore
             | CommandName::Break
             | CommandName::NoBreak

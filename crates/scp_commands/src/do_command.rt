@@ -1,13 +1,13 @@
 // DO.
-ghost use Rattle.std.specs.Prelude.{◌≡◌, ◌≤◌, ◌+◌, ◌++◌, ◌^◌, ℕ, Bool, List, IsTrue, IfOk, Err, length};
-ghost use Rattle.std.specs.Prelude.{vec_len, vec_capacity};
+ghost use Rattle.std.specs.Prelude.{◌≡◌, ◌≤◌, ◌^◌, ℕ, Bool, List, IsTrue, IfOk, Err, length};
 ghost use Rattle.host_files.specs.State.{Opened};
 ghost use Rattle.unit_files.specs.Open.{AllOpen, Around};
+ghost use Rattle.fault_notes.specs.declared.note.Subject.TheVariants.{Script};
 ghost use Rattle.fault_notes.specs.Notes.{notes_said};
 ghost use Rattle.scp_commands.specs.declared.fault.CommandFault.TheVariants.{OutOfMemory};
 ghost use Rattle.scp_commands.specs.Live.{live_in};
-ghost use Rattle.scp_commands.specs.ScriptEffects.{do_reply};
-ghost use Rattle.scp_commands.specs.ScriptCalls.{call_notes, script_notes, script_answer};
+ghost use Rattle.scp_commands.specs.ScriptEffects.{script_of, do_reply};
+ghost use Rattle.scp_commands.specs.WholeCalls.{whole_answer};
 ghost use Rattle.scp_commands.specs.Doing.{Did, Keeps, IsUndone, IsOwn, IsExitAnswer};
 
 use crate::do_file::{DoFile, ScriptText};
@@ -15,12 +15,12 @@ use crate::fault::CommandFault;
 use crate::next::Next;
 use crate::session::Session;
 use crate::unit_commands::stamp_of;
-use fault_notes::{FaultNote, Subject, keep};
-use file_commands::Stamp;
+use crate::whole_notes::note_reading;
+use fault_notes::Subject;
 use host_files::Files;
 use std::alloc::Global;
 use unit_trait::Unit;
-use whole_files::{FailedCall, Whole, WholeFault, read_file};
+use whole_files::{WholeFault, read_file};
 
 /// DO reads the script of a name whole, closes it again, and answers its bytes. It prints nothing, and no file changes.
 ///
@@ -57,46 +57,8 @@ pub fn do_script<U: Unit, F: Files>(
 {
     let stamp = stamp_of(session);
     let whole = read_file(alloc, name, files);
-    note_calls(&mut session.notes, &whole, stamp);
+    note_reading(&mut session.notes, Subject::Script, &whole, stamp);
     script_answer(whole.bytes, echo, strict)
-}
-
-// Notes the calls on a script that failed, but where memory ran out.
-fn note_calls(notes: &mut Vec<FaultNote>, whole: &Whole, stamp: Stamp)
-    requires { vec_len notes.old + 2 ≤ vec_capacity notes.old }
-    ensures notes { notes.new.items ≡ notes.old.items ++ script_notes stamp whole.now }
-    ensures capacity { vec_capacity notes.old ≤ vec_capacity notes.new }
-{
-    match &whole.bytes {
-        Err(WholeFault::OutOfMemory) => (),
-        _ => {
-            note_call(notes, whole.failed, stamp);
-            note_call(notes, whole.closing, stamp);
-        }
-    }
-}
-
-// Notes a call on a script, where it failed.
-fn note_call(notes: &mut Vec<FaultNote>, failed: Option<FailedCall>, stamp: Stamp)
-    requires { vec_len notes.old + 1 ≤ vec_capacity notes.old }
-    ensures notes { notes.new.items ≡ notes.old.items ++ call_notes stamp failed }
-    ensures few { vec_len notes.new ≤ vec_len notes.old + 1 }
-    ensures capacity { vec_capacity notes.old ≤ vec_capacity notes.new }
-{
-    match failed {
-        None => (),
-        Some(failed) => keep(
-            notes,
-            FaultNote {
-                command: stamp.command,
-                time: stamp.time,
-                subject: Subject::Script,
-                file: failed.file,
-                call: failed.call,
-                done: 0,
-            },
-        ),
-    }
 }
 
 // What is answered of a script that was read, or not.
@@ -106,7 +68,7 @@ fn script_answer(
     strict: bool,
 ) -> Result<Next, CommandFault>
     requires { IfOk bytes (λ v. length v.items ≤ 2 ^ 20) }
-    ensures { result ≡ script_answer echo strict bytes }
+    ensures { result ≡ whole_answer Script (script_of echo strict) bytes }
 {
     match bytes {
         Ok(bytes) => Ok(Next::Do(DoFile {
@@ -114,9 +76,6 @@ fn script_answer(
             echo,
             strict,
         })),
-        Err(WholeFault::NoFile) => Err(CommandFault::NoFile),
-        Err(WholeFault::TooLong) => Err(CommandFault::FileTooLong),
-        Err(WholeFault::Failed) => Err(CommandFault::FileFailed(Subject::Script)),
-        Err(WholeFault::OutOfMemory) => Err(CommandFault::OutOfMemory),
+        Err(fault) => Err(CommandFault::of_whole(Subject::Script, fault)),
     }
 }

@@ -10,9 +10,11 @@ ghost use Rattle.scp_commands.specs.Effect.{effect};
 ghost use Rattle.scp_commands.specs.Doing.{Did, IsTold, Keeps, ConsoleCounts, MayWant, IsUndone, says_files, IsExitAnswer};
 
 use crate::do_command::do_script;
+use crate::dump_command::dump_file;
 use crate::exit_command::exit;
 use crate::fault::CommandFault;
 use crate::list_commands::{deposit_list, examine_list};
+use crate::load_command::load_file;
 use crate::next::Next;
 use crate::run_commands::{reset, run, run_from, step};
 use crate::script_commands::{assert_condition, echo};
@@ -27,10 +29,10 @@ use unit_trait::Unit;
 
 /// Does a command, and prints what it has to say.
 ///
-/// A command that is refused has printed nothing and changed nothing, but that ATTACH may have made or emptied its file;
-/// who called prints the text of its fault. `Console` means that the console refused a byte, also within a run: what comes
+/// A command that is refused has printed nothing and changed nothing, but that ATTACH and DUMP may have made or emptied
+/// their file, and DUMP may have written a first part of it; who called prints the text of its fault. `Console` means that the console refused a byte, also within a run: what comes
 /// before it was printed, and the session stands as it did when that byte was to be printed. `OutOfMemory` means that
-/// nothing was done: it comes where the room for 16 notes can't be taken, and from ATTACH and DO.
+/// nothing was done: it comes where the room for 16 notes can't be taken, and from ATTACH, DO, LOAD and DUMP.
 pub fn execute<U: Unit, F: Files, S: Sink>(
     alloc: Global,
     session: &mut Session<U>,
@@ -116,6 +118,10 @@ fn obey<U: Unit, F: Files, S: Sink>(
         Verb::Assert(what) => assert_condition(session, what),
         Verb::Echo(_) => echo(command.text(), out),
         Verb::Exit(status) => exit(session, *status, files),
+        Verb::Load(_) => load_file(alloc, session, command.file_name(), files),
+        Verb::Dump { from, to, .. } => {
+            dump_file(alloc, session, *from, *to, command.file_name(), files)
+        }
         _ => Err(CommandFault::NotBuilt),
     }
 }

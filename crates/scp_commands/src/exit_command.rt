@@ -11,9 +11,11 @@ use crate::fault::CommandFault;
 use crate::next::Next;
 use crate::session::Session;
 use host_files::Files;
+use unit_files::DetachFault;
 use unit_trait::Unit;
 
-/// The end of a session, with a status from 0 to 99; 0 where none is given. All files are closed before it.
+/// The end of a session, with a status from 0 to 99; 0 where none is given. All units lose their files before it; where
+/// what the disk holds can't be written back, the session does not end.
 #[tactic(auto, unfolding(crate::specs::ExitEffects::exit_reply))]
 pub fn exit<U: Unit, F: Files>(
     session: &mut Session<U>,
@@ -39,8 +41,10 @@ pub fn exit<U: Unit, F: Files>(
 {
     match status.unwrap_or(0) {
         status @ 0..=99 => {
-            session.detach_files(files);
-            Ok(Next::Exit(status as u8))
+            match session.detach_files(files) {
+                Ok(()) => Ok(Next::Exit(status as u8)),
+                Err(fault) => Err(CommandFault::of_detach(DetachFault::Failed(fault))),
+            }
         }
         _ => Err(CommandFault::OutOfRange),
     }

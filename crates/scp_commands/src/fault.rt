@@ -2,15 +2,18 @@ ghost use Rattle.std.specs.Prelude.{◌≡◌, IsTrue, option_map};
 ghost use Rattle.fault_counts.specs.Faults.{CountsFault};
 ghost use Rattle.host_files.specs.Streams.{Puts};
 ghost use Rattle.scp_commands.specs.declared.fault.CommandFault.TheVariants.{Parse};
-ghost use Rattle.scp_commands.specs.FaultText.{list_fault, attach_fault, detach_fault, parse_words, parse_place, fault_words};
-ghost use Rattle.scp_commands.specs.FaultText.{fault_place, words_line, fault_text};
+ghost use Rattle.scp_commands.specs.FaultText.{list_fault, attach_fault, detach_fault, whole_fault, tape_fault};
+ghost use Rattle.scp_commands.specs.FaultText.{parse_words, parse_detail, fault_words, fault_detail, words_line, fault_text};
 
+use binary_load::LoadFault;
 use fault_notes::Subject;
 use host_files::{Failed, Sink, put_pieces};
 use itoa::Buffer;
+use line_text::Text;
 use scp_examine::ExamineFault;
 use scp_parser::ParseFault;
 use unit_files::{AttachFault, DetachFault};
+use whole_files::WholeFault;
 
 /// Why a command was not done. Nothing has changed then, but for what the commands' own pages say.
 #[derive(Clone, Copy, Debug, PartialEq, Eq)]
@@ -31,7 +34,7 @@ pub enum CommandFault {
     ReadOnly,
     /// There is no file of that name.
     NoFile,
-    /// The file is longer than the unit takes.
+    /// The file is longer than is taken.
     FileTooLong,
     /// A call on a file failed; it may have been emptied or made before. A note says which call it was.
     FileFailed(Subject),
@@ -43,12 +46,27 @@ pub enum CommandFault {
     NoLabel,
     /// No script is open.
     NotInDo,
+    /// A loader tape ends within a block. The place is its end, in bytes.
+    LoadTruncated(usize),
+    /// The words of a block of a loader tape do not add up to 0. The place is that of the block, in bytes from 0.
+    LoadSum(usize),
+    /// A block of a loader tape has an address at which there is no memory. The number is its origin.
+    PastMemory(u16),
     /// The console refused a byte, which ends the session. It has no text.
     Console,
     /// Memory ran out, which ends the session. It has no text.
     OutOfMemory,
     /// This version of the program does not have the command or the subject, or its machine no unit of the device.
     NotBuilt,
+}
+
+/// What stands behind the words of a fault.
+#[derive(Clone, Copy)]
+pub(crate) enum Detail {
+    Nothing,
+    /// A place, in bytes from 0.
+    Place(usize),
+    Address(u16),
 }
 
 impl CommandFault {
@@ -95,6 +113,29 @@ impl CommandFault {
         }
     }
 
+    /// The fault of a file that was not read or written whole.
+    pub fn of_whole(who: Subject, fault: WholeFault) -> CommandFault
+        ensures { result ≡ whole_fault who fault }
+    {
+        match fault {
+            WholeFault::NoFile => CommandFault::NoFile,
+            WholeFault::TooLong => CommandFault::FileTooLong,
+            WholeFault::Failed => CommandFault::FileFailed(who),
+            WholeFault::OutOfMemory => CommandFault::OutOfMemory,
+        }
+    }
+
+    /// The fault of a loader tape.
+    pub fn of_tape(fault: LoadFault) -> CommandFault
+        ensures { result ≡ tape_fault fault }
+    {
+        match fault {
+            LoadFault::Truncated(place) => CommandFault::LoadTruncated(place),
+            LoadFault::BadSum(place) => CommandFault::LoadSum(place),
+            LoadFault::PastMemory(origin) => CommandFault::PastMemory(origin),
+        }
+    }
+
     // The words of the fault; none for those that end the session.
     fn words(self) -> Option<&'static [u8]>
         ensures { option_map (λ words. words.now) result ≡ fault_words self }
@@ -114,19 +155,26 @@ impl CommandFault {
             CommandFault::TooDeep => b"DO nested too deeply",
             CommandFault::NoLabel => b"Label not found",
             CommandFault::NotInDo => b"Not in a DO file",
+            CommandFault::LoadTruncated(_) => b"Load file truncated at ",
+            CommandFault::LoadSum(_) => b"Load checksum error at ",
+            CommandFault::PastMemory(_) => b"Load origin past memory: ",
             CommandFault::Console | CommandFault::OutOfMemory => return None,
             CommandFault::NotBuilt => b"Not built",
         };
         Some(words)
     }
 
-    // The place of the fault, if it has one.
-    fn place(self) -> Option<usize>
-        ensures { result ≡ fault_place self }
+    // What stands behind its words.
+    fn detail(self) -> Detail
+        ensures { result ≡ fault_detail self }
     {
         match self {
-            CommandFault::Parse(fault) => parse_place(fault),
-            _ => None,
+            CommandFault::Parse(fault) => parse_detail(fault),
+            CommandFault::LoadTruncated(place) | CommandFault::LoadSum(place) => {
+                Detail::Place(place)
+            }
+            CommandFault::PastMemory(origin) => Detail::Address(origin),
+            _ => Detail::Nothing,
         }
     }
 
@@ -137,7 +185,7 @@ impl CommandFault {
     {
         match self.words() {
             None => Ok(()),
-            Some(words) => put_words(words, self.place(), out),
+            Some(words) => put_words(words, self.detail(), out),
         }
     }
 }
@@ -158,28 +206,33 @@ fn parse_words(fault: ParseFault) -> &'static [u8]
 }
 
 // The place of such a fault, if it has one.
-fn parse_place(fault: ParseFault) -> Option<usize>
-    ensures { result ≡ parse_place fault }
+fn parse_detail(fault: ParseFault) -> Detail
+    ensures { result ≡ parse_detail fault }
 {
     match fault {
         ParseFault::BadNumber(place)
         | ParseFault::BadName(place)
         | ParseFault::BadSymbol(place)
-        | ParseFault::Extra(place) => Some(place),
-        _ => None,
+        | ParseFault::Extra(place) => Detail::Place(place),
+        _ => Detail::Nothing,
     }
 }
 
-// Prints words and a place, as a line.
-fn put_words<S: Sink>(words: &[u8], place: Option<usize>, out: &mut S) -> Result<(), Failed>
-    ensures told { IsTrue S.tells → Puts (S.written out.old) (words_line words.now place) result (S.written out.new) }
+// Prints words and what stands behind them, as a line.
+fn put_words<S: Sink>(words: &[u8], detail: Detail, out: &mut S) -> Result<(), Failed>
+    ensures told { IsTrue S.tells → Puts (S.written out.old) (words_line words.now detail) result (S.written out.new) }
     ensures counts { CountsFault (S.fault_count out.old) (S.fault_count out.new) result }
 {
-    match place {
-        None => put_pieces(out, &[words, b"\n"]),
-        Some(place) => {
+    match detail {
+        Detail::Nothing => put_pieces(out, &[words, b"\n"]),
+        Detail::Place(place) => {
             let mut buffer = Buffer::new();
             put_pieces(out, &[words, buffer.format(place).as_bytes(), b"\n"])
+        }
+        Detail::Address(address) => {
+            let mut digits = Text::<12>::new();
+            digits.push_octal(u32::from(address), 6);
+            put_pieces(out, &[words, digits.as_slice(), b"\n"])
         }
     }
 }

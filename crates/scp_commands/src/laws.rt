@@ -1,7 +1,7 @@
 ghost use Rattle.scp_commands.specs.Laws.{RefusalsChangeNothing, ResetsLeaveTheProgram, SetCpuLeavesTheRest};
 
 /// The law that a command that is refused prints nothing and leaves the machine and the keys as they were, and all files
-/// too, but for ATTACH where a call on its file failed: it may have made or emptied that file before.
+/// too, but for ATTACH, DETACH, EXIT and DUMP where a call on a file failed: they may have changed that file before.
 pub fn refusals_change_nothing()
     ensures { RefusalsChangeNothing }
 {}

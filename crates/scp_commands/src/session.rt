@@ -12,6 +12,7 @@ use host_files::Files;
 use nova_machine::{Machine, OutOfMemory};
 use std::alloc::Global;
 use std::marker::Model;
+use unit_files::UnitFault;
 use unit_trait::Unit;
 
 /// What commands work on.
@@ -47,9 +48,9 @@ impl<U: Unit> Model for Session<U> {
 
 impl<U: Unit> Session<U> {
     ghost use Rattle.scp_commands.specs.Live.{CommandState, live_in};
-    ghost use Rattle.scp_commands.specs.FileEffects.{detached_all};
+    ghost use Rattle.scp_commands.specs.FileEffects.{kept_answer};
+    ghost use Rattle.file_commands.specs.AllUnits.{keeper, IsUnwritten};
     ghost use Rattle.scp_commands.specs.Doing.{Closes, Keeps};
-    ghost use Rattle.std.specs.Prelude.{Ok};
     ghost use Rattle.scp_commands.specs.declared.next.Next.TheVariants.{Go};
 
     /// A session of a machine with those units, before its first command. No file is attached, and no note kept.
@@ -89,18 +90,18 @@ impl<U: Unit> Session<U> {
         take_room(&mut self.notes)
     }
 
-    /// Closes the files of all units, in bus order, at the end of the input. A closing that fails is noted, and the next
-    /// one follows.
-    pub fn detach_files<F: Files>(&mut self, files: &mut F)
-        requires room { 3 ≤ self.old.spare }
+    /// Takes the files of all units away, in bus order, as at the end of the input. What the disk holds is written back
+    /// first; where that fails, it is noted and answered, and all units keep their files. A closing that fails is noted,
+    /// and the next one follows.
+    pub fn detach_files<F: Files>(&mut self, files: &mut F) -> Result<(), UnitFault>
+        requires room { 4 ≤ self.old.spare }
         requires open { AllOpen self.old.machine.slots (F.state files.old).opened }
-        ensures live { live_in self.new (F.state files.new).files
-            ≡ detached_all (live_in self.old (F.state files.old).files) }
-        ensures files { (F.state files.new).files ≡ (F.state files.old).files }
         ensures closes { Closes self.old.command (live_in self.old (F.state files.old).files)
-            (notes_said self.old.notes) (notes_said self.new.notes) }
-        ensures keeps { Keeps self.old.command self.new.machine.time F.tells (Ok Go) self.old.notes self.new.notes
-            (F.state files.old) (F.state files.new) }
+            (live_in self.new (F.state files.new).files) (keeper result) (notes_said self.old.notes)
+            (notes_said self.new.notes) }
+        ensures keeps { Keeps self.old.command self.new.machine.time F.tells (kept_answer (keeper result) Go)
+            self.old.notes self.new.notes (F.state files.old) (F.state files.new) }
+        ensures cause { OnErr result (IsUnwritten self.new.machine.slots self.new.notes (F.state files.old) (F.state files.new)) }
         ensures keys { self.new.keys ≡ self.old.keys }
         ensures limit { self.new.limit ≡ self.old.limit }
         ensures command { self.new.command ≡ self.old.command }
@@ -112,6 +113,6 @@ impl<U: Unit> Session<U> {
             command: self.command,
             time: self.machine.time(),
         };
-        detach_all(self.machine.attached_mut(), files, &mut self.notes, stamp);
+        detach_all(self.machine.attached_mut(), files, &mut self.notes, stamp)
     }
 }

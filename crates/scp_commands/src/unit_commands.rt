@@ -2,13 +2,13 @@
 ghost use Rattle.std.specs.Prelude.{◌≡◌, ◌≤◌, ◌<◌, ◌^◌, ℕ, Bool, true, List, IsTrue, IfSome, is_some, Err};
 ghost use Rattle.host_files.specs.State.{Opened};
 ghost use Rattle.unit_trait.specs.Kinds.{units_of, code_of};
-ghost use Rattle.unit_list.specs.Bus.{unit_at, with_register_in};
+ghost use Rattle.unit_list.specs.Bus.{unit_at};
 ghost use Rattle.unit_files.specs.Attachments.{IsFileName, is_paper};
 ghost use Rattle.unit_files.specs.Open.{AllOpen, Around};
 ghost use Rattle.fault_notes.specs.Notes.{notes_said};
 ghost use Rattle.scp_commands.specs.declared.fault.CommandFault.TheVariants.{OutOfMemory};
 ghost use Rattle.scp_commands.specs.Live.{live_in};
-ghost use Rattle.scp_commands.specs.FileEffects.{lacks_unit, mode_of, first_place, position_number};
+ghost use Rattle.scp_commands.specs.FileEffects.{lacks_unit, mode_of, first_place, positioned};
 ghost use Rattle.scp_commands.specs.FileEffects.{attach_reply, detach_reply, detach_all_reply, detach_one_or_all};
 ghost use Rattle.scp_commands.specs.Doing.{Did, Keeps, IsUndone, IsOwn, IsPlain, IsExitAnswer};
 
@@ -19,7 +19,7 @@ use file_commands::{Stamp, attach_unit, detach_unit};
 use host_files::Files;
 use nova_machine::Machine;
 use std::alloc::Global;
-use unit_files::AttachMode;
+use unit_files::{AttachMode, DetachFault};
 use unit_trait::{Kind, Unit, UnitName};
 
 /// The number of the register POS of the units whose files are attached.
@@ -154,7 +154,7 @@ fn detach<U: Unit, F: Files>(
     }
 }
 
-// DETACH ALL closes all files.
+// DETACH ALL takes the files of all units away.
 #[tactic(auto, unfolding(crate::specs::FileEffects::detach_all_reply))]
 fn detach_every<U: Unit, F: Files>(
     session: &mut Session<U>,
@@ -177,8 +177,10 @@ fn detach_every<U: Unit, F: Files>(
     ensures around { (base : List Opened) → Around session.old.machine.slots base (F.state files.old).opened
         → Around session.new.machine.slots base (F.state files.new).opened }
 {
-    session.detach_files(files);
-    Ok(Next::Go)
+    match session.detach_files(files) {
+        Ok(()) => Ok(Next::Go),
+        Err(fault) => Err(CommandFault::of_detach(DetachFault::Failed(fault))),
+    }
 }
 
 /// Whether this version has no file for a unit, or a machine has no unit of its kind.
@@ -186,7 +188,7 @@ pub fn lacks_unit<U: Unit>(machine: &Machine<U>, unit: UnitName) -> bool
     ensures { result ≡ lacks_unit machine.now unit }
 {
     match unit.kind {
-        Kind::Lpt | Kind::Ptr | Kind::Ptp => !machine.has_unit(unit.kind),
+        Kind::Dsk | Kind::Lpt | Kind::Ptr | Kind::Ptp => !machine.has_unit(unit.kind),
         _ => true,
     }
 }
@@ -216,12 +218,20 @@ fn first_place(kind: Kind, count: u64) -> u64
 
 // Sets POS of a unit that reads or writes its file byte by byte.
 fn set_position<U: Unit>(machine: &mut Machine<U>, kind: Kind, place: u64)
-    requires paper { IsTrue (is_paper kind) }
     requires there { IsTrue (is_some (unit_at (code_of kind) machine.old.units)) }
     requires place { place ≤ 8 ^ 8 }
-    ensures { machine.new ≡ record machine.old { units = with_register_in kind position_number place machine.old.units } }
+    ensures { machine.new ≡ record machine.old { units = positioned kind place machine.old.units } }
 {
-    let _fits = machine.set_unit_reg(kind, POSITION, place as u32);
+    if goes_by_bytes(kind) {
+        let _fits = machine.set_unit_reg(kind, POSITION, place as u32);
+    }
+}
+
+// Whether a unit reads or writes its file byte by byte.
+fn goes_by_bytes(kind: Kind) -> bool
+    ensures { result ≡ is_paper kind }
+{
+    matches!(kind, Kind::Lpt | Kind::Ptr | Kind::Ptp)
 }
 
 /// What stands on the notes of the command that is done.

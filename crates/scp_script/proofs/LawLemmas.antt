@@ -8,7 +8,7 @@ use Rattle.scp_commands.specs.Effect.{asked}
 use Rattle.script_text.specs.Lines.{first_line, line_cost}
 use Rattle.scp_script.specs.Lines.{Arrival, InputEnds, Unpaid, LineComes, arrival}
 use Rattle.scp_script.specs.Scripts.{Script, still_open, cost_of_line, text_of_line, echo_text}
-use Rattle.scp_script.specs.Session.{State, Session, InputEnded, BudgetSpent, Ends, Comes, Going, state_of, asking_in, asking, behind_line, behind_script_line, upcoming_in, upcoming, Step, step, ComesTo}
+use Rattle.scp_script.specs.Session.{State, Session, input_end, emptied_in, BudgetSpent, Ends, Comes, Going, state_of, asking_in, asking, behind_line, behind_script_line, upcoming_in, upcoming, Step, step, ComesTo}
 use Rattle.scp_script.specs.Laws.{lines_size, lines_cost, AreBehind, IsBehindLines, NoScripts, LinesAreConsumed}
 use Rattle.scp_script.proofs.SessionLemmas.{arrival-paid, following-is, step-comes, step-over, upcoming-input, closing, step-still}
 use Rattle.scp_script.proofs.LineLemmas.{reply_in, left_by, text-made, text-next, made-reads, asking-reads, comes-reads}
@@ -62,7 +62,7 @@ at-line s t line none e h =
     }
 
 at-arrival : (s t : Session) (a : Arrival) → s.scripts ≡ [] → arrival s.budget s.open_ s.input ≡ a → (step s).next ≡ Going t → IsNextLine s t
-at-arrival s t InputEnds none e h = let over = ap (λ (x : Step). x.next) (step-over s InputEnded (upcoming-input s InputEnds none e)) in absurd (cc (over, h))
+at-arrival s t InputEnds none e h = let over = ap (λ (x : Step). x.next) (step-over s (input_end (emptied_in s).kept) (upcoming-input s InputEnds none e)) in absurd (cc (over, h))
 at-arrival s t Unpaid none e h = let over = ap (λ (x : Step). x.next) (step-over s BudgetSpent (upcoming-input s Unpaid none e)) in absurd (cc (over, h))
 at-arrival s t (LineComes line) none e h = at-line s t line none e h
 

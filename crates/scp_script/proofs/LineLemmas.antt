@@ -1,5 +1,5 @@
 -- One text of a session, by what it came to.
-use Rattle.std.proofs.Common.{◌≡◌, inr, ℕ, ◌+◌, ◌-◌, ◌<◌, ◌≤◌, Bool, true, false, IsTrue, List, [], ◌∷◌, ◌++◌, length, take, drop, refl, ap, sym, ◌∙◌, subst, arith, append_assoc, append-nil, zero-add, add-zero, length-take-le, nat_le, if◌then◌else◌, Some, None, Ok, Err}
+use Rattle.std.proofs.Common.{Option, Some, None, ◌≡◌, inr, ℕ, ◌+◌, ◌-◌, ◌<◌, ◌≤◌, Bool, true, false, IsTrue, List, [], ◌∷◌, ◌++◌, length, take, drop, refl, ap, sym, ◌∙◌, subst, arith, append_assoc, append-nil, zero-add, add-zero, length-take-le, nat_le, if◌then◌else◌, Some, None, Ok, Err}
 use Rattle.std.proofs.lemmas.Bool.{le-leb, leb-false, cond_both}
 use Rattle.host_files.specs.Streams.{AddsPart}
 use Rattle.observations.specs.Observations.{Observation, Prints, Reads, text_of, reads_of, map_made}
@@ -16,12 +16,14 @@ use Rattle.scp_commands.specs.Effect.{Asked, asked}
 use Rattle.scp_script.specs.declared.progress.Progress.{Progress}
 use Rattle.scp_script.specs.declared.progress.Progress.TheVariants.{GoesOn, IsOver}
 use Rattle.scp_script.specs.declared.progress.Finish.{Finish}
-use Rattle.scp_script.specs.declared.progress.Finish.TheVariants.{Exit, EndOfInput, Commands, Console, Input, OutOfMemory}
+use Rattle.scp_script.specs.declared.progress.Finish.TheVariants.{Exit, EndOfInput, FlushFailed, Commands, Console, Input, OutOfMemory}
 use Rattle.script_text.specs.Lines.{line_cost, first_line}
 use Rattle.scp_script.specs.Lines.{InputEnds, Unpaid, LineComes, arrival, line_reads, reads_left}
 use Rattle.scp_script.specs.Reading.{AreRead}
 use Rattle.scp_script.specs.Scripts.{Script, scripts_behind}
-use Rattle.scp_script.specs.Session.{State, Session, SessionEnd, ExitDone, InputEnded, BudgetSpent, end_status, state_of, state_at, closed, end_state, Going, Over, Ends, Comes, prompt_text, asking_input, asking, upcoming, text_reply, following, text_step, step, over_by, course, trace}
+use Rattle.unit_trait.specs.declared.kind.UnitName.{UnitName}
+use Rattle.scp_script.specs.Session as ends
+use Rattle.scp_script.specs.Session.{emptied_in, input_end, State, Session, SessionEnd, ExitDone, InputEnded, BudgetSpent, end_status, state_of, state_at, closed, end_state, Going, Over, Ends, Comes, prompt_text, asking_input, asking, upcoming, text_reply, following, text_step, step, over_by, course, trace}
 use Rattle.scp_script.specs.Loop.{exit_of, IsAnswer, IsShort, LetsThrough, status_of, finish_of, Finishes, Progresses}
 use Rattle.scp_script.proofs.TextLemmas.{text-reads}
 use Rattle.scp_script.proofs.SessionLemmas.{arrival-paid, trace-is, trace-asks, trace-begins, course-over, step-comes, step-over, upcoming-input, asking-is}
@@ -104,10 +106,12 @@ over-input old new end finish before after none e state status named lets reads 
     over-before old new end finish before after e state status named (lets (reads_of (asking old)))
     (subst (λ n. AreRead n old.open_ old.input new.open_ new.input) (sym (asking-reads old none)) reads) (written ∙ ap (λ t. before ++ t) (sym (asking-text old none)))
 
-pub input-ended : (old new : Session) (before after : List ℕ) → old.scripts ≡ [] → arrival old.budget old.open_ old.input ≡ InputEnds → closed old ≡ state_of new
-    → AreRead (line_reads old.budget old.open_ old.input) old.open_ old.input new.open_ new.input → after ≡ before ++ prompt_text old.prompt → Finishes old EndOfInput new before after
-input-ended old new before after none e closing reads written =
-    over-input old new InputEnded EndOfInput before after none (upcoming-input old InputEnds none e) closing refl refl (λ _. refl) reads written
+pub input-ended : (old new : Session) (k : Option UnitName) (before after : List ℕ) → old.scripts ≡ [] → arrival old.budget old.open_ old.input ≡ InputEnds → (emptied_in old).kept ≡ k → closed old ≡ state_of new
+    → AreRead (line_reads old.budget old.open_ old.input) old.open_ old.input new.open_ new.input → after ≡ before ++ prompt_text old.prompt → Finishes old (finish_of (input_end k)) new before after
+input-ended old new None before after none e kept closing reads written =
+    over-input old new InputEnded EndOfInput before after none (upcoming-input old InputEnds none e ∙ ap (λ (k : Option UnitName). Ends (input_end k)) kept) closing refl refl (λ _. refl) reads written
+input-ended old new (Some u) before after none e kept closing reads written =
+    over-input old new ends.FlushFailed FlushFailed before after none (upcoming-input old InputEnds none e ∙ ap (λ (k : Option UnitName). Ends (input_end k)) kept) closing refl refl (λ _. refl) reads written
 
 pub budget-spent : (old new : Session) (before after : List ℕ) → old.scripts ≡ [] → arrival old.budget old.open_ old.input ≡ Unpaid → state_of old ≡ state_of new
     → AreRead (line_reads old.budget old.open_ old.input) old.open_ old.input new.open_ new.input → after ≡ before ++ prompt_text old.prompt → Finishes old Commands new before after
@@ -334,6 +338,7 @@ answered old behind new text what used (IsOver OutOfMemory) tells before mid aft
   reads = reads;
 }
 answered old behind new text what used (IsOver EndOfInput) tells before mid after kept kept' told e c b asks notes reads a short = absurd a
+answered old behind new text what used (IsOver FlushFailed) tells before mid after kept kept' told e c b asks notes reads a short = absurd a
 answered old behind new text what used (IsOver Commands) tells before mid after kept kept' told e c b asks notes reads a short = absurd a
 answered old behind new text what used (IsOver Input) tells before mid after kept kept' told e c b asks notes reads a short = absurd a
 

@@ -1,26 +1,29 @@
 -- A line with the notes that were kept in it: what is handed to its text, and what is left.
-use Rattle.std.proofs.Common.{◌≡◌, ◌≢◌, ◌⊎◌, ℕ, ◌+◌, ◌-◌, ◌<◌, ◌≤◌, Bool, IsTrue, List, [], ◌∷◌, ◌++◌, length, drop, refl, ap, sym, ◌∙◌, subst, arith, append_assoc, append-nil, inl}
+use Rattle.std.proofs.Common.{Option, Some, None, ◌≡◌, ◌≢◌, ◌⊎◌, ℕ, ◌+◌, ◌-◌, ◌<◌, ◌≤◌, Bool, IsTrue, List, [], ◌∷◌, ◌++◌, length, drop, refl, ap, sym, ◌∙◌, subst, arith, append_assoc, append-nil, inl}
 use Rattle.fault_counts.specs.Faults.{raised}
 use Rattle.observations.specs.Observations.{Observation, Trace, text_of, reads_of}
 use Rattle.host_files.specs.Lists.{NamedBytes}
+use Rattle.host_files.specs.State.{FileState}
+use Rattle.unit_files.specs.Attachments.{Held}
 use Rattle.fault_notes.specs.declared.note.FaultNote.{FaultNote}
 use Rattle.fault_notes.specs.Notes.{CommandNote, Note, notes_said, numbered, handed, Follow}
 use Rattle.fault_notes.proofs.Handing.{handed-own, dropped}
 use Rattle.scp_commands.specs.Live.{Live, standing, CommandState}
 use Rattle.scp_commands.specs.Effect.{Asked, asked}
-use Rattle.scp_commands.specs.FileEffects.{detached_all, all_closings}
+use Rattle.unit_trait.specs.declared.kind.UnitName.{UnitName}
+use Rattle.scp_commands.specs.FileEffects.{emptied_all, emptied_live}
 use Rattle.scp_commands.specs.Doing.{Closes}
 use Rattle.scp_script.specs.declared.progress.CommandLoop.{CommandLoop}
 use Rattle.scp_script.specs.declared.progress.Progress.{Progress}
 use Rattle.scp_script.specs.declared.progress.Progress.TheVariants.{GoesOn, IsOver}
 use Rattle.scp_script.specs.declared.progress.Finish.{Finish}
-use Rattle.scp_script.specs.declared.progress.Finish.TheVariants.{Exit, EndOfInput, Commands, Console, Input, OutOfMemory}
+use Rattle.scp_script.specs.declared.progress.Finish.TheVariants.{Exit, EndOfInput, FlushFailed, Commands, Console, Input, OutOfMemory}
 use Rattle.script_text.specs.Lines.{line_cost, first_line, has_lf}
 use Rattle.scp_script.specs.Lines.{InputEnds, LineComes, arrival, line_reads}
 use Rattle.scp_script.specs.Reading.{AreRead}
 use Rattle.scp_script.specs.Scripts.{Script, still_open, cost_of_line, text_of_line, echo_text, past_line, scripts_behind}
-use Rattle.scp_script.specs.Session.{State, Session, Comes, Step, Course, prompt_text, asking, behind_line, behind_script_line, upcoming, closed, text_reply, course, trace}
-use Rattle.scp_script.specs.Loop.{session_of, IsAnswer, IsShort, Answers, AnswerCounts, HasExitStatus, status_of, finish_of, EndsAs, Finishes, MayFollow, MayCome, StopsShort, RunsOut, Progresses, ProgressCause, Stepped}
+use Rattle.scp_script.specs.Session.{State, Session, Comes, Step, Course, prompt_text, asking, behind_line, behind_script_line, upcoming, emptied_in, input_end, closed, text_reply, course, trace}
+use Rattle.scp_script.specs.Loop.{session_of, IsAnswer, IsShort, Answers, AnswerCounts, HasExitStatus, status_of, finish_of, EndsAs, Finishes, MayFollow, MayCome, StopsShort, RunsOut, Progresses, ProgressCause, Stepped, KeptInLine}
 use Rattle.scp_script.proofs.SessionLemmas.{arrival-paid, upcoming-input, upcoming-script, asking-script, trace-is, closing, asking-still, step-still, course-still}
 use Rattle.scp_script.proofs.LineLemmas.{none-read, comes-reads, asking-text, asking-reads, IsBehind, answered, input-ended}
 
@@ -169,28 +172,36 @@ over-alone old new finish before after notes notes' same over = record {
   goes = λ more none. subst (λ l. Progresses (with_notes old l) (IsOver finish) (with_notes new l) before after) (sym none) over;
 }
 
-closed-own : (s : Session) (own : List CommandNote) → all_closings own s.live ≡ length own
-    → closed (with_notes s (numbered s.spent own ++ [])) ≡ record { live = detached_all s.live; notes = [] }
+closed-own : (s : Session) (own : List CommandNote) → (emptied_all own s.live).used ≡ length own
+    → closed (with_notes s (numbered s.spent own ++ [])) ≡ record { live = emptied_live (emptied_all own s.live) s.live; notes = [] }
 unfolding closed
 closed-own s own used =
     let all = numbered s.spent own ++ [] in
-    ap (λ l. record { live = detached_all s.live; notes = drop (all_closings l s.live) all }) (handed-own s.spent own [] tt)
-    ∙ ap (λ n. record { live = detached_all s.live; notes = drop n all }) used
-    ∙ ap (λ l. record { live = detached_all s.live; notes = l }) (dropped s.spent own [])
+    ap (λ (l : List CommandNote). record { live = emptied_live (emptied_all l s.live) s.live; notes = drop (emptied_all l s.live).used all }) (handed-own s.spent own [] tt)
+    ∙ ap (λ n. record { live = emptied_live (emptied_all own s.live) s.live; notes = drop n all }) used
+    ∙ ap (λ l. record { live = emptied_live (emptied_all own s.live) s.live; notes = l }) (dropped s.spent own [])
 
--- the input has ended, and all files were closed
-pub input-closed : (old new : Session) (before after : List ℕ) (notes notes' : List Note) → old.scripts ≡ [] → arrival old.budget old.open_ old.input ≡ InputEnds → new.live ≡ detached_all old.live
-    → Closes old.spent old.live notes notes' → AreRead (line_reads old.budget old.open_ old.input) old.open_ old.input new.open_ new.input → after ≡ before ++ prompt_text old.prompt
-    → Stepped (with_notes old) (IsOver EndOfInput) (with_notes new) before after notes notes'
-input-closed old new before after notes notes' none_open e live c reads written =
+kept-own : (s : Session) (own : List CommandNote) → (emptied_in (with_notes s (numbered s.spent own ++ []))).kept ≡ (emptied_all own s.live).kept
+kept-own s own = ap (λ (l : List CommandNote). (emptied_all l s.live).kept) (handed-own s.spent own [] tt)
+
+ended-so : (k : Option UnitName) (old new : Session) (before after : List ℕ) → Finishes old (finish_of (input_end k)) new before after → Progresses old (IsOver (finish_of (input_end k))) new before after
+ended-so None old new before after f = f
+ended-so (Some u) old new before after f = f
+
+-- the input has ended, and the units have lost their files, up to one that has kept it
+pub input-closed : (old new : Session) (k : Option UnitName) (before after : List ℕ) (notes notes' : List Note) → old.scripts ≡ [] → arrival old.budget old.open_ old.input ≡ InputEnds
+    → Closes old.spent old.live new.live k notes notes' → AreRead (line_reads old.budget old.open_ old.input) old.open_ old.input new.open_ new.input → after ≡ before ++ prompt_text old.prompt
+    → Stepped (with_notes old) (IsOver (finish_of (input_end k))) (with_notes new) before after notes notes'
+input-closed old new k before after notes notes' none_open e c reads written =
     let own = numbered old.spent c.own in
-    let closing = closed-own old c.own c.used ∙ ap (λ (x : Live). record { live = x; notes = [] }) (sym live) in
-    let over = input-ended (with_notes old (own ++ [])) (with_notes new []) before after none_open e closing reads written in
+    let closing = closed-own old c.own c.used ∙ ap (λ (x : Live). record { live = x; notes = [] }) (sym c.after) in
+    let over = input-ended (with_notes old (own ++ [])) (with_notes new []) k before after none_open e (kept-own old c.own ∙ c.keeps) closing reads written in
     record {
       own = own;
       kept = c.kept;
       first = λ more none. record { behind = c.own; later = []; are = ap (λ l. own ++ l) none; closings = c.behind; follows = tt };
-      goes = λ more none. subst (λ l. Progresses (with_notes old (own ++ l)) (IsOver EndOfInput) (with_notes new l) before after) (sym none) over;
+      goes = λ more none. subst (λ l. Progresses (with_notes old (own ++ l)) (IsOver (finish_of (input_end k))) (with_notes new l) before after) (sym none)
+          (ended-so k (with_notes old (own ++ [])) (with_notes new []) before after over);
     }
 
 -- memory ran out before a text was asked for
@@ -237,6 +248,7 @@ progress-still s (IsOver OutOfMemory) new before after r = record {
 }
 progress-still s (IsOver (Exit status)) new before after f = over-still s (Exit status) new before after f
 progress-still s (IsOver EndOfInput) new before after f = over-still s EndOfInput new before after f
+progress-still s (IsOver FlushFailed) new before after f = over-still s FlushFailed new before after f
 progress-still s (IsOver Commands) new before after f = over-still s Commands new before after f
 progress-still s (IsOver Console) new before after f = over-still s Console new before after f
 progress-still s (IsOver Input) new before after f = over-still s Input new before after f
@@ -258,6 +270,7 @@ never-short GoesOn old new kept kept' before after never = tt
 never-short (IsOver OutOfMemory) old new kept kept' before after never = absurd (never refl)
 never-short (IsOver (Exit status)) old new kept kept' before after never = tt
 never-short (IsOver EndOfInput) old new kept kept' before after never = tt
+never-short (IsOver FlushFailed) old new kept kept' before after never = tt
 never-short (IsOver Commands) old new kept kept' before after never = tt
 never-short (IsOver Console) old new kept kept' before after never = tt
 never-short (IsOver Input) old new kept kept' before after never = tt
@@ -284,6 +297,7 @@ answer-causes (IsOver (Exit status)) sink sink_mid sink_now source source_now a 
     record { console = λ e. absurd (cc); input = λ e. absurd (cc); console_only = λ _. c ∙ a; input_only = λ _. b; exit = s }
 answer-causes (IsOver EndOfInput) sink sink_mid sink_now source source_now a b c s =
     record { console = λ e. absurd (cc); input = λ e. absurd (cc); console_only = λ _. c ∙ a; input_only = λ _. b; exit = tt }
+answer-causes (IsOver FlushFailed) sink sink_mid sink_now source source_now a b c s = absurd c
 answer-causes (IsOver Commands) sink sink_mid sink_now source source_now a b c s =
     record { console = λ e. absurd (cc); input = λ e. absurd (cc); console_only = λ _. c ∙ a; input_only = λ _. b; exit = tt }
 answer-causes (IsOver OutOfMemory) sink sink_mid sink_now source source_now a b c s =
@@ -291,3 +305,15 @@ answer-causes (IsOver OutOfMemory) sink sink_mid sink_now source source_now a b 
 answer-causes (IsOver Console) sink sink_mid sink_now source source_now a b c s =
     record { console = λ e. c ∙ ap raised a; input = λ e. absurd (cc); console_only = λ n. absurd (n refl); input_only = λ _. b; exit = tt }
 answer-causes (IsOver Input) sink sink_mid sink_now source source_now a b c s = absurd c
+
+-- no text's answer is that the disk has kept its file
+pub answer-kept : (result : Progress) (sink sink_now : ℕ) (slots : List (Option Held)) (notes : List FaultNote) (old new : FileState) → AnswerCounts result sink sink_now
+    → KeptInLine result slots notes old new
+answer-kept GoesOn sink sink_now slots notes old new c = tt
+answer-kept (IsOver (Exit status)) sink sink_now slots notes old new c = tt
+answer-kept (IsOver EndOfInput) sink sink_now slots notes old new c = tt
+answer-kept (IsOver FlushFailed) sink sink_now slots notes old new c = absurd c
+answer-kept (IsOver Commands) sink sink_now slots notes old new c = tt
+answer-kept (IsOver Console) sink sink_now slots notes old new c = tt
+answer-kept (IsOver Input) sink sink_now slots notes old new c = tt
+answer-kept (IsOver OutOfMemory) sink sink_now slots notes old new c = tt

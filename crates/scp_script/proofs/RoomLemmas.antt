@@ -26,12 +26,20 @@ use Rattle.scp_commands.specs.Doing.{Does}
 use Rattle.scp_commands.specs.RunEffects.{run_answer, run_failure, ran, address_fits, started, run_from, stepped, step_of, reset_reply}
 use Rattle.scp_commands.specs.ListEffects.{lacks_device, examine_after, examine_reply, handed, deposit_after, deposit_reply}
 use Rattle.scp_commands.specs.FileEffects.{lacks_unit, mode_of, attach_answer, attach_reply}
-use Rattle.scp_commands.specs.FileEffects.{detach_answer, detach_reply, detach_all_reply, detach_one_or_all}
+use Rattle.scp_commands.specs.FileEffects.{detach_answer, detach_reply, detach_all_reply, detach_one_or_all, emptied_all, kept_answer}
 use Rattle.scp_commands.specs.ShowEffects.{show_reply}
 use Rattle.scp_commands.specs.ExitEffects.{exit_reply}
 use Rattle.scp_commands.specs.SetEffects.{set_size_reply}
 use Rattle.scp_commands.specs.ScriptEffects.{test_answer, echo_reply, assert_reply}
+use Rattle.scp_commands.specs.TapeEffects.{tape_in, tape_answer, load_answer, load_reply, can_dump, dump_of, dump_answer, dump_reply}
+use Rattle.scp_commands.specs.WholeCalls.{whole_calls, write_calls}
 use Rattle.scp_commands.specs.Effect.{effect}
+use Rattle.binary_load.specs.declared.faults.LoadFault.{LoadFault}
+use Rattle.binary_load.specs.Tape.{Tape}
+use Rattle.whole_files.specs.Whole.{WholeSaid, WholeIs, whole_act}
+use Rattle.whole_files.specs.Whole as whole
+use Rattle.whole_files.specs.Writing.{WriteSaid, AllWritten, WriteFailed, write_act}
+use Rattle.nova_machine.specs.Machine.{MachineState}
 use Rattle.scp_script.specs.Scripts.{Script, most_scripts}
 use Rattle.scp_script.specs.Loop.{FitsIn, HasRoom}
 
@@ -104,9 +112,13 @@ unfolding detach_reply
 detach-none notes live unit =
     none-if (lacks_unit live.machine unit) _ _ tt (detach_answer-none unit (detach_said (failure_now live.machine.time (subject.Unit unit) notes) unit (attached_in live.machine) live.machine.disk))
 
+kept-none : (next : Next) (k : Option UnitName) → NoScript (Ok next) → NoScript (kept_answer k next)
+kept-none next None none = none
+kept-none next (Some u) none = tt
+
 detach_all-none : (notes : List CommandNote) (live : Live) → NoScript (detach_all_reply notes live).answer
 unfolding detach_all_reply
-detach_all-none notes live = tt
+detach_all-none notes live = kept-none Go (emptied_all notes live).kept tt
 
 detach_where-none : (notes : List CommandNote) (live : Live) (unit : Option UnitName) → NoScript (detach_one_or_all notes live unit).answer
 detach_where-none notes live None = detach_all-none notes live
@@ -123,7 +135,7 @@ show-none live subject = tt
 
 exit-none : (notes : List CommandNote) (live : Live) (status : Option ℕ) → NoScript (exit_reply notes live status).answer
 unfolding exit_reply
-exit-none notes live status = none-if (nat_le (unwrap_or status 0) 99) _ _ tt tt
+exit-none notes live status = none-if (nat_le (unwrap_or status 0) 99) _ _ (kept-none (Exit (unwrap_or status 0)) (emptied_all notes live).kept tt) tt
 
 set_size-none : (live : Live) (k : ℕ) → NoScript (set_size_reply live k).answer
 unfolding set_size_reply
@@ -142,6 +154,30 @@ tested-none false (Err fault) = tt
 assert-none : (live : Live) (test : Test) → NoScript (assert_reply live test).answer
 unfolding assert_reply
 assert-none live test = tested-none (lacks_device live.machine test.device) (tested live.machine test)
+
+tape-none : (r : Result Tape LoadFault) → NoScript (tape_answer r)
+tape-none (Ok says) = tt
+tape-none (Err fault) = tt
+
+load_answer-none : (m : MachineState) (said : WholeSaid) → NoScript (load_answer m said)
+load_answer-none m (WholeIs bytes) = tape-none (tape_in m bytes)
+load_answer-none m whole.NotThere = tt
+load_answer-none m whole.TooLong = tt
+load_answer-none m whole.CallFailed = tt
+
+load-none : (notes : List CommandNote) (live : Live) (name : List ℕ) → NoScript (load_reply notes live name).answer
+unfolding load_reply
+load-none notes live name = load_answer-none live.machine (whole_act (whole_calls subject.Load live.machine.time notes) name live.files).0
+
+dump_answer-none : (said : WriteSaid) → NoScript (dump_answer said)
+dump_answer-none AllWritten = tt
+dump_answer-none WriteFailed = tt
+
+dump-none : (notes : List CommandNote) (live : Live) (from to : ℕ) (name : List ℕ) → NoScript (dump_reply notes live from to name).answer
+unfolding dump_reply
+dump-none notes live from to name =
+    none-if (can_dump live.machine from to) _ _
+    (dump_answer-none (write_act (write_calls subject.Dump live.machine.time notes) name (dump_of live.machine from to) live.files).said) tt
 
 -- there is room for the script that an answer begins
 abbrev RoomFor : List Script → Answer → Type 0
@@ -182,6 +218,8 @@ room-effect scripts limit notes live (request.Assert test) fits = room-none scri
 room-effect scripts limit notes live (request.Echo text) fits = room-none scripts _ (echo-none live text)
 room-effect scripts limit notes live (request.Exit status) fits = room-none scripts _ (exit-none notes live status)
 room-effect scripts limit notes live (request.Do echo strict name arguments) fits = room-any scripts (effect limit notes live (request.Do echo strict name arguments)).answer fits
+room-effect scripts limit notes live (request.Load name) fits = room-none scripts _ (load-none notes live name)
+room-effect scripts limit notes live (request.Dump from to name) fits = room-none scripts _ (dump-none notes live from to name)
 room-effect scripts limit notes live r fits = tt
 
 -- where a command was done that has a script next, there is room for it

@@ -9,7 +9,7 @@ use Rattle.scp_commands.specs.Effect.{Asked, asked}
 use Rattle.script_text.specs.Lines.{line_cost, first_line, command_line}
 use Rattle.scp_script.specs.Lines.{Arrival, InputEnds, Unpaid, LineComes, arrival}
 use Rattle.scp_script.specs.Scripts.{Script, still_open, cost_of_line, text_of_line, echo_text, scripts_behind}
-use Rattle.scp_script.specs.Session.{State, Session, SessionEnd, ExitDone, InputEnded, BudgetSpent, end_status, state_of, closed, end_state, Following, Going, Over, Upcoming, Ends, Comes, asking_input, asking_in, asking, behind_line, behind_script_line, upcoming_of, upcoming_in, upcoming, text_reply, following, text_step, Step, step_upcoming, step, Course, over_by, after_step, texts, course, trace}
+use Rattle.scp_script.specs.Session.{State, Session, SessionEnd, ExitDone, InputEnded, FlushFailed, BudgetSpent, end_status, state_of, closed, end_state, Following, Going, Over, Upcoming, Ends, Comes, asking_input, asking_in, asking, behind_line, behind_script_line, upcoming_of, upcoming_in, upcoming, text_reply, following, text_step, Step, step_upcoming, step, Course, over_by, after_step, texts, course, trace}
 
 pub going-equal : {s t : Session} → Going s ≡ Going t → s ≡ t
 going-equal h = cc
@@ -253,6 +253,7 @@ end-closing : (end : SessionEnd) (s : Session) → end_state end (closing s) ≡
 unfolding closed
 end-closing (ExitDone status) s = refl
 end-closing InputEnded s = refl
+end-closing FlushFailed s = refl
 end-closing BudgetSpent s = refl
 
 step-closing : (s : Session) (u : Upcoming) → step_upcoming (closing s) u ≡ step_upcoming s u

@@ -24,7 +24,7 @@ use Rattle.scp_commands.specs.Doing.{IsSaid, IsBrokenOff, Does, Did, IsTold}
 use Rattle.scp_commands.proofs.EffectLemmas.{does-reads}
 use Rattle.scp_script.specs.declared.progress.Progress.{Progress}
 use Rattle.scp_script.specs.declared.progress.Progress.TheVariants.{GoesOn, IsOver}
-use Rattle.scp_script.specs.declared.progress.Finish.TheVariants.{EndOfInput, Commands, Console, Input, OutOfMemory}
+use Rattle.scp_script.specs.declared.progress.Finish.TheVariants.{EndOfInput, FlushFailed, Commands, Console, Input, OutOfMemory}
 use Rattle.scp_script.specs.declared.progress.Finish.TheVariants as finish
 use Rattle.scp_script.specs.Scripts.{Script, begun, arguments_of, checked, label_of, or_no_label, label_in, jumped_to, found_answer, settled_answer, settled, behind_failure, is_assertion, scripts_behind}
 use Rattle.scp_script.specs.Session.{complaint, with_complaint, text_reply}
@@ -95,6 +95,7 @@ complained reply behind fault (IsOver Console) scripts at tells before mid after
     }))
 complained reply behind fault (IsOver (finish.Exit status)) scripts at tells before mid after is open_now said told = absurd told
 complained reply behind fault (IsOver EndOfInput) scripts at tells before mid after is open_now said told = absurd told
+complained reply behind fault (IsOver FlushFailed) scripts at tells before mid after is open_now said told = absurd told
 complained reply behind fault (IsOver Commands) scripts at tells before mid after is open_now said told = absurd told
 complained reply behind fault (IsOver Input) scripts at tells before mid after is open_now said told = absurd told
 complained reply behind fault (IsOver OutOfMemory) scripts at tells before mid after is open_now said told = tt
@@ -169,6 +170,12 @@ denied scripts what reply fault.NoFile result scripts' at tells before mid after
     denied-by scripts what reply fault.NoFile result scripts' at tells before mid after sink sink_now open_now does told
 denied scripts what reply fault.FileTooLong result scripts' at tells before mid after sink sink_now open_now does told =
     denied-by scripts what reply fault.FileTooLong result scripts' at tells before mid after sink sink_now open_now does told
+denied scripts what reply (fault.LoadTruncated place) result scripts' at tells before mid after sink sink_now open_now does told =
+    denied-by scripts what reply (fault.LoadTruncated place) result scripts' at tells before mid after sink sink_now open_now does told
+denied scripts what reply (fault.LoadSum place) result scripts' at tells before mid after sink sink_now open_now does told =
+    denied-by scripts what reply (fault.LoadSum place) result scripts' at tells before mid after sink sink_now open_now does told
+denied scripts what reply (fault.PastMemory origin) result scripts' at tells before mid after sink sink_now open_now does told =
+    denied-by scripts what reply (fault.PastMemory origin) result scripts' at tells before mid after sink sink_now open_now does told
 denied scripts what reply (fault.FileFailed who) result scripts' at tells before mid after sink sink_now open_now does told =
     denied-by scripts what reply (fault.FileFailed who) result scripts' at tells before mid after sink sink_now open_now does told
 denied scripts what reply fault.AssertFailed result scripts' at tells before mid after sink sink_now open_now does told =
@@ -277,6 +284,8 @@ exit-followed scripts what reply status scripts' at tells before after (is, said
 pub told-of : (tells : Bool) (slots : List (Option Held)) (r : Request) → IsTrue tells → IsTold tells slots r
 told-of tells slots (Attach option unit name) told = told
 told-of tells slots (request.Do echo strict name arguments) told = told
+told-of tells slots (request.Load name) told = told
+told-of tells slots (request.Dump from to name) told = told
 told-of tells slots r told = inl told
 
 -- a command was done, and then its answer was followed

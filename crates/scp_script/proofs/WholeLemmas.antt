@@ -1,8 +1,10 @@
 -- All lines of a session, one behind another.
-use Rattle.std.proofs.Common.{◌≡◌, inl, ℕ, zero, suc, ◌+◌, Bool, List, [], ◌++◌, length, drop, refl, ap, sym, ◌∙◌, subst, arith, append_assoc, append-nil, zero-add, length-append}
+use Rattle.std.proofs.Common.{Option, ◌≡◌, inl, ℕ, zero, suc, ◌+◌, Bool, List, [], ◌++◌, length, drop, refl, ap, sym, ◌∙◌, subst, arith, append_assoc, append-nil, zero-add, length-append}
 use Rattle.std.proofs.lemmas.List.{drop-drop}
 use Rattle.fault_counts.specs.Faults.{raised}
 use Rattle.host_files.specs.State.{FileState}
+use Rattle.unit_files.specs.Attachments.{Held}
+use Rattle.file_commands.proofs.Emptying.{unwritten-since}
 use Rattle.observations.specs.Observations.{Observation, after_made, text_of, reads_of}
 use Rattle.observations.specs.Cut.{behind, ends, cut, cut_trace}
 use Rattle.observations.proofs.CutLemmas.{cut-after}
@@ -12,11 +14,11 @@ use Rattle.fault_notes.specs.Notes.{Note}
 use Rattle.fault_notes.proofs.Adding.{counted-both, counted-none}
 use Rattle.scp_script.specs.declared.progress.Progress.TheVariants.{GoesOn, IsOver}
 use Rattle.scp_script.specs.declared.progress.Finish.{Finish}
-use Rattle.scp_script.specs.declared.progress.Finish.TheVariants.{Exit, EndOfInput, Commands, Console, Input, OutOfMemory}
+use Rattle.scp_script.specs.declared.progress.Finish.TheVariants.{Exit, EndOfInput, FlushFailed, Commands, Console, Input, OutOfMemory}
 use Rattle.scp_script.specs.Lines.{reads_left}
 use Rattle.scp_script.specs.Reading.{AreRead}
 use Rattle.scp_script.specs.Session.{State, Session, step, Going, after_step, course, trace, ComesTo}
-use Rattle.scp_script.specs.Loop.{status_of, finish_of, Finishes, FinishCause, GoesPast, LetsThrough, RunsOut, MayFollow, Progresses, Stepped, AreKept}
+use Rattle.scp_script.specs.Loop.{status_of, finish_of, Finishes, FinishCause, GoesPast, LetsThrough, RunsOut, MayFollow, Progresses, Stepped, AreKept, KeptCause}
 use Rattle.scp_script.specs.Perform.{IsSession, RunsShort, IsPerformed, Performed}
 use Rattle.scp_script.proofs.SessionLemmas.{course-going}
 use Rattle.scp_script.proofs.NoteLemmas.{with_notes}
@@ -85,6 +87,7 @@ trace-behind start now done so_far = ap (λ c. c.trace) so_far
 all-let : (finish : Finish) (gives made all done whole : ℕ) → LetsThrough finish gives made all → whole ≡ done + all → LetsThrough finish (done + gives) (done + made) whole
 all-let (Exit status) gives made all done whole h e = omega (arith, h, e)
 all-let EndOfInput gives made all done whole h e = omega (arith, h, e)
+all-let FlushFailed gives made all done whole h e = omega (arith, h, e)
 all-let Commands gives made all done whole h e = omega (arith, h, e)
 all-let OutOfMemory gives made all done whole h e = omega (arith, h, e)
 all-let Console gives made all done whole h e = omega (arith, h, e)
@@ -134,6 +137,7 @@ performed-by : (start now new : Session) (finish : Finish) (before mid after : L
     → IsPerformed start finish new.live new.input before after
 performed-by start now new (Exit status) before mid after used r p = session-over start now new (Exit status) before mid after used r p
 performed-by start now new EndOfInput before mid after used r p = session-over start now new EndOfInput before mid after used r p
+performed-by start now new FlushFailed before mid after used r p = session-over start now new FlushFailed before mid after used r p
 performed-by start now new Commands before mid after used r p = session-over start now new Commands before mid after used r p
 performed-by start now new Console before mid after used r p = session-over start now new Console before mid after used r p
 performed-by start now new Input before mid after used r p = session-over start now new Input before mid after used r p
@@ -217,3 +221,14 @@ causes-behind finish sink sink_mid sink_now source source_mid source_now a b c =
   input_only = λ n. c.input_only n ∙ b;
   exit = c.exit;
 }
+
+-- a unit has kept its file since an earlier time, from which no count has fallen
+pub kept-since : (finish : Finish) (slots : List (Option Held)) (notes notes' notes'' : List FaultNote) (old mid new : FileState) → AreKept notes notes' old mid → KeptCause finish slots notes'' mid new
+    → KeptCause finish slots notes'' old new
+kept-since FlushFailed slots notes notes' notes'' old mid new a k = unwritten-since slots notes'' old mid new (λ file. (a.counted.files file).0) k
+kept-since (Exit status) slots notes notes' notes'' old mid new a k = tt
+kept-since EndOfInput slots notes notes' notes'' old mid new a k = tt
+kept-since Commands slots notes notes' notes'' old mid new a k = tt
+kept-since Console slots notes notes' notes'' old mid new a k = tt
+kept-since Input slots notes notes' notes'' old mid new a k = tt
+kept-since OutOfMemory slots notes notes' notes'' old mid new a k = tt

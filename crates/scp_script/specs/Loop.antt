@@ -5,6 +5,7 @@ use Rattle.fault_counts.specs.Faults.{raised}
 use Rattle.host_files.specs.Streams.{AddsPart}
 use Rattle.observations.specs.Observations.{Trace, text_of, reads_of}
 use Rattle.observations.specs.Cut.{ends, cut_trace}
+use Rattle.file_commands.specs.AllUnits.{IsUnwritten}
 use Rattle.scp_parser.specs.Command.{Request, Do}
 use Rattle.scp_commands.specs.declared.next.Next.{Next}
 use Rattle.scp_commands.specs.declared.next.Next.TheVariants.{Exit as ExitNext}
@@ -13,6 +14,7 @@ use Rattle.scp_commands.specs.declared.fault.CommandFault.{CommandFault}
 use Rattle.scp_commands.specs.declared.fault.CommandFault.TheVariants as fault
 use Rattle.host_files.specs.Lists.{NamedBytes}
 use Rattle.host_files.specs.State.{FileState}
+use Rattle.unit_files.specs.Attachments.{Held}
 use Rattle.fault_notes.specs.declared.note.FaultNote.{FaultNote}
 use Rattle.fault_notes.specs.Notes.{CommandNote, Note, numbered, Follow}
 use Rattle.fault_notes.specs.Counts.{AreCounted}
@@ -23,12 +25,13 @@ use Rattle.scp_commands.specs.Effect.{Asked}
 use Rattle.scp_commands.specs.Doing.{IsSaid, IsBrokenOff, Does, ComeBehind}
 use Rattle.scp_script.specs.declared.progress.CommandLoop.{CommandLoop}
 use Rattle.scp_script.specs.declared.progress.Finish.{Finish}
-use Rattle.scp_script.specs.declared.progress.Finish.TheVariants.{Exit, EndOfInput, Commands, Console, Input, OutOfMemory}
+use Rattle.scp_script.specs.declared.progress.Finish.TheVariants.{Exit, EndOfInput, FlushFailed, Commands, Console, Input, OutOfMemory}
 use Rattle.scp_script.specs.declared.progress.Progress.{Progress}
 use Rattle.scp_script.specs.declared.progress.Progress.TheVariants.{GoesOn, IsOver}
 use Rattle.scp_script.specs.Lines.{reads_left}
 use Rattle.scp_script.specs.Reading.{AreRead}
 use Rattle.scp_script.specs.Scripts.{Script, most_scripts, settled, scripts_behind}
+use Rattle.scp_script.specs.Session as ends
 use Rattle.scp_script.specs.Session.{State, Session, SessionEnd, ExitDone, InputEnded, BudgetSpent, Going, asking, with_complaint, text_reply, step, course, trace}
 
 -- the session that the loop stands in, to which these failing calls are still to come
@@ -60,6 +63,7 @@ IsAnswer reply behind (IsOver (Exit status)) scripts at tells before after = (ex
 IsAnswer reply behind (IsOver Console) scripts at tells before after = IsBrokenOff reply at tells before after
 IsAnswer reply behind (IsOver OutOfMemory) scripts at tells before after = Unit {0}
 IsAnswer reply behind (IsOver EndOfInput) scripts at tells before after = ⊥
+IsAnswer reply behind (IsOver FlushFailed) scripts at tells before after = ⊥
 IsAnswer reply behind (IsOver Commands) scripts at tells before after = ⊥
 IsAnswer reply behind (IsOver Input) scripts at tells before after = ⊥
 
@@ -92,10 +96,11 @@ Complains tells before text GoesOn after = IsTrue tells → after ≡ before ++ 
 Complains tells before text (IsOver Console) after = IsTrue tells → AddsPart before text after
 Complains tells before text (IsOver finish) after = ⊥
 
--- a text's only fault is the console's
+-- a text's only fault is the console's, and no text ends the input
 abbrev pub AnswerCounts : Progress → ℕ → ℕ → Type 0
 AnswerCounts (IsOver Console) sink sink_now = sink_now ≡ raised sink
 AnswerCounts (IsOver Input) sink sink_now = ⊥
+AnswerCounts (IsOver FlushFailed) sink sink_now = ⊥
 AnswerCounts (IsOver finish) sink sink_now = sink_now ≡ sink
 AnswerCounts GoesOn sink sink_now = sink_now ≡ sink
 
@@ -118,6 +123,7 @@ Denies fault tells result before after sink sink_now = Complains tells before (f
 abbrev pub status_of : Finish → ℕ
 status_of (Exit status) = status
 status_of EndOfInput = 0
+status_of FlushFailed = 107
 status_of Commands = 104
 status_of Console = 102
 status_of Input = 106
@@ -127,6 +133,7 @@ status_of OutOfMemory = 103
 abbrev pub finish_of : SessionEnd → Finish
 finish_of (ExitDone status) = Exit status
 finish_of InputEnded = EndOfInput
+finish_of ends.FlushFailed = FlushFailed
 finish_of BudgetSpent = Commands
 
 -- where memory ran out at a text, nothing was done
@@ -223,6 +230,15 @@ pub record FinishCause (finish : Finish) (sink sink_now source source_now : ℕ)
 abbrev pub ProgressCause : Progress → ℕ → ℕ → ℕ → ℕ → Type 0
 ProgressCause GoesOn sink sink_now source source_now = (sink_now ≡ sink) × (source_now ≡ source)
 ProgressCause (IsOver finish) sink sink_now source source_now = FinishCause finish sink sink_now source source_now
+
+-- The input has ended and the disk has kept its file only where a write of that failed, for which its count rose.
+abbrev pub KeptCause : Finish → List (Option Held) → List FaultNote → FileState → FileState → Type 0
+KeptCause FlushFailed slots notes old new = IsUnwritten slots notes old new
+KeptCause finish slots notes old new = Unit {0}
+
+abbrev pub KeptInLine : Progress → List (Option Held) → List FaultNote → FileState → FileState → Type 0
+KeptInLine GoesOn slots notes old new = Unit {0}
+KeptInLine (IsOver finish) slots notes old new = KeptCause finish slots notes old new
 
 -- a text after which the session goes on costs a unit, told or not
 abbrev pub PaysFor : ℕ → Progress → ℕ → Type 0

@@ -1,12 +1,14 @@
 -- A session: one text after another, to EXIT, the end of the input, or the end of the budget.
-use Rattle.std.specs.Prelude.{◌≡◌, ℕ, zero, suc, ◌+◌, ◌-◌, nat_le, Bool, List, [], ◌∷◌, ◌++◌, length, drop, codes, Ok, Err, if◌then◌else◌}
+use Rattle.std.specs.Prelude.{◌≡◌, ℕ, zero, suc, ◌+◌, ◌-◌, nat_le, Bool, List, [], ◌∷◌, ◌++◌, length, drop, codes, Option, Some, None, Ok, Err, if◌then◌else◌}
 use Rattle.observations.specs.Observations.{Observation, Prints, Reads, Trace, after_made, map_made}
 use Rattle.fault_notes.specs.Notes.{CommandNote, Note, handed}
 use Rattle.scp_commands.specs.declared.next.Next.TheVariants.{Exit}
 use Rattle.scp_commands.specs.Live.{Live, Standing}
 use Rattle.scp_commands.specs.Reply.{Answer, Reply}
 use Rattle.scp_commands.specs.FaultText.{fault_text}
-use Rattle.scp_commands.specs.FileEffects.{detached_all, all_closings}
+use Rattle.unit_trait.specs.declared.kind.UnitName.{UnitName}
+use Rattle.file_commands.specs.AllUnits.{Emptied}
+use Rattle.scp_commands.specs.FileEffects.{emptied_all, emptied_live}
 use Rattle.scp_commands.specs.Effect.{Asked, does, asked}
 use Rattle.scp_script.specs.Scripts.{Script, still_open, cost_of_line, text_of_line, echo_text, past_line, checked, settled, scripts_behind}
 use Rattle.script_text.specs.Lines.{first_line, line_cost, has_lf}
@@ -74,17 +76,20 @@ behind_script_line s script outer = record s {
   scripts = past_line script ∷ outer;
 }
 
--- By what a session is over where nothing fails: EXIT with that status was done, the input has ended, or a line was due
--- for which no unit of the budget was left.
+-- By what a session is over where neither console nor input fails: EXIT with that status was done, the input has ended,
+-- it has and a unit has kept its file since that could not be written back, or a line was due for which no unit of the
+-- budget was left.
 pub data SessionEnd : Type 0 where
   ExitDone : ℕ → SessionEnd
   InputEnded : SessionEnd
+  FlushFailed : SessionEnd
   BudgetSpent : SessionEnd
 
 -- its status
 abbrev pub end_status : SessionEnd → ℕ
 end_status (ExitDone status) = status
 end_status InputEnded = 0
+end_status FlushFailed = 107
 end_status BudgetSpent = 104
 
 -- what comes next in a session: its end, or a text and the session behind it
@@ -92,8 +97,16 @@ pub data Upcoming : Type 0 where
   Ends : SessionEnd → Upcoming
   Comes : List ℕ → Session → Upcoming
 
+-- where the input ends, all units lose their files, with the notes that have the number of the last command
+abbrev pub emptied_in : Session → Emptied
+emptied_in s = emptied_all (handed s.spent s.notes) s.live
+
+abbrev pub input_end : Option UnitName → SessionEnd
+input_end None = InputEnded
+input_end (Some unit) = FlushFailed
+
 abbrev pub upcoming_of : Session → Arrival → Upcoming
-upcoming_of s InputEnds = Ends InputEnded
+upcoming_of s InputEnds = Ends (input_end (emptied_in s).kept)
 upcoming_of s Unpaid = Ends BudgetSpent
 upcoming_of s (LineComes line) = Comes line (behind_line s)
 
@@ -144,12 +157,12 @@ text_step asked_first behind what = let reply = text_reply behind.limit behind.s
   });
 }
 
--- where the input ends, all files are closed, with the notes that have the number of the last command
 unfoldable pub closed : Session → State
-closed s = record { live = detached_all s.live; notes = drop (all_closings (handed s.spent s.notes) s.live) s.notes }
+closed s = record { live = emptied_live (emptied_in s) s.live; notes = drop (emptied_in s).used s.notes }
 
 abbrev pub end_state : SessionEnd → Session → State
 end_state InputEnded s = closed s
+end_state FlushFailed s = closed s
 end_state end s = state_of s
 
 abbrev pub step_upcoming : Session → Upcoming → Step

@@ -7,7 +7,7 @@ ghost use Rattle.fault_notes.specs.Notes.{notes_said};
 ghost use Rattle.scp_script.specs.Reading.{IsReading, Pays};
 ghost use Rattle.scp_script.specs.Scripts.{cost_of_line};
 ghost use Rattle.scp_script.specs.Session.{prompt_text};
-ghost use Rattle.scp_script.specs.Loop.{session_of, Stepped, ProgressCause, PaysFor, AreKept};
+ghost use Rattle.scp_script.specs.Loop.{session_of, Stepped, ProgressCause, PaysFor, AreKept, KeptInLine};
 
 use crate::answers::{answer, deny_line};
 use crate::line_reader::Reading;
@@ -44,6 +44,7 @@ pub fn next_line<U: Unit, C: Source, F: Files, S: Sink>(
     ensures pays { PaysFor lines.old.budget result lines.new.budget }
     ensures command { session.new.command + lines.new.budget ≡ session.old.command + lines.old.budget }
     ensures keeps { AreKept session.old.notes session.new.notes (F.state files.old) (F.state files.new) }
+    ensures kept { KeptInLine result session.new.machine.slots session.new.notes (F.state files.old) (F.state files.new) }
     ensures keys { session.new.keys ≡ session.old.keys }
     ensures limit { session.new.limit ≡ session.old.limit }
     ensures open { AllOpen session.new.machine.slots (F.state files.new).opened }
@@ -83,6 +84,7 @@ fn input_line<U: Unit, C: Source, F: Files, S: Sink>(
     ensures pays { PaysFor lines.old.budget result lines.new.budget }
     ensures command { session.new.command + lines.new.budget ≡ session.old.command + lines.old.budget }
     ensures keeps { AreKept session.old.notes session.new.notes (F.state files.old) (F.state files.new) }
+    ensures kept { KeptInLine result session.new.machine.slots session.new.notes (F.state files.old) (F.state files.new) }
     ensures keys { session.new.keys ≡ session.old.keys }
     ensures limit { session.new.limit ≡ session.old.limit }
     ensures open { AllOpen session.new.machine.slots (F.state files.new).opened }
@@ -104,8 +106,10 @@ fn input_line<U: Unit, C: Source, F: Files, S: Sink>(
         ),
         Reading::TooLong => deny_line(session, TOO_LONG, &mut lines.scripts, out),
         Reading::End => {
-            session.detach_files(files);
-            Progress::IsOver(Finish::EndOfInput)
+            match session.detach_files(files) {
+                Ok(()) => Progress::IsOver(Finish::EndOfInput),
+                Err(_fault) => Progress::IsOver(Finish::FlushFailed),
+            }
         }
         Reading::Unpaid => Progress::IsOver(Finish::Commands),
         Reading::Failed => Progress::IsOver(Finish::Input),
@@ -136,6 +140,7 @@ fn script_line<U: Unit, F: Files, S: Sink>(
     ensures pays { PaysFor lines.old.budget result lines.new.budget }
     ensures command { session.new.command + lines.new.budget ≡ session.old.command + lines.old.budget }
     ensures keeps { AreKept session.old.notes session.new.notes (F.state files.old) (F.state files.new) }
+    ensures kept { KeptInLine result session.new.machine.slots session.new.notes (F.state files.old) (F.state files.new) }
     ensures keys { session.new.keys ≡ session.old.keys }
     ensures limit { session.new.limit ≡ session.old.limit }
     ensures open { AllOpen session.new.machine.slots (F.state files.new).opened }

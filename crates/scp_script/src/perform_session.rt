@@ -3,7 +3,7 @@ ghost use Rattle.host_files.specs.State.{Opened};
 ghost use Rattle.unit_files.specs.Open.{AllOpen, Around};
 ghost use Rattle.fault_notes.specs.Notes.{notes_said};
 ghost use Rattle.scp_commands.specs.Live.{live_in};
-ghost use Rattle.scp_script.specs.Loop.{FinishCause, AreKept};
+ghost use Rattle.scp_script.specs.Loop.{FinishCause, AreKept, KeptCause};
 ghost use Rattle.scp_script.specs.Scripts.{first_script};
 ghost use Rattle.scp_script.specs.Perform.{beginning, Performed};
 
@@ -32,8 +32,8 @@ pub struct Opening {
     pub budget: u64,
 }
 
-/// Does all lines of the script and of the input, until the session is over. Where the input ends, all files are
-/// closed.
+/// Does all lines of the script and of the input, until the session is over. Where the input ends, all units lose their
+/// files, or all keep them where what the disk holds can't be written back.
 ///
 /// The notes that it keeps are those of the calls on files that failed in it, one for each, but for the closing that a
 /// refused ATTACH makes. Memory is taken for those of a command before its line is read.
@@ -56,6 +56,7 @@ pub fn perform<U: Unit, C: Source, F: Files, S: Sink>(
     ensures cause { FinishCause result (S.fault_count out.old) (S.fault_count out.new) (C.fault_count input.old)
         (C.fault_count input.new) }
     ensures keeps { AreKept session.old.notes session.new.notes (F.state files.old) (F.state files.new) }
+    ensures kept { KeptCause result session.new.machine.slots session.new.notes (F.state files.old) (F.state files.new) }
     ensures keys { session.new.keys ≡ session.old.keys }
     ensures limit { session.new.limit ≡ session.old.limit }
     ensures open { AllOpen session.new.machine.slots (F.state files.new).opened }

@@ -8,6 +8,8 @@ pub enum Finish {
     Exit(u8),
     /// The input ended.
     EndOfInput,
+    /// The input ended, and what the disk holds could not be written back: no unit has lost its file.
+    FlushFailed,
     /// A line was to be paid for, and the budget was spent.
     Commands,
     /// The console failed.
@@ -29,6 +31,7 @@ impl Finish {
         match self {
             Finish::Exit(status) => status,
             Finish::EndOfInput => 0,
+            Finish::FlushFailed => 107,
             Finish::Commands => 104,
             Finish::Console => 102,
             Finish::Input => 106,

@@ -26,7 +26,7 @@ one_if test = if test then 1 else 0
 pub one-here : (id : FileId) → one_if (id.0 == id.0) ≡ one_if true
 one-here id = ap one_if (eq-eqb id.0 id.0 refl)
 
-none-elsewhere : (id : FileId) (file : ℕ) → file ≢ id.0 → one_if (id.0 == file) ≡ one_if false
+pub none-elsewhere : (id : FileId) (file : ℕ) → file ≢ id.0 → one_if (id.0 == file) ≡ one_if false
 none-elsewhere id file not = ap one_if (ne_eqb id.0 file (λ (same : id.0 ≡ file). not (sym same)))
 
 -- what is claimed of the file that was opened is what has failed on it
@@ -70,21 +70,29 @@ raised-both faults more count =
     let turned : faults + more ≡ more + faults = omega arith in
     ap (λ (n : ℕ). raised_by n count) turned ∙ raised-behind more faults count
 
--- Behind a reading and a closing each count has risen by what is claimed of its file.
+-- Behind calls on one file, of which so many failed, and a closing, each count has risen by what is claimed of its file.
+pub calls-counted : (id : FileId) (failed closing : Option FailedCall) (times : ℕ) (f g h : ℕ → ℕ)
+    → claims_of failed id.0 ≡ times → ((file : ℕ) → file ≢ id.0 → claims_of failed file ≡ 0) → IsClosing id closing
+    → g id.0 ≡ raised_by times (f id.0) → ((other : ℕ) → other ≢ id.0 → g other ≡ f other)
+    → h id.0 ≡ raised_by (failure_count closing) (g id.0) → ((other : ℕ) → other ≢ id.0 → h other ≡ g other)
+    → (file : ℕ) → h file ≡ raised_by (claims_of failed file + claims_of closing file) (f file)
+calls-counted id failed closing times f g h same none is here others closed behind file =
+    let counts : ℕ → ℕ = λ n. raised_by (claims_of failed n + claims_of closing n) (f n) in
+    all-same id.0 h counts (
+    closed
+    ∙ ap (raised_by (failure_count closing)) here
+    ∙ sym (raised-both times (failure_count closing) (f id.0))
+    ∙ ap (λ (n : ℕ). raised_by (n + failure_count closing) (f id.0)) (sym same)
+    ∙ ap (λ (n : ℕ). raised_by (claims_of failed id.0 + n) (f id.0)) (sym (closing-here id closing is))
+    ) (λ other not. behind other not
+    ∙ others other not
+    ∙ ap (λ (n : ℕ). raised_by n (f other)) (sym (λ i. none other not i + closing-elsewhere id closing other is not i))) file
+
+-- the same of a reading
 pub claims-counted : (id : FileId) (read : Result (Vec ℕ) Refusal) (closing : Option FailedCall) (f g h : ℕ → ℕ)
     → IsClosing id closing
     → g id.0 ≡ raised_by (failures read) (f id.0) → ((other : ℕ) → other ≢ id.0 → g other ≡ f other)
     → h id.0 ≡ raised_by (failure_count closing) (g id.0) → ((other : ℕ) → other ≢ id.0 → h other ≡ g other)
     → (file : ℕ) → h file ≡ raised_by (claims_of (failure_of id read) file + claims_of closing file) (f file)
-claims-counted id read closing f g h is here others closed behind file =
-    let counts : ℕ → ℕ = λ n. raised_by (claims_of (failure_of id read) n + claims_of closing n) (f n) in
-    all-same id.0 h counts (
-    closed
-    ∙ ap (raised_by (failure_count closing)) here
-    ∙ sym (raised-both (failures read) (failure_count closing) (f id.0))
-    ∙ ap (λ (n : ℕ). raised_by (n + failure_count closing) (f id.0)) (sym (read-here id read))
-    ∙ ap (λ (n : ℕ). raised_by (claims_of (failure_of id read) id.0 + n) (f id.0)) (sym (closing-here id closing is))
-    ) (λ other not. behind other not
-    ∙ others other not
-    ∙ ap (λ (n : ℕ). raised_by n (f other)) (sym (λ i. read-elsewhere id read other not i
-    + closing-elsewhere id closing other is not i))) file
+claims-counted id read closing f g h =
+    calls-counted id (failure_of id read) closing (failures read) f g h (read-here id read) (read-elsewhere id read)

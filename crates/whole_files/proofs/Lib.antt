@@ -1,3 +1,4 @@
 pub mod Filled
 pub mod Counts
 pub mod Raised
+pub mod WriteLemmas

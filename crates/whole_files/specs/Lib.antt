@@ -1,3 +1,4 @@
 pub mod Whole
 pub mod Claims
 pub mod Reading
+pub mod Writing

@@ -21,14 +21,14 @@ pub struct FailedCall {
     pub call: FileCall,
 }
 
-/// Why a file was not read.
+/// Why a file was not read or written.
 #[derive(Clone, Copy, Debug, PartialEq, Eq)]
 pub enum WholeFault {
     /// There is no file of that name.
     NoFile,
     /// It is longer than `LONGEST_FILE`.
     TooLong,
-    /// Its opening, its length or a read failed.
+    /// Its opening, its length, a read or the write failed.
     Failed,
     OutOfMemory,
 }
@@ -75,8 +75,8 @@ pub fn read_file<F: Files>(alloc: Global, name: &str, files: &mut F) -> Whole
     }
 }
 
-// Closes the file, and answers whether that failed.
-fn close<F: Files>(file: FileId, files: &mut F) -> Option<FailedCall>
+/// Closes the file, and answers whether that failed.
+pub(crate) fn close<F: Files>(file: FileId, files: &mut F) -> Option<FailedCall>
     requires { IsOpen (F.state files.old) file.0 }
     ensures claim { IsClosing file result }
     ensures fails { Fails file.0 (failure_count result) (F.state files.old) (F.state files.new) }
@@ -124,21 +124,34 @@ fn not_opened(fault: OpenFault) -> Whole
     ensures failed { result.failed ≡ failed_opening fault }
     ensures closing { result.closing ≡ None }
 {
-    let (fault, failed) = match fault {
-        OpenFault::NoFile => (WholeFault::NoFile, None),
-        OpenFault::OutOfMemory => (WholeFault::OutOfMemory, None),
-        OpenFault::Failed => (
-            WholeFault::Failed,
-            Some(FailedCall {
-                file: None,
-                call: FileCall::Opening,
-            }),
-        ),
-    };
     Whole {
-        bytes: Err(fault),
-        failed,
+        bytes: Err(fault_of_opening(fault)),
+        failed: failed_opening(fault),
         closing: None,
+    }
+}
+
+/// Why a file is neither read nor written that was not opened.
+pub(crate) fn fault_of_opening(fault: OpenFault) -> WholeFault
+    ensures { result ≡ fault_of_opening fault }
+{
+    match fault {
+        OpenFault::NoFile => WholeFault::NoFile,
+        OpenFault::Failed => WholeFault::Failed,
+        OpenFault::OutOfMemory => WholeFault::OutOfMemory,
+    }
+}
+
+/// The opening, where it failed.
+pub(crate) fn failed_opening(fault: OpenFault) -> Option<FailedCall>
+    ensures { result ≡ failed_opening fault }
+{
+    match fault {
+        OpenFault::Failed => Some(FailedCall {
+            file: None,
+            call: FileCall::Opening,
+        }),
+        OpenFault::NoFile | OpenFault::OutOfMemory => None,
     }
 }
 

@@ -8,15 +8,15 @@ use unit_trait::Queue::{After, Cancel, Keep};
 type Registers = [u32; 8];
 
 /// A disk whose registers hold that.
-fn disk(values: Registers) -> Result<Dsk, RegFault> {
-    let mut disk = Dsk::new();
+fn disk(values: Registers) -> Result<Drive, RegFault> {
+    let mut disk = Drive::new();
     for (i, value) in (0..8u8).zip(values) {
         disk.set_reg(i, value)?;
     }
     Ok(disk)
 }
 
-fn registers(disk: &Dsk) -> Registers {
+fn registers(disk: &Drive) -> Registers {
     let mut values = [0; 8];
     for (i, value) in (0..8u8).zip(values.iter_mut()) {
         *value = disk.reg(i);
@@ -281,7 +281,7 @@ fn a_register_takes_its_limits_and_nothing_past_them(rt: HostRuntime) {
         (7, 0, 1, 0),
     ];
     for (i, least, largest, first) in cases {
-        let mut disk = Dsk::new();
+        let mut disk = Drive::new();
         assert_eq!(rt; disk.reg(i), first, "register {i}");
         assert!(rt;
             disk.set_reg(i, largest + 1).is_err() && disk.reg(i) == first,
@@ -296,6 +296,6 @@ fn a_register_takes_its_limits_and_nothing_past_them(rt: HostRuntime) {
             "register {i}"
         );
     }
-    let mut disk = Dsk::new();
+    let mut disk = Drive::new();
     assert!(rt; disk.set_reg(3, 0).is_err() && disk.set_reg(8, 0).is_err() && disk.reg(8) == 0);
 }

@@ -1,5 +1,6 @@
 use super::*;
 use clock_unit::Clk;
+use disk_unit::Dsk;
 use host_files::{ByteSink, ByteSource, MemFiles};
 use paper_tape::{Lpt, Ptp, Ptr};
 use std::alloc::AllocError;
@@ -11,6 +12,7 @@ fn code_of(alloc: Global, lines: &[u8], room: usize) -> Result<ExitCode, AllocEr
     let mut words = Vec::new(alloc);
     words.push(String::from_str(alloc, "-q")?)?;
     let mut units: Vec<Box<dyn Unit>> = Vec::new(alloc);
+    units.push(Box::new(alloc, Dsk::new())?)?;
     units.push(Box::new(alloc, Lpt::new())?)?;
     units.push(Box::new(alloc, Ptr::new())?)?;
     units.push(Box::new(alloc, Ptp::new())?)?;

@@ -2,10 +2,12 @@ ghost use Rattle.std.specs.Prelude.{map};
 ghost use Rattle.nova_top.specs.Standard.{IsStandard};
 
 mod counted;
+mod disk;
 mod files;
 
 use super::*;
 use clock_unit::Clk;
+use disk_unit::Dsk;
 use host_files::{ByteSink, ByteSource, MemFiles};
 use paper_tape::{Lpt, Ptp, Ptr};
 use std::alloc::AllocError;
@@ -31,6 +33,7 @@ fn run(
     failing_read: Option<u64>,
 ) -> Result<Seen, AllocError> {
     let mut units: Vec<Box<dyn Unit>> = Vec::new(alloc);
+    units.push(Box::new(alloc, Dsk::new())?)?;
     units.push(Box::new(alloc, Lpt::new())?)?;
     units.push(Box::new(alloc, Ptr::new())?)?;
     units.push(Box::new(alloc, Ptp::new())?)?;
@@ -99,7 +102,7 @@ fn sessions_print_and_end_as_the_tables_say(rt: HostRuntime) -> Result<(), Fail>
         ),
         // memory of a size, conditions and texts; a line of a command that is not built is not read
         (
-            b"SET CPU 4K\nSHOW CPU\nD 10000 1\nASSERT SIZE=10000\nAS PC>0\nECHO  a b \nLOAD\nSAVE 8 9\nB ;\nSET TTI1 DISCONNECT\nSHOW VERSION\n",
+            b"SET CPU 4K\nSHOW CPU\nD 10000 1\nASSERT SIZE=10000\nAS PC>0\nECHO  a b \nRESTORE\nSAVE 8 9\nB ;\nSET TTI1 DISCONNECT\nSHOW VERSION\n",
             b"CPU, 4K\nValue out of range\nAssertion failed\n a b \nNot built\nNot built\nNot built\nNot built\nNova simulator, project version 1\n",
             0,
         ),
@@ -117,7 +120,7 @@ fn sessions_print_and_end_as_the_tables_say(rt: HostRuntime) -> Result<(), Fail>
         (b"EXIT\nEXAMINE AC0\n", b"", 0),
         (
             b"FOO\nexamine ac0\nE\tAC0 \nSTEP -1\nATTACH\nE DSK BUSY\nE PTR\nSHOW BREAK\nSHOW FOO\n",
-            b"Unknown command\nAC0:\t000000\nAC0:\t000000\nInvalid number at 5\nToo few arguments\nNot built\nToo few arguments\nNot built\nInvalid name at 5\n",
+            b"Unknown command\nAC0:\t000000\nAC0:\t000000\nInvalid number at 5\nToo few arguments\nBUSY:\t0\nToo few arguments\nNot built\nInvalid name at 5\n",
             0,
         ),
         (

@@ -1,5 +1,6 @@
 use super::*;
 use clock_unit::Clk;
+use disk_unit::Dsk;
 use paper_tape::{Lpt, Ptp, Ptr};
 use std::test::Fail;
 use tty_units::{Tti, Tto};
@@ -18,6 +19,7 @@ fn stay_standard<U: Unit>(units: &mut [U]) -> bool {
 #[test]
 fn standard_units_are_told_by_their_kinds_and_registers(rt: HostRuntime) -> Result<(), Fail> {
     let mut units: Vec<Box<dyn Unit>> = Vec::new(rt.alloc());
+    units.push(Box::new(rt.alloc(), Dsk::new())?)?;
     units.push(Box::new(rt.alloc(), Lpt::new())?)?;
     units.push(Box::new(rt.alloc(), Ptr::new())?)?;
     units.push(Box::new(rt.alloc(), Ptp::new())?)?;
@@ -26,9 +28,9 @@ fn standard_units_are_told_by_their_kinds_and_registers(rt: HostRuntime) -> Resu
     assert!(rt; !is_standard(units.as_slice()));
     units.push(Box::new(rt.alloc(), Tto::new())?)?;
     assert!(rt; is_standard(units.as_slice()));
-    units.swap(4, 5);
+    units.swap(5, 6);
     assert!(rt; !is_standard(units.as_slice()));
-    units.swap(4, 5);
+    units.swap(5, 6);
     assert!(rt; is_standard(units.as_slice()));
     assert!(rt; !stay_standard(units.as_mut_slice()));
     Ok(())

@@ -4,9 +4,9 @@ use std::test::Fail;
 
 /// Lines, and whether each is to be read.
 const LINES: [(&[u8], bool); 26] = [
-    (b"LOAD", false),
-    (b"l x y z", false),
-    (b"DUMP 100", false),
+    (b"LOAD", true),
+    (b"l x y z", true),
+    (b"DUMP 100", true),
     (b" SAVE s", false),
     (b"\tsa s", false),
     (b"RESTORE -f s", false),

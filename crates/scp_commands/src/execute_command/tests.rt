@@ -1,11 +1,12 @@
 ghost use Rattle.std.specs.Prelude.{◌≡◌, [], ◌∷◌, map};
-ghost use Rattle.unit_trait.specs.declared.kind.Kind.TheVariants.{Lpt as printer, Ptr as reader, Ptp as punch};
+ghost use Rattle.unit_trait.specs.declared.kind.Kind.TheVariants.{Dsk as disk, Lpt as printer, Ptr as reader, Ptp as punch};
 ghost use Rattle.unit_trait.specs.declared.kind.Kind.TheVariants.{Clk as clock, Tti as keyboard, Tto as teleprinter};
 ghost use Rattle.unit_trait.specs.Row.{initial_unit};
 ghost use Rattle.unit_files.specs.Open.{AllOpen};
 
 use super::*;
 use clock_unit::Clk;
+use disk_unit::Dsk;
 use expect_actions::Keys;
 use fault_notes::Subject;
 use host_files::{ByteSink, FileCall, MemFiles};
@@ -95,7 +96,7 @@ fn plays<U: Unit, F: Files>(
     notes: &[Note],
 ) -> Result<(), Fail>
     requires { map U.unit_state units.items
-        ≡ map initial_unit (printer ∷ reader ∷ punch ∷ clock ∷ keyboard ∷ teleprinter ∷ []) }
+        ≡ map initial_unit (disk ∷ printer ∷ reader ∷ punch ∷ clock ∷ keyboard ∷ teleprinter ∷ []) }
 {
     let mut session = Session::new(alloc, units, Keys::none(alloc), 1 << 48)?;
     session.command = 7;
@@ -117,6 +118,7 @@ fn session_of(
     notes: &[Note],
 ) -> Result<(), Fail> {
     let mut units: Vec<Box<dyn Unit>> = Vec::new(alloc);
+    units.push(Box::new(alloc, Dsk::new())?)?;
     units.push(Box::new(alloc, Lpt::new())?)?;
     units.push(Box::new(alloc, Ptr::new())?)?;
     units.push(Box::new(alloc, Ptp::new())?)?;
@@ -135,7 +137,7 @@ fn commands_answer_and_print(rt: HostRuntime) -> Result<(), Fail> {
         (b"E 0,100000", 100, refuses(CommandFault::OutOfRange), b""),
         (b"D SIZE 1", 100, refuses(CommandFault::ReadOnlyName), b""),
         (b"E XYZ", 100, refuses(CommandFault::NoSuchName), b""),
-        (b"E DSK BUSY", 100, refuses(CommandFault::NotBuilt), b""),
+        (b"E MTA BUSY", 100, refuses(CommandFault::NotBuilt), b""),
         (b"E CLK SEL", 100, GOES, b"SEL:\t0\n"),
         (
             b"STEP",
@@ -201,7 +203,7 @@ fn texts_are_echoed_conditions_tested_and_memory_sized(rt: HostRuntime) -> Resul
 
 #[test]
 fn files_are_attached_shown_and_detached(rt: HostRuntime) -> Result<(), Fail> {
-    let cases: [Case; 19] = [
+    let cases: [Case; 21] = [
         (b"ATTACH -E PTR p", 0, refuses(CommandFault::NoFile), b""),
         (b"SHOW PTR", 100, GOES, b"PTR, not attached\n"),
         (b"ATTACH PTR p", 0, GOES, b""),
@@ -214,9 +216,11 @@ fn files_are_attached_shown_and_detached(rt: HostRuntime) -> Result<(), Fail> {
         ),
         (b"ATTACH -R PTP p", 0, refuses(CommandFault::ReadOnly), b""),
         (b"DETACH LPT", 0, refuses(CommandFault::NotAttached), b""),
-        (b"ATTACH DSK d", 0, refuses(CommandFault::NotBuilt), b""),
+        (b"ATTACH -R DSK old", 0, GOES, b""),
         (b"ATTACH TTI1 1", 0, refuses(CommandFault::NotBuilt), b""),
-        (b"DETACH DSK", 0, refuses(CommandFault::NotBuilt), b""),
+        (b"SHOW DSK", 100, GOES, b"DSK, attached to old, read only\n"),
+        (b"DETACH DSK", 0, GOES, b""),
+        (b"SHOW DSK", 100, GOES, b"DSK, not attached\n"),
         (b"SHOW MTA3", 0, refuses(CommandFault::NotBuilt), b""),
         (b"DETACH PTR", 0, GOES, b""),
         (b"ATTACH -R PTR p", 0, GOES, b""),
@@ -342,5 +346,55 @@ fn each_failed_call_on_a_script_is_noted(rt: HostRuntime) -> Result<(), Fail> {
             &[(0, call, 0)],
         )?;
     }
+    Ok(())
+}
+
+/// The tape of one word, 63077 at 100, that starts there.
+const TAPE: [u8; 14] = [
+    0xff, 0xff, 0x40, 0x00, 0x82, 0x99, 0x3f, 0x66, 0x01, 0x00, 0x40, 0x00, 0xbf, 0xff,
+];
+
+#[test]
+fn words_are_dumped_and_loaded(rt: HostRuntime) -> Result<(), Fail> {
+    let cases: [Case; 10] = [
+        (b"D 100 63077", 0, GOES, b""),
+        (b"D PC 100", 0, GOES, b""),
+        (b"DUMP 100-100 d", 0, GOES, b""),
+        (b"D 100 0", 0, GOES, b""),
+        (b"D PC 0", 0, GOES, b""),
+        (b"LOAD bad", 0, refuses(CommandFault::LoadSum(0)), b""),
+        (b"E 100,PC", 100, GOES, b"00100:\t000000\nPC:\t00000\n"),
+        (b"LOAD d", 0, GOES, b""),
+        (b"E 100,PC", 100, GOES, b"00100:\t063077\nPC:\t00100\n"),
+        (
+            b"DUMP 100-100000 e",
+            0,
+            refuses(CommandFault::OutOfRange),
+            b"",
+        ),
+    ];
+    let mut files = MemFiles::with_room(rt.alloc(), 64)?;
+    let mut bad = TAPE;
+    bad[4] = 0x83;
+    assert!(rt; files.add_file("bad", &bad).is_ok());
+    session_of(&rt, rt.alloc(), &mut files, &cases, &[])?;
+    assert!(rt; files.file_bytes("d") == Some(&TAPE[..]));
+    assert!(rt; files.file_bytes("e").is_none());
+    Ok(())
+}
+
+#[test]
+fn a_dump_that_fails_leaves_its_first_bytes(rt: HostRuntime) -> Result<(), Fail> {
+    let cases: [Case; 1] = [(
+        b"DUMP 100-100 d",
+        0,
+        refuses(CommandFault::FileFailed(Subject::Dump)),
+        b"",
+    )];
+    let mut files = MemFiles::with_room(rt.alloc(), 64)?;
+    assert!(rt; files.fail_call(1, 4).is_ok());
+    let notes = [(0, FileCall::Write, 4)];
+    session_of(&rt, rt.alloc(), &mut files, &cases, &notes)?;
+    assert!(rt; files.file_bytes("d") == Some(&TAPE[..4]));
     Ok(())
 }

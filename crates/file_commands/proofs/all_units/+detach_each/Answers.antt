@@ -1,67 +1,74 @@
-use Rattle.std.proofs.Common.{◌≡◌, List, Option, false, IsTrue, subst, ap, sym, ◌∙◌, arith, rules}
+use Rattle.std.proofs.Common.{◌≡◌, List, Option, IsTrue, subst, ap, sym, ◌∙◌, arith, rules}
 use Rattle.unit_trait.specs.declared.kind.UnitName.{UnitName}
-use Rattle.unit_files.specs.Attachments.{Attachment, attachments_of, takes_attachment, is_disk}
-use Rattle.file_commands.specs.AllUnits.{Closed, detached_each}
-use Rattle.file_commands.proofs.Closing.{closed-none, closed-more, nothing-left, all-tail, all-head, apart-tail, apart-head}
-use Rattle.file_commands.proofs.Closing.{said-other, files-other, buffer-other, detached-other}
+use Rattle.unit_files.specs.Attachments.{takes_attachment}
+use Rattle.unit_files.specs.Buffer.{AttachedFiles}
+use Rattle.file_commands.specs.AllUnits.{Empties, Filed, filed_of}
+use Rattle.file_commands.proofs.Emptying.{Calls, empties-none, empties-kept, empties-more, kept-whole, unwritten-here, still-unwritten, nothing-left, all-tail, apart-tail, apart-head}
 use Rattle.file_commands.proofs.all_units.+detach_each.Goals as goal
 
 pub detach_each-requires : goal.detach_each-requires
 detach_each-requires g t c κs within =
     let are = c.in-Some.ensures.cases in
     let room = c.requires.room in
-    let few = c.detach_unit-note.ensures.few in
-    let capacity = c.detach_unit-note.ensures.capacity in
+    let few = c.detach_unit-result.ensures.few in
+    let capacity = c.detach_unit-result.ensures.capacity in
     let units = all-tail (λ (u : UnitName). IsTrue (takes_attachment u)) c.in-Some.unit.now c.in-Some.others.now c.args.units.now are.0 c.requires.units in
-    let others = all-tail (λ (u : UnitName). is_disk u.kind ≡ false) c.in-Some.unit.now c.in-Some.others.now c.args.units.now are.0 c.requires.others in
     let distinct = apart-tail c.in-Some.unit.now c.in-Some.others.now c.args.units.now are.0 c.requires.apart in
-    (search rules, (search rules, (units, (others, (distinct, (c.detach_unit-note.ensures.open, omega (arith, are.1, room, few, capacity)))))))
+    (search rules, (search rules, (units, (distinct, (c.detach_unit-result.ensures.open, omega (arith, are.1, room, few, capacity))))))
 
-pub returns-in-None-clause-closed : goal.returns-in-None-clause-closed
-returns-in-None-clause-closed g t c =
-    closed-none c.args.stamp.command c.args.stamp.time c.args.units.now (attachments_of c.args.attached.now.slots) c.args.notes.now.items (g.F.Files.state c.args.files.now)
+pub returns-in-None-clause-empties : goal.returns-in-None-clause-empties
+returns-in-None-clause-empties g t c =
+    empties-none c.args.stamp.command c.args.stamp.time c.args.units.now (filed_of c.args.attached.now (g.F.Files.state c.args.files.now).files) c.args.notes.now.items (g.F.Files.state c.args.files.now)
     (nothing-left c.args.units.now c.in-None.ensures.cases)
 
-pub returns-in-Some-clause-attached : goal.returns-in-Some-clause-attached
-returns-in-Some-clause-attached g t c =
-    let first = c.detach_unit-note in
+pub returns-in-Some-flush_fault-clause-empties : goal.returns-in-Some-flush_fault-clause-empties
+returns-in-Some-flush_fault-clause-empties g t c =
+    let first = c.detach_unit-result in
     let are = c.in-Some.ensures.cases.0 in
     let u = c.in-Some.unit.now in
-    let held = attachments_of c.args.attached.now.slots in
-    let other : is_disk u.kind ≡ false = all-head (λ (v : UnitName). is_disk v.kind ≡ false) u c.in-Some.others.now c.args.units.now are c.requires.others in
-    c.detach_each.ensures.attached
-    ∙ ap (λ (l : List (Option Attachment)). detached_each c.in-Some.others.now l) (first.ensures.attached ∙ detached-other first.result u held (first.ensures.nothing other))
-    ∙ ap (λ (us : List UnitName). detached_each us held) (sym are)
+    let old = g.F.Files.state c.args.files.now in
+    let mid = g.F.Files.state first.new.files in
+    let calls : Calls c.args.stamp u (filed_of c.args.attached.now old.files) (filed_of first.new.attached mid.files) first.result c.args.notes.now.items first.new.notes.items old mid = record {
+      said = first.ensures.said;
+      attached = first.ensures.attached;
+      disk = first.ensures.disk;
+      files = first.ensures.files;
+      of_unit = first.ensures.own;
+      noted = first.ensures.notes;
+      counted = first.ensures.counted;
+    } in
+    empties-kept c.args.stamp u c.in-Some.others.now c.args.units.now _ _ first.result c.in-Some-flush_fault.fault c.args.notes.now.items first.new.notes.items old mid
+    are (sym c.in-Some-flush_fault.ensures) calls
 
-pub returns-in-Some-clause-disk : goal.returns-in-Some-clause-disk
-returns-in-Some-clause-disk g t c =
-    let first = c.detach_unit-note in
-    let are = c.in-Some.ensures.cases.0 in
-    let u = c.in-Some.unit.now in
-    let other : is_disk u.kind ≡ false = all-head (λ (v : UnitName). is_disk v.kind ≡ false) u c.in-Some.others.now c.args.units.now are c.requires.others in
-    c.detach_each.ensures.disk ∙ first.ensures.disk ∙ buffer-other first.result u c.args.attached.now.disk other
+pub returns-in-Some-flush_fault-clause-cause : goal.returns-in-Some-flush_fault-clause-cause
+returns-in-Some-flush_fault-clause-cause g t c =
+    let first = c.detach_unit-result in
+    let same : first.new.attached.slots ≡ c.args.attached.now.slots = ap (λ (a : AttachedFiles). a.slots) (kept-whole first.result c.in-Some-flush_fault.fault first.new.attached c.args.attached.now (sym c.in-Some-flush_fault.ensures) first.ensures.refused) in
+    unwritten-here c.args.stamp c.in-Some.unit.now first.result c.in-Some-flush_fault.fault c.args.attached.now.slots first.new.attached.slots c.args.notes.now.items first.new.notes.items
+    (g.F.Files.state c.args.files.now) (g.F.Files.state first.new.files) (sym c.in-Some-flush_fault.ensures) first.ensures.cause same first.ensures.notes
 
-pub returns-in-Some-clause-files : goal.returns-in-Some-clause-files
-returns-in-Some-clause-files g t c =
-    let first = c.detach_unit-note in
-    let are = c.in-Some.ensures.cases.0 in
-    let u = c.in-Some.unit.now in
-    let other : is_disk u.kind ≡ false = all-head (λ (v : UnitName). is_disk v.kind ≡ false) u c.in-Some.others.now c.args.units.now are c.requires.others in
-    c.detach_each.ensures.files ∙ first.ensures.files ∙ files-other _ u _ c.args.attached.now.disk _ other
+pub returns-in-None-flush_fault-clause-cause : goal.returns-in-None-flush_fault-clause-cause
+returns-in-None-flush_fault-clause-cause g t c =
+    let first = c.detach_unit-result in
+    still-unwritten c.detach_each.result c.detach_each.new.attached.slots c.detach_each.new.notes.items _ (g.F.Files.state c.args.files.now) (g.F.Files.state first.new.files) (g.F.Files.state c.detach_each.new.files)
+    first.ensures.counted c.detach_each.ensures.cause
 
-pub returns-in-Some-clause-closed : goal.returns-in-Some-clause-closed
-returns-in-Some-clause-closed g t c =
-    let first = c.detach_unit-note in
+pub returns-in-None-flush_fault-clause-empties : goal.returns-in-None-flush_fault-clause-empties
+returns-in-None-flush_fault-clause-empties g t c =
+    let first = c.detach_unit-result in
     let are = c.in-Some.ensures.cases.0 in
     let u = c.in-Some.unit.now in
-    let held = attachments_of c.args.attached.now.slots in
-    let other : is_disk u.kind ≡ false = all-head (λ (v : UnitName). is_disk v.kind ≡ false) u c.in-Some.others.now c.args.units.now are c.requires.others in
-    let nothing = first.ensures.nothing other in
-    let C : List (Option Attachment) → Type 0 = λ x. Closed c.args.stamp.command c.args.stamp.time c.in-Some.others.now x first.new.notes.items c.detach_each.new.notes.items
-    (g.F.Files.state first.new.files) (g.F.Files.state c.detach_each.new.files) in
-    closed-more c.args.stamp u c.in-Some.others.now c.args.units.now held first.result
-    c.args.notes.now.items first.new.notes.items c.detach_each.new.notes.items
-    (g.F.Files.state c.args.files.now) (g.F.Files.state first.new.files) (g.F.Files.state c.detach_each.new.files)
-    are (apart-head u c.in-Some.others.now c.args.units.now are c.requires.apart)
-    (first.ensures.said ∙ said-other _ u held c.args.attached.now.disk other) first.ensures.own nothing first.ensures.notes first.ensures.counted
-    (subst C (first.ensures.attached ∙ detached-other first.result u held nothing) c.detach_each.ensures.closed)
+    let old = g.F.Files.state c.args.files.now in
+    let mid = g.F.Files.state first.new.files in
+    let calls : Calls c.args.stamp u (filed_of c.args.attached.now old.files) (filed_of first.new.attached mid.files) first.result c.args.notes.now.items first.new.notes.items old mid = record {
+      said = first.ensures.said;
+      attached = first.ensures.attached;
+      disk = first.ensures.disk;
+      files = first.ensures.files;
+      of_unit = first.ensures.own;
+      noted = first.ensures.notes;
+      counted = first.ensures.counted;
+    } in
+    let new = g.F.Files.state c.detach_each.new.files in
+    empties-more c.args.stamp u c.in-Some.others.now c.args.units.now _ (filed_of first.new.attached mid.files) _ first.result _ c.args.notes.now.items first.new.notes.items c.detach_each.new.notes.items
+    old mid new are (apart-head u c.in-Some.others.now c.args.units.now are c.requires.apart) (sym c.in-None-flush_fault.ensures) calls c.detach_each.ensures.empties

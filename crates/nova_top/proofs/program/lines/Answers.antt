@@ -1,8 +1,10 @@
-use Rattle.std.proofs.Common.{refl, ap, sym, subst, List, Option}
+use Rattle.std.proofs.Common.{refl, ap, sym, ◌∙◌, subst, List, Option}
+use Rattle.fault_notes.specs.declared.note.FaultNote.{FaultNote}
+use Rattle.scp_script.specs.Loop.{KeptCause}
 use Rattle.unit_files.specs.Open.{AllOpen, Around}
 use Rattle.unit_files.specs.Attachments.{Held}
 use Rattle.scp_commands.specs.Live.{CommandState}
-use Rattle.nova_top.proofs.ProgramLemmas.{lines-told}
+use Rattle.nova_top.proofs.ProgramLemmas.{lines-told, unwritten-finish}
 use Rattle.nova_top.proofs.program.lines.Goals as goal
 
 pub returns-clause-ended : goal.returns-clause-ended
@@ -16,6 +18,15 @@ returns-clause-ended g c = (
       c.session.view_is c.perform-finish.ensures.keys (c.perform-finish.ensures.told source files sink)),
   c.perform-finish.ensures.cause,
 )
+
+pub returns-clause-unwritten : goal.returns-clause-unwritten
+returns-clause-unwritten g c = λ is.
+    let same = sym (ap (λ (s : CommandState). s.machine.slots) c.session.view_is) in
+    let notes = sym (ap (λ (s : CommandState). s.notes) c.session.view_is) in
+    let P : List (Option Held) → List FaultNote → Type 0 = λ slots kept. KeptCause c.perform-finish.result slots kept (g.F.Files.state c.args.files.now) (g.F.Files.state c.perform-finish.new.files) in
+    let kept = subst (λ (slots : List (Option Held)). P slots c.session.inside.notes.items) same (subst (λ (l : List FaultNote). P c.perform-finish.new.session.machine.slots l) notes c.perform-finish.ensures.kept) in
+    unwritten-finish c.perform-finish.result c.session.inside.machine c.session.inside.notes.items (g.F.Files.state c.args.files.now) (g.F.Files.state c.perform-finish.new.files)
+    c.perform-finish.ensures.cause.exit (sym c.status.ensures ∙ is) kept
 
 pub returns-clause-files : goal.returns-clause-files
 returns-clause-files g c = λ base around.

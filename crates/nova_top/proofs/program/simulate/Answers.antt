@@ -5,7 +5,7 @@ use Rattle.fault_notes.specs.Counts.{AreCounted}
 use Rattle.fault_notes.proofs.Adding.{counted-none}
 use Rattle.nova_top.specs.Words.{texts_of}
 use Rattle.nova_top.proofs.ProgramLemmas.{Begun, Made, begun-files}
-use Rattle.nova_top.proofs.ProgramLemmas.{usage-answer, files-answer, files-status, files-cause, session-answer, memory-answer, session-cause, session-status, refused-status, kept-counted, refused-counted, complete-answer}
+use Rattle.nova_top.proofs.ProgramLemmas.{usage-answer, files-answer, files-status, files-cause, session-answer, memory-answer, session-cause, session-status, refused-status, kept-counted, refused-counted, complete-answer, never-unwritten, denied-unwritten, unwritten-whole}
 use Rattle.nova_top.proofs.program.simulate.Given.{Over}
 use Rattle.nova_top.proofs.program.simulate.Goals as goal
 use Rattle.nova_top.proofs.program.simulate.Goals.{After-lines-arg-in-Ok-begin-2-1}
@@ -100,3 +100,19 @@ returns-in-Ok-begin-clause-complete g c = λ source files sink other quiet fed n
     (g.C.Source.fault_count c.args.input.now) (g.C.Source.fault_count c.lines.new.input) named quiet fed in
     complete-answer (texts_of c.args.words.now) (g.C.Source.left c.args.input.now) (g.C.Source.left c.lines.new.input) (g.S.Sink.written c.args.output.now) (g.S.Sink.written c.lines.new.output) old.files new.files
     c.lines.result.status c.lines.result.machine c.lines.result.faults.items old new ended (returns-in-Ok-begin-clause-notes g c) none (returns-in-Ok-begin-clause-outcome g c source files sink other)
+
+-- ---- a disk that kept its file
+
+pub returns-in_default-clause-unwritten : goal.returns-in_default-clause-unwritten
+returns-in_default-clause-unwritten g c = λ is.
+    never-unwritten 100 c.usage.result.status _ _ c.usage.result.machine c.usage.result.faults.items (g.F.Files.state c.args.files.now) (g.F.Files.state c.args.files.now) c.usage.ensures.cause (omega arith) is
+
+pub returns-in-Err-clause-unwritten : goal.returns-in-Err-clause-unwritten
+returns-in-Err-clause-unwritten g c = λ is.
+    denied-unwritten (texts_of c.args.words.now) c.in-Err.refusal c.refuse_files.result.status _ _ c.refuse_files.result.machine c.refuse_files.result.faults.items (g.F.Files.state c.args.files.now) (g.F.Files.state c.begin.new.files)
+    c.refuse_files.ensures.cause is
+
+pub returns-in-Ok-begin-clause-unwritten : goal.returns-in-Ok-begin-clause-unwritten
+returns-in-Ok-begin-clause-unwritten g c = λ is.
+    unwritten-whole c.lines.result.machine c.lines.result.faults.items _ _ (g.F.Files.state c.args.files.now) (g.F.Files.state c.begin.new.files) (g.F.Files.state c.lines.new.files) c.begin.ensures.keeps
+    (c.lines.ensures.unwritten is)

@@ -4,6 +4,7 @@ ghost use Rattle.nova_top.specs.Standard.{IsStandard};
 
 use crate::simulate;
 use clock_unit::Clk;
+use disk_unit::Dsk;
 use host_files::{ByteSink, ByteSource, MemFiles};
 use paper_tape::{Lpt, Ptp, Ptr};
 use std::alloc::{AllocError, Global};
@@ -107,6 +108,7 @@ fn counted_run(alloc: Global, lines: &[u8]) -> Result<(Vec<u8>, [u64; 5], [u64; 
     let clock = Rc::new(alloc, Calls::new())?;
     let printer = Rc::new(alloc, Calls::new())?;
     let mut units: Vec<Box<dyn Unit>> = Vec::new(alloc);
+    units.push(Box::new(alloc, Dsk::new())?)?;
     units.push(Box::new(alloc, Lpt::new())?)?;
     units.push(Box::new(alloc, Ptr::new())?)?;
     units.push(Box::new(alloc, Ptp::new())?)?;

@@ -4,6 +4,7 @@ ghost use Rattle.nova_top.specs.Standard.{IsStandard};
 
 use crate::simulate;
 use clock_unit::Clk;
+use disk_unit::Dsk;
 use host_files::{ByteSink, ByteSource, FileCall, MemFiles, Source};
 use paper_tape::{Lpt, Ptp, Ptr};
 use std::alloc::Global;
@@ -13,27 +14,27 @@ use tty_units::{Tti, Tto};
 use unit_trait::Unit;
 
 /// A note: its command, its time, its call, and how many bytes were written.
-type Note = (u64, u64, FileCall, u64);
+pub(super) type Note = (u64, u64, FileCall, u64);
 
 /// A session, and what it comes to.
 #[derive(Clone, Copy)]
-struct Row<'a> {
-    words: &'a [&'a str],
+pub(super) struct Row<'a> {
+    pub(super) words: &'a [&'a str],
     /// The files that are there, by names and bytes.
-    before: &'a [(&'a str, &'a [u8])],
+    pub(super) before: &'a [(&'a str, &'a [u8])],
     /// The number of the call on files that fails, and how many bytes it writes.
-    fails: Option<(u64, usize)>,
+    pub(super) fails: Option<(u64, usize)>,
     /// How many bytes the console takes.
-    room: usize,
-    lines: &'a [u8],
-    prints: &'a [u8],
-    status: u8,
-    notes: &'a [Note],
+    pub(super) room: usize,
+    pub(super) lines: &'a [u8],
+    pub(super) prints: &'a [u8],
+    pub(super) status: u8,
+    pub(super) notes: &'a [Note],
     /// Files behind it, by names; none where there is no such file.
-    after: &'a [(&'a str, Option<&'a [u8]>)],
+    pub(super) after: &'a [(&'a str, Option<&'a [u8]>)],
 }
 
-const PLAIN: Row<'static> = Row {
+pub(super) const PLAIN: Row<'static> = Row {
     words: &["-q"],
     before: &[],
     fails: None,
@@ -53,7 +54,7 @@ fn plays<U: Unit>(rt: &impl Abort, alloc: Global, units: Vec<U>, row: Row<'_>) -
     for word in row.words {
         words.push(String::from_str(alloc, word)?)?;
     }
-    let mut files = MemFiles::with_room(alloc, 64)?;
+    let mut files = MemFiles::with_room(alloc, 2048)?;
     for file in row.before {
         assert!(rt; files.add_file(file.0, file.1).is_ok());
     }
@@ -91,8 +92,9 @@ fn plays<U: Unit>(rt: &impl Abort, alloc: Global, units: Vec<U>, row: Row<'_>) -
 }
 
 /// The same with the standard units, in boxes.
-fn comes(rt: &impl Abort, alloc: Global, row: Row<'_>) -> Result<(), Fail> {
+pub(super) fn comes(rt: &impl Abort, alloc: Global, row: Row<'_>) -> Result<(), Fail> {
     let mut units: Vec<Box<dyn Unit>> = Vec::new(alloc);
+    units.push(Box::new(alloc, Dsk::new())?)?;
     units.push(Box::new(alloc, Lpt::new())?)?;
     units.push(Box::new(alloc, Ptr::new())?)?;
     units.push(Box::new(alloc, Ptp::new())?)?;

@@ -1,11 +1,14 @@
 use Rattle.std.proofs.Common.{◌≡◌, ◌++◌, ℕ, List, IsTrue, refl, ap, sym, ◌∙◌, subst, append-nil}
 use Rattle.host_files.specs.Lists.{NamedBytes}
+use Rattle.fault_notes.specs.declared.note.Subject.TheVariants as subject
 use Rattle.fault_notes.specs.declared.note.FaultNote.{FaultNote}
 use Rattle.file_commands.specs.declared.stamp.Stamp.{Stamp}
 use Rattle.nova_machine.specs.Seen.{seen}
-use Rattle.scp_commands.specs.ScriptCalls.{script_notes}
+use Rattle.scp_commands.specs.ScriptEffects.{script_of}
+use Rattle.scp_commands.specs.WholeCalls.{read_notes}
 use Rattle.scp_commands.proofs.BehindLemmas.{stamp_in}
-use Rattle.scp_commands.proofs.DoLemmas.{do-did, do-keeps, none-noted, do-own}
+use Rattle.scp_commands.proofs.DoLemmas.{do-did}
+use Rattle.scp_commands.proofs.WholeLemmas.{read-keeps, none-read, read-own}
 use Rattle.scp_commands.proofs.do_command.do_script.Goals as goal
 
 pub returns-clause-told : goal.returns-clause-told
@@ -16,8 +19,8 @@ returns-clause-told g c = λ tells text told.
     let stamped = c.stamp_of-stamp.ensures ∙ ap stamp_in (sym c.session.view_is) in
     rw (← c.session.view_is)
     (do-did s.command (seen s.keys before.files s.machine) (seen s.keys after.files s.machine) c.args.echo c.args.strict c.args.name.now c.read_file-whole.result c.script_answer.result tells text
-    s.notes.items c.note_calls.new.notes.items c.script_answer.ensures (ap (λ (l : List NamedBytes). seen s.keys l s.machine) (c.read_file-whole.ensures.files told)) (c.read_file-whole.ensures.said told)
-    (c.note_calls.ensures.notes ∙ ap (λ (t : Stamp). s.notes.items ++ script_notes t c.read_file-whole.result) stamped))
+    s.notes.items c.note_reading.new.notes.items c.script_answer.ensures (ap (λ (l : List NamedBytes). seen s.keys l s.machine) (c.read_file-whole.ensures.files told)) (c.read_file-whole.ensures.said told)
+    (c.note_reading.ensures.notes ∙ ap (λ (t : Stamp). s.notes.items ++ read_notes subject.Script t c.read_file-whole.result) stamped))
 
 pub returns-clause-keeps : goal.returns-clause-keeps
 returns-clause-keeps g c =
@@ -25,20 +28,23 @@ returns-clause-keeps g c =
     let read = c.read_file-whole.ensures in
     let stamped = c.stamp_of-stamp.ensures ∙ ap stamp_in (sym c.session.view_is) in
     rw (← c.session.view_is)
-    (do-keeps s.command s.machine.time g.F.Files.tells c.args.echo c.args.strict c.read_file-whole.result c.script_answer.result s.notes.items c.note_calls.new.notes.items
-    (g.F.Files.state c.args.files.now) (g.F.Files.state c.read_file-whole.new.files) c.script_answer.ensures read.shape (record { counts = read.counts; openings = read.openings })
-    (c.note_calls.ensures.notes ∙ ap (λ (t : Stamp). s.notes.items ++ script_notes t c.read_file-whole.result) stamped))
+    (read-keeps subject.Script s.command s.machine.time g.F.Files.tells (script_of c.args.echo c.args.strict) c.read_file-whole.result c.script_answer.result s.notes.items c.note_reading.new.notes.items
+    (g.F.Files.state c.args.files.now) (g.F.Files.state c.read_file-whole.new.files) (λ bytes kept shut. shut) c.script_answer.ensures read.shape
+    (record { counts = read.counts; openings = read.openings })
+    (c.note_reading.ensures.notes ∙ ap (λ (t : Stamp). s.notes.items ++ read_notes subject.Script t c.read_file-whole.result) stamped))
 
 pub returns-clause-undone : goal.returns-clause-undone
 returns-clause-undone g c = λ text is.
     let s = c.session.inside in
-    let none = none-noted c.stamp_of-stamp.result c.args.echo c.args.strict c.read_file-whole.result (sym c.script_answer.ensures ∙ is) in
-    let kept : c.note_calls.new.notes.items ≡ s.notes.items = c.note_calls.ensures.notes ∙ ap (λ (l : List FaultNote). s.notes.items ++ l) none ∙ append-nil s.notes.items in
+    let none = none-read subject.Script c.stamp_of-stamp.result (script_of c.args.echo c.args.strict) c.read_file-whole.result (λ bytes. tt) (sym c.script_answer.ensures ∙ is) in
+    let kept : c.note_reading.new.notes.items ≡ s.notes.items = c.note_reading.ensures.notes ∙ ap (λ (l : List FaultNote). s.notes.items ++ l) none ∙ append-nil s.notes.items in
     rw (← c.session.view_is)
     (record { machine = refl; notes = kept; written = refl; files_are = λ told. c.read_file-whole.ensures.files told })
 
 pub returns-clause-own : goal.returns-clause-own
-returns-clause-own g c = (do-own c.args.echo c.args.strict c.read_file-whole.result.bytes c.script_answer.result c.script_answer.ensures).0
+returns-clause-own g c =
+    (read-own subject.Script (script_of c.args.echo c.args.strict) c.read_file-whole.result.bytes c.script_answer.result (λ bytes. (tt, tt)) c.script_answer.ensures).0
 
 pub returns-clause-exit : goal.returns-clause-exit
-returns-clause-exit g c = (do-own c.args.echo c.args.strict c.read_file-whole.result.bytes c.script_answer.result c.script_answer.ensures).1
+returns-clause-exit g c =
+    (read-own subject.Script (script_of c.args.echo c.args.strict) c.read_file-whole.result.bytes c.script_answer.result (λ bytes. (tt, tt)) c.script_answer.ensures).1

@@ -3,7 +3,7 @@ use Rattle.host_files.specs.State.{Opened}
 use Rattle.unit_files.specs.Open.{AllOpen, Around}
 use Rattle.unit_files.specs.Attachments.{Held}
 use Rattle.fault_notes.specs.Notes.{notes_said}
-use Rattle.scp_parser.specs.Command.{Request, Nothing, Examine, Deposit, Reset, Attach, Detach, SetSize, Show, Do, Assert, Echo, Exit, request_of, file_name_of, given_text}
+use Rattle.scp_parser.specs.Command.{Request, Nothing, Examine, Deposit, Reset, Attach, Detach, SetSize, Show, Do, Assert, Echo, Exit, Load, Dump, request_of, file_name_of, given_text}
 use Rattle.scp_commands.specs.declared.next.Next.TheVariants.{Go}
 use Rattle.scp_commands.specs.declared.next.Next.TheVariants as next
 use Rattle.scp_commands.specs.declared.fault.CommandFault.TheVariants.{NotBuilt}
@@ -15,10 +15,11 @@ use Rattle.scp_commands.specs.FileEffects.{attach_reply, detach_one_or_all}
 use Rattle.scp_commands.specs.ShowEffects.{show_reply}
 use Rattle.scp_commands.specs.ExitEffects.{exit_reply}
 use Rattle.scp_commands.specs.SetEffects.{set_size_reply}
+use Rattle.scp_commands.specs.TapeEffects.{load_reply, dump_reply}
 use Rattle.scp_commands.specs.ScriptEffects.{do_reply, echo_reply, assert_reply, goto_reply}
 use Rattle.scp_commands.specs.Effect.{effect}
 use Rattle.scp_commands.specs.Doing.{IsTold, says_files}
-use Rattle.scp_commands.proofs.ObeyLemmas.{plain-did, noted-did, do-named, goes-does, goto-does, keeps-none, does-of-no-file, examine-no-file, deposit-no-file, show-no-file, set_size-no-file, echo-no-file, assert-no-file, reset-no-file, reset-slots, IsOther, other-is}
+use Rattle.scp_commands.proofs.ObeyLemmas.{plain-did, noted-did, do-named, load-named, dump-named, goes-does, goto-does, keeps-none, does-of-no-file, examine-no-file, deposit-no-file, show-no-file, set_size-no-file, echo-no-file, assert-no-file, reset-no-file, reset-slots, IsOther, other-is}
 use Rattle.scp_commands.proofs.DidLemmas.{refused-does}
 use Rattle.scp_commands.proofs.execute_command.obey.Goals as goal
 
@@ -254,6 +255,44 @@ returns-in-Exit-clause-told g c = λ told.
     (λ own. exit_reply own live c.in-Exit.status) c.exit.result g.S.Sink.tells text text (notes_said s.notes) (notes_said new.notes)
     (sym c.command.view_is ∙ ap (request_of _) c.in-Exit.is) (λ own. refl) (c.exit.ensures.told g.S.Sink.tells text)
 
+pub returns-in-Load-clause-told : goal.returns-in-Load-clause-told
+unfolding effect
+returns-in-Load-clause-told g c = λ told.
+    let s = c.args.session.now in
+    let new = c.load_file.new.session in
+    let live = live_in s (g.F.Files.state c.args.files.now).files in
+    let text = g.S.Sink.written c.args.out.now in
+    let name = c.file_name-in-Load.result.now in
+    let is = load-named _ c.command.inside.verb _ c.args.command.now name (sym c.command.view_is) c.in-Load.is c.file_name-in-Load.ensures.name in
+    noted-did s.limit s.command live (live_in new (g.F.Files.state c.load_file.new.files).files) c.args.command.now (Load name)
+    (λ own. load_reply own live name) c.load_file.result g.S.Sink.tells text text (notes_said s.notes) (notes_said new.notes) is (λ own. refl)
+    (c.load_file.ensures.told g.S.Sink.tells text (subst (λ (r : Request). IsTold g.F.Files.tells s.machine.slots r) is told))
+
+pub returns-in-Load-clause-undone : goal.returns-in-Load-clause-undone
+returns-in-Load-clause-undone g c = λ is.
+    let undone = c.load_file.ensures.undone (g.S.Sink.written c.args.out.now) is in
+    let says = ap (says_files g.F.Files.tells) (sym c.command.view_is ∙ ap (request_of _) c.in-Load.is) in
+    record { machine = undone.machine; notes = undone.notes; written = undone.written; files_are = λ told. undone.files_are (sym says ∙ told) }
+
+pub returns-in-Dump-clause-told : goal.returns-in-Dump-clause-told
+unfolding effect
+returns-in-Dump-clause-told g c = λ told.
+    let s = c.args.session.now in
+    let new = c.dump_file.new.session in
+    let live = live_in s (g.F.Files.state c.args.files.now).files in
+    let text = g.S.Sink.written c.args.out.now in
+    let what = c.in-Dump in
+    let name = c.file_name-in-Dump.result.now in
+    let is = dump-named _ c.command.inside.verb what.from what.to _ c.args.command.now name (sym c.command.view_is) what.is c.file_name-in-Dump.ensures.name in
+    noted-did s.limit s.command live (live_in new (g.F.Files.state c.dump_file.new.files).files) c.args.command.now (Dump what.from what.to name)
+    (λ own. dump_reply own live what.from what.to name) c.dump_file.result g.S.Sink.tells text text (notes_said s.notes) (notes_said new.notes) is (λ own. refl)
+    (c.dump_file.ensures.told g.S.Sink.tells text (subst (λ (r : Request). IsTold g.F.Files.tells s.machine.slots r) is told))
+
+pub returns-in-Dump-clause-undone : goal.returns-in-Dump-clause-undone
+returns-in-Dump-clause-undone g c = λ is.
+    let undone = c.dump_file.ensures.undone (g.S.Sink.written c.args.out.now) is in
+    record { machine = undone.machine; notes = undone.notes; written = undone.written; files_are = λ _. undone.files_are refl }
+
 pub returns-in_default : goal.returns-in_default
 returns-in_default g c =
     let s = c.args.session.now in
@@ -279,6 +318,8 @@ returns-in_default g c =
       assert = c.in_default.not-Assert;
       echo = c.in_default.not-Echo;
       exit = c.in_default.not-Exit;
+      load = c.in_default.not-Load;
+      dump = c.in_default.not-Dump;
     } in
     record {
       told = λ told.

@@ -1,15 +1,28 @@
-use Rattle.std.proofs.Common.{refl}
+use Rattle.std.proofs.Common.{Some, None, Err, List, refl, ap, sym, subst}
 use Rattle.fault_notes.specs.Notes.{notes_said}
+use Rattle.fault_notes.specs.Notes.{CommandNote}
 use Rattle.scp_commands.specs.declared.next.Next.TheVariants.{Go}
 use Rattle.scp_commands.specs.Live.{live_in}
+use Rattle.scp_commands.specs.Reply.{Answer}
 use Rattle.scp_commands.specs.FileEffects.{detach_all_reply}
+use Rattle.scp_commands.specs.Doing.{Did}
 use Rattle.scp_commands.proofs.CloseLemmas.{all-did}
 use Rattle.scp_commands.proofs.unit_commands.detach_every.Goals as goal
 
-pub returns-clause-told : goal.returns-clause-told
+pub returns-in-Ok-clause-told : goal.returns-in-Ok-clause-told
 unfolding detach_all_reply
-returns-clause-told g c = λ tells text.
+returns-in-Ok-clause-told g c = λ tells text.
     let after = c.detach_files.new in
     let before = c.args.session.now in
-    all-did Go before.command (live_in before (g.F.Files.state c.args.files.now).files) (live_in after.self (g.F.Files.state after.files).files) tells text
-    (notes_said before.notes) (notes_said after.self.notes) refl c.detach_files.ensures.live c.detach_files.ensures.closes
+    all-did Go before.command (live_in before (g.F.Files.state c.args.files.now).files) (live_in after.self (g.F.Files.state after.files).files) None tells text
+    (notes_said before.notes) (notes_said after.self.notes) refl (λ at reply both. both) c.in-Ok.ensures.closes
+
+pub returns-in-Err-clause-told : goal.returns-in-Err-clause-told
+unfolding detach_all_reply
+returns-in-Err-clause-told g c = λ tells text.
+    let after = c.detach_files.new in
+    let before = c.args.session.now in
+    subst (λ (a : Answer). Did (λ (notes : List CommandNote). detach_all_reply notes (live_in before (g.F.Files.state c.args.files.now).files)) before.command a
+    (live_in after.self (g.F.Files.state after.files).files) tells text text (notes_said before.notes) (notes_said after.self.notes)) (sym (ap Err c.of_detach.ensures))
+    (all-did Go before.command (live_in before (g.F.Files.state c.args.files.now).files) (live_in after.self (g.F.Files.state after.files).files) (Some c.in-Err.fault.unit) tells text
+    (notes_said before.notes) (notes_said after.self.notes) refl (λ at reply both. both) c.in-Err.ensures.closes)

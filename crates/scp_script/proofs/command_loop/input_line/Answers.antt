@@ -1,10 +1,9 @@
-use Rattle.std.proofs.Common.{◌≡◌, ◌<◌, List, [], Err, refl, ap, sym, ◌∙◌, subst, arith}
+use Rattle.std.proofs.Common.{Some, None, ◌≡◌, ◌<◌, List, [], Err, refl, ap, sym, ◌∙◌, subst, arith}
 use Rattle.unit_files.specs.Open.{Around}
 use Rattle.fault_notes.specs.Notes.{notes_said}
 use Rattle.scp_parser.specs.declared.fault.ParseFault.TheVariants.{TooLong}
 use Rattle.scp_commands.specs.declared.fault.CommandFault.TheVariants.{Parse}
 use Rattle.scp_commands.specs.Live.{CommandState, live_in}
-use Rattle.scp_commands.specs.FileEffects.{detached_all}
 use Rattle.scp_commands.specs.Doing.{Closes}
 use Rattle.scp_commands.specs.Effect.{asked}
 use Rattle.scp_commands.proofs.AskedLemmas.{long-asked}
@@ -14,7 +13,7 @@ use Rattle.scp_script.specs.Scripts.{Script, checked}
 use Rattle.scp_script.specs.Loop.{IsShort, Answers, session_of}
 use Rattle.scp_script.proofs.TextLemmas.{answers-none}
 use Rattle.scp_script.proofs.LineLemmas.{none-read, prompt-refused, budget-spent, input-failed}
-use Rattle.scp_script.proofs.NoteLemmas.{line-stepped, over-alone, input-closed, left-at, never-short, spent-line}
+use Rattle.scp_script.proofs.NoteLemmas.{line-stepped, over-alone, input-closed, left-at, never-short, spent-line, answer-kept}
 use Rattle.scp_script.proofs.command_loop.input_line.Goals as goal
 
 pub returns-in-Err-clause-told : goal.returns-in-Err-clause-told
@@ -100,8 +99,8 @@ returns-in-TooLong-clause-told g c = λ source files sink.
     (record { spent = spent; limit = refl; budget = reads.3; open_ = reads.4; prompt = c.read_paid.ensures.prompt; reads = reads.5 }) less
     (c.in-Ok.ensures.told sink) told short)
 
-pub returns-in-End-clause-told : goal.returns-in-End-clause-told
-returns-in-End-clause-told g c = λ source files sink.
+pub returns-in-Ok-detach_files-clause-told : goal.returns-in-Ok-detach_files-clause-told
+returns-in-Ok-detach_files-clause-told g c = λ source files sink.
     let session = c.args.session.now in
     let paid = c.read_paid.new.session in
     let named = (g.F.Files.state c.args.files.now).files in
@@ -115,11 +114,32 @@ returns-in-End-clause-told g c = λ source files sink.
     let is = c.read_paid.ensures.rest in
     let reads = c.in-End.ensures.reads source in
     let same : paid.command ≡ session.command = omega (arith, c.read_paid.ensures.command, reads.1) in
-    let live = c.detach_files.ensures.live ∙ ap (λ (x : CommandState). detached_all (live_in x named)) is in
-    let closes = subst (λ n. Closes n (live_in session named) (notes_said session.notes) (notes_said done.notes)) same
-    (subst (λ (x : CommandState). Closes x.command (live_in x named) (notes_said x.notes) (notes_said done.notes)) is c.detach_files.ensures.closes) in
-    input-closed (session_of session named lines input []) (session_of done (g.F.Files.state c.detach_files.new.files).files now left []) before after
-    (notes_said session.notes) (notes_said done.notes) c.requires.scripts reads.0 live closes reads.2 (c.in-Ok.ensures.told sink)
+    let now_live = live_in done (g.F.Files.state c.detach_files.new.files).files in
+    let closes = subst (λ n. Closes n (live_in session named) now_live None (notes_said session.notes) (notes_said done.notes)) same
+    (subst (λ (x : CommandState). Closes x.command (live_in x named) now_live None (notes_said x.notes) (notes_said done.notes)) is c.in-Ok-detach_files.ensures.closes) in
+    input-closed (session_of session named lines input []) (session_of done (g.F.Files.state c.detach_files.new.files).files now left []) None before after
+    (notes_said session.notes) (notes_said done.notes) c.requires.scripts reads.0 closes reads.2 (c.in-Ok.ensures.told sink)
+
+pub returns-in-Err-detach_files-clause-told : goal.returns-in-Err-detach_files-clause-told
+returns-in-Err-detach_files-clause-told g c = λ source files sink.
+    let session = c.args.session.now in
+    let paid = c.read_paid.new.session in
+    let named = (g.F.Files.state c.args.files.now).files in
+    let lines = c.args.lines.now in
+    let now = c.read_paid.new.lines in
+    let input = g.C.Source.left c.args.input.now in
+    let left = g.C.Source.left c.read_paid.new.input in
+    let before = g.S.Sink.written c.args.out.now in
+    let after = g.S.Sink.written c.ask.new.out in
+    let done = c.detach_files.new.self in
+    let is = c.read_paid.ensures.rest in
+    let reads = c.in-End.ensures.reads source in
+    let same : paid.command ≡ session.command = omega (arith, c.read_paid.ensures.command, reads.1) in
+    let now_live = live_in done (g.F.Files.state c.detach_files.new.files).files in
+    let closes = subst (λ n. Closes n (live_in session named) now_live (Some c.in-Err-detach_files._fault.unit) (notes_said session.notes) (notes_said done.notes)) same
+    (subst (λ (x : CommandState). Closes x.command (live_in x named) now_live (Some c.in-Err-detach_files._fault.unit) (notes_said x.notes) (notes_said done.notes)) is c.in-Err-detach_files.ensures.closes) in
+    input-closed (session_of session named lines input []) (session_of done (g.F.Files.state c.detach_files.new.files).files now left []) (Some c.in-Err-detach_files._fault.unit) before after
+    (notes_said session.notes) (notes_said done.notes) c.requires.scripts reads.0 closes reads.2 (c.in-Ok.ensures.told sink)
 
 pub returns-in-Unpaid-clause-told : goal.returns-in-Unpaid-clause-told
 returns-in-Unpaid-clause-told g c = λ source files sink.
@@ -160,3 +180,18 @@ returns-in-Failed-clause-told g c = λ source files sink.
     left-at session paid now_state named lines now input left (IsOver Input) before after is
     (over-alone old new Input before after (notes_said session.notes) (notes_said session.notes) refl
     (input-failed old new before after reads.0 c.requires.scripts reads.1 refl reads.2 (c.in-Ok.ensures.told sink)))
+
+pub returns-in-Line-clause-kept : goal.returns-in-Line-clause-kept
+returns-in-Line-clause-kept g c =
+    answer-kept c.answer.result _ _ c.answer.new.session.machine.slots c.answer.new.session.notes (g.F.Files.state c.args.files.now) (g.F.Files.state c.answer.new.files) c.answer.ensures.counts
+
+pub returns-in-TooLong-clause-kept : goal.returns-in-TooLong-clause-kept
+returns-in-TooLong-clause-kept g c =
+    answer-kept c.deny_line.result _ _ _ _ (g.F.Files.state c.args.files.now) (g.F.Files.state c.args.files.now) c.deny_line.ensures.counts
+
+pub returns-in-Err-detach_files-clause-kept : goal.returns-in-Err-detach_files-clause-kept
+returns-in-Err-detach_files-clause-kept g c = c.in-Err-detach_files.ensures.cause
+
+pub returns-in-Err-detach_files-clause-around : goal.returns-in-Err-detach_files-clause-around
+returns-in-Err-detach_files-clause-around g c = λ base around.
+    c.in-Err-detach_files.ensures.around base (subst (λ (x : CommandState). Around x.machine.slots base (g.F.Files.state c.args.files.now).opened) (sym c.read_paid.ensures.rest) around)

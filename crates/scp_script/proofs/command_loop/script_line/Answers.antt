@@ -13,7 +13,7 @@ use Rattle.scp_script.specs.Loop.{IsShort, Answers, session_of}
 use Rattle.scp_script.proofs.SessionLemmas.{upcoming-unpaid, asking-unpaid, asking-script}
 use Rattle.scp_script.proofs.TextLemmas.{answers-none}
 use Rattle.scp_script.proofs.LineLemmas.{asking-refused, script-unpaid, some-fits, none-fits}
-use Rattle.scp_script.proofs.NoteLemmas.{script-stepped, over-alone, left-at, never-short, same-read}
+use Rattle.scp_script.proofs.NoteLemmas.{script-stepped, over-alone, left-at, never-short, same-read, answer-kept}
 use Rattle.scp_script.proofs.command_loop.script_line.Goals as goal
 
 pub returns-then-not-pay-clause-told : goal.returns-then-not-pay-clause-told
@@ -141,3 +141,11 @@ returns-in-None-clause-told g c = λ files sink input.
     (notes_said session.notes) (notes_said session.notes) session.notes session.notes sink refl c.requires.line fits refl
     (record { spent = spent; limit = refl; budget = budget; prompt = ap (λ (x : CommandLoop). x.prompt) c.pay.ensures.lines; input = refl; open_ = reader }) less
     (c.in-Ok.ensures.told sink) told never)
+
+pub returns-in-Some-clause-kept : goal.returns-in-Some-clause-kept
+returns-in-Some-clause-kept g c =
+    answer-kept c.answer.result _ _ c.answer.new.session.machine.slots c.answer.new.session.notes (g.F.Files.state c.args.files.now) (g.F.Files.state c.answer.new.files) c.answer.ensures.counts
+
+pub returns-in-None-clause-kept : goal.returns-in-None-clause-kept
+returns-in-None-clause-kept g c =
+    answer-kept c.deny_line.result _ _ _ _ (g.F.Files.state c.args.files.now) (g.F.Files.state c.args.files.now) c.deny_line.ensures.counts

@@ -4,7 +4,7 @@ use Rattle.scp_script.specs.declared.progress.CommandLoop.{CommandLoop}
 use Rattle.scp_script.specs.Scripts.{first_script}
 use Rattle.scp_script.specs.Perform.{beginning, beginning_with}
 use Rattle.scp_script.specs.Loop.{session_of}
-use Rattle.scp_script.proofs.WholeLemmas.{begun, never-begun, further, over, kept-none, kept-both, causes-behind}
+use Rattle.scp_script.proofs.WholeLemmas.{begun, never-begun, further, over, kept-none, kept-both, causes-behind, kept-since}
 use Rattle.scp_script.proofs.perform_session.perform.Goals as goal
 
 pub lines-init : goal.lines-init
@@ -66,6 +66,11 @@ pub returns-in-IsOver-clause-keeps : goal.returns-in-IsOver-clause-keeps
 returns-in-IsOver-clause-keeps g c =
     kept-both c.args.session.now.notes c.lines.session.notes c.next_line.new.session.notes (g.F.Files.state c.args.files.now) (g.F.Files.state c.lines.files)
     (g.F.Files.state c.next_line.new.files) c.lines.invariant.keeps c.in-IsOver.ensures.keeps
+
+pub returns-in-IsOver-clause-kept : goal.returns-in-IsOver-clause-kept
+returns-in-IsOver-clause-kept g c =
+    kept-since c.in-IsOver.finish c.next_line.new.session.machine.slots c.args.session.now.notes c.lines.session.notes c.next_line.new.session.notes (g.F.Files.state c.args.files.now)
+    (g.F.Files.state c.lines.files) (g.F.Files.state c.next_line.new.files) c.lines.invariant.keeps c.in-IsOver.ensures.kept
 
 pub returns-in_default-clause-told : goal.returns-in_default-clause-told
 unfolding beginning beginning_with

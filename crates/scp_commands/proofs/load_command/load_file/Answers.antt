@@ -1,0 +1,95 @@
+use Rattle.std.proofs.Common.{◌≡◌, ◌++◌, ℕ, List, IsTrue, refl, ap, sym, ◌∙◌, subst, append-nil}
+use Rattle.host_files.specs.Lists.{NamedBytes}
+use Rattle.host_files.specs.State.{Opened}
+use Rattle.unit_files.specs.Attachments.{Held}
+use Rattle.unit_files.specs.Open.{AllOpen, Around}
+use Rattle.fault_notes.specs.declared.note.Subject.TheVariants as subject
+use Rattle.fault_notes.specs.declared.note.FaultNote.{FaultNote}
+use Rattle.file_commands.specs.declared.stamp.Stamp.{Stamp}
+use Rattle.nova_machine.specs.Machine.{MachineState}
+use Rattle.scp_commands.specs.Live.{CommandState}
+use Rattle.scp_commands.specs.WholeCalls.{read_notes}
+use Rattle.scp_commands.specs.Doing.{Keeps}
+use Rattle.scp_commands.proofs.BehindLemmas.{stamp_in}
+use Rattle.scp_commands.proofs.WholeLemmas.{read-keeps, none-read, read-own}
+use Rattle.scp_commands.proofs.TapeLemmas.{tape_comes, tape-plain, tape-own, tape-closings, read-slots, read-time, read-none, load-did}
+use Rattle.scp_commands.proofs.load_command.load_file.Goals as goal
+
+pub returns-clause-told : goal.returns-clause-told
+returns-clause-told g c = λ tells text told.
+    let s = c.session.inside in
+    let before = g.F.Files.state c.args.files.now in
+    let after = g.F.Files.state c.read_file-whole.new.files in
+    let whole = c.read_file-whole.result in
+    let stamped = c.stamp_of-stamp.ensures ∙ ap stamp_in (sym c.session.view_is) in
+    rw (← c.session.view_is)
+    (load-did s.command s.keys s.machine c.load_bytes.new.machine before.files after.files c.args.name.now whole c.load_bytes.result tells text
+    s.notes.items c.note_reading.new.notes.items c.load_bytes.ensures.answer c.load_bytes.ensures.machine (c.read_file-whole.ensures.files told)
+    (c.read_file-whole.ensures.said told)
+    (c.note_reading.ensures.notes ∙ ap (λ (t : Stamp). s.notes.items ++ read_notes subject.Load t whole) stamped))
+
+pub returns-clause-keeps : goal.returns-clause-keeps
+returns-clause-keeps g c =
+    let s = c.session.inside in
+    let before = g.F.Files.state c.args.files.now in
+    let after = g.F.Files.state c.read_file-whole.new.files in
+    let whole = c.read_file-whole.result in
+    let read = c.read_file-whole.ensures in
+    let stamp : Stamp = record { command = s.command; time = s.machine.time } in
+    let stamped = c.stamp_of-stamp.ensures ∙ ap stamp_in (sym c.session.view_is) in
+    let time : c.load_bytes.new.machine.time ≡ s.machine.time =
+    ap (λ (m : MachineState). m.time) c.load_bytes.ensures.machine ∙ read-time whole.bytes s.machine in
+    rw (← c.session.view_is)
+    (subst (λ (t : ℕ). Keeps s.command t g.F.Files.tells c.load_bytes.result s.notes.items c.note_reading.new.notes.items before after) (sym time)
+    (read-keeps subject.Load s.command s.machine.time g.F.Files.tells (tape_comes s.machine) whole c.load_bytes.result s.notes.items
+    c.note_reading.new.notes.items before after (λ bytes. tape-closings stamp g.F.Files.tells s.machine bytes before after)
+    c.load_bytes.ensures.answer read.shape (record { counts = read.counts; openings = read.openings })
+    (c.note_reading.ensures.notes ∙ ap (λ (t : Stamp). s.notes.items ++ read_notes subject.Load t whole) stamped)))
+
+pub returns-clause-undone : goal.returns-clause-undone
+returns-clause-undone g c = λ text is.
+    let s = c.session.inside in
+    let whole = c.read_file-whole.result in
+    let want = sym c.load_bytes.ensures.answer ∙ is in
+    let none = none-read subject.Load c.stamp_of-stamp.result (tape_comes s.machine) whole (tape-plain s.machine) want in
+    let kept : c.note_reading.new.notes.items ≡ s.notes.items =
+    c.note_reading.ensures.notes ∙ ap (λ (l : List FaultNote). s.notes.items ++ l) none ∙ append-nil s.notes.items in
+    rw (← c.session.view_is)
+    (record {
+      machine = c.load_bytes.ensures.machine ∙ read-none whole.bytes s.machine want;
+      notes = kept;
+      written = refl;
+      files_are = λ told. c.read_file-whole.ensures.files told;
+    })
+
+pub returns-clause-own : goal.returns-clause-own
+returns-clause-own g c =
+    (read-own subject.Load (tape_comes c.session.inside.machine) c.read_file-whole.result.bytes c.load_bytes.result (tape-own c.session.inside.machine)
+    c.load_bytes.ensures.answer).0
+
+pub returns-clause-exit : goal.returns-clause-exit
+returns-clause-exit g c =
+    (read-own subject.Load (tape_comes c.session.inside.machine) c.read_file-whole.result.bytes c.load_bytes.result (tape-own c.session.inside.machine)
+    c.load_bytes.ensures.answer).1
+
+pub returns-clause-open : goal.returns-clause-open
+returns-clause-open g c =
+    let s = c.session.inside in
+    let before = g.F.Files.state c.args.files.now in
+    let after = g.F.Files.state c.read_file-whole.new.files in
+    let slots : c.load_bytes.new.machine.slots ≡ s.machine.slots =
+    ap (λ (m : MachineState). m.slots) c.load_bytes.ensures.machine ∙ read-slots c.read_file-whole.result.bytes s.machine in
+    subst (λ l. AllOpen l after.«opened») (sym slots)
+    (subst (λ (o : List Opened). AllOpen s.machine.slots o) (sym c.read_file-whole.ensures.«opened»)
+    (subst (λ (x : CommandState). AllOpen x.machine.slots before.«opened») (sym c.session.view_is) c.requires.«open»))
+
+pub returns-clause-around : goal.returns-clause-around
+returns-clause-around g c = λ base around.
+    let s = c.session.inside in
+    let before = g.F.Files.state c.args.files.now in
+    let after = g.F.Files.state c.read_file-whole.new.files in
+    let slots : c.load_bytes.new.machine.slots ≡ s.machine.slots =
+    ap (λ (m : MachineState). m.slots) c.load_bytes.ensures.machine ∙ read-slots c.read_file-whole.result.bytes s.machine in
+    subst (λ l. Around l base after.«opened») (sym slots)
+    (subst (λ (o : List Opened). Around s.machine.slots base o) (sym c.read_file-whole.ensures.«opened»)
+    (subst (λ (x : CommandState). Around x.machine.slots base before.«opened») (sym c.session.view_is) around))

@@ -1,0 +1,135 @@
+// DUMP.
+ghost use Rattle.std.specs.Prelude.{◌≡◌, ◌≤◌, ◌<◌, ◌^◌, ℕ, Bool, true, List, IsTrue, Err};
+ghost use Rattle.host_files.specs.State.{Opened};
+ghost use Rattle.unit_files.specs.Open.{AllOpen, Around};
+ghost use Rattle.fault_notes.specs.declared.note.Subject.TheVariants.{Dump as of_dump};
+ghost use Rattle.fault_notes.specs.Notes.{notes_said};
+ghost use Rattle.whole_files.specs.Writing.{write_act};
+ghost use Rattle.scp_commands.specs.declared.fault.CommandFault.TheVariants.{OutOfMemory};
+ghost use Rattle.scp_commands.specs.Live.{live_in};
+ghost use Rattle.scp_commands.specs.WholeCalls.{write_calls, written_answer};
+ghost use Rattle.scp_commands.specs.TapeEffects.{can_dump, dump_after, dump_reply};
+ghost use Rattle.scp_commands.specs.Doing.{Did, Keeps, IsUndone, IsOwn, IsExitAnswer};
+
+use crate::fault::CommandFault;
+use crate::next::Next;
+use crate::session::Session;
+use crate::unit_commands::stamp_of;
+use crate::whole_notes::note_writing;
+use binary_load::dump;
+use fault_notes::Subject;
+use host_files::Files;
+use nova_machine::Machine;
+use nova_word::{Addr, Word};
+use std::alloc::Global;
+use unit_trait::Unit;
+use whole_files::{WholeFault, write_file};
+
+/// DUMP makes the file of a name, or empties it, writes the words from one address up to another as a loader tape that
+/// starts at PC, and closes it again. It prints nothing.
+///
+/// `OutOfRange` comes where the second address is below the first one, or the memory does not have it; `OutOfMemory`
+/// where there is no memory for the tape or the opening; `NoFile` where the file can't be made. No file has changed then.
+/// `FileFailed` comes where the opening or the write failed: behind a write the file has its first bytes and no others.
+/// Each call that failed is noted, the closing too.
+#[tactic(auto, unfolding(crate::specs::TapeEffects::dump_reply))]
+pub fn dump_file<U: Unit, F: Files>(
+    alloc: Global,
+    session: &mut Session<U>,
+    from: u64,
+    to: u64,
+    name: &str,
+    files: &mut F,
+) -> Result<Next, CommandFault>
+    requires room { 16 ≤ session.old.spare }
+    requires open { AllOpen session.old.machine.slots (F.state files.old).opened }
+    ensures told { (tells : Bool) (text : List ℕ) → IsTrue F.tells
+        → Did (λ notes. dump_reply notes (live_in session.old (F.state files.old).files) from to name.now)
+        session.old.command result (live_in session.new (F.state files.new).files) tells text text
+        (notes_said session.old.notes) (notes_said session.new.notes) }
+    ensures undone { (text : List ℕ) → result ≡ Err OutOfMemory
+        → IsUndone true session.old session.new text text (F.state files.old) (F.state files.new) }
+    ensures keeps { Keeps session.old.command session.new.machine.time F.tells result session.old.notes
+        session.new.notes (F.state files.old) (F.state files.new) }
+    ensures own { IsOwn result }
+    ensures exit { IsExitAnswer result }
+    ensures keys { session.new.keys ≡ session.old.keys }
+    ensures limit { session.new.limit ≡ session.old.limit }
+    ensures command { session.new.command ≡ session.old.command }
+    ensures open { AllOpen session.new.machine.slots (F.state files.new).opened }
+    ensures around { (base : List Opened) → Around session.old.machine.slots base (F.state files.old).opened
+        → Around session.new.machine.slots base (F.state files.new).opened }
+{
+    if !can_dump(&session.machine, from, to) {
+        return Err(CommandFault::OutOfRange);
+    }
+    let first = address(from);
+    let last = address(to);
+    let start = session.machine.pc();
+    match dump(alloc, session.machine.memory(), first, last, start) {
+        Ok(tape) => write_tape(alloc, session, name, tape.as_slice(), files),
+        Err(_) => Err(CommandFault::OutOfMemory),
+    }
+}
+
+// Whether the memory has the words from one address up to another.
+fn can_dump<U: Unit>(machine: &Machine<U>, from: u64, to: u64) -> bool
+    ensures test { result ≡ can_dump machine.now from to }
+    ensures ordered { IsTrue result → from ≤ to }
+    ensures within { IsTrue result → to < machine.now.processor.memory.size }
+    ensures addresses { IsTrue result → to < 2 ^ 15 }
+{
+    from <= to && to < u64::from(machine.memory().size())
+}
+
+// The address of a number that is one.
+fn address(number: u64) -> Addr
+    requires { number < 2 ^ 15 }
+    ensures { result ≡ number }
+{
+    Addr::of_word(Word(number as u16))
+}
+
+// Writes a tape as the file of a name.
+fn write_tape<U: Unit, F: Files>(
+    alloc: Global,
+    session: &mut Session<U>,
+    name: &str,
+    tape: &[u8],
+    files: &mut F,
+) -> Result<Next, CommandFault>
+    requires room { 16 ≤ session.old.spare }
+    requires open { AllOpen session.old.machine.slots (F.state files.old).opened }
+    ensures told { (tells : Bool) (text : List ℕ) → IsTrue F.tells
+        → Did (λ notes. dump_after (write_act (write_calls of_dump session.old.machine.time notes) name.now tape.now
+        (F.state files.old).files) (live_in session.old (F.state files.old).files))
+        session.old.command result (live_in session.new (F.state files.new).files) tells text text
+        (notes_said session.old.notes) (notes_said session.new.notes) }
+    ensures undone { (text : List ℕ) → result ≡ Err OutOfMemory
+        → IsUndone true session.old session.new text text (F.state files.old) (F.state files.new) }
+    ensures keeps { Keeps session.old.command session.new.machine.time F.tells result session.old.notes
+        session.new.notes (F.state files.old) (F.state files.new) }
+    ensures own { IsOwn result }
+    ensures exit { IsExitAnswer result }
+    ensures keys { session.new.keys ≡ session.old.keys }
+    ensures limit { session.new.limit ≡ session.old.limit }
+    ensures command { session.new.command ≡ session.old.command }
+    ensures open { AllOpen session.new.machine.slots (F.state files.new).opened }
+    ensures around { (base : List Opened) → Around session.old.machine.slots base (F.state files.old).opened
+        → Around session.new.machine.slots base (F.state files.new).opened }
+{
+    let stamp = stamp_of(session);
+    let written = write_file(alloc, name, tape, files);
+    note_writing(&mut session.notes, Subject::Dump, written, stamp);
+    written_answer(written.answer)
+}
+
+// What is answered of a tape that was written, or not.
+fn written_answer(answer: Result<(), WholeFault>) -> Result<Next, CommandFault>
+    ensures { result ≡ written_answer of_dump answer }
+{
+    match answer {
+        Ok(()) => Ok(Next::Go),
+        Err(fault) => Err(CommandFault::of_whole(Subject::Dump, fault)),
+    }
+}
