@@ -3,8 +3,8 @@ ghost use Rattle.std.specs.Process.{exit_status};
 ghost use Rattle.fault_counts.specs.Faults.{Rose};
 ghost use Rattle.nova_top.specs.Standard.{IsStandard};
 ghost use Rattle.nova_top.specs.Words.{options_of, texts_of};
-ghost use Rattle.nova_top.specs.Ends.{IsOutcome, IsCutShort, StatusCause, IsComplete, NoneFailed};
-ghost use Rattle.nova.specs.Ends.{OfSomeEnd};
+ghost use Rattle.nova_top.specs.Ends.{IsOutcome, IsCutShort, StatusCause, IsComplete, NoneFailed, KeptUnwritten};
+ghost use Rattle.nova.specs.Ends.{OfSomeEnd, OfSomeFaults};
 
 use host_files::{Files, Sink, Source};
 use nova_top::simulate;
@@ -40,6 +40,8 @@ pub fn session<U: Unit, C: Source, S: Sink, F: Files>(
         (exit_status result) machine) }
     ensures cause { StatusCause (texts_of words.now) (exit_status result) (S.fault_count output.old)
         (S.fault_count output.new) (C.fault_count input.old) (C.fault_count input.new) }
+    ensures unwritten { exit_status result ≡ 107
+        → OfSomeFaults (λ machine faults. KeptUnwritten machine faults (F.state files.old) (F.state files.new)) }
     ensures unread { options_of (texts_of words.now) ≡ None → input.new ≡ input.old }
 {
     let ending = simulate(alloc, words, units, input, output, files);
