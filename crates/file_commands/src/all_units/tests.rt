@@ -71,7 +71,7 @@ fn notes_of(rt: &impl Abort, alloc: Global, number: u64) -> Result<Vec<FaultNote
         stamp(2),
     );
     take_room(&mut notes)?;
-    detach_all(&mut attached, &mut files, &mut notes, stamp(3));
+    assert!(rt; detach_all(&mut attached, &mut files, &mut notes, stamp(3)).is_ok());
     assert!(rt; attached.name_of(READER).is_none());
     assert!(rt; attached.name_of(PUNCH).is_none());
     Ok(notes)

@@ -113,12 +113,15 @@ fn a_failed_flush_refuses_detach_and_exit(rt: HostRuntime) -> Result<(), Fail> {
     );
     for (lines, prints) in [kept, all, left] {
         for done in [0, 1, 512, 1024] {
+            let lines = joined(alloc, WRITES.lines, lines)?;
+            let prints = joined(alloc, WRITES.prints, prints)?;
+            let notes: [Note; 1] = [(14, 406, FileCall::Write, done as u64)];
             let row = Row {
                 fails: Some((2, done)),
-                lines: joined(alloc, WRITES.lines, lines)?.as_slice(),
-                prints: joined(alloc, WRITES.prints, prints)?.as_slice(),
+                lines: lines.as_slice(),
+                prints: prints.as_slice(),
                 status: 3,
-                notes: &[(14, 406, FileCall::Write, done as u64)],
+                notes: &notes,
                 after: &[("d", Some(&image))],
                 ..WRITES
             };
