@@ -1,5 +1,9 @@
 // That the machine calls the units that it is handed: each call is counted by a wrapper round the unit.
 ghost use Rattle.std.specs.Prelude.{◌≡◌, map};
+ghost use Rattle.unit_trait.specs.declared.kind.Kind.TheVariants.{Dsk as disks, Lpt as printers, Ptr as readers};
+ghost use Rattle.unit_trait.specs.declared.kind.Kind.TheVariants.{Ptp as punches, Clk as clocks, Tti as keyboards};
+ghost use Rattle.unit_trait.specs.declared.kind.Kind.TheVariants.{Tto as teleprinters};
+ghost use Rattle.unit_trait.specs.Row.{initial_unit};
 ghost use Rattle.nova_top.specs.Standard.{IsStandard};
 
 use crate::simulate;
@@ -107,16 +111,59 @@ impl<U: Unit> Unit for Counted<U> {
 fn counted_run(alloc: Global, lines: &[u8]) -> Result<(Vec<u8>, [u64; 5], [u64; 5]), AllocError> {
     let clock = Rc::new(alloc, Calls::new())?;
     let printer = Rc::new(alloc, Calls::new())?;
-    let mut units: Vec<Box<dyn Unit>> = Vec::new(alloc);
-    units.push(Box::new(alloc, Dsk::new())?)?;
-    units.push(Box::new(alloc, Lpt::new())?)?;
-    units.push(Box::new(alloc, Ptr::new())?)?;
-    units.push(Box::new(alloc, Ptp::new())?)?;
-    units.push(Box::new(alloc, Counted::new(Clk::new(), clock.clone()?))?)?;
-    units.push(Box::new(alloc, Tti::new())?)?;
-    units.push(Box::new(alloc, Counted::new(Tto::new(), printer.clone()?))?)?;
-    let printed = printed_by(alloc, units, lines)?;
+    let disk: Box<dyn Unit> = Box::new(alloc, Dsk::new())?;
+    let line_printer: Box<dyn Unit> = Box::new(alloc, Lpt::new())?;
+    let reader: Box<dyn Unit> = Box::new(alloc, Ptr::new())?;
+    let punch: Box<dyn Unit> = Box::new(alloc, Ptp::new())?;
+    let counted_clock: Box<dyn Unit> = Box::new(alloc, Counted::new(Clk::new(), clock.clone()?))?;
+    let keyboard: Box<dyn Unit> = Box::new(alloc, Tti::new())?;
+    let counted_printer: Box<dyn Unit> = Box::new(
+        alloc,
+        Counted::new(Tto::new(), printer.clone()?),
+    )?;
+    let printed = printed_with(
+        alloc,
+        disk,
+        line_printer,
+        reader,
+        punch,
+        counted_clock,
+        keyboard,
+        counted_printer,
+        lines,
+    )?;
     Ok((printed, clock.all(), printer.all()))
+}
+
+/// What is printed with these units, in bus order.
+fn printed_with<U: Unit>(
+    alloc: Global,
+    disk: U,
+    printer: U,
+    reader: U,
+    punch: U,
+    clock: U,
+    keyboard: U,
+    teleprinter: U,
+    lines: &[u8],
+) -> Result<Vec<u8>, AllocError>
+    requires disk { U.unit_state disk ≡ initial_unit disks }
+    requires printer { U.unit_state printer ≡ initial_unit printers }
+    requires reader { U.unit_state reader ≡ initial_unit readers }
+    requires punch { U.unit_state punch ≡ initial_unit punches }
+    requires clock { U.unit_state clock ≡ initial_unit clocks }
+    requires keyboard { U.unit_state keyboard ≡ initial_unit keyboards }
+    requires teleprinter { U.unit_state teleprinter ≡ initial_unit teleprinters }
+{
+    let mut units = Vec::new(alloc);
+    units.push(disk)?;
+    units.push(printer)?;
+    units.push(reader)?;
+    units.push(punch)?;
+    units.push(clock)?;
+    units.push(keyboard)?;
+    units.push(teleprinter)?;
+    printed_by(alloc, units, lines)
 }
 
 fn printed_by<U: Unit>(alloc: Global, units: Vec<U>, lines: &[u8]) -> Result<Vec<u8>, AllocError>
