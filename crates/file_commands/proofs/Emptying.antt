@@ -17,7 +17,7 @@ use Rattle.unit_files.specs.Answers.{failure_in, said_of_detach}
 use Rattle.fault_notes.specs.declared.note.Subject.{Subject}
 use Rattle.fault_notes.specs.declared.note.Subject.TheVariants as subject
 use Rattle.fault_notes.specs.declared.note.FaultNote.{FaultNote}
-use Rattle.fault_notes.specs.Notes.{CommandNote, Note, same_subject, numbered, failure_now, notes_said, said_of}
+use Rattle.fault_notes.specs.Notes.{CommandNote, Note, same_subject, failure_now, notes_said, said_of}
 use Rattle.fault_notes.specs.Counts.{AreCounted}
 use Rattle.fault_notes.proofs.Adding.{counted-both, counted-none}
 use Rattle.file_commands.specs.declared.stamp.Stamp.{Stamp}

@@ -8,7 +8,7 @@ use Rattle.host_files.specs.declared.files.FileId.{FileId}
 use Rattle.host_files.specs.declared.files.FileCall.TheVariants.{Write}
 use Rattle.host_files.specs.Lists.{NamedBytes}
 use Rattle.host_files.specs.State.{FileState}
-use Rattle.unit_trait.specs.declared.kind.Kind.TheVariants.{Dsk, Lpt, Ptr, Ptp}
+use Rattle.unit_trait.specs.declared.kind.Kind.TheVariants.{Dsk, Mta, Lpt, Ptr, Ptp}
 use Rattle.unit_trait.specs.declared.kind.UnitName.{UnitName}
 use Rattle.unit_trait.specs.Kinds.{same_unit}
 use Rattle.unit_files.specs.declared.faults.UnitFault.{UnitFault}
@@ -25,7 +25,10 @@ use Rattle.fault_notes.specs.Counts.{AreCounted}
 -- the units whose files are attached, in bus order
 abbrev pub attachable : List UnitName
 attachable =
-    record { kind = Dsk; unit = 0 } ∷ record { kind = Lpt; unit = 0 } ∷ record { kind = Ptr; unit = 0 } ∷ record { kind = Ptp; unit = 0 } ∷ []
+    record { kind = Dsk; unit = 0 }
+    ∷ record { kind = Mta; unit = 0 } ∷ record { kind = Mta; unit = 1 } ∷ record { kind = Mta; unit = 2 } ∷ record { kind = Mta; unit = 3 }
+    ∷ record { kind = Mta; unit = 4 } ∷ record { kind = Mta; unit = 5 } ∷ record { kind = Mta; unit = 6 } ∷ record { kind = Mta; unit = 7 }
+    ∷ record { kind = Lpt; unit = 0 } ∷ record { kind = Ptr; unit = 0 } ∷ record { kind = Ptp; unit = 0 } ∷ []
 
 -- no two of these units are one
 abbrev pub AreApart : List UnitName → Type 0

@@ -12,10 +12,42 @@ use unit_files::{Attached, DetachFault, UnitFault};
 use unit_trait::{Kind, UnitName};
 
 /// The units whose files are attached, in bus order.
-pub const ATTACHABLE: [UnitName; 4] = [
+pub const ATTACHABLE: [UnitName; 12] = [
     UnitName {
         kind: Kind::Dsk,
         unit: 0,
+    },
+    UnitName {
+        kind: Kind::Mta,
+        unit: 0,
+    },
+    UnitName {
+        kind: Kind::Mta,
+        unit: 1,
+    },
+    UnitName {
+        kind: Kind::Mta,
+        unit: 2,
+    },
+    UnitName {
+        kind: Kind::Mta,
+        unit: 3,
+    },
+    UnitName {
+        kind: Kind::Mta,
+        unit: 4,
+    },
+    UnitName {
+        kind: Kind::Mta,
+        unit: 5,
+    },
+    UnitName {
+        kind: Kind::Mta,
+        unit: 6,
+    },
+    UnitName {
+        kind: Kind::Mta,
+        unit: 7,
     },
     UnitName {
         kind: Kind::Lpt,
@@ -41,7 +73,7 @@ pub fn detach_all<F: Files>(
     stamp: Stamp,
 ) -> Result<(), UnitFault>
     requires open { AllOpen attached.old.slots (F.state files.old).opened }
-    requires room { vec_len notes.old + 4 ≤ vec_capacity notes.old }
+    requires room { vec_len notes.old + 12 ≤ vec_capacity notes.old }
     ensures empties { Empties stamp.command stamp.time attachable (filed_of attached.old (F.state files.old).files)
         (filed_of attached.new (F.state files.new).files) (keeper result) notes.old.items notes.new.items
         (F.state files.old) (F.state files.new) }

@@ -92,10 +92,14 @@ opening_fails m = is_some (next_fails m.calls) || nat_le 4294967296 (length m.ta
 abbrev pub has_room : ℕ → ℕ → ℕ → Bool
 has_room room place count = nat_le place room && nat_le count (room - place)
 
--- what a write of so many bytes answers: one whose number was named writes its first bytes, and one past the room none
-abbrev pub write_result : MemState → ℕ → ℕ → Result (Unit {0}) WriteFault
-write_result m place count = written_by (next_fails m.calls)
+-- what a write of so many bytes answers, where there is so much room: one whose number was named writes its first bytes,
+-- and one past the room none
+abbrev pub piece_result : FailingState → ℕ → ℕ → ℕ → Result (Unit {0}) WriteFault
+piece_result calls room place count = written_by (next_fails calls)
   where
     written_by : Option ℕ → Result (Unit {0}) WriteFault
-    written_by None = if has_room m.room place count then Ok tt else Err (record { done = 0 })
-    written_by (Some done) = Err (record { done = if has_room m.room place (min done count) then min done count else 0 })
+    written_by None = if has_room room place count then Ok tt else Err (record { done = 0 })
+    written_by (Some done) = Err (record { done = if has_room room place (min done count) then min done count else 0 })
+
+abbrev pub write_result : MemState → ℕ → ℕ → Result (Unit {0}) WriteFault
+write_result m place count = piece_result m.calls m.room place count

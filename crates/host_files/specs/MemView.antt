@@ -12,8 +12,8 @@ mem_of s = record { files = map named_of s.files.items; room = s.room; table = s
 abbrev pub no_files : ℕ → MemState
 no_files room = record { files = []; room = room; table = record { opened = []; counts = [] }; calls = no_failing; open_faults = 0 }
 
--- whether a file was too long to be added
-abbrev pub is_too_long : Result (Unit {0}) AddFault → Bool
-is_too_long (Ok u) = false
+-- whether bytes were longer than the room for them
+abbrev pub is_too_long : {T : Type 0} → Result T AddFault → Bool
+is_too_long (Ok x) = false
 is_too_long (Err TooLong) = true
 is_too_long (Err OutOfMemory) = false

@@ -1,8 +1,8 @@
 -- What contracts see of files: their names and bytes, where these are told, which ids are open, and how often calls have
 -- failed.
-use Rattle.std.specs.Prelude.{◌≢◌, ℕ, ◌==◌, List, [], ◌∷◌, Option, Some, None, IsSome, option_map, unwrap_or, if◌then◌else◌}
+use Rattle.std.specs.Prelude.{◌≢◌, ℕ, ◌==◌, Bool, true, false, List, [], ◌∷◌, Option, Some, None, IsSome, option_map, unwrap_or, if◌then◌else◌}
 use Rattle.host_files.specs.declared.files.OpenMode.{OpenMode}
-use Rattle.host_files.specs.declared.files.OpenMode.TheVariants.{Read}
+use Rattle.host_files.specs.declared.files.OpenMode.TheVariants.{Read, Update, Create}
 use Rattle.host_files.specs.Lists.{NamedBytes, find_file, bytes_of}
 
 -- an open file: its id, its name, and the mode it was opened with
@@ -40,12 +40,23 @@ name_at opened file = unwrap_or (option_map (λ o. o.name) (opened_at opened fil
 abbrev pub mode_at : List Opened → ℕ → Option OpenMode
 mode_at opened file = option_map (λ o. o.mode) (opened_at opened file)
 
+-- whether a mode lets the file be changed
+abbrev pub allows_writes : Option OpenMode → Bool
+allows_writes None = true
+allows_writes (Some Read) = false
+allows_writes (Some Update) = true
+allows_writes (Some Create) = true
+
 abbrev pub IsOpen : FileState → ℕ → Type 0
 IsOpen s file = IsSome (opened_at s.opened file)
 
 -- an id through which the file may be changed
 abbrev pub IsWritable : FileState → ℕ → Type 0
 IsWritable s file = mode_at s.opened file ≢ Some Read
+
+-- the same as a test
+abbrev pub is_writable : FileState → ℕ → Bool
+is_writable s file = allows_writes (mode_at s.opened file)
 
 -- the bytes behind an open id
 abbrev pub content : FileState → ℕ → List ℕ

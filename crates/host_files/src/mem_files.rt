@@ -29,10 +29,10 @@ pub struct MemFiles {
     ghost rooms: { All (HasRoom room) files.items },
 }
 
-/// Why a file was not added. Nothing has changed.
+/// Why bytes were not put into a file or a list in memory. Nothing has changed.
 #[derive(Clone, Copy, Debug, PartialEq, Eq)]
 pub enum AddFault {
-    /// It is longer than the room of a file.
+    /// They are longer than the room for them.
     TooLong,
     OutOfMemory,
 }

@@ -4,7 +4,7 @@
 #![tactic(auto)]
 
 ghost use Rattle.std.specs.Prelude.{◌≡◌, ◌⊎◌, None, IfOk, map};
-ghost use Rattle.unit_trait.specs.declared.kind.Kind.TheVariants.{Dsk as disks, Lpt as printers, Ptr as readers};
+ghost use Rattle.unit_trait.specs.declared.kind.Kind.TheVariants.{Dsk as disks, Mta as tapes, Lpt as printers, Ptr as readers};
 ghost use Rattle.unit_trait.specs.declared.kind.Kind.TheVariants.{Ptp as punches, Clk as clocks, Tti as keyboards};
 ghost use Rattle.unit_trait.specs.declared.kind.Kind.TheVariants.{Tto as teleprinters};
 ghost use Rattle.unit_trait.specs.Row.{initial_unit};
@@ -27,6 +27,7 @@ use std::io;
 use std::os::unix::fs::FileExt;
 use std::process::ExitCode;
 use std::rt::Files as System;
+use tape_unit::Mta;
 use tty_units::{Tti, Tto};
 use unit_trait::Unit;
 
@@ -63,6 +64,7 @@ where
         → IfOk result (λ code. (exit_status code ≡ 100) ⊎ (exit_status code ≡ 102)) }
 {
     let disk: Box<dyn Unit> = Box::new(rt.alloc(), Dsk::new())?;
+    let tape: Box<dyn Unit> = Box::new(rt.alloc(), Mta::new())?;
     let printer: Box<dyn Unit> = Box::new(rt.alloc(), Lpt::new())?;
     let reader: Box<dyn Unit> = Box::new(rt.alloc(), Ptr::new())?;
     let punch: Box<dyn Unit> = Box::new(rt.alloc(), Ptp::new())?;
@@ -73,6 +75,7 @@ where
         rt,
         words,
         disk,
+        tape,
         printer,
         reader,
         punch,
@@ -87,6 +90,7 @@ fn with_units<U: Unit, R: Input + Print + AllocGlobal + System>(
     rt: &R,
     words: &[String],
     disk: U,
+    tape: U,
     printer: U,
     reader: U,
     punch: U,
@@ -97,6 +101,7 @@ fn with_units<U: Unit, R: Input + Print + AllocGlobal + System>(
 where
     R::File: FileExt,
     requires disk { U.unit_state disk ≡ initial_unit disks }
+    requires tape { U.unit_state tape ≡ initial_unit tapes }
     requires printer { U.unit_state printer ≡ initial_unit printers }
     requires reader { U.unit_state reader ≡ initial_unit readers }
     requires punch { U.unit_state punch ≡ initial_unit punches }
@@ -109,6 +114,7 @@ where
 {
     let mut units = Vec::new(rt.alloc());
     units.push(disk)?;
+    units.push(tape)?;
     units.push(printer)?;
     units.push(reader)?;
     units.push(punch)?;

@@ -1,13 +1,15 @@
 -- What a unit wants of the machine, by its kind.
-use Rattle.std.proofs.Common.{◌≡◌, ◌==◌, if◌then◌else◌, ◌⊎◌, inl, inr, ℕ, ◌+◌, ◌<◌, ◌≤◌, Bool, true, false, IsTrue, List, [], ◌∷◌, refl, ap, sym, subst, ◌∙◌, arith, Option, Some, None, zero, suc, slice_get, slice_index, option_map, nat_lt, get_or, codes}
+use Rattle.std.proofs.Common.{◌≡◌, ◌==◌, if◌then◌else◌, ◌⊎◌, inl, inr, ℕ, ◌+◌, ◌<◌, ◌≤◌, Bool, true, false, IsTrue, List, [], ◌∷◌, refl, ap, sym, subst, ◌∙◌, arith, Option, Some, None, zero, suc, slice_get, slice_index, option_map, nat_lt, get_or, codes, drop}
 use Rattle.std.specs.Prelude.{IfSome}
 use Rattle.std.proofs.lemmas.Option.{same_Some}
 use Rattle.std.proofs.lemmas.Bool.Decides.{nat_tests}
 use Rattle.unit_trait.specs.declared.kind.Kind.{Kind}
-use Rattle.unit_trait.specs.declared.kind.Kind.TheVariants.{Dsk, Lpt, Ptr, Ptp, Clk, Tti, Tto, Tti1, Tto1}
+use Rattle.unit_trait.specs.declared.kind.Kind.TheVariants.{Dsk, Mta, Lpt, Ptr, Ptp, Clk, Tti, Tto, Tti1, Tto1}
 use Rattle.unit_trait.specs.declared.calls.Want.{Want}
 use Rattle.unit_trait.specs.declared.calls.Want.TheVariants as want
+use Rattle.unit_trait.specs.declared.calls.TapeOrder.{TapeOrder}
 use Rattle.unit_trait.specs.Kinds.{code_of, units_of}
+use Rattle.unit_trait.specs.Tape.{tape_order}
 use Rattle.unit_trait.specs.Reader.{reader_row}
 use Rattle.unit_trait.specs.Writer.{writer_row}
 use Rattle.unit_trait.specs.Clock.{clock_row}
@@ -26,6 +28,10 @@ use Rattle.host_files.specs.declared.files.FileCall.TheVariants.{Write}
 use Rattle.unit_trait.specs.declared.kind.UnitName.{UnitName}
 use Rattle.unit_files.specs.declared.faults.ByteAnswer.{ByteAnswer}
 use Rattle.unit_files.specs.declared.faults.ByteAnswer.TheVariants as byte
+use Rattle.unit_files.specs.declared.faults.SectorAnswer.{SectorAnswer}
+use Rattle.unit_files.specs.declared.faults.SectorAnswer.TheVariants as sectors
+use Rattle.nova_machine.specs.declared.service.Hosted.TheVariants.{Gets}
+use Rattle.nova_machine.specs.Sectors.{got_of_sector}
 use Rattle.unit_files.specs.Attachments.{Attachment, Held, attachments_of, attachment_at, file_place}
 use Rattle.unit_files.specs.Buffer.{disk_unit, disk_sectors, said_of_reading, said_of_writing}
 use Rattle.unit_files.specs.Acts.{most_bytes, ByteSaid, ByteIs, WasWritten, AtEnd, read_act, write_act, write_said, failure_at}
@@ -33,7 +39,7 @@ use Rattle.unit_files.specs.Answers.{said_of_byte, failure_of_byte}
 use Rattle.unit_files.specs.Shapes.{MayRead}
 use Rattle.nova_machine.specs.Wants.{key_stop, got_of_byte}
 use Rattle.nova_machine.specs.Comes.{AreTold, AreFree}
-use Rattle.nova_machine.specs.Hosting.{CanBeHosted, HasRoom, IsHosted, hosted_of}
+use Rattle.nova_machine.specs.Hosting.{IsTapeOrder, CanBeHosted, HasRoom, IsHosted, hosted_of}
 
 held-within : (rs : List Register) (vs : List ℕ) (i : ℕ) (r : Register) → InRange rs vs → slice_get rs i ≡ Some r → slice_index vs i ≤ r.largest
 held-within [] vs i r range at = absurd (cc)
@@ -41,12 +47,48 @@ held-within (q ∷ rs) [] i r range at = absurd range
 held-within (q ∷ rs) (v ∷ vs) zero r range at = subst (λ (x : Register). v ≤ x.largest) (same_Some q r at) range.1
 held-within (q ∷ rs) (v ∷ vs) (suc i) r range at = held-within rs vs i r range.2 at
 
+-- registers behind the first so many are within their limits too
+drop-fits : (k : ℕ) (rs : List Register) (vs : List ℕ) → InRange rs vs → InRange (drop k rs) (drop k vs)
+drop-fits zero rs vs range = range
+drop-fits (suc k) [] [] range = range
+drop-fits (suc k) [] (v ∷ vs) range = absurd range
+drop-fits (suc k) (r ∷ rs) [] range = absurd range
+drop-fits (suc k) (r ∷ rs) (v ∷ vs) range = drop-fits k rs vs range.2
+
+abbrev AllLow : ℕ → List Register → Type 0
+AllLow most [] = Unit {0}
+AllLow most (r ∷ rs) = (r.largest ≤ most) × AllLow most rs
+
+-- none holds more where each one's largest value is no more
+low-all : (rs : List Register) (vs : List ℕ) (i most : ℕ) → InRange rs vs → AllLow most rs → slice_index vs i ≤ most
+low-all [] [] zero most range low = omega arith
+low-all [] [] (suc i) most range low = omega arith
+low-all [] (v ∷ vs) i most range low = absurd range
+low-all (r ∷ rs) [] i most range low = absurd range
+low-all (r ∷ rs) (v ∷ vs) zero most range low = omega (arith, range.1, low.0)
+low-all (r ∷ rs) (v ∷ vs) (suc i) most range low = low-all rs vs i most range.2 low.1
+
+-- what the tape's registers say is an operation on it
+tape-says : (values : List ℕ) (n : ℕ) → InRange (registers Mta) values → IsTapeOrder (tape_order n values)
+tape-says values n fits =
+    let place = low-all (drop 9 (registers Mta)) (drop 9 values) n 67108864 (drop-fits 9 (registers Mta) values fits)
+    (omega arith, (omega arith, (omega arith, (omega arith, (omega arith, (omega arith, (omega arith, (omega arith, tt)))))))) in
+    let address = held-within (registers Mta) values 6 (kept_register (codes "MA") 0o77777) fits refl in
+    let words = held-within (registers Mta) values 7 (kept_register (codes "WC") 0o7777) fits refl in
+    record { place = omega (arith, place); address = omega (arith, address); some = omega (arith, words); most = omega arith }
+
+-- a tape command, or none where there is no such command
+tape-wants : (unused : Bool) (order : TapeOrder) → IsTapeOrder order → CanBeHosted (if unused then want.Nothing else want.Tape order) Mta
+tape-wants true order is = tt
+tape-wants false order is = (refl, is)
+
 wants-of : (kind : Kind) (values : List ℕ) (n : ℕ) → InRange (registers kind) values → CanBeHosted (row_of kind values (Due n)).want kind
 unfolding row_of reader_row writer_row clock_row keyboard_row teleprinter_row most_bytes disk_sectors
 wants-of Dsk values n fits =
     let sector = held-within (registers Dsk) values 4 (kept_register (codes "DA") 0o17777) fits refl in
     let address = held-within (registers Dsk) values 5 (kept_register (codes "MA") 0o77777) fits refl in
     (refl, omega (arith, sector), omega (arith, address))
+wants-of Mta values n fits = tape-wants (slice_index values 4 == 2) (tape_order n values) (tape-says values n fits)
 wants-of Ptr values n fits = (refl, held-within (registers Ptr) values 5 position fits refl)
 wants-of Ptp values n fits = (refl, held-within (registers Ptp) values 5 position fits refl)
 wants-of Lpt values n fits = (refl, held-within (registers Lpt) values 5 position fits refl)
@@ -88,7 +130,7 @@ disk-is u is low =
 
 -- ---- a byte of a unit's file
 
-free-none : (slots : List (Option Held)) (i : ℕ) → AreFree slots → get_or (attachments_of slots) i None ≡ None
+pub free-none : (slots : List (Option Held)) (i : ℕ) → AreFree slots → get_or (attachments_of slots) i None ≡ None
 free-none [] i free = refl
 free-none (slot ∷ slots) zero free = ap (λ (x : Option Held). option_map (λ (h : Held). h.attachment) x) free.0
 free-none (slot ∷ slots) (suc i) free = free-none slots i free.1
@@ -131,10 +173,10 @@ read-hosted tells slots u answer place files key told said may =
 
 pub read-room : (answer : ByteAnswer) (a : Option Attachment) (place : ℕ) → MayRead answer a place → HasRoom (want.ReadByte place) (hosted_of answer)
 unfolding most_bytes
-read-room (byte.Byte b) (Some a) place may = λ moves. may
+read-room (byte.Byte b) (Some a) place may = (λ moves. may, tt)
 read-room (byte.Byte b) None place may = absurd may
-read-room byte.End a place may = λ moves. absurd (cc)
-read-room byte.NoFile a place may = λ moves. absurd (cc)
+read-room byte.End a place may = (λ moves. absurd (cc), tt)
+read-room byte.NoFile a place may = (λ moves. absurd (cc), tt)
 read-room (byte.Failed f) a place may = tt
 read-room byte.Written a place may = absurd may
 
@@ -162,8 +204,14 @@ no-byte (Some y) place x is = no-byte-if (nat_lt place most_bytes) x (write_said
 
 pub write-room : (answer : ByteAnswer) (a : Option Attachment) (place byte_written : ℕ) → said_of_byte answer ≡ write_act (failure_of_byte answer) a place
     → HasRoom (want.WriteByte place byte_written) (hosted_of answer)
-write-room byte.Written a place b said = λ moves. within-largest place (written-within a place said)
-write-room (byte.Byte x) a place b said = λ moves. absurd (no-byte a place x said)
-write-room byte.End a place b said = λ moves. absurd (cc)
-write-room byte.NoFile a place b said = λ moves. absurd (cc)
+write-room byte.Written a place b said = (λ moves. within-largest place (written-within a place said), tt)
+write-room (byte.Byte x) a place b said = (λ moves. absurd (no-byte a place x said), tt)
+write-room byte.End a place b said = (λ moves. absurd (cc), tt)
+write-room byte.NoFile a place b said = (λ moves. absurd (cc), tt)
 write-room (byte.Failed f) a place b said = tt
+
+-- no answer of a sector is one of a tape
+pub sector-room : (answer : SectorAnswer) (write : Bool) (sector from : ℕ) → HasRoom (want.Sector write sector from) (Gets (got_of_sector answer))
+sector-room sectors.Done write sector from = (tt, tt)
+sector-room sectors.NoFile write sector from = (tt, tt)
+sector-room sectors.ReadOnly write sector from = (tt, tt)

@@ -17,6 +17,7 @@ use Rattle.nova_machine.specs.Wants.{prints, answer_to, key_stop}
 use Rattle.nova_machine.specs.Service.{want_at, key_at, asked, replied, hosted, service, services, serving, taken}
 use Rattle.nova_machine.specs.Turn.{prepared, turn}
 use Rattle.nova_machine.specs.Run.{last_time, next_turn, turns, run}
+use Rattle.nova_machine.specs.Tapes.{NoAnswer}
 
 followed-reads : (made : List (Observation Seen)) (stop : Option Stop) (s : Seen) (goes_on : Seen → Part) → reads_of made ≡ 0 → ((t : Seen) → reads_of (goes_on t).made ≡ 0)
     → reads_of (followed made stop s goes_on).made ≡ 0
@@ -31,7 +32,7 @@ prints-reads : (w : Want) (s : Seen) → reads_of (prints w s) ≡ 0
 prints-reads (want.Console byte) s = refl
 prints-reads w s = refl
 
-replied-reads : (u : UnitName) (stop : Option Stop) (answer : Result Got Failure) (s : Seen) → reads_of (replied u stop answer s).made ≡ 0
+replied-reads : (u : UnitName) (stop : Option Stop) (answer : Result Got NoAnswer) (s : Seen) → reads_of (replied u stop answer s).made ≡ 0
 replied-reads u stop (Ok g) s = refl
 replied-reads u stop (Err f) s = refl
 

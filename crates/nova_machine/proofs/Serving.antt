@@ -16,9 +16,9 @@ use Rattle.unit_files.specs.Answers.{failure_in}
 use Rattle.nova_machine.specs.declared.service.Hosted.{Hosted}
 use Rattle.nova_machine.specs.declared.service.Hosted.TheVariants.{Gets, Stops}
 use Rattle.nova_machine.specs.declared.service.Hosted.TheVariants as hosted
-use Rattle.nova_machine.specs.Hosting.{IsHosted, stop_in, bytes_printed}
+use Rattle.nova_machine.specs.Hosting.{IsHosted, stop_in, bytes_printed, IsImageOf}
 use Rattle.nova_machine.specs.Comes.{IsOwn}
-use Rattle.nova_machine.specs.Wants.{file_stop}
+use Rattle.nova_machine.specs.Wants.{unanswered}
 use Rattle.observations.proofs.CutLemmas.{breaks-here}
 use Rattle.unit_trait.specs.declared.kind.UnitName.{UnitName}
 use Rattle.unit_trait.specs.declared.calls.Want.{Want}
@@ -27,7 +27,7 @@ use Rattle.unit_trait.specs.declared.calls.Got.{Got}
 use Rattle.event_queue.specs.EventList.{Event, due, dues, served}
 use Rattle.event_queue.proofs.Dues.{dues-some, dues-none}
 use Rattle.nova_machine.specs.declared.machine.Stop.{Stop}
-use Rattle.nova_machine.specs.declared.machine.Stop.TheVariants.{ConsoleFault, FileFault, Wru}
+use Rattle.nova_machine.specs.declared.machine.Stop.TheVariants.{ConsoleFault, FileFault, Wru, BadImage}
 use Rattle.nova_machine.specs.Machine.{MachineState}
 use Rattle.nova_machine.specs.Seen.{Seen, seen, erased, unnumbered, with_machine, attached_in}
 use Rattle.nova_machine.specs.Parts.{Part, silent, behind_made, then_part}
@@ -36,6 +36,8 @@ use Rattle.nova_machine.specs.Wants.{answer_to, files_after, taken_after, key_st
 use Rattle.nova_machine.specs.Service.{want_at, done_for, asked, answered, first_stop, stopping, replied, service, taken, services, serving}
 use Rattle.nova_machine.specs.Comes.{Comes, IsBrokenOff}
 use Rattle.nova_machine.proofs.Parts.{silent-comes, own-other, own-bare, whole-comes, comes-behind, comes-then, comes-stopped}
+use Rattle.nova_machine.specs.Tapes.{NoAnswer, FileFails, ImageIsBad}
+use Rattle.nova_memory.specs.Memory.{MemoryState}
 
 services-none : (note : Option UnitNote) (s : Seen) → services note [] s ≡ silent None s
 unfolding services
@@ -180,8 +182,12 @@ abbrev pub attachment_in : MachineState → UnitName → Option Attachment
 attachment_in m u = attachment_at (attached_in m) u
 
 -- a unit was asked, and what it wants was done
-abbrev pub done_by : Want → UnitName → List (ℕ × ℕ) → MachineState → MachineState
-done_by w u keys m = done_for (asks_of keys m) (attachment_in m u) w m
+abbrev pub done_by : Option Failure → Want → UnitName → List (ℕ × ℕ) → List NamedBytes → MachineState → MachineState
+done_by fault w u keys files m = done_for fault (asks_of keys m) (attachment_in m u) files w m
+
+-- the files once that was done
+abbrev pub files_by : Option Failure → Want → UnitName → List NamedBytes → MachineState → List NamedBytes
+files_by fault w u files m = files_after fault (attachment_in m u) m.processor.memory files w
 
 -- the numbers of files are no part of what is attached
 erased-attached : (slots : List (Option Held)) → attachments_of (map unnumbered slots) ≡ attachments_of slots
@@ -192,26 +198,26 @@ erased-attached (Some h ∷ slots) = ap (λ (l : List (Option Attachment)). Some
 service-is : (fault : Option Failure) (u : UnitName) (keys : List (ℕ × ℕ)) (files : List NamedBytes) (m : MachineState) → service fault u (seen keys files m)
     ≡ behind_made (prints (want_at u m) (seen keys files (asked u m)))
     (replied u (key_stop (asks_of keys m) (want_at u m)) (answer_to fault (attachment_in m u) files (asks_of keys m) (want_at u m))
-    (seen keys (files_after fault (attachment_in m u) files (want_at u m)) (done_by (want_at u m) u keys (asked u m))))
+    (seen keys (files_by fault (want_at u m) u files m) (done_by fault (want_at u m) u keys files (asked u m))))
 unfolding service Rattle.nova_machine.specs.Service.hosted asked
 service-is fault u keys files m =
     let same : attachment_at (attached_in (erased m)) u ≡ attachment_in m u = ap (λ (l : List (Option Attachment)). attachment_at l u) (erased-attached m.slots) in
     let w = want_at u m in
     ap (λ (a : Option Attachment). behind_made (prints w (seen keys files (asked u m)))
     (replied u (key_stop (asks_of keys m) w) (answer_to fault a files (asks_of keys m) w)
-    (seen keys (files_after fault a files w) (done_for (asks_of keys m) a w (asked u m))))) same
+    (seen keys (files_after fault a m.processor.memory files w) (done_for fault (asks_of keys m) a files w (asked u m))))) same
 
 -- a unit was asked, and this was made of what it wants
 pub record Hosts (u : UnitName) (keys : List (ℕ × ℕ)) (files files' : List NamedBytes) (n h : MachineState) (w : Want) (o : Hosted) : Type 0 where
-  pub machine : h ≡ done_by w u keys n
+  pub machine : h ≡ done_by (failure_of_stop (stop_in o)) w u keys files n
   pub said : IsHosted w (attachment_in n u) files (asks_of keys n) o
-  pub changed : files' ≡ files_after (failure_of_stop (stop_in o)) (attachment_in n u) files w
+  pub changed : files' ≡ files_by (failure_of_stop (stop_in o)) w u files n
 
 -- the same of the machine before it was asked
 record HostsAt (u : UnitName) (keys : List (ℕ × ℕ)) (files files' : List NamedBytes) (m h : MachineState) (o : Hosted) : Type 0 where
-  machine : h ≡ done_by (want_at u m) u keys (asked u m)
+  machine : h ≡ done_by (failure_of_stop (stop_in o)) (want_at u m) u keys files (asked u m)
   said : IsHosted (want_at u m) (attachment_in m u) files (asks_of keys m) o
-  changed : files' ≡ files_after (failure_of_stop (stop_in o)) (attachment_in m u) files (want_at u m)
+  changed : files' ≡ files_by (failure_of_stop (stop_in o)) (want_at u m) u files m
 
 at-asked : (u : UnitName) (keys : List (ℕ × ℕ)) (files files' : List NamedBytes) (m h : MachineState) (o : Hosted)
     → Hosts u keys files files' (asked u m) h (want_at u m) o → HostsAt u keys files files' m h o
@@ -241,8 +247,8 @@ answered-erased u g keys files stop h = refl
 
 -- a unit got this answer, and the machine has this stop for itself
 comes-answered : (u : UnitName) (keys : List (ℕ × ℕ)) (files files' : List NamedBytes) (m h last : MachineState) (g : Got) (stop r : Option Stop) (tells : Bool) (b a : List ℕ)
-    → h ≡ done_by (want_at u m) u keys (asked u m) → answer_to None (attachment_in m u) files (asks_of keys m) (want_at u m) ≡ Ok g
-    → key_stop (asks_of keys m) (want_at u m) ≡ stop → files' ≡ files_after None (attachment_in m u) files (want_at u m)
+    → h ≡ done_by None (want_at u m) u keys files (asked u m) → answer_to None (attachment_in m u) files (asks_of keys m) (want_at u m) ≡ Ok g
+    → key_stop (asks_of keys m) (want_at u m) ≡ stop → files' ≡ files_by None (want_at u m) u files m
     → (IsTrue tells → a ≡ b ++ bytes_of (want_at u m)) → IsOwn r → r ≡ first_stop stop (answered u g h).stop → last ≡ (answered u g h).machine
     → Comes (service None u (seen keys files m)) r (seen keys files' last) tells b a
 comes-answered u keys files files' m h last g stop r tells b a machine said key changed printed own stops is =
@@ -250,11 +256,11 @@ comes-answered u keys files files' m h last g stop r tells b a machine said key 
     let made = prints w (seen keys files (asked u m)) in
     let P : Part → Type 0 = λ x. Comes x r (seen keys files' last) tells b a in
     let now : replied u (key_stop (asks_of keys m) w) (answer_to None (attachment_in m u) files (asks_of keys m) w)
-    (seen keys (files_after None (attachment_in m u) files w) (done_by w u keys (asked u m)))
+    (seen keys (files_by None w u files m) (done_by None w u keys files (asked u m)))
     ≡ silent (first_stop stop (answered u g h).stop) (seen keys files' (answered u g h).machine) =
-    ap (λ (x : Result Got Failure). replied u (key_stop (asks_of keys m) w) x (seen keys (files_after None (attachment_in m u) files w) (done_by w u keys (asked u m)))) said
-    ∙ ap (λ (x : Option Stop). replied u x (Ok g) (seen keys (files_after None (attachment_in m u) files w) (done_by w u keys (asked u m)))) key
-    ∙ ap (λ (x : List NamedBytes). replied u stop (Ok g) (seen keys x (done_by w u keys (asked u m)))) (sym changed)
+    ap (λ (x : Result Got NoAnswer). replied u (key_stop (asks_of keys m) w) x (seen keys (files_by None w u files m) (done_by None w u keys files (asked u m)))) said
+    ∙ ap (λ (x : Option Stop). replied u x (Ok g) (seen keys (files_by None w u files m) (done_by None w u keys files (asked u m)))) key
+    ∙ ap (λ (x : List NamedBytes). replied u stop (Ok g) (seen keys x (done_by None w u keys files (asked u m)))) (sym changed)
     ∙ ap (λ (x : MachineState). replied u stop (Ok g) (seen keys files' x)) (sym machine)
     ∙ answered-erased u g keys files' stop h in
     subst P (sym (service-is None u keys files m ∙ ap (behind_made made) now))
@@ -285,11 +291,11 @@ comes-wru u keys files files' m n h last w tells b a asks wants made printed is 
     comes-answered u keys files files' m h last got.NoKey (Some Wru) (Some Wru) tells b a at.machine at.said.0 at.said.1 at.changed
     (want-text w (want_at u m) tells b a wants printed) tt refl is
 
--- a want whose call failed prints nothing
-silent-want : (fault : Option Failure) (a : Option Attachment) (files : List NamedBytes) (key : Option ℕ) (w : Want) (f : Failure) (s : Seen)
-    → answer_to fault a files key w ≡ Err f → prints w s ≡ []
-silent-want fault a files key (want.Console byte) f s is = absurd (cc)
-silent-want fault a files key w f s is = refl
+-- a want that gets no answer prints nothing
+silent-want : (fault : Option Failure) (a : Option Attachment) (files : List NamedBytes) (key : Option ℕ) (w : Want) (why : NoAnswer) (s : Seen)
+    → answer_to fault a files key w ≡ Err why → prints w s ≡ []
+silent-want fault a files key (want.Console byte) why s is = absurd (cc)
+silent-want fault a files key w why s is = refl
 
 -- a call on the unit's file failed
 pub comes-failed : (u : UnitName) (keys : List (ℕ × ℕ)) (files files' : List NamedBytes) (m n h : MachineState) (w : Want) (f : UnitFault) (tells : Bool) (b a : List ℕ)
@@ -299,17 +305,38 @@ comes-failed u keys files files' m n h w f tells b a asks wants made printed own
     let at = hosts-at u keys files files' m n h w (Stops (FileFault f)) asks wants made in
     let fault = Some (failure_in f) in
     let v = want_at u m in
-    let s = seen keys (files_after fault (attachment_in m u) files v) (done_by v u keys (asked u m)) in
-    let none = silent-want fault (attachment_in m u) files (asks_of keys m) v (failure_in f) (seen keys files (asked u m)) at.said in
+    let s = seen keys (files_by fault v u files m) (done_by fault v u keys files (asked u m)) in
+    let none = silent-want fault (attachment_in m u) files (asks_of keys m) v (FileFails (failure_in f)) (seen keys files (asked u m)) at.said in
     let P : Part → Type 0 = λ x. Comes x (Some (FileFault f)) (seen keys files' h) tells b a in
-    let now : service fault u (seen keys files m) ≡ silent (Some (file_stop u (failure_in f))) s =
+    let now : service fault u (seen keys files m) ≡ silent (Some (unanswered u (FileFails (failure_in f)))) s =
     service-is fault u keys files m
-    ∙ ap (λ (x : Result Got Failure). behind_made (prints v (seen keys files (asked u m))) (replied u (key_stop (asks_of keys m) v) x s)) at.said
-    ∙ ap (λ (l : List (Observation Seen)). behind_made l (silent (Some (file_stop u (failure_in f))) s)) none in
+    ∙ ap (λ (x : Result Got NoAnswer). behind_made (prints v (seen keys files (asked u m))) (replied u (key_stop (asks_of keys m) v) x s)) at.said
+    ∙ ap (λ (l : List (Observation Seen)). behind_made l (silent (Some (unanswered u (FileFails (failure_in f)))) s)) none in
     subst P (sym now)
     (record {
       stop_is = ap (λ (x : UnitName). Some (FileFault (record { unit = x; file = None; call = f.call; done = f.done }))) own;
-      after_is = ap (λ (x : MachineState). seen keys files' x) at.machine ∙ ap (λ (x : List NamedBytes). seen keys x (done_by v u keys (asked u m))) at.changed;
+      after_is = ap (λ (x : MachineState). seen keys files' x) at.machine ∙ ap (λ (x : List NamedBytes). seen keys x (done_by fault v u keys files (asked u m))) at.changed;
+      written = printed;
+    })
+
+-- the image of the unit's tape is bad
+pub comes-bad : (u : UnitName) (keys : List (ℕ × ℕ)) (files files' : List NamedBytes) (m n h : MachineState) (w : Want) (x : UnitName) (place : ℕ) (tells : Bool) (b a : List ℕ)
+    → n ≡ asked u m → w ≡ want_at u m → Hosts u keys files files' n h w (Stops (BadImage x place)) → (IsTrue tells → a ≡ b ++ []) → x ≡ u
+    → Comes (service None u (seen keys files m)) (Some (BadImage x place)) (seen keys files' h) tells b a
+comes-bad u keys files files' m n h w x place tells b a asks wants made printed own =
+    let at = hosts-at u keys files files' m n h w (Stops (BadImage x place)) asks wants made in
+    let v = want_at u m in
+    let s = seen keys (files_by None v u files m) (done_by None v u keys files (asked u m)) in
+    let none = silent-want None (attachment_in m u) files (asks_of keys m) v (ImageIsBad place) (seen keys files (asked u m)) at.said in
+    let P : Part → Type 0 = λ p. Comes p (Some (BadImage x place)) (seen keys files' h) tells b a in
+    let now : service None u (seen keys files m) ≡ silent (Some (BadImage u place)) s =
+    service-is None u keys files m
+    ∙ ap (λ (r : Result Got NoAnswer). behind_made (prints v (seen keys files (asked u m))) (replied u (key_stop (asks_of keys m) v) r s)) at.said
+    ∙ ap (λ (l : List (Observation Seen)). behind_made l (silent (Some (BadImage u place)) s)) none in
+    subst P (sym now)
+    (record {
+      stop_is = ap (λ (y : UnitName). Some (BadImage y place)) own;
+      after_is = ap (λ (y : MachineState). seen keys files' y) at.machine ∙ ap (λ (y : List NamedBytes). seen keys y (done_by None v u keys files (asked u m))) at.changed;
       written = printed;
     })
 
@@ -320,17 +347,17 @@ broken-console (want.Console byte) s p tells b a console same = record {
 }
 broken-console w s p tells b a console same = absurd console
 
-console-done : (w : Want) (u : UnitName) (keys : List (ℕ × ℕ)) (m : MachineState) → IsConsole w → done_by w u keys m ≡ m
-console-done (want.Console byte) u keys m console = by-key (asks_of keys m)
+console-done : (w : Want) (u : UnitName) (keys : List (ℕ × ℕ)) (files : List NamedBytes) (m : MachineState) → IsConsole w → done_by None w u keys files m ≡ m
+console-done (want.Console byte) u keys files m console = by-key (asks_of keys m)
   where
-    by-key : (key : Option ℕ) → done_for key (attachment_in m u) (want.Console byte) m ≡ m
+    by-key : (key : Option ℕ) → done_for None key (attachment_in m u) files (want.Console byte) m ≡ m
     by-key None = refl
     by-key (Some k) = refl
-console-done w u keys m console = absurd console
+console-done w u keys files m console = absurd console
 
-console-files : (w : Want) (a : Option Attachment) (files : List NamedBytes) → IsConsole w → files_after None a files w ≡ files
-console-files (want.Console byte) a files console = refl
-console-files w a files console = absurd console
+console-files : (w : Want) (a : Option Attachment) (memory : MemoryState) (files : List NamedBytes) → IsConsole w → files_after None a memory files w ≡ files
+console-files (want.Console byte) a memory files console = refl
+console-files w a memory files console = absurd console
 
 -- the console refused the byte that a unit was to print
 pub comes-broken : (u : UnitName) (keys : List (ℕ × ℕ)) (files files' : List NamedBytes) (m n h : MachineState) (w : Want) (tells : Bool) (b a : List ℕ)
@@ -341,18 +368,19 @@ comes-broken u keys files files' m n h w tells b a asks wants made same =
     let v = want_at u m in
     let s = seen keys files (asked u m) in
     let stands : seen keys files' h ≡ s =
-    ap (λ (x : List NamedBytes). seen keys x h) (at.changed ∙ console-files v (attachment_in m u) files at.said)
-    ∙ ap (λ (x : MachineState). seen keys files x) (at.machine ∙ console-done v u keys (asked u m) at.said) in
+    ap (λ (x : List NamedBytes). seen keys x h) (at.changed ∙ console-files v (attachment_in m u) m.processor.memory files at.said)
+    ∙ ap (λ (x : MachineState). seen keys files x) (at.machine ∙ console-done v u keys files (asked u m) at.said) in
     let P : Part → Type 0 = λ x. IsBrokenOff x (seen keys files' h) tells b a in
     let p = replied u (key_stop (asks_of keys m) v) (answer_to None (attachment_in m u) files (asks_of keys m) v)
-    (seen keys (files_after None (attachment_in m u) files v) (done_by v u keys (asked u m))) in
+    (seen keys (files_by None v u files m) (done_by None v u keys files (asked u m))) in
     let Q : Seen → Type 0 = λ x. IsBrokenOff (behind_made (prints v s) p) x tells b a in
     subst P (sym (service-is None u keys files m)) (subst Q (sym stands) (broken-console v s p tells b a at.said same))
 
 -- the unit got no answer
 pub comes-stops : (u : UnitName) (keys : List (ℕ × ℕ)) (files files' : List NamedBytes) (m n h : MachineState) (w : Want) (stop : Stop) (tells : Bool) (b a : List ℕ)
-    → n ≡ asked u m → w ≡ want_at u m → Hosts u keys files files' n h w (Stops stop) → (IsTrue tells → a ≡ b ++ []) → IfSome (unit_note (Some stop)) (λ n. n.unit ≡ u)
+    → n ≡ asked u m → w ≡ want_at u m → Hosts u keys files files' n h w (Stops stop) → (IsTrue tells → a ≡ b ++ []) → IfSome (unit_note (Some stop)) (λ n. n.unit ≡ u) → IsImageOf u (Some stop)
     → Comes (service (failure_of_stop (Some stop)) u (seen keys files m)) (Some stop) (seen keys files' h) tells b a
-comes-stops u keys files files' m n h w (FileFault f) tells b a asks wants made printed own = comes-failed u keys files files' m n h w f tells b a asks wants made printed own
-comes-stops u keys files files' m n h w ConsoleFault tells b a asks wants made printed own = comes-broken u keys files files' m n h w tells b a asks wants made printed
-comes-stops u keys files files' m n h w stop tells b a asks wants made printed own = absurd made.said
+comes-stops u keys files files' m n h w (FileFault f) tells b a asks wants made printed own image = comes-failed u keys files files' m n h w f tells b a asks wants made printed own
+comes-stops u keys files files' m n h w (BadImage x place) tells b a asks wants made printed own image = comes-bad u keys files files' m n h w x place tells b a asks wants made printed image
+comes-stops u keys files files' m n h w ConsoleFault tells b a asks wants made printed own image = comes-broken u keys files files' m n h w tells b a asks wants made printed
+comes-stops u keys files files' m n h w stop tells b a asks wants made printed own image = absurd made.said

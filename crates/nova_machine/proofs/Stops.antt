@@ -15,7 +15,7 @@ use Rattle.unit_list.specs.Bus.{unit_at}
 use Rattle.event_queue.specs.EventList.{dues}
 use Rattle.nova_interrupts.specs.Interrupts.{enabled, disabled}
 use Rattle.nova_machine.specs.declared.machine.Stop.{Stop}
-use Rattle.nova_machine.specs.declared.machine.Stop.TheVariants.{Halt, ChainLimit, UnknownDevice, UnitEnd, UnitNone, FileFault, Wru}
+use Rattle.nova_machine.specs.declared.machine.Stop.TheVariants.{Halt, ChainLimit, UnknownDevice, UnitEnd, UnitNone, BadImage, FileFault, Wru}
 use Rattle.nova_machine.specs.Machine.{MachineState, on_processor}
 use Rattle.nova_processor.specs.Processor.{ProcessorState}
 use Rattle.unit_files.specs.declared.faults.UnitFault.{UnitFault}
@@ -32,6 +32,7 @@ use Rattle.nova_machine.specs.Wants.{stop_by, key_stop, wru, answer_to}
 use Rattle.nova_machine.specs.Service.{answered, first_stop, replied, hosted, want_at, key_at, service, taken, services, serving}
 use Rattle.nova_machine.specs.Turn.{with_memory, refer_to, refer, execute, fetch, is_interrupted, jump_to, interrupt_reference, enter, interrupt, prepared, turn}
 use Rattle.nova_machine.specs.StopLaws.{fetched, IsTransfer, IsHalt, IsUnknown, IsEndless, IsEndlessEntry, IsReached, ready, IsHalted, behind_entry, TurnStops}
+use Rattle.nova_machine.specs.Tapes.{NoAnswer, FileFails, ImageIsBad}
 
 -- ---- an instruction
 
@@ -41,6 +42,7 @@ pub record StopsAt (w : ℕ) (m : MachineState) (t : Turned) : Type 0 where
   pub chain_limit : (t.stop ≡ Some ChainLimit) ↔ IsEndless w m
   pub unknown : (t.stop ≡ Some UnknownDevice) ↔ IsUnknown w m
   pub not_units : (u : UnitName) → (t.stop ≢ Some (UnitEnd u)) × (t.stop ≢ Some (UnitNone u))
+  pub not_images : (u : UnitName) (place : ℕ) → t.stop ≢ Some (BadImage u place)
   pub not_files : (f : UnitFault) → t.stop ≢ Some (FileFault f)
   pub not_key : t.stop ≢ Some Wru
   pub halted_is : t.stop ≡ Some Halt → IsHalted m t.machine
@@ -54,6 +56,7 @@ stops-none w m after no_halt ends known = record {
   chain_limit = ((λ h. absurd (cc)), (λ e. absurd (ends e)));
   unknown = ((λ h. absurd (cc)), (λ e. absurd (known e)));
   not_units = λ u. ((λ h. absurd (cc)), (λ h. absurd (cc)));
+  not_images = λ u place h. absurd (cc);
   not_files = λ f h. absurd (cc);
   not_key = λ h. absurd (cc);
   halted_is = λ h. absurd (cc);
@@ -68,6 +71,7 @@ stops-refer_to w m r None low formed endless = record {
   chain_limit = ((λ h. record { memory_reference = low; chain = sym (ap (λ (x : Reference). x.address) formed) ∙ endless }), (λ e. refl));
   unknown = ((λ h. absurd (cc)), (λ e. let least = e.transfer.least in absurd (omega (arith, least, low))));
   not_units = λ u. ((λ h. absurd (cc)), (λ h. absurd (cc)));
+  not_images = λ u place h. absurd (cc);
   not_files = λ f h. absurd (cc);
   not_key = λ h. absurd (cc);
   halted_is = λ h. absurd (cc);
@@ -137,6 +141,7 @@ stops-to_processor w m transfer device =
       chain_limit = ((λ h. absurd (cc)), (λ e. absurd (ends e)));
       unknown = ((λ h. absurd (cc)), (λ e. absurd (known e)));
       not_units = λ u. ((λ h. absurd (cc)), (λ h. absurd (cc)));
+      not_images = λ u place h. absurd (cc);
       not_files = λ f h. absurd (cc);
       not_key = λ h. absurd (cc);
       halted_is = λ h. halted-c w m is;
@@ -168,6 +173,7 @@ stops-to_device w m transfer multiplier processor =
       chain_limit = ((λ h. absurd (cc)), (λ e. absurd (ends e)));
       unknown = ((λ h. record { transfer = transfer; multiplier = multiplier; processor = processor; absent = none-none (unit_at (bits 10 15 w) m.units) gone; stops = on }), (λ e. refl));
       not_units = λ u. ((λ h. absurd (cc)), (λ h. absurd (cc)));
+      not_images = λ u place h. absurd (cc);
       not_files = λ f h. absurd (cc);
       not_key = λ h. absurd (cc);
       halted_is = λ h. absurd (cc);
@@ -210,6 +216,7 @@ stops-fetch m = stops-execute (get m.processor.memory m.processor.cpu.pc) m
 abbrev IsUnitStop : Option Stop → Type 0
 IsUnitStop (Some (UnitEnd u)) = Unit {0}
 IsUnitStop (Some (UnitNone u)) = Unit {0}
+IsUnitStop (Some (BadImage u place)) = Unit {0}
 IsUnitStop (Some (FileFault f)) = Unit {0}
 IsUnitStop (Some Wru) = Unit {0}
 IsUnitStop None = Unit {0}
@@ -233,10 +240,11 @@ unit-key (Some key) want.Key stop is = test (key == wru)
 unit-key None want.Key stop is = is
 unit-key key w stop is = is
 
-unit-replied : (u : UnitName) (key : Option ℕ) (w : Want) (answer : Result Got Failure) (s : Seen) → IsUnitStop (replied u (key_stop key w) answer s).stop
+unit-replied : (u : UnitName) (key : Option ℕ) (w : Want) (answer : Result Got NoAnswer) (s : Seen) → IsUnitStop (replied u (key_stop key w) answer s).stop
 unfolding answered
 unit-replied u key w (Ok g) s = unit-key key w _ (unit-stop_by u _)
-unit-replied u key w (Err f) s = tt
+unit-replied u key w (Err (FileFails f)) s = tt
+unit-replied u key w (Err (ImageIsBad place)) s = tt
 
 unit-service : (fault : Option Failure) (u : UnitName) (s : Seen) → IsUnitStop (service fault u s).stop
 unfolding service
@@ -408,6 +416,7 @@ turn-stops = record {
   service = served-turn;
   unit_end = λ note first s u. units-own note first s (UnitEnd u) (λ e. absurd (cc)) ((stops-fetch (ready note s)).not_units u).0;
   unit_none = λ note first s u. units-own note first s (UnitNone u) (λ e. absurd (cc)) ((stops-fetch (ready note s)).not_units u).1;
+  bad_image = λ note first s u place. units-own note first s (BadImage u place) (λ e. absurd (cc)) ((stops-fetch (ready note s)).not_images u place);
   file_fault = λ note first s f. units-own note first s (FileFault f) (λ e. absurd (cc)) ((stops-fetch (ready note s)).not_files f);
   wru = λ note first s. units-own note first s Wru (λ e. absurd (cc)) (stops-fetch (ready note s)).not_key;
   halt = λ note first s. (

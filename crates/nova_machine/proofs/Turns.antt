@@ -30,10 +30,16 @@ use Rattle.nova_machine.specs.Turned.{Turned, begun, ticked, executed, goes_on, 
 use Rattle.nova_processor.specs.Instruction.{jump, jump_to_subroutine, store_and_skip, load, store, without_accumulator, memory_reference, arithmetic}
 use Rattle.nova_processor.specs.InputOutput.{multiply, divide, input, is_input, past, passed, tested, unanswered, multiply_divide}
 use Rattle.nova_machine.specs.Transfer.{asked_unit, flags_in, to_unit, to_device, mask_set, central_function, central_pulse, central, to_processor, transfer}
-use Rattle.nova_machine.specs.Wants.{prints, stop_by, key_stop, wru, answer_to}
+use Rattle.nova_machine.specs.Wants.{prints, stop_by, key_stop, wru, answer_to, memory_behind}
 use Rattle.nova_machine.specs.Service.{asked, answered, first_stop, replied, hosted, want_at, key_at, service, taken, services, serving}
 use Rattle.nova_machine.specs.Turn.{with_memory, refer_to, refer, execute, fetch, is_interrupted, jump_to, interrupt_reference, enter, interrupt, prepared, turn}
 use Rattle.nova_machine.specs.Laws.{IsLimit, Unchanged}
+use Rattle.unit_trait.specs.declared.calls.TapeOrder.{TapeOrder}
+use Rattle.host_files.specs.Lists.{NamedBytes}
+use Rattle.nova_machine.specs.Tapes.{NoAnswer, FileFails, ImageIsBad, block_put, memory_read, tape_memory, image_of, failing_call}
+use Rattle.simh_tape.specs.Image.{Met}
+use Rattle.simh_tape.specs.Image.Met.{BlockTo}
+use Rattle.simh_tape.specs.Reading.{next_act}
 
 -- an instruction leaves the size of memory
 pub record SameSize (before after : ProcessorState) : Type 0 where
@@ -315,7 +321,7 @@ key_stop-other (Some key) want.Key stop other = test (key == wru)
 key_stop-other None want.Key stop other = other
 key_stop-other key w stop other = other
 
-replied-prepares : (u : UnitName) (key : Option ℕ) (w : Want) (answer : Result Got Failure) (before s : Seen) → Stays before.machine s.machine
+replied-prepares : (u : UnitName) (key : Option ℕ) (w : Want) (answer : Result Got NoAnswer) (before s : Seen) → Stays before.machine s.machine
     → Prepares before (replied u (key_stop key w) answer s)
 unfolding answered
 replied-prepares u key w (Ok g) before s stays = record {
@@ -325,7 +331,8 @@ replied-prepares u key w (Ok g) before s stays = record {
   };
   other = key_stop-other key w _ (stop_by-other u _);
 }
-replied-prepares u key w (Err f) before s stays = record { stays = stays; other = λ limit. limit }
+replied-prepares u key w (Err (FileFails f)) before s stays = record { stays = stays; other = λ limit. limit }
+replied-prepares u key w (Err (ImageIsBad place)) before s stays = record { stays = stays; other = λ limit. limit }
 
 prepares-behind : (s : Seen) (made : List (Observation Seen)) (p : Part) → Prepares s p → Prepares s (behind_made made p)
 prepares-behind s made p prepares = record { stays = prepares.stays; other = prepares.other }
@@ -345,13 +352,36 @@ size-after : (a : Option Attachment) (disk : Buffer) (w : Want) (m : MemoryState
 size-after a disk (want.Sector write n from) m = size-with write a (words_put sector_words from (sector_of disk.bytes n) m) m (words-size sector_words from (sector_of disk.bytes n) m)
 size-after a disk w m = refl
 
+block-size : (n from : ℕ) (bytes : List ℕ) (m : MemoryState) → (block_put n from bytes m).size ≡ m.size
+unfolding block_put
+block-size zero from bytes m = refl
+block-size (suc n) from bytes m = put-size (block_put n from bytes m) _ _ ∙ block-size n from bytes m
+
+read-size : (image : List ℕ) (order : TapeOrder) (met : Met) (m : MemoryState) → (memory_read image order met m).size ≡ m.size
+read-size image order (BlockTo bytes flagged behind) m = block-size _ order.address _ m
+read-size image order met m = refl
+
+-- and so does a block of a tape
+tape-size : (fault : Option Failure) (a : Option Attachment) (files : List NamedBytes) (order : TapeOrder) (m : MemoryState) → (tape_memory fault a files order m).size ≡ m.size
+tape-size fault None files order m = refl
+tape-size fault (Some a) files order m = by_command (order.command == 0)
+  where
+    by_command : (b : Bool) → (if b then memory_read (image_of a files) order (next_act (image_of a files) order.place (failing_call fault)) m else m).size ≡ m.size
+    by_command true = read-size (image_of a files) order (next_act (image_of a files) order.place (failing_call fault)) m
+    by_command false = refl
+
+size-behind : (fault : Option Failure) (a : Option Attachment) (files : List NamedBytes) (disk : Buffer) (w : Want) (m : MemoryState)
+    → (memory_behind fault a files disk w m).size ≡ m.size
+size-behind fault a files disk (want.Tape order) m = tape-size fault a files order m
+size-behind fault a files disk w m = size-after a disk w m
+
 service-prepares : (fault : Option Failure) (u : UnitName) (s : Seen) → Prepares s (service fault u (taken s))
 unfolding service hosted asked
 service-prepares fault u s =
     let x = taken s in
     let w = want_at u x.machine in
     prepares-behind s (prints w (with_machine x (asked u x.machine))) _
-    (replied-prepares u (key_at x) w (answer_to fault (attachment_at (attached_in x.machine) u) x.files (key_at x) w) s (hosted fault u x) (record { acts = record { time = refl; unchanged = record { size = size-after _ x.machine.disk w x.machine.processor.memory; sr = refl; stop_dev = refl; slots = refl } }; hold = refl }))
+    (replied-prepares u (key_at x) w (answer_to fault (attachment_at (attached_in x.machine) u) x.files (key_at x) w) s (hosted fault u x) (record { acts = record { time = refl; unchanged = record { size = size-behind fault _ x.files x.machine.disk w x.machine.processor.memory; sr = refl; stop_dev = refl; slots = refl } }; hold = refl }))
 
 services-prepare : (note : Option UnitNote) (us : List UnitName) (s : Seen) → Prepares s (services note us s)
 unfolding services

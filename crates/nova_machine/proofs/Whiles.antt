@@ -18,6 +18,7 @@ use Rattle.nova_machine.specs.Parts.{Part, behind_made, followed, then_part}
 use Rattle.nova_machine.specs.Service.{asked, answered, replied, hosted, want_at, key_at, service, taken, services, serving}
 use Rattle.nova_machine.specs.ServiceLaws.{ServesWhileDue}
 use Rattle.nova_machine.proofs.Serving.{serving-none, serving-some}
+use Rattle.nova_machine.specs.Tapes.{NoAnswer}
 
 same-then : (p : Part) (f g : Seen → Part) → f p.after ≡ g p.after → then_part p f ≡ then_part p g
 same-then p f g same = by-stop p.made p.stop p.after same
@@ -27,7 +28,7 @@ same-then p f g same = by-stop p.made p.stop p.after same
     by-stop made None s same = ap (behind_made made) same
 
 -- a unit's answer leaves what is due
-replied-dues : (u : UnitName) (stop : Option Stop) (answer : Result Got Failure) (s : Seen) → AllFit s.machine.units
+replied-dues : (u : UnitName) (stop : Option Stop) (answer : Result Got NoAnswer) (s : Seen) → AllFit s.machine.units
     → dues (replied u stop answer s).after.machine.events ≡ dues s.machine.events
 unfolding answered
 replied-dues u stop (Ok g) s fit = wished-dues u _ s.machine.events (again-fits (code_of u.kind) u.unit g s.machine.units fit)

@@ -2,21 +2,25 @@
 use Rattle.std.specs.Prelude.{◌≡◌, ℕ, ◌<◌, ◌≤◌, ◌^◌, IsTrue, ◌==◌, List, [], Option, Some, None, Ok, Err, if◌then◌else◌}
 use Rattle.host_files.specs.Lists.{NamedBytes}
 use Rattle.unit_trait.specs.declared.kind.Kind.{Kind}
+use Rattle.unit_trait.specs.declared.kind.UnitName.{UnitName}
 use Rattle.unit_trait.specs.declared.kind.Kind.TheVariants.{Dsk}
 use Rattle.unit_list.specs.Bus.{IsBelowEnd}
+use Rattle.host_files.specs.OneList.{longest_list}
+use Rattle.unit_trait.specs.declared.calls.TapeOrder.{TapeOrder}
 use Rattle.unit_trait.specs.declared.calls.Want.{Want}
 use Rattle.unit_trait.specs.declared.calls.Want.TheVariants as want
 use Rattle.unit_trait.specs.declared.calls.Got.{Got}
 use Rattle.unit_trait.specs.declared.calls.Got.TheVariants as got
 use Rattle.unit_files.specs.declared.faults.ByteAnswer.{ByteAnswer}
 use Rattle.unit_files.specs.declared.faults.ByteAnswer.TheVariants as byte
-use Rattle.unit_files.specs.Attachments.{Attachment, is_paper, only_writes}
+use Rattle.unit_files.specs.Attachments.{Attachment, is_paper, is_tape, only_writes}
 use Rattle.unit_files.specs.Buffer.{disk_sectors}
 use Rattle.unit_files.specs.Answers.{failure_in}
 use Rattle.nova_machine.specs.declared.machine.Stop.{Stop}
-use Rattle.nova_machine.specs.declared.machine.Stop.TheVariants.{FileFault, ConsoleFault, Wru as WruStop}
+use Rattle.nova_machine.specs.declared.machine.Stop.TheVariants.{BadImage, FileFault, ConsoleFault, Wru as WruStop}
 use Rattle.nova_machine.specs.declared.service.Hosted.{Hosted}
 use Rattle.nova_machine.specs.declared.service.Hosted.TheVariants.{Gets, Wru, Stops}
+use Rattle.nova_machine.specs.Tapes.{FileFails, ImageIsBad}
 use Rattle.nova_machine.specs.Wants.{wru, answer_to, key_stop, bytes_of, IsConsole}
 
 abbrev pub hosted_of : ByteAnswer → Hosted
@@ -40,23 +44,37 @@ abbrev pub bytes_printed : Want → Hosted → List ℕ
 bytes_printed want (Stops stop) = []
 bytes_printed want other = bytes_of want
 
--- what was made of a want: the answer, or the failure that its stop claims
+-- what was made of a want: the answer, or the failure or the place that its stop claims
 abbrev pub IsHosted : Want → Option Attachment → List NamedBytes → Option ℕ → Hosted → Type 0
 IsHosted want a files key (Gets g) = (answer_to None a files key want ≡ Ok g) × (key_stop key want ≡ None)
 IsHosted want a files key Wru = (answer_to None a files key want ≡ Ok got.NoKey) × (key_stop key want ≡ Some WruStop)
-IsHosted want a files key (Stops (FileFault f)) = answer_to (Some (failure_in f)) a files key want ≡ Err (failure_in f)
+IsHosted want a files key (Stops (FileFault f)) = answer_to (Some (failure_in f)) a files key want ≡ Err (FileFails (failure_in f))
+IsHosted want a files key (Stops (BadImage unit place)) = answer_to None a files key want ≡ Err (ImageIsBad place)
 IsHosted want a files key (Stops ConsoleFault) = IsConsole want
 IsHosted want a files key (Stops stop) = ⊥
+
+-- a stop for a bad image is that unit's
+abbrev pub IsImageOf : UnitName → Option Stop → Type 0
+IsImageOf unit (Some (BadImage of place)) = of ≡ unit
+IsImageOf unit stop = Unit {0}
 
 -- what is made of a want is one that its unit may get: no byte past the largest place
 abbrev pub HasRoom : Want → Hosted → Type 0
 HasRoom want (Gets g) = IsBelowEnd want g
 HasRoom want other = Unit {0}
 
--- Bytes are wanted by the paper tape units and the printer alone, each at a place that its register can hold, and sectors
--- by the disk alone.
+-- an operation that the tape's registers can say
+pub record IsTapeOrder (order : TapeOrder) : Type 0 where
+  pub place : order.place ≤ longest_list
+  pub address : order.address < 2 ^ 15
+  pub some : 1 ≤ order.count
+  pub most : order.count ≤ 2 ^ 12
+
+-- Bytes are wanted by the paper tape units and the printer alone, each at a place that its register can hold, sectors by
+-- the disk alone, and operations on a tape by the tape alone.
 abbrev pub CanBeHosted : Want → Kind → Type 0
 CanBeHosted (want.ReadByte place) kind = IsTrue (is_paper kind) × (place ≤ 8 ^ 8)
 CanBeHosted (want.WriteByte place byte) kind = IsTrue (only_writes kind) × (place ≤ 8 ^ 8)
 CanBeHosted (want.Sector write sector from) kind = (kind ≡ Dsk) × (sector < disk_sectors) × (from < 2 ^ 15)
+CanBeHosted (want.Tape order) kind = IsTrue (is_tape kind) × IsTapeOrder order
 CanBeHosted other kind = Unit {0}

@@ -8,8 +8,10 @@ pub mod Turned
 pub mod Ends
 pub mod Transfer
 pub mod Sectors
+pub mod Tapes
 pub mod Wants
 pub mod Hosting
+pub mod Operated
 pub mod Service
 pub mod Turn
 pub mod Run

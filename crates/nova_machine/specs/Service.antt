@@ -8,13 +8,15 @@ use Rattle.unit_trait.specs.Calls.{Due, Answered}
 use Rattle.event_queue.specs.EventList.{served, dues, wished}
 use Rattle.unit_list.specs.Bus.{row_at, after_at}
 use Rattle.unit_files.specs.Attachments.{Attachment, attachment_at}
+use Rattle.host_files.specs.Lists.{NamedBytes}
 use Rattle.unit_files.specs.Acts.{Failure}
 use Rattle.expect_actions.specs.KeysFile.{due_key}
 use Rattle.nova_machine.specs.declared.machine.Stop.{Stop}
 use Rattle.nova_machine.specs.Machine.{MachineState}
 use Rattle.nova_machine.specs.Notes.{UnitNote, at_unit}
-use Rattle.nova_machine.specs.Sectors.{memory_after, disk_after}
-use Rattle.nova_machine.specs.Wants.{answer_to, files_after, taken_after, key_stop, prints, stop_by, file_stop}
+use Rattle.nova_machine.specs.Sectors.{disk_after}
+use Rattle.nova_machine.specs.Tapes.{NoAnswer}
+use Rattle.nova_machine.specs.Wants.{answer_to, memory_behind, files_after, taken_after, key_stop, prints, stop_by, unanswered}
 use Rattle.nova_machine.specs.Seen.{Seen, with_machine, attached_in}
 use Rattle.nova_machine.specs.Parts.{Part, silent, behind_made, then_part}
 use Rattle.nova_machine.specs.Turned.{Turned, still}
@@ -45,20 +47,21 @@ first_stop None other = other
 abbrev pub stopping : Option Stop → Turned → Turned
 stopping stop t = record t { stop = first_stop stop t.stop }
 
--- the unit gets the answer; a failed call stops the run, and the unit gets none
-abbrev pub replied : UnitName → Option Stop → Result Got Failure → Seen → Part
+-- the unit gets the answer; a failed call and a bad image stop the run, and the unit gets none
+abbrev pub replied : UnitName → Option Stop → Result Got NoAnswer → Seen → Part
 replied unit stop (Ok answer) s = still s (stopping stop (answered unit answer s.machine))
-replied unit stop (Err f) s = silent (Some (file_stop unit f)) s
+replied unit stop (Err why) s = silent (Some (unanswered unit why)) s
 
 -- the key that is due
 abbrev pub key_at : Seen → Option ℕ
 key_at s = due_key s.keys s.machine.taken s.machine.time
 
--- what a unit wants was done that has this attachment, where this key is due: a key is taken, or a sector is moved
-abbrev pub done_for : Option ℕ → Option Attachment → Want → MachineState → MachineState
-done_for key a want m = record m {
+-- what a unit wants was done that has this attachment, where this key is due: a key is taken, a sector is moved, or a block
+-- of a tape is read
+abbrev pub done_for : Option Failure → Option ℕ → Option Attachment → List NamedBytes → Want → MachineState → MachineState
+done_for fault key a files want m = record m {
   taken = taken_after m.taken key want;
-  processor = record m.processor { memory = memory_after a m.disk want m.processor.memory };
+  processor = record m.processor { memory = memory_behind fault a files m.disk want m.processor.memory };
   disk = disk_after a m.processor.memory want m.disk;
 }
 
@@ -68,8 +71,8 @@ hosted fault unit s =
     let want = want_at unit s.machine in
     let a = attachment_at (attached_in s.machine) unit in
     record s {
-      machine = done_for (key_at s) a want (asked unit s.machine);
-      files = files_after fault a s.files want;
+      machine = done_for fault (key_at s) a s.files want (asked unit s.machine);
+      files = files_after fault a s.machine.processor.memory s.files want;
     }
 
 -- A unit whose event was taken is served: it says what it wants, the machine does that, and the unit gets the answer. A

@@ -6,7 +6,7 @@ use Rattle.nova_memory.specs.Address.{address}
 use Rattle.unit_trait.specs.declared.kind.UnitName.{UnitName}
 use Rattle.unit_list.specs.Bus.{unit_at}
 use Rattle.nova_machine.specs.declared.machine.Stop.{Stop}
-use Rattle.nova_machine.specs.declared.machine.Stop.TheVariants.{Halt, ChainLimit, UnknownDevice, UnitEnd, UnitNone, FileFault, Wru}
+use Rattle.nova_machine.specs.declared.machine.Stop.TheVariants.{Halt, ChainLimit, UnknownDevice, UnitEnd, UnitNone, BadImage, FileFault, Wru}
 use Rattle.unit_files.specs.declared.faults.UnitFault.{UnitFault}
 use Rattle.nova_machine.specs.Machine.{MachineState}
 use Rattle.nova_machine.specs.Notes.{UnitNote}
@@ -76,6 +76,7 @@ pub record TurnStops : Type 0 where
   pub service : (note : Option UnitNote) (first : Bool) (s : Seen) (stop : Stop) → (serving note s).stop ≡ Some stop → turn note first s ≡ serving note s
   pub unit_end : (note : Option UnitNote) (first : Bool) (s : Seen) (unit : UnitName) → ((turn note first s).stop ≡ Some (UnitEnd unit)) ↔ ((serving note s).stop ≡ Some (UnitEnd unit))
   pub unit_none : (note : Option UnitNote) (first : Bool) (s : Seen) (unit : UnitName) → ((turn note first s).stop ≡ Some (UnitNone unit)) ↔ ((serving note s).stop ≡ Some (UnitNone unit))
+  pub bad_image : (note : Option UnitNote) (first : Bool) (s : Seen) (unit : UnitName) (place : ℕ) → ((turn note first s).stop ≡ Some (BadImage unit place)) ↔ ((serving note s).stop ≡ Some (BadImage unit place))
   pub file_fault : (note : Option UnitNote) (first : Bool) (s : Seen) (f : UnitFault) → ((turn note first s).stop ≡ Some (FileFault f)) ↔ ((serving note s).stop ≡ Some (FileFault f))
   pub wru : (note : Option UnitNote) (first : Bool) (s : Seen) → ((turn note first s).stop ≡ Some Wru) ↔ ((serving note s).stop ≡ Some Wru)
   pub halt : (note : Option UnitNote) (first : Bool) (s : Seen) → ((turn note first s).stop ≡ Some Halt) ↔ (IsReached note s × IsHalt (fetched (ready note s)))

@@ -1,5 +1,5 @@
 -- What the machine does for a unit whose event is due.
-use Rattle.std.specs.Prelude.{ℕ, ◌+◌, ◌<◌, ◌==◌, ◌≡◌, false, List, [], ◌∷◌, Option, Some, None, Result, Ok, Err, if◌then◌else◌}
+use Rattle.std.specs.Prelude.{ℕ, ◌+◌, ◌<◌, ◌==◌, ◌≡◌, IsTrue, false, List, [], ◌∷◌, Option, Some, None, Result, Ok, Err, if◌then◌else◌}
 use Rattle.observations.specs.Observations.{Observation, Prints}
 use Rattle.host_files.specs.declared.files.FileCall.{FileCall}
 use Rattle.host_files.specs.declared.files.FileCall.TheVariants as call
@@ -13,11 +13,14 @@ use Rattle.unit_trait.specs.declared.calls.Got.{Got}
 use Rattle.unit_trait.specs.declared.calls.Got.TheVariants as got
 use Rattle.unit_trait.specs.declared.calls.UnitStop.{UnitStop}
 use Rattle.unit_trait.specs.declared.calls.UnitStop.TheVariants as unit_stop
-use Rattle.unit_files.specs.Attachments.{Attachment, is_disk}
+use Rattle.unit_files.specs.Attachments.{Attachment, is_disk, is_tape}
 use Rattle.unit_files.specs.Acts.{Failure, ByteSaid, ByteIs, WasWritten, AtEnd, NothingThere, ByteFailed, read_act, write_act, write_files}
-use Rattle.nova_machine.specs.Sectors.{got_of_sector, said_of_sector}
+use Rattle.unit_files.specs.Buffer.{Buffer}
+use Rattle.nova_memory.specs.Memory.{MemoryState}
+use Rattle.nova_machine.specs.Sectors.{got_of_sector, said_of_sector, memory_after}
+use Rattle.nova_machine.specs.Tapes.{NoAnswer, FileFails, ImageIsBad, tape_answer, tape_memory, tape_files}
 use Rattle.nova_machine.specs.declared.machine.Stop.{Stop}
-use Rattle.nova_machine.specs.declared.machine.Stop.TheVariants.{UnitEnd, UnitNone, FileFault, Wru}
+use Rattle.nova_machine.specs.declared.machine.Stop.TheVariants.{UnitEnd, UnitNone, BadImage, FileFault, Wru}
 
 -- the key that stops a run: control E
 abbrev pub wru : ℕ
@@ -29,17 +32,16 @@ got_of_key None = got.NoKey
 got_of_key (Some key) = if key == wru then got.NoKey else got.Key key
 
 -- what the answer of a byte act means for the unit, or its failure
-abbrev pub got_of_byte : ByteSaid → Result Got Failure
+abbrev pub got_of_byte : ByteSaid → Result Got NoAnswer
 got_of_byte (ByteIs byte) = Ok (got.Byte byte)
 got_of_byte WasWritten = Ok got.Done
 got_of_byte AtEnd = Ok got.End
 got_of_byte NothingThere = Ok got.NoFile
-got_of_byte (ByteFailed f) = Err f
+got_of_byte (ByteFailed f) = Err (FileFails f)
 
 -- The machine's answer to what a unit wants that has this attachment, where this key is due, or the failure of the call on
--- the unit's file. There are no tapes and lines yet: no file is attached to those units, no key comes on a line, and what
--- is sent on one goes nowhere.
-abbrev pub answer_to : Option Failure → Option Attachment → List NamedBytes → Option ℕ → Want → Result Got Failure
+-- the unit's file. There are no lines yet: no key comes on one, and what is sent on one goes nowhere.
+abbrev pub answer_to : Option Failure → Option Attachment → List NamedBytes → Option ℕ → Want → Result Got NoAnswer
 answer_to fault a files key want.Nothing = Ok got.Done
 answer_to fault a files key want.Key = Ok (got_of_key key)
 answer_to fault a files key (want.LineKey line) = Ok got.NoKey
@@ -48,12 +50,18 @@ answer_to fault a files key (want.LinePut line byte) = Ok got.Done
 answer_to fault a files key (want.ReadByte place) = got_of_byte (read_act fault a place files)
 answer_to fault a files key (want.WriteByte place byte) = got_of_byte (write_act fault a place)
 answer_to fault a files key (want.Sector write sector from) = Ok (got_of_sector (said_of_sector write a))
-answer_to fault a files key other = Ok got.NoFile
+answer_to fault a files key (want.Tape order) = tape_answer fault a files order
 
--- the files once that was done
-abbrev pub files_after : Option Failure → Option Attachment → List NamedBytes → Want → List NamedBytes
-files_after fault a files (want.WriteByte place byte) = write_files fault a place byte files
-files_after fault a files other = files
+-- the files once that was done by a machine with this memory
+abbrev pub files_after : Option Failure → Option Attachment → MemoryState → List NamedBytes → Want → List NamedBytes
+files_after fault a memory files (want.WriteByte place byte) = write_files fault a place byte files
+files_after fault a memory files (want.Tape order) = tape_files fault a memory files order
+files_after fault a memory files other = files
+
+-- the memory once that was done: the words of a sector or of a block of a tape were read into it
+abbrev pub memory_behind : Option Failure → Option Attachment → List NamedBytes → Buffer → Want → MemoryState → MemoryState
+memory_behind fault a files disk (want.Tape order) memory = tape_memory fault a files order memory
+memory_behind fault a files disk other memory = memory_after a disk other memory
 
 -- how many keys were taken once that was done
 abbrev pub taken_after : ℕ → Option ℕ → Want → ℕ
@@ -86,19 +94,23 @@ stop_by unit unit_stop.Go = None
 stop_by unit unit_stop.End = Some (UnitEnd unit)
 stop_by unit unit_stop.NoFile = Some (UnitNone unit)
 
--- the stop of a unit whose call on its file failed
-abbrev pub file_stop : UnitName → Failure → Stop
-file_stop unit f = FileFault (record { unit = unit; file = None; call = f.call; done = f.done })
+-- the stop of a unit that gets no answer
+abbrev pub unanswered : UnitName → NoAnswer → Stop
+unanswered unit (FileFails f) = FileFault (record { unit = unit; file = None; call = f.call; done = f.done })
+unanswered unit (ImageIsBad place) = BadImage unit place
 
--- a run makes no other call on a file, and none on the disk's
-abbrev pub IsByteCall : Kind → FileCall → Type 0
-IsByteCall kind call.Read = is_disk kind ≡ false
-IsByteCall kind call.Write = is_disk kind ≡ false
-IsByteCall kind call = ⊥
+-- The calls on files that a run makes: those for a byte, and those of an operation on a tape. It makes none on the disk's.
+abbrev pub IsRunCall : Kind → FileCall → Type 0
+IsRunCall kind call.Read = is_disk kind ≡ false
+IsRunCall kind call.Write = is_disk kind ≡ false
+IsRunCall kind call.Length = IsTrue (is_tape kind)
+IsRunCall kind call.SetLength = IsTrue (is_tape kind)
+IsRunCall kind call = ⊥
 
--- The unit that a stop names, if it names one, is a unit of its kind, and a call of a run is one on a byte.
+-- The unit that a stop names, if it names one, is a unit of its kind, and its call is one that a run makes.
 abbrev pub HasUnit : Stop → Type 0
 HasUnit (UnitEnd unit) = unit.unit < units_of unit.kind
 HasUnit (UnitNone unit) = unit.unit < units_of unit.kind
-HasUnit (FileFault f) = (f.unit.unit < units_of f.unit.kind) × IsByteCall f.unit.kind f.call
+HasUnit (BadImage unit place) = unit.unit < units_of unit.kind
+HasUnit (FileFault f) = (f.unit.unit < units_of f.unit.kind) × IsRunCall f.unit.kind f.call
 HasUnit stop = Unit {0}

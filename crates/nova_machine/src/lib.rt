@@ -2,6 +2,7 @@
 #![tactic(auto)]
 
 mod burst;
+mod drive;
 mod instruction_end;
 pub mod laws;
 mod lending;
@@ -12,6 +13,7 @@ mod run;
 mod scenario;
 mod sector;
 mod service;
+mod tape;
 mod transfer;
 mod turn;
 mod unit_registers;

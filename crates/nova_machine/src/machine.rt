@@ -36,6 +36,9 @@ pub enum Stop {
     UnitEnd(UnitName),
     /// That unit has no file, and its STOP_IOE is 1.
     UnitNone(UnitName),
+    /// The tape image of that drive is bad at that place, in bytes. The unit is as it was when it was asked, and its event
+    /// is gone.
+    BadImage(UnitName, u64),
     /// The key that stops a run was taken: control E, 005.
     Wru,
     /// A call on the file of a unit failed. The unit is as it was when it was asked, and its event is gone.

@@ -13,7 +13,7 @@ ghost use Rattle.nova_machine.specs.declared.machine.Stop.TheVariants.{ConsoleFa
 ghost use Rattle.nova_machine.specs.declared.service.Hosted.TheVariants.{Gets, Stops};
 ghost use Rattle.nova_machine.specs.Comes.{IsOwn, StopCounts};
 ghost use Rattle.nova_machine.specs.Notes.{unit_note, failure_of_stop};
-ghost use Rattle.nova_machine.specs.Hosting.{CanBeHosted, hosted_of, hosted_key, stop_in, bytes_printed};
+ghost use Rattle.nova_machine.specs.Hosting.{CanBeHosted, IsImageOf, hosted_of, hosted_key, stop_in, bytes_printed};
 ghost use Rattle.nova_machine.specs.Wants.{taken_after, files_after, stop_by, HasUnit};
 
 use crate::machine::{Machine, Stop};
@@ -204,19 +204,23 @@ impl<U: Unit> Machine<U> {
         requires number { unit.unit < units_of unit.kind }
         requires open { AllOpen self.old.slots (F.state files.old).opened }
         requires kind { CanBeHosted want unit.kind }
-        ensures machine { self.new ≡ done_for (due_key keys.now self.old.taken self.old.time)
-            (attachment_at (attached_in self.old) unit) want self.old }
+        ensures machine { AreTold F.tells self.old.slots → self.new ≡ done_for (failure_of_stop (stop_in result))
+            (due_key keys.now self.old.taken self.old.time) (attachment_at (attached_in self.old) unit)
+            (F.state files.old).files want self.old }
         ensures slots { self.new.slots ≡ self.old.slots }
+        ensures units { self.new.units ≡ self.old.units }
         ensures dues { dues self.new.events ≡ dues self.old.events }
         ensures kinds { kinds_of self.new.units ≡ kinds_of self.old.units }
         ensures time { self.new.time ≡ self.old.time }
         ensures said { AreTold F.tells self.old.slots → IsHosted want (attachment_at (attached_in self.old) unit)
             (F.state files.old).files (due_key keys.now self.old.taken self.old.time) result }
-        ensures files { (F.state files.new).files ≡ files_after (failure_of_stop (stop_in result))
-            (attachment_at (attached_in self.old) unit) (F.state files.old).files want }
+        ensures files { AreTold F.tells self.old.slots → (F.state files.new).files
+            ≡ files_after (failure_of_stop (stop_in result)) (attachment_at (attached_in self.old) unit)
+            self.old.processor.memory (F.state files.old).files want }
         ensures printed { IsTrue S.tells → S.written out.new ≡ S.written out.old ++ bytes_printed want result }
         ensures room { HasRoom want result }
         ensures own { IfSome (unit_note (stop_in result)) (λ n. n.unit ≡ unit) }
+        ensures image { IsImageOf unit (stop_in result) }
         ensures unit { IfSome (stop_in result) HasUnit }
         ensures opened { (F.state files.new).opened ≡ (F.state files.old).opened }
         ensures counts { StopCounts (stop_in result) (S.fault_count out.old) (S.fault_count out.new) }
@@ -241,7 +245,7 @@ impl<U: Unit> Machine<U> {
                 sector,
                 address,
             } => self.write_sector(sector, address),
-            _ => Hosted::Gets(Got::NoFile),
+            Want::Tape(order) => self.move_tape(unit, order, files),
         }
     }
 

@@ -6,8 +6,9 @@ ghost use Rattle.nova_top.specs.Standard.{IsStandard};
 use unit_trait::{Kind, Unit, reg_initial};
 
 /// The kinds that are built, in bus order.
-const STANDARD_KINDS: [Kind; 7] = [
+const STANDARD_KINDS: [Kind; 8] = [
     Kind::Dsk,
+    Kind::Mta,
     Kind::Lpt,
     Kind::Ptr,
     Kind::Ptp,
@@ -21,15 +22,20 @@ const STANDARD_KINDS: [Kind; 7] = [
 pub fn is_standard<U: Unit>(units: &[U]) -> bool
     ensures { IsTrue result ↔ IsStandard (map U.unit_state units.now) }
 {
-    if units.len() != STANDARD_KINDS.len() {
-        return false;
+    are_initial(units, &STANDARD_KINDS)
+}
+
+// Whether the units are of these kinds, each before anything was asked of it.
+fn are_initial<U: Unit>(units: &[U], kinds: &[Kind]) -> bool
+    ensures { IsTrue result ↔ (map U.unit_state units.now ≡ map initial_unit kinds.now) }
+{
+    match units.split_first() {
+        None => kinds.is_empty(),
+        Some((unit, more)) => match kinds.split_first() {
+            None => false,
+            Some((kind, others)) => is_initial(unit, *kind) && are_initial(more, others),
+        },
     }
-    for place in 0..STANDARD_KINDS.len() {
-        if !is_initial(&units[place], STANDARD_KINDS[place]) {
-            return false;
-        }
-    }
-    true
 }
 
 // Whether a unit is one of that kind before anything was asked of it.

@@ -1,5 +1,5 @@
 -- What a line asks for, by how it was read.
-use Rattle.std.proofs.Common.{◌≡◌, ℕ, ◌<◌, Bool, true, false, not, ◌&&◌, leb, List, length, Result, Ok, Err, refl, ap, sym, ◌∙◌, if◌then◌else◌}
+use Rattle.std.proofs.Common.{◌≡◌, ℕ, ◌<◌, Bool, true, false, not, ◌&&◌, List, length, Result, Err, refl, ap, ◌∙◌, if◌then◌else◌}
 use Rattle.std.proofs.lemmas.Bool.{lt-leb}
 use Rattle.scp_parser.specs.declared.fault.ParseFault.{ParseFault}
 use Rattle.scp_parser.specs.declared.fault.ParseFault.TheVariants.{TooLong}
@@ -10,7 +10,7 @@ use Rattle.scp_parser.specs.Reading.{begins_with_mark, next_word, reading}
 use Rattle.scp_parser.proofs.LineLemmas.{long-line}
 use Rattle.scp_commands.specs.declared.fault.CommandFault.TheVariants.{Parse, NotBuilt}
 use Rattle.scp_commands.specs.Unbuilt.{is_unbuilt_name, names_unbuilt}
-use Rattle.scp_commands.specs.Effect.{Asked, read_as, asked}
+use Rattle.scp_commands.specs.Effect.{read_as, asked}
 
 not-true : (b : Bool) → not b ≡ true → b ≡ false
 not-true false h = refl

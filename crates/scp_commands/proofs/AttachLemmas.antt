@@ -1,5 +1,5 @@
 -- A file is opened for a unit: what ATTACH comes to.
-use Rattle.std.proofs.Common.{◌≡◌, ℕ, ◌≤◌, ◌==◌, ◌&&◌, ◌||◌, not, Bool, true, false, IsTrue, List, [], ◌∷◌, ◌++◌, length, Option, Some, None, IfSome, is_none, nat_lt, Result, Ok, Err, OnErr}
+use Rattle.std.proofs.Common.{◌≡◌, ℕ, ◌≤◌, ◌==◌, ◌&&◌, ◌||◌, not, Bool, true, false, List, [], ◌∷◌, ◌++◌, length, Option, Some, None, IfSome, is_none, nat_lt, Result, Ok, Err}
 use Rattle.std.proofs.Common.{inl, inr, refl, ap, sym, ◌∙◌, subst, if◌then◌else◌, append-nil, arith}
 use Rattle.std.specs.List.{AllByRecursion}
 use Rattle.std.proofs.Math.Path.{subst₃}
@@ -8,18 +8,18 @@ use Rattle.host_files.specs.State.{FileState}
 use Rattle.host_files.specs.declared.files.FileCall.{FileCall}
 use Rattle.host_files.specs.declared.files.FileCall.TheVariants.{Opening, Length, Read, Write, SetLength, Closing}
 use Rattle.unit_trait.specs.declared.kind.Kind.{Kind}
-use Rattle.unit_trait.specs.declared.kind.Kind.TheVariants.{Dsk, Lpt, Ptr, Ptp}
+use Rattle.unit_trait.specs.declared.kind.Kind.TheVariants.{Dsk, Lpt, Ptr, Ptp, Mta}
 use Rattle.unit_trait.specs.declared.kind.UnitName.{UnitName}
 use Rattle.unit_trait.specs.Kinds.{code_of}
-use Rattle.unit_list.specs.Bus.{unit_at, with_register_in}
+use Rattle.unit_list.specs.Bus.{unit_at}
 use Rattle.unit_files.specs.declared.modes.AttachMode.{AttachMode}
 use Rattle.unit_files.specs.declared.faults.UnitFault.{UnitFault}
 use Rattle.unit_files.specs.declared.faults.AttachFault.{AttachFault}
 use Rattle.unit_files.specs.declared.faults.AttachFault.TheVariants as attach
-use Rattle.unit_files.specs.Attachments.{Attachment, Held, attachments_of, attachment_at, is_disk, longest_file}
+use Rattle.unit_files.specs.Attachments.{Attachment, attachments_of, attachment_at, is_disk, longest_file}
 use Rattle.unit_files.specs.Acts.{Failure, AttachSaid, Attached, UnitHasFile, OnlyWrites, NotThere, TooLong, CallFailed, failure_at, refused_first, opened_files}
-use Rattle.unit_files.specs.Buffer.{AttachedFiles, Buffer}
-use Rattle.unit_files.specs.Acts.{measured, measured_as, reading_failure, read_whole, opened_said, opening_said, said_unless, attach_said, files_unless_opening, files_unless, attach_files, attached_by, buffer_by}
+use Rattle.unit_files.specs.Buffer.{AttachedFiles}
+use Rattle.unit_files.specs.Acts.{measured, measured_as, read_whole, opened_said, opening_said, said_unless, attach_said, files_unless_opening, files_unless, attach_files, attached_by, buffer_by}
 use Rattle.unit_files.specs.Answers.{failure_in, said_of_attach}
 use Rattle.fault_notes.specs.declared.note.Subject.{Subject}
 use Rattle.fault_notes.specs.declared.note.Subject.TheVariants as subject
@@ -32,7 +32,7 @@ use Rattle.nova_machine.specs.Machine.{MachineState, attached_files, with_attach
 use Rattle.nova_machine.specs.Seen.{erased, seen, attached_in}
 use Rattle.scp_commands.specs.declared.next.Next.TheVariants.{Go}
 use Rattle.scp_commands.specs.declared.fault.CommandFault.TheVariants.{AlreadyAttached, ReadOnly, NoFile, FileTooLong, NotBuilt, FileFailed}
-use Rattle.scp_commands.specs.Live.{Live, standing, with_machine}
+use Rattle.scp_commands.specs.Live.{Live, standing}
 use Rattle.scp_commands.specs.Reply.{Answer, Reply, refused}
 use Rattle.scp_commands.specs.FaultText.{attach_fault}
 use Rattle.scp_commands.specs.FileEffects.{has_files, lacks_unit, mode_of, attach_answer, attach_used, first_place, positioned, attached_machine, attach_with, attach_reply}
@@ -41,21 +41,22 @@ use Rattle.scp_commands.proofs.SeenLemmas.{attached-erased, erased-with, same-wi
 use Rattle.scp_commands.proofs.DidLemmas.{refused-did}
 use Rattle.scp_commands.proofs.BehindLemmas.{kept-said}
 
--- the files of the disk, of paper tapes and of the printer
-paper-bytes : (kind : Kind) → has_files kind ≡ true → longest_file kind ≤ 16777216
+-- where a unit goes on, of those that have files
+begins-low : (kind : Kind) (count : ℕ) → has_files kind ≡ true → count ≤ longest_file kind → first_place kind count ≤ 16777216
 unfolding longest_file
-paper-bytes Dsk is = omega arith
-paper-bytes Lpt is = omega arith
-paper-bytes Ptr is = omega arith
-paper-bytes Ptp is = omega arith
-paper-bytes kind is = absurd (cc)
+begins-low Dsk count is low = omega arith
+begins-low Mta count is low = omega arith
+begins-low Lpt count is low = low
+begins-low Ptr count is low = omega arith
+begins-low Ptp count is low = low
+begins-low kind count is low = absurd (cc)
 
 not-lacking : (b c : Bool) → (not b || c) ≡ false → b ≡ true
 not-lacking true c is = refl
 not-lacking false c is = absurd (cc)
 
-pub longest-paper : (m : MachineState) (unit : UnitName) → lacks_unit m unit ≡ false → longest_file unit.kind ≤ 16777216
-longest-paper m unit has = paper-bytes unit.kind (not-lacking (has_files unit.kind) (is_none (unit_at (code_of unit.kind) m.units)) has)
+pub begins-within : (m : MachineState) (unit : UnitName) (count : ℕ) → lacks_unit m unit ≡ false → count ≤ longest_file unit.kind → first_place unit.kind count ≤ 16777216
+begins-within m unit count has low = begins-low unit.kind count (not-lacking (has_files unit.kind) (is_none (unit_at (code_of unit.kind) m.units)) has) low
 
 -- ---- an attaching makes no closing
 
@@ -224,14 +225,14 @@ attach-done number stamp mode live new held option unit name r answer tells text
 pub becomes-attached : (keys : List (ℕ × ℕ)) (files files' : List NamedBytes) (m m' : MachineState) (a held : AttachedFiles) (mode : AttachMode) (unit : UnitName) (name : List ℕ) (count place : ℕ)
     → held ≡ attached_files m → attachments_of a.slots ≡ attached_by (Attached count) mode unit name (attachments_of held.slots)
     → a.disk ≡ buffer_by (Attached count) unit (bytes_of files' name) held.disk → place ≡ first_place unit.kind count
-    → m' ≡ record (with_attached_files m a) { units = positioned unit.kind place m.units }
+    → m' ≡ record (with_attached_files m a) { units = positioned unit place m.units }
     → Becomes (seen keys files m) (seen keys files' m') mode unit name (Attached count)
 becomes-attached keys files files' m m' a held mode unit name count place was are copied begins is =
     let attached = attached_by (Attached count) mode unit name (attached_in (erased m)) in
     let disk = buffer_by (Attached count) unit (bytes_of files' name) m.disk in
     ap (λ (x : MachineState). seen keys files' x) is
-    ∙ ap (λ (p : ℕ). seen keys files' (record (with_attached_files m a) { units = positioned unit.kind p m.units })) begins
-    ∙ ap (λ (x : MachineState). record { machine = record x { units = positioned unit.kind (first_place unit.kind count) m.units }; keys = keys; files = files' })
+    ∙ ap (λ (p : ℕ). seen keys files' (record (with_attached_files m a) { units = positioned unit p m.units })) begins
+    ∙ ap (λ (x : MachineState). record { machine = record x { units = positioned unit (first_place unit.kind count) m.units }; keys = keys; files = files' })
     (erased-with m a attached disk
     (are ∙ ap (λ (l : List (Option Attachment)). attached_by (Attached count) mode unit name l) (ap (λ (x : AttachedFiles). attachments_of x.slots) was ∙ sym (attached-erased m)))
     (copied ∙ ap (λ (x : AttachedFiles). buffer_by (Attached count) unit (bytes_of files' name) x.disk) was))

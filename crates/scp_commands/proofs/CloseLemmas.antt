@@ -1,27 +1,25 @@
 -- Units lose their files: each note that is kept for it is of one that had a file, and behind it nothing is attached, or a
 -- unit has kept its file.
-use Rattle.std.proofs.Common.{◌≡◌, ◌==◌, ◌&&◌, ◌||◌, ℕ, ◌+◌, ◌≤◌, Bool, true, false, IsTrue, List, [], ◌∷◌, ◌++◌, zero, suc, drop, length, get_or, set, Option, Some, None, is_some}
+use Rattle.std.proofs.Common.{◌≡◌, ◌==◌, ◌&&◌, ◌||◌, ℕ, ◌≤◌, Bool, true, false, IsTrue, List, [], ◌∷◌, ◌++◌, zero, suc, drop, length, get_or, set, Option, Some, None, is_some}
 use Rattle.std.proofs.Common.{Ok, refl, ap, sym, ◌∙◌, subst, arith, if◌then◌else◌, append-nil}
 use Rattle.std.specs.List.{AllByRecursion, list_any}
-use Rattle.std.proofs.lemmas.Bool.{cases_eq}
 use Rattle.std.proofs.lemmas.Bool.Decides.{nat_tests}
 use Rattle.host_files.specs.declared.files.FileCall.{FileCall}
 use Rattle.host_files.specs.declared.files.FileCall.TheVariants.{Opening, Length, Read, Write, SetLength, Closing}
 use Rattle.host_files.specs.State.{FileState}
 use Rattle.unit_trait.specs.declared.kind.Kind.{Kind}
-use Rattle.unit_trait.specs.declared.kind.Kind.TheVariants.{Lpt, Ptr, Ptp}
+use Rattle.unit_trait.specs.declared.kind.Kind.TheVariants.{Lpt, Ptr, Ptp, Mta}
 use Rattle.unit_trait.specs.declared.kind.UnitName.{UnitName}
 use Rattle.unit_trait.specs.Kinds.{code_of, same_unit}
 use Rattle.unit_trait.proofs.Codes.{same-code}
-use Rattle.event_queue.proofs.SoundLists.{same-unit-flips}
 use Rattle.unit_files.specs.Attachments.{Attachment, Held, attachments_of, file_place, attachment_at, is_disk}
 use Rattle.unit_files.specs.Buffer.{AttachedFiles}
-use Rattle.unit_files.specs.Acts.{Failure, DetachSaid, HadNone, StillHeld, Detached, same_call, failure_at, detached, detach_said_of, closing_said, flush_failure, is_due_back, flush_files}
+use Rattle.unit_files.specs.Acts.{Failure, DetachSaid, HadNone, StillHeld, Detached, same_call, detached, detach_said_of, closing_said, flush_failure, is_due_back}
 use Rattle.fault_notes.specs.declared.note.Subject.{Subject}
 use Rattle.fault_notes.specs.declared.note.Subject.TheVariants as subject
 use Rattle.fault_notes.specs.declared.note.FaultNote.{FaultNote}
 use Rattle.fault_notes.specs.Notes.{CommandNote, Note, same_subject, numbered, failure_now, notes_said, said_of}
-use Rattle.file_commands.specs.AllUnits.{attachable, Filed, Emptied, more_used, emptied_as, said_in, written_in, without_file, filed_of, emptied, Empties}
+use Rattle.file_commands.specs.AllUnits.{attachable, Filed, Emptied, emptied_as, said_in, written_in, without_file, filed_of, emptied, Empties}
 use Rattle.file_commands.proofs.Emptying.{emptied-nothing, emptied-more}
 use Rattle.nova_machine.specs.Machine.{MachineState, attached_files, with_attached_files}
 use Rattle.host_files.specs.Lists.{NamedBytes}
@@ -452,8 +450,8 @@ module _ (number time : ℕ) (live : Live) (from to : Filed) (k : Option UnitNam
         behind = come-behind live e.own (are-of live.machine.time attachable (filed_in live) e.own used);
       }
 
-none-other : AreOthers (record { kind = Lpt; unit = 0 } ∷ record { kind = Ptr; unit = 0 } ∷ record { kind = Ptp; unit = 0 } ∷ [])
-none-other = (refl, (refl, (refl, tt)))
+none-other : AreOthers (record { kind = Mta; unit = 0 } ∷ record { kind = Mta; unit = 1 } ∷ record { kind = Mta; unit = 2 } ∷ record { kind = Mta; unit = 3 } ∷ record { kind = Mta; unit = 4 } ∷ record { kind = Mta; unit = 5 } ∷ record { kind = Mta; unit = 6 } ∷ record { kind = Mta; unit = 7 } ∷ record { kind = Lpt; unit = 0 } ∷ record { kind = Ptr; unit = 0 } ∷ record { kind = Ptp; unit = 0 } ∷ [])
+none-other = (refl, (refl, (refl, (refl, (refl, (refl, (refl, (refl, (refl, (refl, (refl, tt)))))))))))
 
 -- a unit that has kept its file is the disk, and then only files have changed
 kept-left : (number time : ℕ) (from to : Filed) (u : UnitName) (before after : List FaultNote) (old now : FileState) → Empties number time attachable from to (Some u) before after old now

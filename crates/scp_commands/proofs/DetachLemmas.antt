@@ -1,5 +1,5 @@
 -- A unit's file is closed: what DETACH comes to.
-use Rattle.std.proofs.Common.{◌≡◌, ℕ, ◌≤◌, ◌==◌, ◌&&◌, Bool, true, false, IsTrue, List, [], ◌∷◌, ◌++◌, length, Option, Some, None, IfSome, is_some, Result, Ok, Err, OnErr}
+use Rattle.std.proofs.Common.{◌≡◌, ℕ, ◌≤◌, ◌&&◌, Bool, true, false, List, [], ◌++◌, length, Option, Some, None, IfSome, Result, Ok, Err, OnErr}
 use Rattle.std.proofs.Common.{refl, ap, sym, ◌∙◌, subst, if◌then◌else◌, append-nil, arith}
 use Rattle.std.proofs.lemmas.Bool.{eq-eqb}
 use Rattle.std.specs.List.{AllByRecursion}
@@ -14,25 +14,25 @@ use Rattle.unit_trait.specs.declared.kind.UnitName.{UnitName}
 use Rattle.unit_files.specs.declared.faults.UnitFault.{UnitFault}
 use Rattle.unit_files.specs.declared.faults.DetachFault.{DetachFault}
 use Rattle.unit_files.specs.declared.faults.DetachFault.TheVariants as detach
-use Rattle.unit_files.specs.Attachments.{Attachment, Held, attachments_of, attachment_at, is_disk}
+use Rattle.unit_files.specs.Attachments.{Attachment, attachments_of, attachment_at}
 use Rattle.unit_files.specs.Buffer.{Buffer, AttachedFiles}
-use Rattle.unit_files.specs.Acts.{Failure, DetachSaid, HadNone, StillHeld, Detached, same_call, failure_at, detach_said, detach_said_of, closing_said, flush_failure, flush_files}
+use Rattle.unit_files.specs.Acts.{Failure, DetachSaid, HadNone, StillHeld, Detached, same_call, detach_said, detach_said_of, closing_said, flush_failure, flush_files}
 use Rattle.unit_files.specs.Acts.{is_due_back, detached, detached_by, buffer_left}
 use Rattle.unit_files.specs.Answers.{failure_in, said_of_detach}
 use Rattle.fault_notes.specs.declared.note.Subject.TheVariants as subject
 use Rattle.fault_notes.specs.declared.note.FaultNote.{FaultNote}
 use Rattle.fault_notes.specs.Notes.{CommandNote, Note, numbered, failure_now, notes_said}
 use Rattle.file_commands.specs.declared.stamp.Stamp.{Stamp}
-use Rattle.file_commands.specs.Notes.{fault_of_detach, kept_of, own_of, own_note}
+use Rattle.file_commands.specs.Notes.{fault_of_detach, kept_of, own_of}
 use Rattle.nova_machine.specs.Machine.{MachineState, attached_files, with_attached_files}
 use Rattle.nova_machine.specs.Seen.{erased, seen, attached_in}
 use Rattle.scp_commands.specs.declared.next.Next.TheVariants.{Go}
 use Rattle.scp_commands.specs.declared.fault.CommandFault.TheVariants.{NotBuilt, FileFailed}
-use Rattle.scp_commands.specs.Live.{Live, standing, with_machine}
+use Rattle.scp_commands.specs.Live.{Live, standing}
 use Rattle.scp_commands.specs.Reply.{Answer, Reply, refused}
 use Rattle.scp_commands.specs.FaultText.{detach_fault}
 use Rattle.scp_commands.specs.FileEffects.{lacks_unit, detach_answer, detach_used, detached_machine, flushed_files, detach_with, detach_reply}
-use Rattle.scp_commands.specs.Doing.{Does, Did, ComeBehind, IsSaid, IsStamped, FileCause, Keeps}
+use Rattle.scp_commands.specs.Doing.{Does, Did, ComeBehind, IsStamped, FileCause, Keeps}
 use Rattle.scp_commands.proofs.SeenLemmas.{attached-erased, attached-with, seen-with, same-with}
 use Rattle.scp_commands.proofs.CloseLemmas.{same-self, closing-call, detached-none}
 use Rattle.scp_commands.proofs.DidLemmas.{refused-did}

@@ -32,7 +32,7 @@ use Rattle.scp_examine.specs.Effect.{examine_fault, fault_of_deposit, tested}
 use Rattle.scp_commands.specs.declared.next.Next.TheVariants.{Go, Ran, Do, Goto, Exit}
 use Rattle.scp_commands.specs.declared.fault.CommandFault.{CommandFault}
 use Rattle.scp_commands.specs.declared.fault.CommandFault.TheVariants.{OutOfRange, NotBuilt, FileFailed}
-use Rattle.scp_commands.specs.Live.{Live, Standing, standing, with_machine}
+use Rattle.scp_commands.specs.Live.{Live, Standing, standing}
 use Rattle.scp_commands.specs.Reply.{Answer, Reply, goes, says, refused}
 use Rattle.scp_commands.specs.Doing.{Does, IsExitAnswer}
 use Rattle.scp_commands.specs.RunEffects.{stop_line, run_answer, used_by, run_failure, ran, address_fits, started, run_from, stepped, step_of, reset_reply}
@@ -44,14 +44,13 @@ use Rattle.scp_commands.specs.declared.next.Next.{Next}
 use Rattle.scp_commands.specs.ShowEffects.{show_reply}
 use Rattle.scp_commands.specs.ExitEffects.{exit_reply}
 use Rattle.scp_commands.specs.SetEffects.{set_size_reply}
-use Rattle.scp_commands.specs.ScriptEffects.{test_answer, assert_answer, echo_reply, assert_reply, do_answer, do_reply, goto_reply}
+use Rattle.scp_commands.specs.ScriptEffects.{test_answer, echo_reply, assert_reply, do_answer, do_reply, goto_reply}
 use Rattle.scp_commands.specs.WholeCalls.{whole_calls, write_calls}
 use Rattle.scp_commands.specs.TapeEffects.{tape_in, tape_answer, tape_machine, loaded_machine, load_answer, load_reply, can_dump, dump_of, dump_answer, dump_after, dump_reply}
 use Rattle.binary_load.specs.declared.faults.LoadFault.{LoadFault}
 use Rattle.binary_load.specs.declared.faults.LoadFault.TheVariants as tape
 use Rattle.binary_load.specs.Tape.{Tape}
 use Rattle.whole_files.specs.Writing.{WriteSaid, AllWritten, WriteFailed, WriteAct, write_act}
-use Rattle.nova_machine.specs.Machine.{MachineState}
 use Rattle.scp_commands.specs.Effect.{effect, Asked, does}
 use Rattle.scp_commands.specs.Laws.{LeavesTraces, IsUntouched, RefusalsChangeNothing}
 use Rattle.scp_commands.proofs.TraceLemmas.{files-kept}

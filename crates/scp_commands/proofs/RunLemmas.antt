@@ -1,6 +1,6 @@
 -- What a run comes to: what it printed with its stop, and the note that is kept of the call that stopped it.
 use Rattle.unit_trait.specs.declared.kind.Kind.{Kind}
-use Rattle.std.proofs.Common.{not, ◌≡◌, ◌≢◌, ◌⊎◌, inl, ⊎_elim, ℕ, ◌+◌, ◌==◌, ◌≤◌, Bool, true, false, IsTrue, List, [], ◌∷◌, ◌++◌, length, refl, ap, sym, ◌∙◌, subst, append-nil, Option, Some, None, Result, Ok, Err, if◌then◌else◌, arith}
+use Rattle.std.proofs.Common.{not, ◌≡◌, ◌≢◌, inl, ⊎_elim, ℕ, ◌+◌, ◌==◌, ◌≤◌, Bool, true, false, IsTrue, List, [], ◌∷◌, ◌++◌, length, refl, ap, sym, ◌∙◌, subst, append-nil, Option, Some, None, Result, Ok, Err, if◌then◌else◌, arith}
 use Rattle.std.proofs.lemmas.List.{map-append}
 use Rattle.std.proofs.lemmas.Bool.Decides.{nat_tests}
 use Rattle.std.specs.List.{AllByRecursion}
@@ -31,7 +31,7 @@ use Rattle.nova_machine.specs.declared.machine.Stop.TheVariants.{ConsoleFault, F
 use Rattle.nova_machine.specs.Notes.{RunNote, run_note}
 use Rattle.nova_machine.specs.Machine.{MachineState}
 use Rattle.nova_machine.specs.Seen.{erased}
-use Rattle.nova_machine.specs.Wants.{IsByteCall, HasUnit}
+use Rattle.nova_machine.specs.Wants.{IsRunCall, HasUnit}
 use Rattle.nova_machine.specs.Parts.{Part}
 use Rattle.nova_machine.specs.Comes.{Comes, bare}
 use Rattle.nova_machine.specs.Comes as coming
@@ -41,7 +41,7 @@ use Rattle.scp_commands.specs.declared.next.Next.TheVariants.{Ran}
 use Rattle.scp_commands.specs.declared.fault.CommandFault.TheVariants.{Console}
 use Rattle.scp_commands.specs.Live.{Live, Standing, standing}
 use Rattle.scp_commands.specs.Reply.{Answer, Reply, bare_answer}
-use Rattle.scp_commands.specs.RunEffects.{ran, stop_line, stop_text, run_answer, used_by, is_byte_call, met_by_run, run_failure}
+use Rattle.scp_commands.specs.RunEffects.{ran, stop_line, stop_text, run_answer, used_by, is_run_call, met_by_run, run_failure}
 use Rattle.scp_commands.specs.Doing.{Does, Did, IsBrokenOff, IsLastCall, IsLate, ComeBehind, IsStamped, Keeps, FileCause, stop_notes, told_or_console}
 use Rattle.scp_commands.proofs.ReplyLemmas.{behind-said, behind-refused}
 
@@ -52,16 +52,18 @@ abbrev pub own_run : ℕ → Stop → List CommandNote
 own_run time (FileFault f) = own_note time f ∷ []
 own_run time stop = []
 
-byte-call : (kind : Kind) (call : FileCall) → IsByteCall kind call → is_byte_call kind call ≡ true
+byte-call : (kind : Kind) (call : FileCall) → IsRunCall kind call → is_run_call kind call ≡ true
 byte-call kind call.Read byte = ap not byte
 byte-call kind call.Write byte = ap not byte
+byte-call kind call.Length byte = byte
+byte-call kind call.SetLength byte = byte
 byte-call kind call byte = absurd byte
 
-met-byte : (time : ℕ) (f : UnitFault) → IsByteCall f.unit.kind f.call → met_by_run time (subject.Unit f.unit) (failure_in f) ≡ run_note time (Some (FileFault f))
+met-byte : (time : ℕ) (f : UnitFault) → IsRunCall f.unit.kind f.call → met_by_run time (subject.Unit f.unit) (failure_in f) ≡ run_note time (Some (FileFault f))
 met-byte time f byte =
     ap (λ (b : Bool). if b then Some (record { time = time; note = record { unit = f.unit; failure = failure_in f } }) else None) (byte-call f.unit.kind f.call byte)
 
-last-call : (kind : Kind) (call : FileCall) → IsLastCall kind call → is_byte_call kind call ≡ false
+last-call : (kind : Kind) (call : FileCall) → IsLastCall kind call → is_run_call kind call ≡ false
 last-call kind call.Closing last = refl
 last-call kind call.Write last = ap not last
 last-call kind call last = absurd last

@@ -1,11 +1,11 @@
 -- A machine without the numbers of open files has the same attached to its units.
-use Rattle.std.proofs.Common.{◌≡◌, ℕ, List, [], ◌∷◌, map, Option, Some, None, refl, ap, sym, ◌∙◌}
+use Rattle.std.proofs.Common.{◌≡◌, ℕ, List, [], ◌∷◌, map, Option, Some, None, refl, ap, ◌∙◌}
 use Rattle.host_files.specs.Lists.{NamedBytes}
 use Rattle.unit_files.specs.Attachments.{Attachment, Held, attachments_of}
 use Rattle.unit_files.specs.Buffer.{Buffer, AttachedFiles}
 use Rattle.nova_machine.specs.Machine.{MachineState, attached_files, with_attached_files}
 use Rattle.nova_machine.specs.Seen.{unnumbered, erased, seen, attached_in}
-use Rattle.scp_commands.specs.Live.{Live, numberless, with_attached, with_machine}
+use Rattle.scp_commands.specs.Live.{numberless, with_attached}
 
 pub attached-unnumbered : (slots : List (Option Held)) → attachments_of (map unnumbered slots) ≡ attachments_of slots
 attached-unnumbered [] = refl

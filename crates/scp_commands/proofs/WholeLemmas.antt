@@ -1,7 +1,7 @@
 -- A file is read or written whole by a command: the notes of its calls that failed, why they were kept, and what the
 -- command comes to.
-use Rattle.std.proofs.Common.{◌≡◌, ◌⊎◌, inl, inr, ℕ, zero, suc, ◌+◌, ◌-◌, ◌^◌, ◌<◌, ◌≤◌, nat_le, ◌==◌, ◌&&◌, ◌||◌, not, max, min, Bool, true, false, IsTrue, List, [], ◌∷◌, ◌++◌, length, map}
-use Rattle.std.proofs.Common.{Option, Some, None, IfSome, IsSome, is_some, unwrap_or, Result, Ok, Err, refl, ap, sym, ◌∙◌, subst, if◌then◌else◌, append-nil, append_assoc, arith}
+use Rattle.std.proofs.Common.{◌≡◌, inl, inr, ℕ, zero, suc, ◌+◌, ◌-◌, ◌^◌, ◌<◌, ◌≤◌, nat_le, ◌==◌, ◌&&◌, ◌||◌, not, Bool, true, false, IsTrue, List, [], ◌∷◌, ◌++◌, length, map}
+use Rattle.std.proofs.Common.{Option, Some, None, IfSome, IsSome, is_some, Result, Ok, Err, refl, ap, sym, ◌∙◌, subst, if◌then◌else◌, append-nil, append_assoc, arith}
 use Rattle.std.specs.List.{AllByRecursion, take_while}
 use Rattle.std.specs.Global.{Vec}
 use Rattle.std.proofs.lemmas.Bool.{eq-eqb}
@@ -31,11 +31,9 @@ use Rattle.whole_files.specs.Claims.{said_of, said_of_bytes, call_of, claimed, i
 use Rattle.whole_files.specs.Claims as claims
 use Rattle.whole_files.specs.Writing.{FailingCall, WriteSaid, AllWritten, WriteFailed, WriteAct, write_act, said_of_writing, failing_call}
 use Rattle.whole_files.specs.Writing.{claimed_in_writing, is_failed_writing, ComesBeforeClosing, WasNotOpened, HasWriteShape, is_unmade}
-use Rattle.scp_commands.specs.declared.next.Next.TheVariants.{Go}
-use Rattle.scp_commands.specs.declared.fault.CommandFault.TheVariants.{NoFile, FileTooLong, FileFailed, OutOfMemory}
+use Rattle.scp_commands.specs.declared.fault.CommandFault.TheVariants.{OutOfMemory}
 use Rattle.scp_commands.specs.Live.{Live, standing}
 use Rattle.scp_commands.specs.Reply.{Answer, Reply}
-use Rattle.scp_commands.specs.FaultText.{whole_fault}
 use Rattle.scp_commands.specs.WholeCalls.{is_of_whole, whole_calls, write_calls, said_answer, whole_answer, wrote_answer, written_answer}
 use Rattle.scp_commands.specs.WholeCalls.{call_notes, both_notes, unless_memory, read_notes, write_notes}
 use Rattle.scp_commands.specs.Doing.{Does, Did, ComeBehind, IsStamped, IsClosingOf, AllClosings, FileCause, Keeps, IsPlain, IsOwn, IsExitAnswer}

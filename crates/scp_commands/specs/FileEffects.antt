@@ -1,5 +1,5 @@
 -- ATTACH, DETACH, and SHOW of a unit (SIMH Users' Guide, "Attaching Devices").
-use Rattle.std.specs.Prelude.{ℕ, ◌==◌, ◌||◌, Bool, not, is_none, List, [], ◌∷◌, ◌++◌, codes, Option, Some, None, Ok, Err, if◌then◌else◌}
+use Rattle.std.specs.Prelude.{ℕ, ◌==◌, ◌||◌, Bool, not, is_none, List, [], ◌∷◌, ◌++◌, codes, Option, Some, None, Ok, Err, if◌then◌else◌, ◌+◌}
 use Rattle.unit_trait.specs.declared.kind.Kind.{Kind}
 use Rattle.unit_trait.specs.declared.kind.UnitName.{UnitName}
 use Rattle.unit_trait.specs.Kinds.{code_of, unit_name}
@@ -7,7 +7,7 @@ use Rattle.unit_trait.specs.Calls.{UnitState}
 use Rattle.unit_list.specs.Bus.{unit_at, with_register_in}
 use Rattle.unit_files.specs.declared.modes.AttachMode.{AttachMode}
 use Rattle.unit_files.specs.declared.modes.AttachMode.TheVariants.{Any, MustExist, New, ReadOnly as Reading}
-use Rattle.unit_files.specs.Attachments.{Attachment, attachment_at, is_paper, is_disk, only_writes}
+use Rattle.unit_files.specs.Attachments.{Attachment, attachment_at, is_paper, is_tape, only_writes, takes_files}
 use Rattle.unit_files.specs.Acts.{AttachSaid, Attached, UnitHasFile, OnlyWrites, NotThere, TooLong, CallFailed, attach_said, attach_files, attached_by, buffer_by}
 use Rattle.unit_files.specs.Acts.{Failure, DetachSaid, HadNone, StillHeld, Detached, detach_said, detached, buffer_left, flush_files}
 use Rattle.host_files.specs.Lists.{NamedBytes, bytes_of}
@@ -19,12 +19,12 @@ use Rattle.nova_machine.specs.Seen.{attached_in}
 use Rattle.scp_commands.specs.declared.next.Next.{Next}
 use Rattle.scp_commands.specs.declared.next.Next.TheVariants.{Go}
 use Rattle.scp_commands.specs.declared.fault.CommandFault.TheVariants.{AlreadyAttached, NotAttached, ReadOnly, NoFile, FileTooLong, FileFailed, NotBuilt}
-use Rattle.scp_commands.specs.Live.{Live, standing, with_machine, with_attached}
+use Rattle.scp_commands.specs.Live.{Live, standing, with_attached}
 use Rattle.scp_commands.specs.Reply.{Answer, Reply, refused}
 
 -- whether this version has files for the units of a kind
 abbrev pub has_files : Kind → Bool
-has_files kind = is_disk kind || is_paper kind
+has_files kind = takes_files kind
 
 -- this version has no file for the unit, or the machine has no unit of its kind
 abbrev pub lacks_unit : MachineState → UnitName → Bool
@@ -53,19 +53,23 @@ attach_used said = 0
 abbrev pub first_place : Kind → ℕ → ℕ
 first_place kind count = if only_writes kind then count else 0
 
--- the number of the register POS
-abbrev pub position_number : ℕ
-position_number = 5
+-- whether a unit goes through its file from place to place: one that reads or writes it byte by byte, and a tape drive
+abbrev pub has_position : Kind → Bool
+has_position kind = is_tape kind || is_paper kind
 
--- the units, where POS of a unit that reads or writes its file byte by byte is that place
-abbrev pub positioned : Kind → ℕ → List UnitState → List UnitState
-positioned kind place units = if is_paper kind then with_register_in kind position_number place units else units
+-- the number of the register that says where a unit is in its file: POS, and POS0 to POS7 of the eight drives
+abbrev pub position_number : UnitName → ℕ
+position_number unit = if is_tape unit.kind then 9 + unit.unit else 5
+
+-- the units, where that register of a unit holds a place
+abbrev pub positioned : UnitName → ℕ → List UnitState → List UnitState
+positioned unit place units = if has_position unit.kind then with_register_in unit.kind (position_number unit) place units else units
 
 -- the unit has its file, which has these bytes, and POS is the place where it goes on; the disk holds a copy of them
 abbrev pub attached_machine : AttachSaid → AttachMode → UnitName → List ℕ → List ℕ → MachineState → MachineState
 attached_machine (Attached count) mode unit name bytes m =
     record (with_attached m (attached_by (Attached count) mode unit name (attached_in m))) {
-      units = positioned unit.kind (first_place unit.kind count) m.units;
+      units = positioned unit (first_place unit.kind count) m.units;
       disk = buffer_by (Attached count) unit bytes m.disk;
     }
 attached_machine said mode unit name bytes m = m

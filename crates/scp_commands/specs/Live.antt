@@ -5,7 +5,7 @@ use Rattle.host_files.specs.Lists.{NamedBytes}
 use Rattle.unit_files.specs.Attachments.{Attachment, Held}
 use Rattle.fault_notes.specs.declared.note.FaultNote.{FaultNote}
 use Rattle.nova_machine.specs.Machine.{MachineState}
-use Rattle.nova_machine.specs.Seen.{Seen, seen, attached_in}
+use Rattle.nova_machine.specs.Seen.{Seen, seen}
 
 -- the machine, without the numbers of open files; the timed keys; and all files by their names
 abbrev pub Live : Type 0

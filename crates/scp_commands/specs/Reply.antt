@@ -1,6 +1,6 @@
 -- What a command comes to: what it makes on the way, each with the place at which it comes; its answer, which is what
 -- comes next or why it was refused; and the place that it leaves.
-use Rattle.std.specs.Prelude.{ℕ, List, [], ◌∷◌, Option, None, Result, Ok, Err}
+use Rattle.std.specs.Prelude.{ℕ, List, [], ◌∷◌, None, Result, Ok, Err}
 use Rattle.observations.specs.Observations.{Observation, Prints}
 use Rattle.nova_machine.specs.declared.machine.Stop.TheVariants.{FileFault}
 use Rattle.scp_commands.specs.declared.next.Next.{Next}

@@ -1,6 +1,6 @@
 -- RUN, GO, CONT, STEP and RESET (SIMH Users' Guide, "Running A Simulated Program" and "Resetting Devices"), and what a stop
 -- prints.
-use Rattle.std.specs.Prelude.{ℕ, ◌^◌, ◌-◌, min, nat_le, ◌&&◌, List, [], ◌∷◌, ◌++◌, codes, Bool, true, false, not, Option, Some, None, Ok, if◌then◌else◌}
+use Rattle.std.specs.Prelude.{ℕ, ◌^◌, ◌-◌, min, nat_le, ◌&&◌, List, [], ◌∷◌, ◌++◌, codes, Bool, true, false, not, Option, Some, None, Ok, if◌then◌else◌, decimal}
 use Rattle.observations.specs.Observations.{Prints, map_made}
 use Rattle.nova_word.specs.Numbers.{octal_digits}
 use Rattle.nova_memory.specs.Memory.{get}
@@ -8,14 +8,14 @@ use Rattle.unit_trait.specs.declared.processor.CpuReg.TheVariants.{Pc}
 use Rattle.unit_trait.specs.declared.kind.Kind.{Kind}
 use Rattle.unit_trait.specs.Kinds.{unit_name}
 use Rattle.host_files.specs.declared.files.FileCall.{FileCall}
-use Rattle.host_files.specs.declared.files.FileCall.TheVariants.{Read, Write}
-use Rattle.unit_files.specs.Attachments.{is_disk}
+use Rattle.host_files.specs.declared.files.FileCall.TheVariants.{Read, Write, Length, SetLength}
+use Rattle.unit_files.specs.Attachments.{is_disk, is_tape}
 use Rattle.unit_files.specs.Acts.{Failure}
 use Rattle.fault_notes.specs.declared.note.Subject.{Subject}
 use Rattle.fault_notes.specs.declared.note.Subject.TheVariants as subject
 use Rattle.fault_notes.specs.Notes.{CommandNote}
 use Rattle.nova_machine.specs.declared.machine.Stop.{Stop}
-use Rattle.nova_machine.specs.declared.machine.Stop.TheVariants.{Halt, ChainLimit, UnknownDevice, Stepped, Limit, UnitEnd, UnitNone, Wru, FileFault, ConsoleFault}
+use Rattle.nova_machine.specs.declared.machine.Stop.TheVariants.{Halt, ChainLimit, UnknownDevice, Stepped, Limit, UnitEnd, UnitNone, BadImage, Wru, FileFault, ConsoleFault}
 use Rattle.nova_machine.specs.Machine.{MachineState, reset_machine}
 use Rattle.nova_machine.specs.Registers.{with_register}
 use Rattle.nova_machine.specs.Notes.{RunNote}
@@ -35,6 +35,7 @@ stop_name Stepped = codes "Step expired"
 stop_name Limit = codes "Instruction limit"
 stop_name (UnitEnd unit) = codes "End of file on " ++ unit_name unit
 stop_name (UnitNone unit) = codes "No file attached to " ++ unit_name unit
+stop_name (BadImage unit place) = codes "Bad tape image on " ++ unit_name unit ++ codes " at " ++ decimal place
 stop_name Wru = codes "Simulation stopped"
 stop_name (FileFault f) = codes "File error on " ++ unit_name f.unit
 stop_name ConsoleFault = []
@@ -53,15 +54,17 @@ abbrev pub run_answer : Option Stop → Answer
 run_answer (Some stop) = Ok (Ran stop)
 run_answer None = Ok Go
 
--- a run makes no other calls on a file than those for a byte, and none on the disk's
-abbrev pub is_byte_call : Kind → FileCall → Bool
-is_byte_call kind Read = not (is_disk kind)
-is_byte_call kind Write = not (is_disk kind)
-is_byte_call kind call = false
+-- the calls on files that a run makes: those for a byte, and those of an operation on a tape; it makes none on the disk's
+abbrev pub is_run_call : Kind → FileCall → Bool
+is_run_call kind Read = not (is_disk kind)
+is_run_call kind Write = not (is_disk kind)
+is_run_call kind Length = is_tape kind
+is_run_call kind SetLength = is_tape kind
+is_run_call kind call = false
 
 -- a failing call as a run meets it
 abbrev pub met_by_run : ℕ → Subject → Failure → Option RunNote
-met_by_run time (subject.Unit unit) f = if is_byte_call unit.kind f.call then Some (record { time = time; note = record { unit = unit; failure = f } }) else None
+met_by_run time (subject.Unit unit) f = if is_run_call unit.kind f.call then Some (record { time = time; note = record { unit = unit; failure = f } }) else None
 met_by_run time subject f = None
 
 -- the failing call that a run is handed: the first of the command's notes, where it is one for a byte

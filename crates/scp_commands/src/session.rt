@@ -94,7 +94,7 @@ impl<U: Unit> Session<U> {
     /// first; where that fails, it is noted and answered, and all units keep their files. A closing that fails is noted,
     /// and the next one follows.
     pub fn detach_files<F: Files>(&mut self, files: &mut F) -> Result<(), UnitFault>
-        requires room { 4 ≤ self.old.spare }
+        requires room { 12 ≤ self.old.spare }
         requires open { AllOpen self.old.machine.slots (F.state files.old).opened }
         ensures closes { Closes self.old.command (live_in self.old (F.state files.old).files)
             (live_in self.new (F.state files.new).files) (keeper result) (notes_said self.old.notes)

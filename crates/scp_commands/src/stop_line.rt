@@ -8,12 +8,13 @@ ghost use Rattle.scp_commands.specs.RunEffects.{stop_name, stop_text};
 
 use crate::unit_names::unit_name;
 use host_files::{Failed, Sink, put_pieces};
+use itoa::Buffer;
 use line_text::Text;
 use nova_machine::{Machine, Stop};
 use unit_trait::{Unit, UnitName};
 
-/// The longest name of a stop: "No file attached to " and that of a unit.
-const LONGEST_NAME: usize = 28;
+/// The longest name of a stop: "Bad tape image on ", the name of a unit, " at " and a place.
+const LONGEST_NAME: usize = 52;
 
 /// Prints that a machine has stopped: the name of the stop, PC in five octal digits, and the word there in six.
 #[tactic(auto, unfolding(crate::specs::RunEffects::stop_text))]
@@ -59,6 +60,12 @@ fn stop_name(stop: Stop) -> Text<LONGEST_NAME>
         Stop::Limit => words(b"Instruction limit"),
         Stop::UnitEnd(unit) => words_and_unit(b"End of file on ", unit),
         Stop::UnitNone(unit) => words_and_unit(b"No file attached to ", unit),
+        Stop::BadImage(unit, place) => {
+            let mut text = words_and_unit(b"Bad tape image on ", unit);
+            text.push_all(b" at ");
+            text.push_all(Buffer::new().format(place).as_bytes());
+            text
+        }
         Stop::Wru => words(b"Simulation stopped"),
         Stop::FileFault(fault) => words_and_unit(b"File error on ", fault.unit),
         Stop::ConsoleFault => Text::new(),

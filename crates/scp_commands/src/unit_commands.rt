@@ -22,8 +22,11 @@ use std::alloc::Global;
 use unit_files::{AttachMode, DetachFault};
 use unit_trait::{Kind, Unit, UnitName};
 
-/// The number of the register POS of the units whose files are attached.
+/// The number of the register POS of the units that go through their files byte by byte.
 const POSITION: u8 = 5;
+
+/// The number of the register POS of drive 0; those of the other drives follow.
+const POSITION_OF_DRIVE: u8 = 9;
 
 /// ATTACH opens a file for a unit, and sets POS to the place where the unit goes on in it. It prints nothing.
 #[tactic(auto, unfolding(crate::specs::FileEffects::attach_reply))]
@@ -72,11 +75,7 @@ pub fn attach<U: Unit, F: Files>(
         stamp,
     ) {
         Ok(count) => {
-            set_position(
-                &mut session.machine,
-                unit.kind,
-                first_place(unit.kind, count),
-            );
+            set_position(&mut session.machine, unit, first_place(unit.kind, count));
             Ok(Next::Go)
         }
         Err(fault) => Err(CommandFault::of_attach(fault)),
@@ -188,7 +187,9 @@ pub fn lacks_unit<U: Unit>(machine: &Machine<U>, unit: UnitName) -> bool
     ensures { result ≡ lacks_unit machine.now unit }
 {
     match unit.kind {
-        Kind::Dsk | Kind::Lpt | Kind::Ptr | Kind::Ptp => !machine.has_unit(unit.kind),
+        Kind::Dsk | Kind::Mta | Kind::Lpt | Kind::Ptr | Kind::Ptp => {
+            !machine.has_unit(unit.kind)
+        }
         _ => true,
     }
 }
@@ -216,22 +217,26 @@ fn first_place(kind: Kind, count: u64) -> u64
     }
 }
 
-// Sets POS of a unit that reads or writes its file byte by byte.
-fn set_position<U: Unit>(machine: &mut Machine<U>, kind: Kind, place: u64)
-    requires there { IsTrue (is_some (unit_at (code_of kind) machine.old.units)) }
+// Sets the register that says where a unit is in its file.
+fn set_position<U: Unit>(machine: &mut Machine<U>, unit: UnitName, place: u64)
+    requires there { IsTrue (is_some (unit_at (code_of unit.kind) machine.old.units)) }
+    requires unit { unit.unit < units_of unit.kind }
     requires place { place ≤ 8 ^ 8 }
-    ensures { machine.new ≡ record machine.old { units = positioned kind place machine.old.units } }
+    ensures { machine.new ≡ record machine.old { units = positioned unit place machine.old.units } }
 {
-    if goes_by_bytes(kind) {
-        let _fits = machine.set_unit_reg(kind, POSITION, place as u32);
+    match unit.kind {
+        Kind::Mta => {
+            let _fits = machine.set_unit_reg(
+                Kind::Mta,
+                POSITION_OF_DRIVE + unit.unit,
+                place as u32,
+            );
+        }
+        Kind::Lpt | Kind::Ptr | Kind::Ptp => {
+            let _fits = machine.set_unit_reg(unit.kind, POSITION, place as u32);
+        }
+        _ => {}
     }
-}
-
-// Whether a unit reads or writes its file byte by byte.
-fn goes_by_bytes(kind: Kind) -> bool
-    ensures { result ≡ is_paper kind }
-{
-    matches!(kind, Kind::Lpt | Kind::Ptr | Kind::Ptp)
 }
 
 /// What stands on the notes of the command that is done.

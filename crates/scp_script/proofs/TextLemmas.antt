@@ -4,7 +4,7 @@ use Rattle.observations.specs.Observations.{Observation, Prints, text_of, reads_
 use Rattle.observations.proofs.CutLemmas.{breaks-here, breaks-before, breaks-behind}
 use Rattle.observations.proofs.MadeLemmas.{text_of-append, reads_of-append, stands-before, stands-behind}
 use Rattle.nova_machine.specs.declared.machine.Stop.{Stop}
-use Rattle.nova_machine.specs.declared.machine.Stop.TheVariants.{Halt, ChainLimit, UnknownDevice, Stepped, Limit, UnitEnd, UnitNone, Wru, FileFault, ConsoleFault}
+use Rattle.nova_machine.specs.declared.machine.Stop.TheVariants.{Halt, ChainLimit, UnknownDevice, Stepped, Limit, UnitEnd, UnitNone, BadImage, Wru, FileFault, ConsoleFault}
 use Rattle.unit_files.specs.Attachments.{Held}
 use Rattle.fault_notes.specs.Notes.{CommandNote, Note}
 use Rattle.script_text.specs.Lines.{lines_of}
@@ -227,6 +227,7 @@ bare-ran Stepped = (Stepped, refl)
 bare-ran Limit = (Limit, refl)
 bare-ran (UnitEnd unit) = (UnitEnd unit, refl)
 bare-ran (UnitNone unit) = (UnitNone unit, refl)
+bare-ran (BadImage unit place) = (BadImage unit place, refl)
 bare-ran Wru = (Wru, refl)
 bare-ran (FileFault f) = (FileFault (record f { file = None }), refl)
 bare-ran ConsoleFault = (ConsoleFault, refl)

@@ -45,6 +45,11 @@ abbrev pub is_disk : Kind → Bool
 is_disk Dsk = true
 is_disk kind = false
 
+-- whether that is the magnetic tape, whose drives each have a tape
+abbrev pub is_tape : Kind → Bool
+is_tape Mta = true
+is_tape kind = false
+
 -- whether a unit of that kind takes a file
 abbrev pub takes_files : Kind → Bool
 takes_files Dsk = true

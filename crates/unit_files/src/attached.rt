@@ -230,7 +230,8 @@ impl Attached {
 
     /// The number of a unit's open file; none where nothing is attached.
     pub fn file_of(&self, unit: UnitName) -> Option<FileId>
-        ensures { option_map (λ id. id.0) result ≡ option_map (λ h. h.file) (held_at self.now.slots unit) }
+        ensures holds { Holds self.now.slots unit result }
+        ensures number { option_map (λ id. id.0) result ≡ option_map (λ h. h.file) (held_at self.now.slots unit) }
     {
         self.held_file(unit)
     }

@@ -10,7 +10,7 @@ use Rattle.unit_trait.specs.Device.{position}
 use Rattle.unit_trait.specs.Kinds.{code_of}
 use Rattle.unit_trait.specs.Registers.{register_at}
 use Rattle.unit_trait.specs.Calls.{UnitState, UnitCall, Row, holds}
-use Rattle.unit_trait.specs.Row.{row, moved, Fits, takes_value, goes_by_bytes, moves_on, CanMoveOn}
+use Rattle.unit_trait.specs.Row.{row, moved, Fits, takes_value, goes_by_bytes, moves_on, CanMoveOn, IsOnTape}
 use Rattle.unit_list.specs.declared.bus.Flags.{Flags}
 
 -- the unit with that code, if one is there: the first one, where there are several
@@ -37,15 +37,19 @@ abbrev pub after_at : ℕ → UnitCall → List UnitState → List UnitState
 after_at code call units = changed_at code (λ u. moved u call) units
 
 -- the unit of that kind, where one is there, gets no answer that would move it past the largest value of POS
-abbrev pub TakesAnswerIn : Kind → Got → List UnitState → Type 0
-TakesAnswerIn kind got units =
-    IsTrue (goes_by_bytes kind) → IsTrue (moves_on got) → IfSome (unit_at (code_of kind) units) (λ u. CanMoveOn u.registers)
+pub record TakesAnswerIn (kind : Kind) (got : Got) (units : List UnitState) : Type 0 where
+  pub room : IsTrue (goes_by_bytes kind) → IsTrue (moves_on got) → IfSome (unit_at (code_of kind) units) (λ u. CanMoveOn u.registers)
+  pub tape : IsOnTape got
 
 -- a byte that was read or written is one below the largest place
+abbrev pub IsByteBelowEnd : Want → Got → Type 0
+IsByteBelowEnd (ReadByte place) got = IsTrue (moves_on got) → place < position.largest
+IsByteBelowEnd (WriteByte place byte) got = IsTrue (moves_on got) → place < position.largest
+IsByteBelowEnd want got = Unit {0}
+
+-- .. and a tape stands at most at the largest place
 abbrev pub IsBelowEnd : Want → Got → Type 0
-IsBelowEnd (ReadByte place) got = IsTrue (moves_on got) → place < position.largest
-IsBelowEnd (WriteByte place byte) got = IsTrue (moves_on got) → place < position.largest
-IsBelowEnd want got = Unit {0}
+IsBelowEnd want got = IsByteBelowEnd want got × IsOnTape got
 
 -- BUSY and DONE, the first two registers of a unit
 abbrev pub flags_of : UnitState → Flags

@@ -1,18 +1,19 @@
--- The device table: what a device says to each call, by its kind and what its registers hold. Kinds that are not built
--- yet say nothing.
+-- The device table: what a device says to each call, by its kind and what its registers hold. A kind that is not built
+-- yet says nothing.
 use Rattle.std.specs.Prelude.{ℕ, ◌<◌, ◌≤◌, ◌%◌, ◌^◌, ◌&&◌, Bool, IsTrue, true, false, nat_le, List, [], ◌∷◌, slice_index, map, Option, Some, None}
 use Rattle.unit_trait.specs.declared.kind.Kind.{Kind}
-use Rattle.unit_trait.specs.declared.kind.Kind.TheVariants.{Dsk, Lpt, Ptr, Ptp, Clk, Tti, Tto, Tti1, Tto1}
+use Rattle.unit_trait.specs.declared.kind.Kind.TheVariants.{Dsk, Mta, Lpt, Ptr, Ptp, Clk, Tti, Tto, Tti1, Tto1}
 use Rattle.unit_trait.specs.declared.calls.Queue.{Queue}
 use Rattle.unit_trait.specs.declared.calls.Queue.TheVariants.{Keep, Cancel, After}
 use Rattle.unit_trait.specs.declared.calls.Want.{Want}
 use Rattle.unit_trait.specs.declared.calls.Want.TheVariants.{Key, LineKey, Console, LinePut}
 use Rattle.unit_trait.specs.declared.calls.Got.{Got}
-use Rattle.unit_trait.specs.declared.calls.Got.TheVariants.{Done, Byte}
+use Rattle.unit_trait.specs.declared.calls.Got.TheVariants.{Done, Byte, Tape}
 use Rattle.unit_trait.specs.Device.{Register, position}
 use Rattle.unit_trait.specs.Registers.{registers}
 use Rattle.unit_trait.specs.Calls.{UnitState, UnitCall, Row, holds}
 use Rattle.unit_trait.specs.Disk.{disk_row}
+use Rattle.unit_trait.specs.Tape.{tape_length, tape_row}
 use Rattle.unit_trait.specs.Printer.{printer_row}
 use Rattle.unit_trait.specs.Reader.{reader_row}
 use Rattle.unit_trait.specs.Punch.{punch_row}
@@ -30,6 +31,7 @@ line_want line character = LinePut line character
 
 unfoldable pub row_of : Kind → List ℕ → UnitCall → Row
 row_of Dsk registers call = disk_row registers call
+row_of Mta registers call = tape_row registers call
 row_of Lpt registers call = printer_row registers call
 row_of Ptr registers call = reader_row registers call
 row_of Ptp registers call = punch_row registers call
@@ -93,6 +95,12 @@ moves_on got = false
 abbrev pub CanMoveOn : List ℕ → Type 0
 CanMoveOn registers = slice_index registers 5 < position.largest
 
+-- a tape stands at a place that its register can hold
+abbrev pub IsOnTape : Got → Type 0
+IsOnTape (Tape got) = got.place ≤ tape_length
+IsOnTape got = Unit {0}
+
 -- a unit gets no answer that would move it past the largest value of POS
-abbrev pub TakesAnswer : UnitState → Got → Type 0
-TakesAnswer unit got = IsTrue (goes_by_bytes unit.kind) → IsTrue (moves_on got) → CanMoveOn unit.registers
+pub record TakesAnswer (unit : UnitState) (got : Got) : Type 0 where
+  pub room : IsTrue (goes_by_bytes unit.kind) → IsTrue (moves_on got) → CanMoveOn unit.registers
+  pub tape : IsOnTape got

@@ -1,8 +1,8 @@
-use Rattle.std.proofs.Common.{◌≡◌, List, Option, IsTrue, subst, ap, sym, ◌∙◌, arith, rules}
+use Rattle.std.proofs.Common.{◌≡◌, IsTrue, ap, sym, arith, rules}
 use Rattle.unit_trait.specs.declared.kind.UnitName.{UnitName}
 use Rattle.unit_files.specs.Attachments.{takes_attachment}
 use Rattle.unit_files.specs.Buffer.{AttachedFiles}
-use Rattle.file_commands.specs.AllUnits.{Empties, Filed, filed_of}
+use Rattle.file_commands.specs.AllUnits.{filed_of}
 use Rattle.file_commands.proofs.Emptying.{Calls, empties-none, empties-kept, empties-more, kept-whole, unwritten-here, still-unwritten, nothing-left, all-tail, apart-tail, apart-head}
 use Rattle.file_commands.proofs.all_units.+detach_each.Goals as goal
 

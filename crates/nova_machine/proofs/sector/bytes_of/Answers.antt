@@ -1,4 +1,4 @@
-use Rattle.std.proofs.Common.{◌%◌, ◌*◌, ◌/◌, ◌+◌, ◌∙◌, ◌≡◌, ◌^◌, ap, ℕ, set}
+use Rattle.std.proofs.Common.{◌%◌, ◌*◌, ◌/◌, ◌+◌, ◌∙◌, ◌≡◌, ap, ℕ, set}
 use Rattle.std.proofs.lemmas.List.{length-set}
 use Rattle.nova_memory.specs.Memory.{get}
 use Rattle.nova_machine.specs.Sectors.{address_on}

@@ -1,4 +1,4 @@
-use Rattle.std.proofs.Common.{◌≡◌, ℕ, List, Err, refl, ap, sym, ◌∙◌}
+use Rattle.std.proofs.Common.{◌≡◌, Err, refl, ap, sym, ◌∙◌}
 use Rattle.fault_notes.specs.declared.note.Subject.TheVariants as subject
 use Rattle.fault_notes.specs.Notes.{notes_said}
 use Rattle.whole_files.specs.Writing.{write_act}

@@ -1,7 +1,5 @@
-use Rattle.std.proofs.Common.{Ok, Err, ℕ, List, ◌≡◌, refl, ap, sym, ◌∙◌, subst, arith}
-use Rattle.host_files.specs.State.{Opened}
+use Rattle.std.proofs.Common.{Ok, Err, ◌≡◌, refl, ap, sym, ◌∙◌, subst}
 use Rattle.unit_files.specs.Open.{AllOpen, Around}
-use Rattle.unit_files.specs.Attachments.{Held}
 use Rattle.fault_notes.specs.Notes.{notes_said}
 use Rattle.scp_parser.specs.Command.{Request, Nothing, Examine, Deposit, Reset, Attach, Detach, SetSize, Show, Do, Assert, Echo, Exit, Load, Dump, request_of, file_name_of, given_text}
 use Rattle.scp_commands.specs.declared.next.Next.TheVariants.{Go}

@@ -1,7 +1,5 @@
-use Rattle.std.proofs.Common.{◌≡◌, ◌++◌, ℕ, List, IsTrue, refl, ap, sym, ◌∙◌, subst, append-nil}
-use Rattle.host_files.specs.Lists.{NamedBytes}
+use Rattle.std.proofs.Common.{◌≡◌, ◌++◌, ℕ, List, refl, ap, sym, ◌∙◌, subst, append-nil}
 use Rattle.host_files.specs.State.{Opened}
-use Rattle.unit_files.specs.Attachments.{Held}
 use Rattle.unit_files.specs.Open.{AllOpen, Around}
 use Rattle.fault_notes.specs.declared.note.Subject.TheVariants as subject
 use Rattle.fault_notes.specs.declared.note.FaultNote.{FaultNote}

@@ -1,4 +1,4 @@
-use Rattle.std.proofs.Common.{Ok, Err, ◌≡◌, ℕ, refl, ap, sym, ◌∙◌, subst, arith}
+use Rattle.std.proofs.Common.{Ok, Err, ◌≡◌, ℕ, refl, ap, sym, ◌∙◌, subst, ◌≤◌, ◌^◌}
 use Rattle.unit_files.specs.Attachments.{attachments_of}
 use Rattle.fault_notes.specs.Notes.{notes_said}
 use Rattle.unit_files.specs.Buffer.{AttachedFiles}
@@ -8,7 +8,7 @@ use Rattle.scp_commands.specs.declared.next.Next.TheVariants.{Go}
 use Rattle.scp_commands.specs.Doing.{Keeps}
 use Rattle.scp_commands.proofs.SeenLemmas.{attached-erased}
 use Rattle.scp_commands.proofs.BehindLemmas.{stamp_in}
-use Rattle.scp_commands.proofs.AttachLemmas.{longest-paper, attach-not-built, attach-done, becomes-attached, becomes-refused, attach-keeps}
+use Rattle.scp_commands.proofs.AttachLemmas.{begins-within, attach-not-built, attach-done, becomes-attached, becomes-refused, attach-keeps}
 use Rattle.scp_commands.proofs.unit_commands.attach.Goals as goal
 
 pub returns-then-lacks_unit-clause-told : goal.returns-then-lacks_unit-clause-told
@@ -20,9 +20,8 @@ returns-then-lacks_unit-clause-told g c = λ tells text told.
 
 pub set_position-requires-clause-place : goal.set_position-requires-clause-place
 set_position-requires-clause-place g c =
-    let long = longest-paper c.session.inside.machine c.args.unit (sym c.lacks_unit.ensures ∙ c.if-lacks_unit.false) in
-    let low = c.in-Ok.ensures.bound in
-    omega (arith, long, low)
+    subst (λ (place : ℕ). place ≤ 8 ^ 8) (sym c.first_place.ensures.place)
+    (begins-within c.session.inside.machine c.args.unit c.in-Ok.count (sym c.lacks_unit.ensures ∙ c.if-lacks_unit.false) c.in-Ok.ensures.bound)
 
 pub returns-in-Ok-clause-told : goal.returns-in-Ok-clause-told
 returns-in-Ok-clause-told g c = λ tells text told.

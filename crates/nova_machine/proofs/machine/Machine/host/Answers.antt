@@ -39,3 +39,13 @@ returns-in-WriteByte-clause-room g c =
     (subst (λ (w : Want). HasRoom w (hosted_of c.write_byte.result)) (sym c.in-WriteByte.is)
     (write-room c.write_byte.result (attachment_at (attachments_of c.self-in-WriteByte.inside.attached.slots) c.args.unit) c.in-WriteByte.place c.in-WriteByte.byte
     c.write_byte.ensures.said))
+
+pub returns-in-Tape-clause-said : goal.returns-in-Tape-clause-said
+returns-in-Tape-clause-said g c = λ told.
+    let slots = c.args.self.now.slots in
+    let files = (g.F.Files.state c.args.files.now).files in
+    let key = due_key c.args.keys.now c.args.self.now.taken c.args.self.now.time in
+    subst (λ (w : Want). IsHosted w (attachment_at (attachments_of slots) c.args.unit) files key c.move_tape.result) (sym c.in-Tape.is) (c.move_tape.ensures.said told key)
+
+pub returns-in-Tape-clause-counts : goal.returns-in-Tape-clause-counts
+returns-in-Tape-clause-counts g c = c.move_tape.ensures.console (g.S.Sink.fault_count c.args.out.now)

@@ -3,7 +3,6 @@ use Rattle.unit_files.specs.Attachments.{attachments_of}
 use Rattle.unit_files.specs.Buffer.{AttachedFiles}
 use Rattle.file_commands.specs.AllUnits.{filed_of, keeper}
 use Rattle.nova_machine.specs.Seen.{seen}
-use Rattle.scp_commands.specs.FileEffects.{filed_in}
 use Rattle.scp_commands.proofs.SeenLemmas.{attached-erased}
 use Rattle.scp_commands.proofs.CloseLemmas.{closes-of, left-is, keeps-of}
 use Rattle.scp_commands.proofs.session.Session.detach_files.Goals as goal

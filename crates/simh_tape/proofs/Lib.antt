@@ -1,0 +1,6 @@
+pub mod ReadLemmas
+pub mod SpaceLemmas
+pub mod WriteLemmas
+pub mod ItemLaws
+pub mod BlockLaws
+pub mod SpaceLaws
