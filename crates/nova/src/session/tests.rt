@@ -5,6 +5,7 @@ use host_files::{ByteSink, ByteSource, MemFiles};
 use paper_tape::{Lpt, Ptp, Ptr};
 use std::alloc::AllocError;
 use std::test::Fail;
+use tape_unit::Mta;
 use tty_units::{Tti, Tto};
 
 /// The exit code of a session with the standard units in boxes, over those lines and a console with that room.
@@ -13,6 +14,7 @@ fn code_of(alloc: Global, lines: &[u8], room: usize) -> Result<ExitCode, AllocEr
     words.push(String::from_str(alloc, "-q")?)?;
     let mut units: Vec<Box<dyn Unit>> = Vec::new(alloc);
     units.push(Box::new(alloc, Dsk::new())?)?;
+    units.push(Box::new(alloc, Mta::new())?)?;
     units.push(Box::new(alloc, Lpt::new())?)?;
     units.push(Box::new(alloc, Ptr::new())?)?;
     units.push(Box::new(alloc, Ptp::new())?)?;

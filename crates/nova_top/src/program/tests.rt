@@ -12,6 +12,7 @@ use host_files::{ByteSink, ByteSource, MemFiles};
 use paper_tape::{Lpt, Ptp, Ptr};
 use std::alloc::AllocError;
 use std::test::Fail;
+use tape_unit::Mta;
 use tty_units::{Tti, Tto};
 
 /// What a user would see: the status, and what the console has.
@@ -34,6 +35,7 @@ fn run(
 ) -> Result<Seen, AllocError> {
     let mut units: Vec<Box<dyn Unit>> = Vec::new(alloc);
     units.push(Box::new(alloc, Dsk::new())?)?;
+    units.push(Box::new(alloc, Mta::new())?)?;
     units.push(Box::new(alloc, Lpt::new())?)?;
     units.push(Box::new(alloc, Ptr::new())?)?;
     units.push(Box::new(alloc, Ptp::new())?)?;

@@ -28,10 +28,12 @@ returns-in-Ok-clause-memory g c = λ told.
 
 pub returns-in-Ok-clause-said : goal.returns-in-Ok-clause-said
 returns-in-Ok-clause-said g c = λ told key.
-    let e = c.in-Ok.ensures in
-    (sym (on-file (Ok c.in-Ok.got) g.F.Files.tells c.args.attached.now.slots c.args.unit c.in-Some.field-0 (g.F.Files.state c.args.files.now).opened c.args.order
-    (g.F.Files.state c.args.files.now).files (g.F.Files.state c.operate_file.new.files).files c.args.memory.now c.operate_file.new.memory
-    c.requires.«open» c.in-Some.ensures.holds (sym c.is_refused.ensures ∙ c.if-is_refused.false) e.said e.memory e.files told).said, no-key-comes key c.args.order)
+    let e = c.in-Ok.ensures in (
+      sym (on-file (Ok c.in-Ok.got) g.F.Files.tells c.args.attached.now.slots c.args.unit c.in-Some.field-0 (g.F.Files.state c.args.files.now).opened c.args.order
+          (g.F.Files.state c.args.files.now).files (g.F.Files.state c.operate_file.new.files).files c.args.memory.now c.operate_file.new.memory
+          c.requires.«open» c.in-Some.ensures.holds (sym c.is_refused.ensures ∙ c.if-is_refused.false) e.said e.memory e.files told).said,
+      no-key-comes key c.args.order,
+    )
 
 pub returns-in-Ok-clause-files : goal.returns-in-Ok-clause-files
 returns-in-Ok-clause-files g c = λ told.

@@ -1,6 +1,6 @@
 // That the machine calls the units that it is handed: each call is counted by a wrapper round the unit.
 ghost use Rattle.std.specs.Prelude.{◌≡◌, map};
-ghost use Rattle.unit_trait.specs.declared.kind.Kind.TheVariants.{Dsk as disks, Lpt as printers, Ptr as readers};
+ghost use Rattle.unit_trait.specs.declared.kind.Kind.TheVariants.{Dsk as disks, Mta as tapes, Lpt as printers, Ptr as readers};
 ghost use Rattle.unit_trait.specs.declared.kind.Kind.TheVariants.{Ptp as punches, Clk as clocks, Tti as keyboards};
 ghost use Rattle.unit_trait.specs.declared.kind.Kind.TheVariants.{Tto as teleprinters};
 ghost use Rattle.unit_trait.specs.Row.{initial_unit};
@@ -15,6 +15,7 @@ use std::alloc::{AllocError, Global};
 use std::cell::Cell;
 use std::rc::Rc;
 use std::test::Fail;
+use tape_unit::Mta;
 use tty_units::{Tti, Tto};
 use unit_trait::{After, Got, IoAnswer, IoOp, Kind, Pulse, Queue, RegFault, Unit, Want};
 
@@ -112,6 +113,7 @@ fn counted_run(alloc: Global, lines: &[u8]) -> Result<(Vec<u8>, [u64; 5], [u64; 
     let clock = Rc::new(alloc, Calls::new())?;
     let printer = Rc::new(alloc, Calls::new())?;
     let disk: Box<dyn Unit> = Box::new(alloc, Dsk::new())?;
+    let tape: Box<dyn Unit> = Box::new(alloc, Mta::new())?;
     let line_printer: Box<dyn Unit> = Box::new(alloc, Lpt::new())?;
     let reader: Box<dyn Unit> = Box::new(alloc, Ptr::new())?;
     let punch: Box<dyn Unit> = Box::new(alloc, Ptp::new())?;
@@ -124,6 +126,7 @@ fn counted_run(alloc: Global, lines: &[u8]) -> Result<(Vec<u8>, [u64; 5], [u64; 
     let printed = printed_with(
         alloc,
         disk,
+        tape,
         line_printer,
         reader,
         punch,
@@ -139,6 +142,7 @@ fn counted_run(alloc: Global, lines: &[u8]) -> Result<(Vec<u8>, [u64; 5], [u64; 
 fn printed_with<U: Unit>(
     alloc: Global,
     disk: U,
+    tape: U,
     printer: U,
     reader: U,
     punch: U,
@@ -148,6 +152,7 @@ fn printed_with<U: Unit>(
     lines: &[u8],
 ) -> Result<Vec<u8>, AllocError>
     requires disk { U.unit_state disk ≡ initial_unit disks }
+    requires tape { U.unit_state tape ≡ initial_unit tapes }
     requires printer { U.unit_state printer ≡ initial_unit printers }
     requires reader { U.unit_state reader ≡ initial_unit readers }
     requires punch { U.unit_state punch ≡ initial_unit punches }
@@ -157,6 +162,7 @@ fn printed_with<U: Unit>(
 {
     let mut units = Vec::new(alloc);
     units.push(disk)?;
+    units.push(tape)?;
     units.push(printer)?;
     units.push(reader)?;
     units.push(punch)?;

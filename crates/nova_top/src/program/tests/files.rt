@@ -10,6 +10,7 @@ use paper_tape::{Lpt, Ptp, Ptr};
 use std::alloc::Global;
 use std::process::Abort;
 use std::test::Fail;
+use tape_unit::Mta;
 use tty_units::{Tti, Tto};
 use unit_trait::Unit;
 
@@ -95,6 +96,7 @@ fn plays<U: Unit>(rt: &impl Abort, alloc: Global, units: Vec<U>, row: Row<'_>) -
 pub(super) fn comes(rt: &impl Abort, alloc: Global, row: Row<'_>) -> Result<(), Fail> {
     let mut units: Vec<Box<dyn Unit>> = Vec::new(alloc);
     units.push(Box::new(alloc, Dsk::new())?)?;
+    units.push(Box::new(alloc, Mta::new())?)?;
     units.push(Box::new(alloc, Lpt::new())?)?;
     units.push(Box::new(alloc, Ptr::new())?)?;
     units.push(Box::new(alloc, Ptp::new())?)?;
