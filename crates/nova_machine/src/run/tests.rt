@@ -8,6 +8,7 @@ use unit_trait::Kind::{Clk, Tti, Tto};
 
 mod bursts;
 mod files;
+mod tapes;
 
 /// A run of that many instructions that is called no step.
 fn limit(count: u64) -> RunLimit {

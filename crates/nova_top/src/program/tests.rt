@@ -4,6 +4,7 @@ ghost use Rattle.nova_top.specs.Standard.{IsStandard};
 mod counted;
 mod disk;
 mod files;
+mod tapes;
 
 use super::*;
 use clock_unit::Clk;

@@ -1,6 +1,6 @@
 ghost use Rattle.std.specs.Prelude.{◌≡◌, [], ◌∷◌, map};
-ghost use Rattle.unit_trait.specs.declared.kind.Kind.TheVariants.{Dsk as disk, Lpt as printer, Ptr as reader, Ptp as punch};
-ghost use Rattle.unit_trait.specs.declared.kind.Kind.TheVariants.{Clk as clock, Tti as keyboard, Tto as teleprinter};
+ghost use Rattle.unit_trait.specs.declared.kind.Kind.TheVariants.{Dsk as disk, Mta as tape, Lpt as printer, Ptr as reader};
+ghost use Rattle.unit_trait.specs.declared.kind.Kind.TheVariants.{Ptp as punch, Clk as clock, Tti as keyboard, Tto as teleprinter};
 ghost use Rattle.unit_trait.specs.Row.{initial_unit};
 ghost use Rattle.unit_files.specs.Open.{AllOpen};
 
@@ -15,6 +15,7 @@ use paper_tape::{Lpt, Ptp, Ptr};
 use scp_parser::read_command;
 use std::process::Abort;
 use std::test::Fail;
+use tape_unit::Mta;
 use tty_units::{Tti, Tto};
 
 /// What a line is to answer.
@@ -96,7 +97,7 @@ fn plays<U: Unit, F: Files>(
     notes: &[Note],
 ) -> Result<(), Fail>
     requires { map U.unit_state units.items
-        ≡ map initial_unit (disk ∷ printer ∷ reader ∷ punch ∷ clock ∷ keyboard ∷ teleprinter ∷ []) }
+        ≡ map initial_unit (disk ∷ tape ∷ printer ∷ reader ∷ punch ∷ clock ∷ keyboard ∷ teleprinter ∷ []) }
 {
     let mut session = Session::new(alloc, units, Keys::none(alloc), 1 << 48)?;
     session.command = 7;
@@ -119,6 +120,7 @@ fn session_of(
 ) -> Result<(), Fail> {
     let mut units: Vec<Box<dyn Unit>> = Vec::new(alloc);
     units.push(Box::new(alloc, Dsk::new())?)?;
+    units.push(Box::new(alloc, Mta::new())?)?;
     units.push(Box::new(alloc, Lpt::new())?)?;
     units.push(Box::new(alloc, Ptr::new())?)?;
     units.push(Box::new(alloc, Ptp::new())?)?;
@@ -137,7 +139,7 @@ fn commands_answer_and_print(rt: HostRuntime) -> Result<(), Fail> {
         (b"E 0,100000", 100, refuses(CommandFault::OutOfRange), b""),
         (b"D SIZE 1", 100, refuses(CommandFault::ReadOnlyName), b""),
         (b"E XYZ", 100, refuses(CommandFault::NoSuchName), b""),
-        (b"E MTA BUSY", 100, refuses(CommandFault::NotBuilt), b""),
+        (b"E TTO1 BUSY", 100, refuses(CommandFault::NotBuilt), b""),
         (b"E CLK SEL", 100, GOES, b"SEL:\t0\n"),
         (
             b"STEP",
@@ -203,7 +205,7 @@ fn texts_are_echoed_conditions_tested_and_memory_sized(rt: HostRuntime) -> Resul
 
 #[test]
 fn files_are_attached_shown_and_detached(rt: HostRuntime) -> Result<(), Fail> {
-    let cases: [Case; 21] = [
+    let cases: [Case; 27] = [
         (b"ATTACH -E PTR p", 0, refuses(CommandFault::NoFile), b""),
         (b"SHOW PTR", 100, GOES, b"PTR, not attached\n"),
         (b"ATTACH PTR p", 0, GOES, b""),
@@ -221,7 +223,23 @@ fn files_are_attached_shown_and_detached(rt: HostRuntime) -> Result<(), Fail> {
         (b"SHOW DSK", 100, GOES, b"DSK, attached to old, read only\n"),
         (b"DETACH DSK", 0, GOES, b""),
         (b"SHOW DSK", 100, GOES, b"DSK, not attached\n"),
-        (b"SHOW MTA3", 0, refuses(CommandFault::NotBuilt), b""),
+        (b"SHOW TTI1", 0, refuses(CommandFault::NotBuilt), b""),
+        (b"D MTA POS3 5", 0, GOES, b""),
+        (b"D MTA POS0 7", 0, GOES, b""),
+        (b"ATTACH -R MTA3 old", 0, GOES, b""),
+        (b"SHOW MTA", 100, GOES, b"MTA0, not attached\n"),
+        (
+            b"SHOW MTA3",
+            100,
+            GOES,
+            b"MTA3, attached to old, read only\n",
+        ),
+        (
+            b"E MTA POS0,POS3",
+            100,
+            GOES,
+            b"POS0:\t000000007\nPOS3:\t000000000\n",
+        ),
         (b"DETACH PTR", 0, GOES, b""),
         (b"ATTACH -R PTR p", 0, GOES, b""),
         (b"SHOW PTR", 9, refuses(CommandFault::Console), b"PTR, atta"),

@@ -159,7 +159,7 @@ fn ready<U: Unit>(machine: &mut Machine<U>, row: Row) -> Result<(), RegFault>
     machine.set_unit_reg(Kind::Ptr, STOP_IOE, row.stop_ioe)
 }
 
-fn load<U: Unit>(machine: &mut Machine<U>, words: &[u16])
+pub fn load<U: Unit>(machine: &mut Machine<U>, words: &[u16])
     ensures { machine.new.slots ≡ machine.old.slots }
 {
     let mut at = Addr::of_word(Word(0o100));
@@ -175,7 +175,7 @@ fn stands<U: Unit>(rt: &impl Abort, machine: &Machine<U>, after: Values) {
     }
 }
 
-fn has(rt: &impl Abort, files: &MemFiles, name: &str, wanted: &[u8]) {
+pub fn has(rt: &impl Abort, files: &MemFiles, name: &str, wanted: &[u8]) {
     match files.file_bytes(name) {
         Some(bytes) => assert_eq!(rt; bytes, wanted, "{name}"),
         None => assert!(rt; false, "{name}"),
@@ -183,7 +183,7 @@ fn has(rt: &impl Abort, files: &MemFiles, name: &str, wanted: &[u8]) {
 }
 
 /// A failed call on the file of a unit.
-fn failed(unit: UnitName, file: Option<FileId>, call: FileCall, done: u64) -> Stop {
+pub fn failed(unit: UnitName, file: Option<FileId>, call: FileCall, done: u64) -> Stop {
     Stop::FileFault(UnitFault {
         unit,
         file,

@@ -5,6 +5,7 @@ ghost use Rattle.nova_top.specs.Standard.{IsStandard};
 use crate::simulate;
 use clock_unit::Clk;
 use disk_unit::Dsk;
+use fault_notes::Subject;
 use host_files::{ByteSink, ByteSource, FileCall, MemFiles, Source};
 use paper_tape::{Lpt, Ptp, Ptr};
 use std::alloc::Global;
@@ -31,6 +32,8 @@ pub(super) struct Row<'a> {
     pub(super) prints: &'a [u8],
     pub(super) status: u8,
     pub(super) notes: &'a [Note],
+    /// For whom the calls of the first notes were made.
+    pub(super) subjects: &'a [Subject],
     /// Files behind it, by names; none where there is no such file.
     pub(super) after: &'a [(&'a str, Option<&'a [u8]>)],
 }
@@ -44,6 +47,7 @@ pub(super) const PLAIN: Row<'static> = Row {
     prints: b"",
     status: 0,
     notes: &[],
+    subjects: &[],
     after: &[],
 };
 
@@ -77,6 +81,9 @@ fn plays<U: Unit>(rt: &impl Abort, alloc: Global, units: Vec<U>, row: Row<'_>) -
     assert_eq!(rt; ending.faults.len(), row.notes.len());
     for (kept, note) in ending.faults.iter().zip(row.notes) {
         assert_eq!(rt; (kept.command, kept.time, kept.call, kept.done), *note);
+    }
+    for (kept, subject) in ending.faults.iter().zip(row.subjects) {
+        assert_eq!(rt; kept.subject, *subject);
     }
     for file in row.after {
         assert!(rt; files.file_bytes(file.0) == file.1, "{}", file.0);

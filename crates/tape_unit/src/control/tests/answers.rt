@@ -52,81 +52,32 @@ fn a_command_is_wanted_at_the_place_of_its_drive(rt: HostRuntime) -> Result<(), 
 
 #[test]
 fn stat_says_what_an_operation_came_to(rt: HostRuntime) -> Result<(), Fail> {
-    let rows: [(TapeGot, u32); 12] = [
-        (PLAIN, 1),
-        (
-            TapeGot {
-                flagged: true,
-                ..PLAIN
-            },
-            0o102001,
-        ),
-        (
-            TapeGot {
-                end: TapeEnd::Medium,
-                ..PLAIN
-            },
-            0o101001,
-        ),
-        (
-            TapeGot {
-                end: TapeEnd::Mark,
-                ..PLAIN
-            },
-            0o401,
-        ),
-        (
-            TapeGot {
-                end: TapeEnd::LoadPoint,
-                ..PLAIN
-            },
-            1,
-        ),
-        (TapeGot { place: 0, ..PLAIN }, 0o201),
-        (
-            TapeGot {
-                end: TapeEnd::LoadPoint,
-                place: 0,
-                ..PLAIN
-            },
-            0o201,
-        ),
-        (
-            TapeGot {
-                end: TapeEnd::Medium,
-                place: 0,
-                ..PLAIN
-            },
-            0o101201,
-        ),
-        (
-            TapeGot {
-                lost: true,
-                ..PLAIN
-            },
-            0o100021,
-        ),
-        (TapeGot { odd: true, ..PLAIN }, 3),
-        (
-            TapeGot {
-                odd: true,
-                lost: true,
-                ..PLAIN
-            },
-            0o100023,
-        ),
-        (
-            TapeGot {
-                odd: true,
-                flagged: true,
-                lost: true,
-                ..PLAIN
-            },
-            0o102023,
-        ),
+    // where it ended, the new place, the error flag, an odd length, words that were lost, and STAT
+    let rows: [(TapeEnd, u8, bool, bool, bool, u32); 12] = [
+        (TapeEnd::Plain, 8, false, false, false, 1),
+        (TapeEnd::Plain, 8, true, false, false, 0o102001),
+        (TapeEnd::Medium, 8, false, false, false, 0o101001),
+        (TapeEnd::Mark, 8, false, false, false, 0o401),
+        (TapeEnd::LoadPoint, 8, false, false, false, 1),
+        (TapeEnd::Plain, 0, false, false, false, 0o201),
+        (TapeEnd::LoadPoint, 0, false, false, false, 0o201),
+        (TapeEnd::Medium, 0, false, false, false, 0o101201),
+        (TapeEnd::Plain, 8, false, false, true, 0o100021),
+        (TapeEnd::Plain, 8, false, true, false, 3),
+        (TapeEnd::Plain, 8, false, true, true, 0o100023),
+        (TapeEnd::Plain, 8, true, true, true, 0o102023),
     ];
-    for (got, status) in rows {
+    for (end, place, flagged, odd, lost, status) in rows {
         let mut tape = tape([1, 0, 0, 9, 3, 5, 6, 7, 0])?;
+        let got = TapeGot {
+            end,
+            place: u64::from(place),
+            words: 0,
+            passed: 0,
+            odd,
+            flagged,
+            lost,
+        };
         let said = tape.got(2, Got::Tape(got));
         assert!(rt; said.queue == Keep && said.stop == UnitStop::Go, "{got:?}");
         assert_eq!(rt;
