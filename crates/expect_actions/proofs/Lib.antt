@@ -2,3 +2,4 @@ pub mod SplitLemmas
 pub mod LineLemmas
 pub mod FollowLemmas
 pub mod AnswerLemmas
+pub mod SendLemmas

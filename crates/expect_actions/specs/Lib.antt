@@ -1,1 +1,2 @@
 pub mod KeysFile
+pub mod Sends
