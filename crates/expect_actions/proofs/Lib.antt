@@ -3,3 +3,5 @@ pub mod LineLemmas
 pub mod FollowLemmas
 pub mod AnswerLemmas
 pub mod SendLemmas
+pub mod ResultLemmas
+pub mod ActionLemmas
