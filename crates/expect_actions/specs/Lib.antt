@@ -1,1 +1,3 @@
 pub mod KeysFile
+pub mod Sends
+pub mod Actions

@@ -1,0 +1,19 @@
+use Rattle.std.proofs.Common.{◌≡◌, ℕ, ◌+◌, ◌<◌, ◌^◌, ◌∷◌, [], ◌++◌, min, List, length, drop, get_or, sym, ap, ◌∙◌, append_assoc, rules, arith}
+use Rattle.std.proofs.lemmas.List.{at_drop_more}
+use Rattle.expect_actions.specs.Sends.{Send, timed}
+use Rattle.expect_actions.proofs.SendLemmas.{queue_more}
+use Rattle.expect_actions.proofs.sends.queue.Goals as goal
+
+pub loop-b-preserved : goal.loop-b-preserved
+loop-b-preserved c =
+    let here = length c.loop-b.list.items in
+    let pushed : c.push_back.new.self.items ≡ c.loop-b.list.items ++ (c.loop-b.due, get_or c.args.text.now c.loop-b.b-index 0) ∷ [] = search rules in
+    record {
+      rest =
+          queue_more c.args.text.now c.loop-b.b-index c.args.delay c.loop-b.due c.min-due.result c.loop-b.list.items c.push_back.new.self.items
+          c.loop-b-test.true c.loop-b.invariant.within (search rules) pushed
+          ∙ c.loop-b.invariant.rest;
+      within = search rules;
+      long = search rules;
+      capacity = search rules;
+    }
