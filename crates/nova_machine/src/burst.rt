@@ -5,42 +5,62 @@ ghost use Rattle.nova_machine.specs.Run.{last_time};
 
 use crate::machine::Machine;
 use crate::run::LAST_TIME;
-use nova_processor::{Burst, Step};
+use expect_actions::{Breaks, Watch};
+use nova_processor::{Burst, BurstEnd, Nowhere, Stops};
+use nova_word::Addr;
 use unit_trait::Unit;
+
+/// The addresses at which breaks are.
+struct AtBreaks<'a>(&'a Breaks);
+
+impl<'a> Stops for AtBreaks<'a> {
+    ghost use Rattle.expect_actions.specs.Breaks.{has_break};
+
+    ghost stops = { λ s a. has_break a s.0.now.list };
+
+    #[inline(always)]
+    fn is_at(&self, address: Addr) -> bool {
+        self.0.has(address)
+    }
+}
 
 impl<U: Unit> Machine<U> {
     ghost use Rattle.nova_machine.specs.Bursts.{Bursts, IsCalm, passed_by};
 
     /// Makes turns, as many at the most, while nothing but an instruction of the processor alone can come. Where a word
     /// of input and output is next and begins a loop that waits for a flag, the rounds of the loop pass too.
-    pub(crate) fn burst(&mut self, most: u64) -> Burst
+    pub(crate) fn burst(&mut self, most: u64, watch: &Watch) -> Burst
         ensures few { result.done ≤ most }
-        ensures told { Bursts most result.done result.end self.old self.new }
+        ensures told { Bursts watch.now most result.done result.end self.old self.new }
         ensures slots { self.new.slots ≡ self.old.slots }
         ensures later { self.old.time ≤ self.new.time }
     {
-        let burst = self.work(most);
+        let burst = self.work(most, watch);
         match burst.end {
-            Step::Executed | Step::ChainLimit => burst,
-            Step::Transfer => {
-                let waited = self.wait(most - burst.done);
+            BurstEnd::Spent | BurstEnd::ChainLimit | BurstEnd::AtStop => burst,
+            BurstEnd::Transfer => {
+                let waited = self.wait(most - burst.done, watch);
                 Burst {
                     done: burst.done + waited,
-                    end: Step::Transfer,
+                    end: BurstEnd::Transfer,
                 }
             }
         }
     }
 
     /// Makes turns, as many at the most, of instructions of the processor alone.
-    fn work(&mut self, most: u64) -> Burst
+    fn work(&mut self, most: u64, watch: &Watch) -> Burst
         ensures few { result.done ≤ most }
-        ensures told { Bursts most result.done result.end self.old self.new }
+        ensures told { Bursts watch.now most result.done result.end self.old self.new }
         ensures slots { self.new.slots ≡ self.old.slots }
         ensures later { self.old.time ≤ self.new.time }
     {
         let budget = most.min(LAST_TIME - self.time).min(self.calm());
-        let burst = self.processor.burst(budget);
+        let burst = if watch.breaks.is_empty() {
+            self.processor.burst(budget, &Nowhere)
+        } else {
+            self.processor.burst(budget, &AtBreaks(&watch.breaks))
+        };
         self.pass_time(burst.done as u32);
         burst
     }
