@@ -5,3 +5,4 @@ pub mod AnswerLemmas
 pub mod SendLemmas
 pub mod ResultLemmas
 pub mod ActionLemmas
+pub mod BreakLemmas

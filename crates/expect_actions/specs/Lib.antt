@@ -1,3 +1,4 @@
 pub mod KeysFile
 pub mod Sends
 pub mod Actions
+pub mod Breaks
