@@ -6,6 +6,7 @@ is passed over in silence.
 """
 
 import re
+import textwrap
 from dataclasses import dataclass, field
 
 WORD = r"[^\W\d][\w']*"
@@ -205,9 +206,13 @@ def names_of_equation(items, is_constructor):
     if "=" not in items:
         raise SourceError(f"no equation: {items[:6]}")
     place = items.index("=")
-    words = set(flat(items[:place]))
-    used = {word for word in words if is_constructor(word)}
-    return used | free_names(items[place + 1:], {word for word in words - used if is_word(word)})
+    used = {word for word in flat(items[:place]) if is_constructor(word)}
+    return used | free_names(items[place + 1:], bound_by_equation(items, is_constructor))
+
+
+def bound_by_equation(items, is_constructor):
+    """What the pattern of an equation binds, and the name of its function."""
+    return {word for word in flat(items[:items.index("=")]) if is_word(word) and not is_constructor(word)}
 
 
 def flat(items):
@@ -263,9 +268,22 @@ class Specs:
         else:
             names = free_names(parsed(chunks[0][DEFINES.match(chunks[0]).end():]), ())
             for chunk in chunks[1:]:
-                names |= names_of_equation(parsed(chunk), lambda word: self.is_constructor(word, is_outer_constructor))
+                names |= self.names_of_part(chunk, lambda word: self.is_constructor(word, is_outer_constructor))
         lines = sum(code_lines(chunk) for chunk in chunks)
         self.definitions[name] = Definition(name, comment, lines, names, self.scope)
+
+    def names_of_part(self, text, is_constructor):
+        """The names of an equation, and of the functions that stand below its `where`, which see what it binds."""
+        outer, _, below = text.partition("\n  where\n")
+        found = names_of_equation(parsed(outer), is_constructor)
+        bound = bound_by_equation(parsed(outer), is_constructor)
+        local = self.chunks(textwrap.dedent(below))
+        bound.update(name for name, _, _ in local)
+        for _, _, chunks in local:
+            found |= free_names(parsed(chunks[0][DEFINES.match(chunks[0]).end():]), bound)
+            for chunk in chunks[1:]:
+                found |= names_of_equation(parsed(chunk), is_constructor)
+        return {name for name in found if name.split(".")[0] not in bound}
 
     def names_of_type(self, name, kind, text):
         """The names of a record or a data type: parameters, and then fields or constructors with their types."""

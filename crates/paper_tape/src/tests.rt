@@ -238,6 +238,9 @@ fn serve<U: Unit>(
     if registers(&unit) != before || unit.reg(5) == LAST && matches!(got, Done | Byte(_)) {
         return Ok((Want::Nothing, before, UnitStop::Go));
     }
+    if matches!(got, Got::Tape(_)) {
+        return Ok((Want::Nothing, before, UnitStop::Go));
+    }
     let said = unit.got(0, got);
     match said.queue {
         Keep => Ok((want, registers(&unit), said.stop)),
