@@ -11,7 +11,6 @@ use Rattle.unit_trait.specs.declared.kind.UnitName.{UnitName}
 use Rattle.unit_trait.specs.declared.calls.TapeOrder.{TapeOrder}
 use Rattle.unit_trait.specs.declared.calls.Got.{Got}
 use Rattle.unit_trait.specs.declared.calls.Want.TheVariants as want
-use Rattle.nova_machine.specs.Wants.{key_stop}
 use Rattle.unit_files.specs.Attachments.{Attachment, Held, attachments_of, attachment_at, file_place, read_only_of, read_only_at}
 use Rattle.unit_files.specs.Acts.{Failure}
 use Rattle.unit_files.specs.Causes.{IsQuiet, IsFaultOf}
@@ -100,7 +99,3 @@ on-file result tells slots unit file opened order files files' memory memory' al
       files_are = files_are are_told ∙ ap (λ (n : List ℕ). changed files n (image_operated fault memory order)) name ∙ sym (files-of fault a b memory files order holds.attachment free);
     }
 
--- no key comes to a tape
-pub no-key-comes : (key : Option ℕ) (order : TapeOrder) → key_stop key (want.Tape order) ≡ None
-no-key-comes None order = refl
-no-key-comes (Some k) order = refl

@@ -6,32 +6,48 @@ use Rattle.nova_machine.specs.Notes.{UnitNote}
 use Rattle.nova_machine.specs.Seen.{Seen, seen, erased, with_machine}
 use Rattle.nova_machine.specs.Parts.{Part, silent, then_part}
 use Rattle.nova_machine.specs.Turned.{Turned, goes_on, still}
-use Rattle.nova_machine.specs.Turn.{is_interrupted, enter, interrupt, prepared}
+use Rattle.nova_machine.specs.Turn.{is_interrupted, enter, interrupt, tested, tested_unless, attended, prepared}
 use Rattle.nova_machine.specs.Service.{serving}
 use Rattle.nova_machine.specs.Quiet.{IsPlain}
 use Rattle.nova_machine.specs.Comes.{IsWhole}
 use Rattle.nova_machine.proofs.Serving.{serving-none}
+use Rattle.expect_actions.specs.Watch.{WatchState}
+use Rattle.expect_actions.specs.Breaks.{has_break}
+use Rattle.expect_actions.proofs.BreakLemmas.{untested}
 
 interrupt-none : (m : MachineState) → is_interrupted m ≡ false → interrupt m ≡ goes_on m
 unfolding interrupt
 interrupt-none m quiet = ap (λ (b : Bool). if b then enter m else goes_on m) quiet
 
-prepared-is : (note : Option UnitNote) (s : Seen) → prepared note s ≡ then_part (serving note s) (λ served. still served (interrupt served.machine))
+attended-is : (note : Option UnitNote) (s : Seen) → attended note s ≡ then_part (serving note s) (λ served. still served (interrupt served.machine))
+unfolding attended
+attended-is note s = refl
+
+prepared-is : (note : Option UnitNote) (first : Bool) (s : Seen) → prepared note first s ≡ then_part (attended note s) (λ at. tested_unless first at)
 unfolding prepared
-prepared-is note s = refl
+prepared-is note first s = refl
+
+-- where no break is at PC, none is tested
+tested-none : (s : Seen) → has_break s.machine.processor.cpu.pc s.watch.breaks.list ≡ false → tested s ≡ silent None s
+unfolding tested
+tested-none s none = untested-seen s none
+
+pub plain-prepared : (note : Option UnitNote) (s : Seen) → IsPlain s.machine → has_break s.machine.processor.cpu.pc s.watch.breaks.list ≡ false → prepared note false s ≡ silent None s
+plain-prepared note s plain none =
+    prepared-is note false s ∙ ap (λ (p : Part). then_part p (λ at. tested_unless false at)) (plain-attended note s plain) ∙ ap (λ (p : Part). p) (tested-none s none)
 
 -- no numbers of files are looked at
 plain-erased : (m : MachineState) → IsPlain m → IsPlain (erased m)
 plain-erased m plain = record { none = plain.none; uninterrupted = plain.uninterrupted }
 
-pub plain-prepared : (note : Option UnitNote) (s : Seen) → IsPlain s.machine → prepared note s ≡ silent None s
-plain-prepared note s plain =
-    prepared-is note s ∙ ap (λ (p : Part). then_part p (λ served. still served (interrupt served.machine))) (serving-none note s plain.none)
+pub plain-attended : (note : Option UnitNote) (s : Seen) → IsPlain s.machine → attended note s ≡ silent None s
+plain-attended note s plain =
+    attended-is note s ∙ ap (λ (p : Part). then_part p (λ served. still served (interrupt served.machine))) (serving-none note s plain.none)
     ∙ ap (λ (t : Turned). silent t.stop (with_machine s t.machine)) (interrupt-none s.machine plain.uninterrupted)
 
-pub plain-whole : (note : Option UnitNote) (keys : List (ℕ × ℕ)) (files : List NamedBytes) (m : MachineState) (tells : Bool) (b : List ℕ) → IsPlain m
-    → IsWhole (prepared note (seen keys files m)) None (seen keys files m) tells b b
-plain-whole note keys files m tells b plain =
-    let s = seen keys files m in
+pub plain-whole : (note : Option UnitNote) (watch : WatchState) (keys : List (ℕ × ℕ)) (files : List NamedBytes) (m : MachineState) (tells : Bool) (b : List ℕ) → IsPlain m
+    → IsWhole (attended note (seen watch keys files m)) None (seen watch keys files m) tells b b
+plain-whole note watch keys files m tells b plain =
+    let s = seen watch keys files m in
     let P : Part → Type 0 = λ p. IsWhole p None s tells b b in
-    subst P (sym (plain-prepared note s (plain-erased m plain))) (record { stop_is = refl; after_is = refl; written = λ _. sym (append-nil b) })
+    subst P (sym (plain-attended note s (plain-erased m plain))) (record { stop_is = refl; after_is = refl; written = λ _. sym (append-nil b) })

@@ -76,7 +76,7 @@ behind_entry m = with_memory (record m { ints = record m.ints { on = false } }) 
 pub record IsBroken (note : Option UnitNote) (first : Bool) (s : Seen) (k : ℕ) : Type 0 where
   pub later : first ≡ false
   pub attends : (attended note s).stop ≡ None
-  pub stops : stop_at (attended note s).after.machine.processor.cpu.pc s.watch.breaks.list ≡ Some k
+  pub stops : stop_at (attended note s).after.machine.processor.cpu.pc (attended note s).after.watch.breaks.list ≡ Some k
 
 pub record TurnStops : Type 0 where
   -- a service that stops ends the turn there, and every other turn goes on from it
