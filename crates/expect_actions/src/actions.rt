@@ -1,5 +1,5 @@
 ghost use Rattle.std.specs.Prelude.{◌≡◌, ◌+◌, ◌<◌, ◌≤◌, ◌++◌, ◌↔◌, [], length, drop, slice_get, option_map};
-ghost use Rattle.std.specs.Prelude.{IfOk, OnOk, OnErr, IsErr, IsTrue};
+ghost use Rattle.std.specs.Prelude.{IfOk, IfSome, OnOk, OnErr, IsErr, IsTrue};
 ghost use Rattle.std.specs.VecDeque.{deque_capacity};
 ghost use Rattle.expect_actions.specs.Actions.{split, first_written, ActionsMakeTheText, ActionsAreWhole};
 
@@ -64,11 +64,15 @@ impl Actions {
     /// leaves `out`.
     pub fn take(&mut self, out: &mut [u8; 512]) -> Option<usize>
         ensures count { result ≡ option_map length (slice_get self.old 0) }
+        ensures short { IfSome result (λ count. count ≤ 512) }
         ensures text { out.new ≡ first_written self.old out.old }
         ensures rest { self.new ≡ drop 1 self.old }
     {
         match self.list.pop_front() {
-            Some(action) => Some(action.copy_to(out)),
+            Some(action) => {
+                let _bytes = action.len();
+                Some(action.copy_to(out))
+            }
             None => None,
         }
     }
