@@ -12,7 +12,7 @@ use Rattle.nova_machine.specs.Seen.{Seen, seen, erased, with_machine}
 use Rattle.nova_machine.specs.Parts.{Part, silent, then_part}
 use Rattle.nova_machine.specs.Turned.{Turned, still}
 use Rattle.expect_actions.specs.Watch.{WatchState}
-use Rattle.nova_machine.specs.Turn.{fetch, interrupt, tested, tested_unless, attended, prepared, turn}
+use Rattle.nova_machine.specs.Turn.{fetch, interrupt, breaks_tested, breaks_tested_unless, attended, prepared, turn}
 use Rattle.nova_machine.specs.Service.{serving}
 use Rattle.nova_machine.specs.Comes.{Comes, IsOwn}
 use Rattle.nova_machine.proofs.Parts.{silent-comes, comes-then, comes-stopped}
@@ -26,7 +26,7 @@ attended-is : (note : Option UnitNote) (s : Seen) → attended note s ≡ then_p
 unfolding attended
 attended-is note s = refl
 
-prepared-is : (note : Option UnitNote) (first : Bool) (s : Seen) → prepared note first s ≡ then_part (attended note s) (λ at. tested_unless first at)
+prepared-is : (note : Option UnitNote) (first : Bool) (s : Seen) → prepared note first s ≡ then_part (attended note s) (λ at. breaks_tested_unless first at)
 unfolding prepared
 prepared-is note first s = refl
 
@@ -57,7 +57,7 @@ attended-comes watch keys files s mid last r tells b a served own stops is =
 
 -- they go on, and the breaks are looked for, but in a run's first turn
 pub prepared-comes : (watch watch' : WatchState) (keys : List (ℕ × ℕ)) (files : List NamedBytes) (s : Seen) (mid : MachineState) (r : Option Stop) (tells : Bool) (b a : List ℕ)
-    → Comes (attended None s) None (seen watch keys files mid) tells b a → IsOwn r → tested (seen watch keys files mid) ≡ silent r (seen watch' keys files mid)
+    → Comes (attended None s) None (seen watch keys files mid) tells b a → IsOwn r → breaks_tested (seen watch keys files mid) ≡ silent r (seen watch' keys files mid)
     → Comes (prepared (unit_note r) false s) r (seen watch' keys files mid) tells b a
 prepared-comes watch watch' keys files s mid r tells b a ready own is =
     let P : Part → Type 0 = λ p. Comes p r (seen watch' keys files mid) tells b a in
@@ -65,7 +65,7 @@ prepared-comes watch watch' keys files s mid r tells b a ready own is =
     let T : Part → Type 0 = λ p. Comes p r (seen watch' keys files mid) tells a a in
     subst Q (sym (own-note r own))
     (subst P (sym (prepared-is None false s))
-    (comes-then (attended None s) (λ at. tested_unless false at) (seen watch keys files mid) r (seen watch' keys files mid) tells b a a ready
+    (comes-then (attended None s) (λ at. breaks_tested_unless false at) (seen watch keys files mid) r (seen watch' keys files mid) tells b a a ready
     (subst T (sym is) (silent-comes r r (seen watch' keys files mid) (seen watch' keys files mid) tells a own refl refl))))
 
 pub first-comes : (watch : WatchState) (keys : List (ℕ × ℕ)) (files : List NamedBytes) (s : Seen) (mid : MachineState) (tells : Bool) (b a : List ℕ)
@@ -73,7 +73,7 @@ pub first-comes : (watch : WatchState) (keys : List (ℕ × ℕ)) (files : List 
 first-comes watch keys files s mid tells b a ready =
     let P : Part → Type 0 = λ p. Comes p None (seen watch keys files mid) tells b a in
     subst P (sym (prepared-is None true s))
-    (comes-then (attended None s) (λ at. tested_unless true at) (seen watch keys files mid) None (seen watch keys files mid) tells b a a ready
+    (comes-then (attended None s) (λ at. breaks_tested_unless true at) (seen watch keys files mid) None (seen watch keys files mid) tells b a a ready
     (silent-comes None None (seen watch keys files mid) (seen watch keys files mid) tells a tt refl refl))
 
 -- a service or an entry that stops
@@ -81,7 +81,7 @@ pub attended-stops : (note : Option UnitNote) (first : Bool) (s last : Seen) (st
     → Comes (attended note s) (Some stop) last tells b a → Comes (prepared note first s) (Some stop) last tells b a
 attended-stops note first s last stop tells b a ends =
     let P : Part → Type 0 = λ p. Comes p (Some stop) last tells b a in
-    subst P (sym (prepared-is note first s)) (comes-stopped (attended note s) (λ at. tested_unless first at) stop last tells b a ends)
+    subst P (sym (prepared-is note first s)) (comes-stopped (attended note s) (λ at. breaks_tested_unless first at) stop last tells b a ends)
 
 -- what comes before the instruction goes on, and it is executed
 pub turn-comes : (first : Bool) (watch : WatchState) (keys : List (ℕ × ℕ)) (files : List NamedBytes) (s : Seen) (mid last : MachineState) (r : Option Stop) (tells : Bool) (b a : List ℕ)

@@ -70,18 +70,18 @@ unfoldable pub attended : Option UnitNote → Seen → Part
 attended note s = then_part (serving note s) (λ served. still served (interrupt served.machine))
 
 -- the breaks are tested at PC
-unfoldable pub tested : Seen → Part
-tested s =
+unfoldable pub breaks_tested : Seen → Part
+breaks_tested s =
     silent (option_map Break (stop_at s.machine.processor.cpu.pc s.watch.breaks.list))
     (record s { watch = record s.watch { breaks = after_test s.machine.processor.cpu.pc s.watch.breaks } })
 
 -- a run's first turn tests none
-abbrev pub tested_unless : Bool → Seen → Part
-tested_unless first s = if first then silent None s else tested s
+abbrev pub breaks_tested_unless : Bool → Seen → Part
+breaks_tested_unless first s = if first then silent None s else breaks_tested s
 
 -- what comes before the instruction
 unfoldable pub prepared : Option UnitNote → Bool → Seen → Part
-prepared note first s = then_part (attended note s) (λ at. tested_unless first at)
+prepared note first s = then_part (attended note s) (λ at. breaks_tested_unless first at)
 
 -- A turn, which may be a run's first: what comes before the instruction, and the instruction. Where a service, the interrupt
 -- or a break stops, the turn ends there. One call on a unit's file may fail in it.

@@ -27,7 +27,7 @@ impl<U: Unit> Machine<U> {
     ghost use Rattle.nova_machine.specs.Machine.{on_processor};
     ghost use Rattle.nova_processor.specs.Instruction.{arithmetic, memory_reference};
     ghost use Rattle.nova_machine.specs.Turned.{begun, ticked};
-    ghost use Rattle.nova_machine.specs.Turn.{refer, execute, fetch, enter, interrupt, tested, attended, prepared, turn, is_interrupted};
+    ghost use Rattle.nova_machine.specs.Turn.{refer, execute, fetch, enter, interrupt, breaks_tested, attended, prepared, turn, is_interrupted};
 
     /// A turn. First the units are served whose events are due, in the order of their events. Then, where interrupts
     /// are on and do not wait and a unit asks for one, it is entered: interrupts go off, PC goes to location 0, and the
@@ -99,10 +99,10 @@ impl<U: Unit> Machine<U> {
 
     /// Tests the breaks at PC.
     #[inline]
-    #[tactic(auto, unfolding(crate::specs::Turn::tested))]
+    #[tactic(auto, unfolding(crate::specs::Turn::breaks_tested))]
     fn test_breaks(&self, watch: &mut Watch) -> Option<Stop>
         ensures told { (keys : List (ℕ × ℕ)) (files : List NamedBytes) →
-            tested (seen watch.old keys files self.now) ≡ silent result (seen watch.new keys files self.now) }
+            breaks_tested (seen watch.old keys files self.now) ≡ silent result (seen watch.new keys files self.now) }
         ensures other { IsOwn result }
         ensures unit { IfSome result HasUnit }
     {

@@ -16,7 +16,7 @@ returns-clause-told g c =
     let few : budget ≤ c.args.most = search rules in
     let burst : IsBurst old.processor budget c.burst-burst.result.done c.burst-burst.result.end c.burst-burst.new.self = search rules in
     let is : c.pass_time.new.self ≡ passed_by c.burst-burst.result.done (record old { processor = c.burst-burst.new.self }) = search rules in
-    burst-told c.args.most c.burst-burst.result.done budget c.burst-burst.result.end old c.pass_time.new.self c.burst-burst.new.self calm last few burst is
+    burst-told _ c.args.watch.now c.args.most c.burst-burst.result.done budget c.burst-burst.result.end old c.pass_time.new.self c.burst-burst.new.self ? calm last few burst is
 
 pub returns-clause-slots : goal.returns-clause-slots
 returns-clause-slots g c =
