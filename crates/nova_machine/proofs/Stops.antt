@@ -231,6 +231,7 @@ IsUnitStop (Some (UnitNone u)) = Unit {0}
 IsUnitStop (Some (BadImage u place)) = Unit {0}
 IsUnitStop (Some (FileFault f)) = Unit {0}
 IsUnitStop (Some Wru) = Unit {0}
+IsUnitStop (Some (Expect k)) = Unit {0}
 IsUnitStop None = Unit {0}
 IsUnitStop other = ⊥
 
@@ -471,7 +472,7 @@ chain-from note first s is =
       | inr more ↦ elim more [
         | inl entered ↦ inl entered.1
         | inr last ↦ elim last [
-          | inl broken ↦ absurd (cc)
+          | inl broken ↦ let other = broken.1.0 in absurd (cc)
           | inr reached ↦ inr (reached.0, (stops-fetch (ready note first s)).chain_limit.0 reached.1)
         ]
       ]
@@ -499,7 +500,7 @@ broken-from note first s k is =
     elim (comes-from note first s (Break k) is).from [
       | inl served ↦ absurd (not-served note s (Break k) (λ h. h) served)
       | inr more ↦ elim more [
-        | inl entered ↦ absurd (cc)
+        | inl entered ↦ let other = entered.0 in absurd (cc)
         | inr last ↦ elim last [
           | inl broken ↦ same-break broken.0 broken.1.0 broken.1.1
           | inr reached ↦ absurd ((stops-fetch (ready note first s)).not_break k reached.1)
