@@ -115,11 +115,7 @@ impl Expects {
         ensures entry { IfSome result (λ e. slice_get self.now.list k ≡ Some (record { count = e.0; text = e.1.now; actions = e.2.now })) }
     {
         let entry = self.list.get(k)?;
-        Some((
-            entry.count,
-            entry.text.as_slice(),
-            entry.actions.as_slice(),
-        ))
+        Some((entry.count, entry.text.as_slice(), entry.actions.as_slice()))
     }
 
     /// The actions of the expect that stopped last; an empty text before the first stop.
@@ -153,7 +149,8 @@ impl Expects {
 fn match_at(list: &[Expect], printed: &[u8]) -> Option<usize>
     ensures { result ≡ match_at printed.now list.now }
 {
-    list.iter().position(|e| printed.ends_with(e.text.as_slice()))
+    list.iter()
+        .position(|e| printed.ends_with(e.text.as_slice()))
 }
 
 #[cfg(test)]
