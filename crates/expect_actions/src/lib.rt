@@ -4,6 +4,7 @@
 
 pub mod actions;
 pub mod breaks;
+pub mod expects;
 pub mod full;
 pub mod keys;
 mod keys_lines;
@@ -14,6 +15,7 @@ mod texts;
 
 pub use actions::{Actions, actions_are_pieces};
 pub use breaks::Breaks;
+pub use expects::Expects;
 pub use full::{AddFault, Full};
 pub use keys::{Keys, KeysFault, keys_files_have_one_answer};
 pub use sends::{Sends, sends_stay_in_time};
