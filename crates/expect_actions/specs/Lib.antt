@@ -3,3 +3,4 @@ pub mod Sends
 pub mod Actions
 pub mod Breaks
 pub mod Expects
+pub mod Watch

@@ -1,5 +1,5 @@
 //! What comes to a run from outside it, and what stops it and goes on: keys that are typed at given times, bytes that are
-//! sent to the keyboard, breaks, and the actions that wait to be done.
+//! sent to the keyboard, breaks, expects, and the actions that wait to be done.
 #![tactic(auto)]
 
 pub mod actions;
@@ -12,6 +12,7 @@ mod marks;
 pub mod sends;
 mod splits;
 mod texts;
+pub mod watch;
 
 pub use actions::{Actions, actions_are_pieces};
 pub use breaks::Breaks;
@@ -20,3 +21,4 @@ pub use full::{AddFault, Full};
 pub use keys::{Keys, KeysFault, keys_files_have_one_answer};
 pub use sends::{Sends, sends_stay_in_time};
 pub use std::alloc::AllocError as OutOfMemory;
+pub use watch::Watch;
