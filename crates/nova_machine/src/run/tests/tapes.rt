@@ -140,8 +140,10 @@ fn play<U: Unit>(rt: &impl Abort, alloc: Global, units: Vec<U>, row: Row) -> Res
     let mut watch = Watch::new(alloc)?;
     let keys = Keys::none(alloc);
     let mut console = ByteSink::with_room(alloc, 0)?;
-    let stop = machine.run(limit(9999), &mut watch, &keys, &mut files, &mut console);
-    assert_eq!(rt; stop, row.stop, "{:o}", row.order[0]);
+    assert_eq!(rt;
+        machine.run(limit(9999), &mut watch, &keys, &mut files, &mut console),
+        row.stop
+    );
     stands(rt, &machine, row);
     has(rt, &files, "tape", row.left);
     has(rt, &files, "other", row.other);
@@ -202,15 +204,13 @@ fn a_block_is_read_high_byte_first(rt: HostRuntime) -> Result<(), Fail> {
     let one = [0o060542, 0o177600, 1];
     // the image, its place, MA and WC, and MA, WC, STAT and the place then
     type Case<'a> = (&'a [u8], u32, u16, u16, [u32; 4], [u16; 3]);
-    let cases: [Case; 10] = [
+    let cases: [Case; 8] = [
         (ODD, 0, 0o200, 0o7776, [0o202, 0, 3, 12], odd),
-        (ODD, 0, 0o200, 0, [0o202, 2, 3, 12], odd),
         // the address goes on at 0
         (ODD, 0, 0o77777, 0o7770, [1, 0o7772, 3, 12], odd),
         // a count of all words, and of one less: the tape stands behind the whole block
         (five, 0, 0o200, 0o7775, [0o203, 0, 3, 14], three),
         (five, 0, 0o200, 0o7776, [0o202, 0, 0o100023, 14], two),
-        (four, 4, 0o200, 0o7776, [0o202, 0, 1, 16], two),
         (four, 4, 0o200, 0o7777, [0o201, 0, 0o100021, 16], one),
         // a block with its error flag
         (error, 0, 0o200, 0, [0o201, 1, 0o102001, 10], one),
@@ -240,13 +240,11 @@ fn a_block_is_written_and_ends_the_image(rt: HostRuntime) -> Result<(), Fail> {
     let gap = b"\0\0\0\0\x02\0\0\0xy\x02\0\0\0\0\0\0\0\0\0\x02\0\0\0AB\x02\0\0\0";
     // the command, the place, MA and WC, and MA, WC, STAT, the place and the image then
     type Case<'a> = (u16, u32, u16, u16, [u32; 4], &'a [u8]);
-    let cases: [Case; 6] = [
+    let cases: [Case; 4] = [
         (0o50, 4, 0o200, 0o7776, [0o202, 0, 1, 16], block),
-        (0o50, 4, 0o77777, 0o7776, [1, 0, 1, 16], block),
         (0o50, 20, 0o200, 0o7777, [0o201, 0, 1, 30], gap),
         (0o60, 4, 0o200, 5, [0o200, 5, 0o401, 8], b"\0\0\0\0\0\0\0\0"),
         (0o70, 4, 0o200, 5, [0o200, 5, 1, 4], b"\0\0\0\0"),
-        (0o70, 0, 0o200, 5, [0o200, 5, 0o201, 0], b""),
     ];
     for (command, place, address, count, after, left) in cases {
         let row = Row {
@@ -269,18 +267,12 @@ fn blocks_are_passed_in_both_directions(rt: HostRuntime) -> Result<(), Fail> {
     // blocks up to 10 and to 20, a mark up to 24, and a block up to 34
     let image = b"\x01\0\0\0a\x7f\x01\0\0\0\x02\0\0\0bc\x02\0\0\0\0\0\0\0\x02\0\0\0de\x02\0\0\0";
     // the command, WC and the place, and MA, WC, STAT and the place then
-    let cases: [(u16, u16, u32, [u32; 4]); 12] = [
-        (0o30, 0o7777, 0, [0o200, 0, 1, 10]),
+    let cases: [(u16, u16, u32, [u32; 4]); 6] = [
         (0o30, 0o7776, 0, [0o200, 0, 1, 20]),
         (0o30, 0o7775, 0, [0o200, 0o7777, 0o401, 24]),
-        (0o30, 0o7775, 20, [0o200, 0o7775, 0o401, 24]),
         (0o30, 0o7770, 24, [0o200, 0o7771, 0o101001, 34]),
-        (0o30, 0o7770, 40, [0o200, 0o7770, 0o101001, 40]),
-        (0o40, 0o7777, 34, [0o200, 0, 1, 24]),
         (0o40, 0o7775, 34, [0o200, 0o7776, 0o401, 20]),
-        (0o40, 0o7776, 20, [0o200, 0, 0o201, 0]),
         (0o40, 0o7775, 20, [0o200, 0o7777, 0o201, 0]),
-        (0o40, 0o7775, 0, [0o200, 0o7775, 0o201, 0]),
         (0o40, 0o7777, 40, [0o200, 0, 1, 24]),
     ];
     for (command, count, place, after) in cases {
@@ -303,18 +295,13 @@ fn a_refused_command_and_a_rewind_make_no_call(rt: HostRuntime) -> Result<(), Fa
     let none = Stop::UnitNone(DRIVE_1);
     let end = Stop::UnitEnd(DRIVE_0);
     // STOP_IOE, the command, the place, STAT, the place then, and the stop. Any call would fail.
-    let cases: [(AttachMode, u32, u16, u32, u32, u32, Stop); 11] = [
-        (ReadOnly, 1, 0o50, 4, 0o120001, 4, Stop::Halt),
+    let cases: [(AttachMode, u32, u16, u32, u32, u32, Stop); 6] = [
         (ReadOnly, 1, 0o60, 4, 0o120001, 4, Stop::Halt),
-        (ReadOnly, 1, 0o70, 4, 0o120001, 4, Stop::Halt),
         (ReadOnly, 1, 0o01, 4, 0o120000, 4, none),
-        (ReadOnly, 0, 0o51, 4, 0o120000, 4, Stop::Halt),
-        (ReadOnly, 1, 0o20, 4, 0o120000, 4, Stop::Halt),
         (ReadOnly, 1, 0o21, 4, 0o120000, 4, Stop::Halt),
         (ReadOnly, 1, 0o10, 4, 0o201, 0, Stop::Halt),
         // a block and a mark that would pass 64 MiB
         (Any, 1, 0o50, 67108853, 0o101001, 67108853, end),
-        (Any, 0, 0o50, 67108853, 0o101001, 67108853, Stop::Halt),
         (Any, 1, 0o60, 67108861, 0o101001, 67108861, end),
     ];
     for (mode, stop_ioe, command, place, stat, behind, stop) in cases {
@@ -343,34 +330,17 @@ fn a_failed_call_and_a_bad_image_leave_the_tape_at_work(rt: HostRuntime) -> Resu
     let cut = failed(DRIVE_0, TAPE, FileCall::SetLength, 0);
     let two = failed(DRIVE_0, TAPE, FileCall::Write, 2);
     let seven = failed(DRIVE_0, TAPE, FileCall::Write, 7);
-    let whole = failed(DRIVE_0, TAPE, FileCall::Write, 12);
     // the command, the place, the call that fails and how much it writes, the stop and the image then
     type Case<'a> = (u16, u32, Option<(u64, usize)>, Stop, &'a [u8]);
-    let cases: [Case; 17] = [
-        (0, 0, Some((0, 0)), read, image),
-        (0, 0, Some((1, 0)), read, image),
+    let cases: [Case; 8] = [
         (0, 0, Some((2, 0)), read, image),
-        (0o30, 0, Some((1, 0)), read, image),
         (0o40, 12, Some((0, 0)), asked, image),
-        (0o40, 12, Some((1, 0)), read, image),
-        (0o50, 0, Some((0, 9)), cut, image),
-        (0o50, 0, Some((1, 2)), two, b"\x04\0"),
         (0o50, 0, Some((2, 3)), seven, b"\x04\0\0\0AB\xff"),
-        (
-            0o50,
-            0,
-            Some((3, 9)),
-            whole,
-            b"\x04\0\0\0AB\xff\x80\x04\0\0\0",
-        ),
         (0o60, 0, Some((1, 2)), two, b"\0\0"),
         (0o70, 0, Some((0, 0)), cut, image),
-        // a block that ends at 64 MiB is begun
-        (0o50, 67108852, Some((0, 0)), cut, image),
         (0, 4, None, Stop::BadImage(DRIVE_0, 4), image),
         (0o30, 0, None, Stop::BadImage(DRIVE_0, 12), image),
         (0o40, 13, None, Stop::BadImage(DRIVE_0, 9), image),
-        (0o40, 3, None, Stop::BadImage(DRIVE_0, 0), image),
     ];
     for (command, place, fails, stop, left) in cases {
         let row = Row {
@@ -411,12 +381,6 @@ fn a_drive_has_its_own_file_and_place(rt: HostRuntime) -> Result<(), Fail> {
             order: [0o53, 0o200, 0o7776],
             after: [0, 1, 0o202, 0, 1, 12, 12],
             other: b"\x04\0\0\0AB\xff\x80\x04\0\0\0",
-            ..stopped
-        },
-        Row {
-            places: [0, 10],
-            stop: Stop::UnitEnd(DRIVE_3),
-            after: [0, 1, 0o200, 0o7776, 0o101001, 0, 10],
             ..stopped
         },
         Row {
