@@ -25,7 +25,7 @@ least v n is above = le-leb n 1 (ltb-false 1 n (sym is ∙ above))
 
 -- a match of the expect at a place, by what stands there and by its count
 abbrev choice_stop : ℕ → Option Expect → Option ℕ
-choice_stop k o = elim o [ | None ↦ None | Some e ↦ cond (leb e.count 1) (Some k) None ]
+choice_stop k o = elim o [ None ↦ None | Some e ↦ cond (leb e.count 1) (Some k) None ]
 
 abbrev choice_table : ℕ → ExpectTable → Option Expect → ExpectTable
 choice_table k t o = elim o [
