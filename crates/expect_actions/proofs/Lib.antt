@@ -6,3 +6,4 @@ pub mod SendLemmas
 pub mod ResultLemmas
 pub mod ActionLemmas
 pub mod BreakLemmas
+pub mod ExpectLemmas

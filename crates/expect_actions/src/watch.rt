@@ -36,3 +36,6 @@ impl Watch {
         })
     }
 }
+
+#[cfg(test)]
+mod tests;
