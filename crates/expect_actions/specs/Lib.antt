@@ -2,3 +2,5 @@ pub mod KeysFile
 pub mod Sends
 pub mod Actions
 pub mod Breaks
+pub mod Expects
+pub mod Watch

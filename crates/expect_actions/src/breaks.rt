@@ -92,6 +92,14 @@ impl Breaks {
         self.marks.clear();
     }
 
+    /// Whether a break is at an address.
+    #[inline]
+    pub fn has(&self, at: Addr) -> bool
+        ensures { result ≡ has_break at self.now.list }
+    {
+        self.marks.get(at)
+    }
+
     /// Tests the breaks at an address. A break there whose count is above 1 has it lowered by one; any other one stops,
     /// and its count is 0 from then on. Answers the place of the break that stops, from 0 in rising address; None comes
     /// exactly where none does.
