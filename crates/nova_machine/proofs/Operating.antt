@@ -98,4 +98,3 @@ on-file result tells slots unit file opened order files files' memory memory' al
           ∙ sym (ap (λ (x : Option Attachment). tape_memory fault x files order memory) holds.attachment);
       files_are = files_are are_told ∙ ap (λ (n : List ℕ). changed files n (image_operated fault memory order)) name ∙ sym (files-of fault a b memory files order holds.attachment free);
     }
-

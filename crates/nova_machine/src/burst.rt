@@ -11,6 +11,7 @@ use nova_word::Addr;
 use unit_trait::Unit;
 
 /// The addresses at which breaks are.
+#[derive(Clone, Copy)]
 struct AtBreaks<'a>(&'a Breaks);
 
 impl<'a> Stops for AtBreaks<'a> {

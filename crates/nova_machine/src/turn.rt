@@ -147,7 +147,13 @@ impl<U: Unit> Machine<U> {
     /// The services, and the interrupt.
     #[inline(never)]
     #[tactic(auto, unfolding(crate::specs::Turn::attended))]
-    fn attend<S: Sink, F: Files>(&mut self, watch: &mut Watch, keys: &Keys, files: &mut F, out: &mut S) -> Option<Stop>
+    fn attend<S: Sink, F: Files>(
+        &mut self,
+        watch: &mut Watch,
+        keys: &Keys,
+        files: &mut F,
+        out: &mut S,
+    ) -> Option<Stop>
         requires open { AllOpen self.old.slots (F.state files.old).opened }
         ensures told { AreTold F.tells self.old.slots → Comes (attended (unit_note result) (seen watch.old keys.now (F.state files.old).files self.old))
             result (seen watch.new keys.now (F.state files.new).files self.new) S.tells (S.written out.old) (S.written out.new) }
