@@ -77,7 +77,7 @@ fair-refused : {W : CommandFault → Type 0} (fault : CommandFault) (live : Live
 fair-refused fault live = record {
   reads = refl;
   exit = tt;
-  untouched = λ other h. record { machine = refl; keys = refl; text = refl };
+  untouched = λ other h. record { machine = refl; watch = refl; keys = refl; text = refl };
   files = λ other h none. refl;
 }
 
@@ -146,7 +146,7 @@ fair-attach_with : (fault : Option Failure) (mode : AttachMode) (unit : UnitName
 fair-attach_with fault mode unit name option live = record {
   reads = refl;
   exit = answer-exit said;
-  untouched = λ other h. record { machine = machine-kept said other h; keys = refl; text = refl };
+  untouched = λ other h. record { machine = machine-kept said other h; watch = refl; keys = refl; text = refl };
   files = λ other h none. files-kept fault mode unit name option (attached_in live.machine) live.files other h none;
 }
   where
@@ -199,13 +199,13 @@ fair-detach_with where_ fault unit live = by-said (detach_said fault unit (attac
     by-said HadNone is = record {
       reads = refl;
       exit = tt;
-      untouched = λ other h. record { machine = refl; keys = refl; text = refl };
+      untouched = λ other h. record { machine = refl; watch = refl; keys = refl; text = refl };
       files = λ other h none. none-flushed fault unit (attachment_at (attached_in live.machine) unit) live.machine.disk live.files is;
     }
     by-said (StillHeld f) is = record {
       reads = refl;
       exit = tt;
-      untouched = λ other h. record { machine = refl; keys = refl; text = refl };
+      untouched = λ other h. record { machine = refl; watch = refl; keys = refl; text = refl };
       files = λ other h none.
           let same : FileFailed (subject.Unit unit) ≡ other = cc in
           absurd (none (subst (λ (x : CommandFault). LeavesTraces (request.Detach where_) x) same tt));
@@ -226,7 +226,7 @@ fair-emptied W next e live small leaves = by-keeper e.kept
     by-keeper (Some u) = record {
       reads = refl;
       exit = tt;
-      untouched = λ other h. record { machine = refl; keys = refl; text = refl };
+      untouched = λ other h. record { machine = refl; watch = refl; keys = refl; text = refl };
       files = λ other h none.
           let same : FileFailed (subject.Unit u) ≡ other = cc in
           absurd (none (subst W same (leaves u)));
@@ -284,7 +284,7 @@ unfolding assert_reply
 fair-assert live test = record {
   reads = refl;
   exit = assert-exit (lacks_device live.machine test.device) (tested live.machine test);
-  untouched = λ fault h. record { machine = refl; keys = refl; text = refl };
+  untouched = λ fault h. record { machine = refl; watch = refl; keys = refl; text = refl };
   files = λ fault h none. refl;
 }
 
@@ -295,7 +295,7 @@ unfolding do_reply
 fair-do notes live echo strict name = record {
   reads = refl;
   exit = do-exit (whole_act (whole_calls subject.Script live.machine.time notes) name live.files).0;
-  untouched = λ fault h. record { machine = refl; keys = refl; text = refl };
+  untouched = λ fault h. record { machine = refl; watch = refl; keys = refl; text = refl };
   files = λ fault h none. refl;
 }
   where
@@ -315,7 +315,7 @@ unfolding load_reply
 fair-load notes live name = record {
   reads = refl;
   exit = load-exit said;
-  untouched = λ fault h. record { machine = load-kept said fault h; keys = refl; text = refl };
+  untouched = λ fault h. record { machine = load-kept said fault h; watch = refl; keys = refl; text = refl };
   files = λ fault h none. refl;
 }
   where
@@ -353,7 +353,7 @@ fair-dump_after from to name act live = by-said act.said
     by-said WriteFailed = record {
       reads = refl;
       exit = tt;
-      untouched = λ fault h. record { machine = refl; keys = refl; text = refl };
+      untouched = λ fault h. record { machine = refl; watch = refl; keys = refl; text = refl };
       files = λ fault h none.
           let same : FileFailed subject.Dump ≡ fault = cc in
           absurd (none (subst (λ (x : CommandFault). LeavesTraces (request.Dump from to name) x) same tt));
