@@ -145,6 +145,14 @@ impl Breaks {
         self.actions.as_slice()
     }
 
+    /// How many breaks there are.
+    pub fn len(&self) -> usize
+        ensures length { result ≡ length self.now.list }
+        ensures most { result ≤ 256 }
+    {
+        self.list.len()
+    }
+
     /// Whether there is no break.
     #[inline]
     pub fn is_empty(&self) -> bool

@@ -112,9 +112,19 @@ impl Expects {
     pub fn in_order(&self, k: usize) -> Option<(u32, &[u8], &[u8])>
         ensures none { IsNone result ↔ (length self.now.list ≤ k) }
         ensures entry { IfSome result (λ e. slice_get self.now.list k ≡ Some (expect_of e.0 e.1.now e.2.now)) }
+        ensures short { IfSome result (λ e. length e.1.now ≤ longest_text) }
     {
         let entry = self.list.get(k)?;
+        let _length = entry.text.len();
         Some((entry.count, entry.text.as_slice(), entry.actions.as_slice()))
+    }
+
+    /// How many expects there are.
+    pub fn len(&self) -> usize
+        ensures length { result ≡ length self.now.list }
+        ensures most { result ≤ most_expects }
+    {
+        self.list.len()
     }
 
     /// The actions of the expect that stopped last; an empty text before the first stop.

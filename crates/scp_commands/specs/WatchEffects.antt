@@ -1,15 +1,18 @@
 -- BREAK, NOBREAK, EXPECT, NOEXPECT, SEND and NOSEND (SIMH Users' Guide, "Breakpoints", "Reacting To Console Output" and
 -- "Injecting Console Input").
-use Rattle.std.specs.Prelude.{ℕ, ◌+◌, ◌-◌, ◌^◌, ◌==◌, ◌&&◌, nat_le, nat_lt, not, Bool, List, [], length, Option, Some, None, option_map, unwrap_or, if◌then◌else◌}
+use Rattle.std.specs.Prelude.{ℕ, ◌+◌, ◌-◌, ◌^◌, ◌==◌, ◌&&◌, nat_le, nat_lt, not, Bool, List, [], length, Option, Some, None, option_map, unwrap_or, Result, Ok, Err, if◌then◌else◌}
 use Rattle.nova_word.specs.Quoted.{quoted_read}
 use Rattle.expect_actions.specs.declared.breaks.Break.{Break}
 use Rattle.expect_actions.specs.Breaks.{BreakTable, table, break_at, has_break, with_break, without_break, most_breaks}
 use Rattle.expect_actions.specs.Expects.{ExpectTable, expect_of, with_expect, no_expects, most_expects, longest_text}
 use Rattle.expect_actions.specs.Sends.{Send, queued, most_sends}
 use Rattle.expect_actions.specs.Watch.{WatchState}
+use Rattle.expect_actions.specs.declared.full.AddFault.{AddFault}
+use Rattle.scp_commands.specs.declared.next.Next.TheVariants.{Go}
 use Rattle.scp_commands.specs.declared.fault.CommandFault.TheVariants.{OutOfRange, Full}
 use Rattle.scp_commands.specs.Live.{Live}
-use Rattle.scp_commands.specs.Reply.{Reply, goes, refused}
+use Rattle.scp_commands.specs.Reply.{Answer, Reply, goes, refused}
+use Rattle.scp_commands.specs.FaultText.{add_fault}
 use Rattle.scp_commands.specs.RunEffects.{last_address}
 
 -- the same with other breaks, expects or sent bytes
@@ -30,9 +33,14 @@ largest_count = 2 ^ 32 - 1
 abbrev pub text_of_quoted : List ℕ → List ℕ
 text_of_quoted quoted = unwrap_or (option_map (λ read. read.0) (quoted_read quoted)) []
 
+-- what is answered of a break or an expect that was added, or not
+abbrev pub added_answer : Result (Unit {0}) AddFault → Answer
+added_answer (Ok u) = Ok Go
+added_answer (Err fault) = Err (add_fault fault)
+
 -- one break more does not fit, where none is at the address
 abbrev pub lacks_room_for_break : ℕ → List Break → Bool
-lacks_room_for_break at list = not (has_break at list) && length list == most_breaks
+lacks_room_for_break at list = not (has_break at list) && (length list == most_breaks)
 
 -- BREAK puts a break at an address, with its count of tests and the actions of its stop
 unfoldable pub break_reply : Live → ℕ → ℕ → List ℕ → Reply

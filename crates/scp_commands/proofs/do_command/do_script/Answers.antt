@@ -18,8 +18,8 @@ returns-clause-told g c = λ tells text told.
     let after = g.F.Files.state c.read_file-whole.new.files in
     let stamped = c.stamp_of-stamp.ensures ∙ ap stamp_in (sym c.session.view_is) in
     rw (← c.session.view_is)
-    (do-did s.command (seen s.keys before.files s.machine) (seen s.keys after.files s.machine) c.args.echo c.args.strict c.args.name.now c.read_file-whole.result c.script_answer.result tells text
-    s.notes.items c.note_reading.new.notes.items c.script_answer.ensures (ap (λ (l : List NamedBytes). seen s.keys l s.machine) (c.read_file-whole.ensures.files told)) (c.read_file-whole.ensures.said told)
+    (do-did s.command (seen s.watch s.keys before.files s.machine) (seen s.watch s.keys after.files s.machine) c.args.echo c.args.strict c.args.name.now c.read_file-whole.result c.script_answer.result tells text
+    s.notes.items c.note_reading.new.notes.items c.script_answer.ensures (ap (λ (l : List NamedBytes). seen s.watch s.keys l s.machine) (c.read_file-whole.ensures.files told)) (c.read_file-whole.ensures.said told)
     (c.note_reading.ensures.notes ∙ ap (λ (t : Stamp). s.notes.items ++ read_notes subject.Script t c.read_file-whole.result) stamped))
 
 pub returns-clause-keeps : goal.returns-clause-keeps
