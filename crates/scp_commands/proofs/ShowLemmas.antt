@@ -8,12 +8,13 @@ use Rattle.unit_files.specs.Attachments.{Attachment, Held, file_place, held_at, 
 use Rattle.expect_actions.specs.Watch.{WatchState}
 use Rattle.nova_machine.specs.Machine.{MachineState}
 use Rattle.nova_machine.specs.Seen.{seen, unnumbered}
-use Rattle.scp_parser.specs.declared.command.Shown.TheVariants.{Time, Cpu, Queue, Version, Unit as AUnit}
+use Rattle.scp_parser.specs.declared.command.Shown.TheVariants.{Time, Cpu, Queue, Break, Expect, Send, Version, Unit as AUnit}
 use Rattle.scp_commands.specs.declared.next.Next.TheVariants.{Go}
 use Rattle.scp_commands.specs.declared.fault.CommandFault.TheVariants.{NotBuilt}
 use Rattle.scp_commands.specs.Live.{standing}
 use Rattle.scp_commands.specs.Reply.{Answer, says, refused}
 use Rattle.scp_commands.specs.FileEffects.{lacks_unit, attachment_text, unit_line, unit_text}
+use Rattle.scp_commands.specs.WatchTexts.{breaks_text, expects_text, sends_text}
 use Rattle.scp_commands.specs.ShowEffects.{time_text, cpu_text, version_text, queue_text, show_reply}
 use Rattle.scp_commands.specs.Doing.{Does, told_or_console}
 use Rattle.scp_commands.proofs.ReplyLemmas.{says-does, refused-said}
@@ -69,6 +70,27 @@ pub queue-does : {T E : Type 0} (m : MachineState) (watch : WatchState) (keys : 
     → Does (show_reply (seen watch keys files m) Queue) answer (standing 0 (seen watch keys files m)) tells before after
 unfolding show_reply
 queue-does m watch keys files printed answer tells before after is puts = says-does (queue_text m.events) (seen watch keys files m) printed answer tells before after is puts
+
+pub breaks-does : {T E : Type 0} (m : MachineState) (watch : WatchState) (keys : List (ℕ × ℕ)) (files : List NamedBytes) (printed : Result T E) (answer : Answer) (tells : Bool) (before after : List ℕ)
+    → answer ≡ told_or_console printed Go → (IsTrue tells → Puts before (breaks_text watch.breaks.list) printed after)
+    → Does (show_reply (seen watch keys files m) Break) answer (standing 0 (seen watch keys files m)) tells before after
+unfolding show_reply
+breaks-does m watch keys files printed answer tells before after is puts =
+    says-does (breaks_text watch.breaks.list) (seen watch keys files m) printed answer tells before after is puts
+
+pub expects-does : {T E : Type 0} (m : MachineState) (watch : WatchState) (keys : List (ℕ × ℕ)) (files : List NamedBytes) (printed : Result T E) (answer : Answer) (tells : Bool) (before after : List ℕ)
+    → answer ≡ told_or_console printed Go → (IsTrue tells → Puts before (expects_text watch.expects.list) printed after)
+    → Does (show_reply (seen watch keys files m) Expect) answer (standing 0 (seen watch keys files m)) tells before after
+unfolding show_reply
+expects-does m watch keys files printed answer tells before after is puts =
+    says-does (expects_text watch.expects.list) (seen watch keys files m) printed answer tells before after is puts
+
+pub sends-does : {T E : Type 0} (m : MachineState) (watch : WatchState) (keys : List (ℕ × ℕ)) (files : List NamedBytes) (printed : Result T E) (answer : Answer) (tells : Bool) (before after : List ℕ)
+    → answer ≡ told_or_console printed Go → (IsTrue tells → Puts before (sends_text watch.sends) printed after)
+    → Does (show_reply (seen watch keys files m) Send) answer (standing 0 (seen watch keys files m)) tells before after
+unfolding show_reply
+sends-does m watch keys files printed answer tells before after is puts =
+    says-does (sends_text watch.sends) (seen watch keys files m) printed answer tells before after is puts
 
 -- a unit that can have no file here
 pub unit-refused : (m : MachineState) (watch : WatchState) (keys : List (ℕ × ℕ)) (files : List NamedBytes) (unit : UnitName) (tells : Bool) (text : List ℕ) → lacks_unit m unit ≡ true
