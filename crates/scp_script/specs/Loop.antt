@@ -42,7 +42,7 @@ session_of state files l input notes = record {
   spent = state.command;
   limit = state.limit;
   budget = l.budget;
-  scripts = l.scripts;
+  texts = texts_of l.actions l.scripts;
   prompt = l.prompt;
   input = input;
   open_ = l.reader.open_;
@@ -56,7 +56,7 @@ exit_of answer = None
 -- What a text comes to on the console: it was done and what it prints was printed, or a byte of that was refused. Where
 -- the session goes on, these scripts are open, which are those behind its answer. Where memory ran out, another clause says
 -- what stands.
-abbrev pub IsAnswer : Reply → (Answer → List Script) → Progress → List Script → Standing → Bool → List ℕ → List ℕ → Type 0
+abbrev pub IsAnswer : Reply → (Reply → Texts) → Progress → Texts → Standing → Bool → List ℕ → List ℕ → Type 0
 IsAnswer reply behind GoesOn scripts at tells before after =
     (exit_of reply.answer ≡ None) × (scripts ≡ behind reply.answer) × IsSaid reply at tells before after
 IsAnswer reply behind (IsOver (Exit status)) scripts at tells before after = (exit_of reply.answer ≡ Some status) × IsSaid reply at tells before after

@@ -10,7 +10,8 @@ use Rattle.unit_trait.specs.declared.kind.UnitName.{UnitName}
 use Rattle.file_commands.specs.AllUnits.{Emptied}
 use Rattle.scp_commands.specs.FileEffects.{emptied_all, emptied_live}
 use Rattle.scp_commands.specs.Effect.{Asked, does, asked}
-use Rattle.scp_script.specs.Scripts.{Script, still_open, cost_of_line, text_of_line, echo_text, past_line, checked, settled, scripts_behind}
+use Rattle.scp_script.specs.Scripts.{Script, still_open, cost_of_line, text_of_line, echo_text, past_line, checked, settled}
+use Rattle.scp_script.specs.Actions.{Texts, texts_of, texts_behind, with_overflow}
 use Rattle.script_text.specs.Lines.{first_line, line_cost, has_lf}
 use Rattle.scp_script.specs.Lines.{Arrival, InputEnds, Unpaid, LineComes, arrival, line_reads}
 
@@ -20,7 +21,7 @@ pub record State : Type 0 where
   pub notes : List Note
 
 -- What the future of a session depends on: what commands work on, how many instructions a run may execute, the units of
--- budget left, the scripts that are open, whether the prompt is printed, the rest of the input, and whether its end is
+-- budget left, the actions that wait, the scripts that are open, whether the prompt is printed, the rest of the input, and whether its end is
 -- still to be read. Beside that it
 -- is handed the failing calls that are still to come, each with the number of its command, which is how many units of the
 -- budget are spent, those of the command included.
@@ -30,7 +31,7 @@ pub record Session : Type 0 where
   pub spent : ℕ
   pub limit : ℕ
   pub budget : ℕ
-  pub scripts : List Script
+  pub texts : Texts
   pub prompt : Bool
   pub input : List ℕ
   pub open_ : Bool
@@ -55,13 +56,18 @@ abbrev pub asking_in : Session → List Script → List (Observation State)
 asking_in s [] = asking_input s
 asking_in s (script ∷ outer) = if nat_le (cost_of_line script) s.budget then Prints (echo_text script) (state_of s) ∷ [] else []
 
+-- before an action nothing is
+abbrev pub asking_at : Session → List (List ℕ) → List (Observation State)
+asking_at s [] = asking_in s (still_open s.texts.scripts)
+asking_at s (action ∷ others) = []
+
 unfoldable pub asking : Session → List (Observation State)
-asking s = asking_in s (still_open s.scripts)
+asking s = asking_at s s.texts.actions
 
 -- the session behind its next line of the input, which was read and paid: no script is open then
 unfoldable pub behind_line : Session → Session
 behind_line s = record s {
-  scripts = [];
+  texts = texts_of [] [];
   spent = s.spent + line_cost (length (first_line s.input));
   budget = s.budget - line_cost (length (first_line s.input));
   input = drop (length (first_line s.input) + 1) s.input;
@@ -73,7 +79,15 @@ unfoldable pub behind_script_line : Session → Script → List Script → Sessi
 behind_script_line s script outer = record s {
   spent = s.spent + cost_of_line script;
   budget = s.budget - cost_of_line script;
-  scripts = past_line script ∷ outer;
+  texts = texts_of [] (past_line script ∷ outer);
+}
+
+-- the session behind its next action, which costs a unit
+unfoldable pub behind_action : Session → List (List ℕ) → Session
+behind_action s others = record s {
+  spent = s.spent + 1;
+  budget = s.budget - 1;
+  texts = texts_of others s.texts.scripts;
 }
 
 -- By what a session is over where neither console nor input fails: EXIT with that status was done, the input has ended,
@@ -116,8 +130,13 @@ upcoming_in s [] = upcoming_of s (arrival s.budget s.open_ s.input)
 upcoming_in s (script ∷ outer) =
     if nat_le (cost_of_line script) s.budget then Comes (text_of_line script) (behind_script_line s script outer) else Ends BudgetSpent
 
+-- the next text is the first action that waits; then come lines
+abbrev pub upcoming_at : Session → List (List ℕ) → Upcoming
+upcoming_at s [] = upcoming_in s (still_open s.texts.scripts)
+upcoming_at s (action ∷ others) = if nat_le 1 s.budget then Comes action (behind_action s others) else Ends BudgetSpent
+
 unfoldable pub upcoming : Session → Upcoming
-upcoming s = upcoming_in s (still_open s.scripts)
+upcoming s = upcoming_at s s.texts.actions
 
 -- the text of a fault is printed behind what its command has made
 abbrev pub complaint : Answer → Standing → List (Observation Standing)
@@ -128,8 +147,8 @@ abbrev pub with_complaint : Reply → Reply
 with_complaint reply = record reply { made = reply.made ++ complaint reply.answer reply.after }
 
 -- what a text does where these scripts are open, and these calls on files fail
-unfoldable pub text_reply : ℕ → List Script → List CommandNote → Live → Asked → Reply
-text_reply limit scripts notes live what = with_complaint (settled scripts what (does limit notes live (checked scripts what)))
+unfoldable pub text_reply : ℕ → Texts → List CommandNote → Live → Asked → Reply
+text_reply limit t notes live what = with_overflow t (with_complaint (settled t.scripts what (does limit notes live (checked t.scripts what))))
 
 -- what comes behind a text: the session goes on, or is over by that, in that state
 pub data Following : Type 0 where
@@ -148,12 +167,12 @@ pub record Step : Type 0 where
 -- a text is done in the session behind it: it is handed the leading notes that have its number, and leaves those that it
 -- has not used
 unfoldable pub text_step : List (Observation State) → Session → Asked → Step
-text_step asked_first behind what = let reply = text_reply behind.limit behind.scripts (handed behind.spent behind.notes) behind.live what in record {
+text_step asked_first behind what = let reply = text_reply behind.limit behind.texts (handed behind.spent behind.notes) behind.live what in record {
   made = asked_first ++ map_made (state_at behind.notes) reply.made;
   next = following reply.answer (record behind {
     live = reply.after.live;
     notes = drop reply.after.used behind.notes;
-    scripts = scripts_behind behind.scripts what reply.answer;
+    texts = texts_behind behind.texts what reply;
   });
 }
 
