@@ -5,13 +5,14 @@ ghost use Rattle.fault_notes.specs.Notes.{notes_said};
 ghost use Rattle.scp_commands.specs.Live.{live_in};
 ghost use Rattle.scp_script.specs.Loop.{FinishCause, AreKept, KeptCause};
 ghost use Rattle.scp_script.specs.Scripts.{first_script};
+ghost use Rattle.scp_script.specs.Actions.{texts_of};
 ghost use Rattle.scp_script.specs.Perform.{beginning, Performed};
 
 use crate::command_loop::next_line;
 use crate::line_reader::LineReader;
 use crate::open_script::OpenScript;
 use crate::progress::{CommandLoop, Finish, Progress};
-use crate::script_stack::ScriptStack;
+use crate::texts::Texts;
 use host_files::{Files, Sink, Source};
 use scp_commands::{DoFile, ScriptText, Session};
 use script_text::Arguments;
@@ -78,23 +79,23 @@ pub fn perform<U: Unit, C: Source, F: Files, S: Sink>(
 /// others.
 fn begin(alloc: Global, opening: &Opening) -> Result<CommandLoop, AllocError>
     ensures { IfOk result (λ lines. lines ≡ record {
-      scripts = first_script opening.now.script opening.now.arguments.items;
+      texts = texts_of [] (first_script opening.now.script opening.now.arguments.items);
       reader = record { line = []; open_ = true };
       budget = opening.now.budget;
       prompt = opening.now.prompt;
     }) }
 {
-    let mut scripts = ScriptStack::new(alloc)?;
+    let mut texts = Texts::new(alloc)?;
     match &opening.script {
         None => (),
         Some(file) => {
             let arguments = arguments_of(alloc, &opening.arguments)?;
             let copy = copy_of(alloc, file)?;
-            scripts.push(OpenScript::begin(copy, arguments));
+            texts.scripts.push(OpenScript::begin(copy, arguments));
         }
     }
     Ok(CommandLoop {
-        scripts,
+        texts,
         reader: LineReader::new(),
         budget: opening.budget,
         prompt: opening.prompt,

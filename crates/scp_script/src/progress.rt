@@ -1,5 +1,5 @@
 use crate::line_reader::LineReader;
-use crate::script_stack::ScriptStack;
+use crate::texts::Texts;
 
 /// How a session ended.
 #[derive(Clone, Copy, Debug, PartialEq, Eq)]
@@ -47,11 +47,11 @@ pub enum Progress {
     IsOver(Finish),
 }
 
-/// The texts of a session: the scripts that are open, the reader of the lines of its input, the units left to pay for
+/// The texts of a session: the actions that wait and the scripts that are open, the reader of the lines of its input, the units left to pay for
 /// texts, and whether a prompt asks for each line of the input.
 #[derive(Drop)]
 pub struct CommandLoop {
-    pub scripts: ScriptStack,
+    pub texts: Texts,
     pub reader: LineReader,
     pub budget: u64,
     pub prompt: bool,
