@@ -24,18 +24,27 @@ OUR_END, THEIR_END = 0o1000, 0o40
 COMMAND, ADDRESS, COUNT, HIGH, LOW, STAT = 0o50, 0o51, 0o52, 0o55, 0o54, 0o56
 BUFFER = 0o1000
 
+
+def command_done(at):
+    """Gives MTA the address, the count and the command in AC0, waits until it is done, and takes STAT into AC3: eight
+    words that stand from the address `at` on."""
+    return [
+        0o024051,  # LDA 1,51
+        0o066022,  # DOB 1,MTA
+        0o024052,  # LDA 1,52
+        0o067022,  # DOC 1,MTA
+        0o061122,  # DOAS 0,MTA
+        0o063622,  # SKPDN MTA
+        at + 5,  # JMP .-1
+        0o074422,  # DIA 3,MTA
+    ]
+
+
 # Reads blocks up to a mark or the end of the medium, and adds up their first words in AC2.
 READ_THROUGH = [
     0o020050,  # LDA 0,50
     0o152400,  # SUB 2,2
-    0o024051,  # 102: LDA 1,51
-    0o066022,  # DOB 1,MTA
-    0o024052,  # LDA 1,52
-    0o067022,  # DOC 1,MTA
-    0o061122,  # DOAS 0,MTA
-    0o063622,  # SKPDN MTA
-    0o000107,  # JMP .-1
-    0o074422,  # DIA 3,MTA
+    *command_done(0o102),
     0o024053,  # LDA 1,53
     0o167404,  # AND 3,1,SZR
     0o000123,  # JMP 123
@@ -52,14 +61,7 @@ READ_THROUGH = [
 # Does one command.
 DO_ONE = [
     0o020050,  # LDA 0,50
-    0o024051,  # LDA 1,51
-    0o066022,  # DOB 1,MTA
-    0o024052,  # LDA 1,52
-    0o067022,  # DOC 1,MTA
-    0o061122,  # DOAS 0,MTA
-    0o063622,  # SKPDN MTA
-    0o000106,  # JMP .-1
-    0o074422,  # DIA 3,MTA
+    *command_done(0o101),
     0o054056,  # STA 3,56
     0o063077,  # HALT
 ]
