@@ -1,4 +1,10 @@
 pub mod SplitLemmas
 pub mod LineLemmas
+pub mod MapLemmas
 pub mod FollowLemmas
 pub mod AnswerLemmas
+pub mod SendLemmas
+pub mod ResultLemmas
+pub mod ActionLemmas
+pub mod BreakLemmas
+pub mod ExpectLemmas

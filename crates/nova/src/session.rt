@@ -3,7 +3,7 @@ ghost use Rattle.std.specs.Process.{exit_status};
 ghost use Rattle.fault_counts.specs.Faults.{Rose};
 ghost use Rattle.nova_top.specs.Standard.{IsStandard};
 ghost use Rattle.nova_top.specs.Words.{options_of, texts_of};
-ghost use Rattle.nova_top.specs.Ends.{IsOutcome, IsCutShort, StatusCause, IsComplete, NoneFailed, KeptUnwritten};
+ghost use Rattle.nova_top.specs.Ends.{IsOutcome, IsCutShort, StatusCause, IsComplete, NoneFailed, KeptUnwritten, HasWorkload};
 ghost use Rattle.nova.specs.Ends.{OfSomeEnd, OfSomeFaults};
 
 use host_files::{Files, Sink, Source};
@@ -43,6 +43,7 @@ pub fn session<U: Unit, C: Source, S: Sink, F: Files>(
     ensures unwritten { exit_status result ≡ 107
         → OfSomeFaults (λ machine faults. KeptUnwritten machine faults (F.state files.old) (F.state files.new)) }
     ensures unread { options_of (texts_of words.now) ≡ None → input.new ≡ input.old }
+    ensures workload { HasWorkload (texts_of words.now) → input.new ≡ input.old }
 {
     let ending = simulate(alloc, words, units, input, output, files);
     ExitCode::from(ending.status)

@@ -1,5 +1,5 @@
 -- The words of a block of a tape are moved one behind another.
-use Rattle.std.proofs.Common.{◌≡◌, ℕ, zero, suc, ◌+◌, ◌*◌, ◌/◌, ◌%◌, ◌^◌, ◌<◌, ◌≤◌, List, [], ◌∷◌, ◌++◌, length, take, drop, set, min, Option, Some, None, Result, Ok, Err, refl, ap, sym, ◌∙◌, arith, append_assoc, length-append, replicate, slice_index, nat_le, Bool, true, false, if◌then◌else◌}
+use Rattle.std.proofs.Common.{◌≡◌, ℕ, zero, suc, ◌+◌, ◌*◌, ◌/◌, ◌%◌, ◌^◌, ◌<◌, ◌≤◌, List, [], ◌∷◌, ◌++◌, length, take, set, Option, refl, ap, sym, ◌∙◌, arith, append_assoc, length-append, replicate, slice_index, nat_le, Bool, true, false, if◌then◌else◌}
 use Rattle.std.proofs.lemmas.List.{length-set, take_more_set, length-replicate, get_or-replicate}
 use Rattle.nova_memory.specs.Memory.{MemoryState, get, put}
 use Rattle.nova_machine.specs.Sectors.{address_on}

@@ -10,7 +10,8 @@ use Rattle.event_queue.proofs.Ticks.{lowered-none, lowered-more}
 use Rattle.nova_interrupts.specs.declared.interrupts.Ints.{Ints}
 use Rattle.nova_interrupts.specs.Interrupts.{released}
 use Rattle.nova_interrupts.specs.Requests.{requested}
-use Rattle.nova_processor.specs.declared.burst.Step.{Step}
+use Rattle.nova_processor.specs.declared.burst.BurstEnd.{BurstEnd}
+use Rattle.nova_processor.specs.declared.burst.BurstEnd.TheVariants as burst_end
 use Rattle.nova_processor.specs.declared.burst.Step.TheVariants as step_end
 use Rattle.nova_machine.specs.declared.machine.Stop.TheVariants.{ChainLimit}
 use Rattle.nova_processor.specs.Processor.{ProcessorState}
@@ -27,6 +28,8 @@ use Rattle.nova_machine.specs.Turn.{with_memory, refer_to, refer, execute, fetch
 use Rattle.nova_machine.specs.Run.{last_time, next_turn, turns}
 use Rattle.nova_machine.specs.Quiet.{IsPlain}
 use Rattle.nova_processor.specs.Burst.{Stepped, steps, refers_to, refers, passes, step_of, step, Reaches, IsBurst}
+use Rattle.expect_actions.specs.Breaks.{has_break}
+use Rattle.expect_actions.specs.Watch.{WatchState}
 use Rattle.nova_machine.specs.Bursts.{passed_by, IsCalm, Bursts}
 use Rattle.nova_machine.proofs.Plain.{plain-prepared}
 use Rattle.nova_machine.proofs.Runs.{turns-stop, turns-go, next-early}
@@ -101,24 +104,28 @@ agrees-step m = agrees-step_of (get m.processor.memory m.processor.cpu.pc) m
 
 -- ---- a plain turn
 
-turn-is : (note : Option UnitNote) (first : Bool) (s : Seen) → turn note first s ≡ then_part (prepared note s) (λ ready. still ready (fetch ready.machine))
+turn-is : (note : Option UnitNote) (first : Bool) (s : Seen) → turn note first s ≡ then_part (prepared note first s) (λ ready. still ready (fetch ready.machine))
 unfolding turn
 turn-is note first s = refl
 
-pub plain-turn : (note : Option UnitNote) (first : Bool) (s : Seen) → IsPlain s.machine → turn note first s ≡ still s (fetch s.machine)
-plain-turn note first s plain =
-    turn-is note first s ∙ ap (λ (p : Part). then_part p (λ ready. still ready (fetch ready.machine))) (plain-prepared note s plain)
+-- no break is at PC
+abbrev pub IsUnbroken : Seen → Type 0
+IsUnbroken s = has_break s.machine.processor.cpu.pc s.watch.breaks.list ≡ false
 
-pub plain-next : (note : Option RunNote) (s : Seen) (p : ProcessorState) → IsPlain s.machine → s.machine.time < last_time → step s.machine.processor ≡ steps p
+pub plain-turn : (note : Option UnitNote) (s : Seen) → IsPlain s.machine → IsUnbroken s → turn note false s ≡ still s (fetch s.machine)
+plain-turn note s plain none =
+    turn-is note false s ∙ ap (λ (p : Part). then_part p (λ ready. still ready (fetch ready.machine))) (plain-prepared note s plain none)
+
+pub plain-next : (note : Option RunNote) (s : Seen) (p : ProcessorState) → IsPlain s.machine → IsUnbroken s → s.machine.time < last_time → step s.machine.processor ≡ steps p
     → next_turn note false s ≡ silent None (with_machine s (behind_step s.machine p))
-plain-next note s p plain early is =
-    next-early note false s early ∙ plain-turn (at_time s.machine.time note) false s plain ∙ ap (λ (t : Turned). still s t) ((agrees-step s.machine).executed_is p is)
+plain-next note s p plain none early is =
+    next-early note false s early ∙ plain-turn (at_time s.machine.time note) s plain none ∙ ap (λ (t : Turned). still s t) ((agrees-step s.machine).executed_is p is)
 
-plain-chain : (note : Option RunNote) (s : Seen) (p : ProcessorState) → IsPlain s.machine → s.machine.time < last_time
+plain-chain : (note : Option RunNote) (s : Seen) (p : ProcessorState) → IsPlain s.machine → IsUnbroken s → s.machine.time < last_time
     → step s.machine.processor ≡ record { processor = p; end = step_end.ChainLimit }
     → next_turn note false s ≡ silent (Some ChainLimit) (with_machine s (record s.machine { processor = p }))
-plain-chain note s p plain early is =
-    next-early note false s early ∙ plain-turn (at_time s.machine.time note) false s plain ∙ ap (λ (t : Turned). still s t) ((agrees-step s.machine).endless p is)
+plain-chain note s p plain none early is =
+    next-early note false s early ∙ plain-turn (at_time s.machine.time note) s plain none ∙ ap (λ (t : Turned). still s t) ((agrees-step s.machine).endless p is)
 
 pub turns-silent : (note : Option RunNote) (step : Bool) (left : ℕ) (s next : Seen) → next_turn note false s ≡ silent None next
     → turns note step false (suc left) s ≡ turns note step false left next
@@ -195,22 +202,31 @@ pub behind-processor : (count : ℕ) (m : MachineState) (q : ProcessorState) →
 unfolding behind
 behind-processor count m q = refl
 
-burst-turns : (note : Option RunNote) (one : Bool) (count most left : ℕ) (s : Seen) (q : ProcessorState) → IsCalm most s.machine → count ≤ most
-    → s.machine.time + most ≤ last_time → Reaches count s.machine.processor q
+-- stops that are at all breaks
+abbrev pub AreAtBreaks : (ℕ → Bool) → WatchState → Type 0
+AreAtBreaks stops watch = (address : ℕ) → has_break address watch.breaks.list ≡ stops address
+
+unbroken-at : (stops : ℕ → Bool) (count : ℕ) (s : Seen) (mid : ProcessorState) → AreAtBreaks stops s.watch → stops mid.cpu.pc ≡ false
+    → IsUnbroken (with_machine s (behind count s.machine mid))
+unbroken-at stops count s mid at passes =
+    ap (λ (p : ProcessorState). has_break p.cpu.pc s.watch.breaks.list) (behind-processor count s.machine mid) ∙ at mid.cpu.pc ∙ passes
+
+burst-turns : (stops : ℕ → Bool) (note : Option RunNote) (one : Bool) (count most left : ℕ) (s : Seen) (q : ProcessorState) → AreAtBreaks stops s.watch → IsCalm most s.machine → count ≤ most
+    → s.machine.time + most ≤ last_time → Reaches stops count s.machine.processor q
     → turns note one false (count + left) s ≡ turns note one false left (with_machine s (behind count s.machine q))
-burst-turns note one zero most left s q calm within end reaches =
+burst-turns stops note one zero most left s q at_breaks calm within end reaches =
     let none : zero + left ≡ left = omega arith in
     ap (λ (n : ℕ). turns note one false n s) none ∙ ap (λ (x : MachineState). turns note one false left (with_machine s x)) (sym (behind-none s.machine q reaches))
-burst-turns note one (suc count) most left s q calm within end reaches =
-    let (mid, before, last) = reaches in
+burst-turns stops note one (suc count) most left s q at_breaks calm within end reaches =
+    let (mid, before, passes, last) = reaches in
     let both : suc count + left ≡ count + suc left = omega arith in
     let m = s.machine in
     let at = with_machine s (behind count m mid) in
     let plain = behind-plain count most m mid calm (omega (arith, within)) in
     let early = behind-early count most m mid (omega (arith, within)) end in
-    let next = plain-next note at q plain early (ap step (behind-processor count m mid) ∙ last) in
+    let next = plain-next note at q plain (unbroken-at stops count s mid at_breaks passes) early (ap step (behind-processor count m mid) ∙ last) in
     ap (λ (n : ℕ). turns note one false n s) both
-    ∙ burst-turns note one count most (suc left) s mid calm (omega (arith, within)) end before
+    ∙ burst-turns stops note one count most (suc left) s mid at_breaks calm (omega (arith, within)) end before
     ∙ turns-silent note one left at (with_machine s (behind_step at.machine q)) next
     ∙ ap (λ (x : MachineState). turns note one false left (with_machine s x)) (behind-more count m mid q)
 
@@ -231,47 +247,50 @@ pub erased-behind : (count : ℕ) (m : MachineState) (q : ProcessorState) → be
 unfolding behind passed_by
 erased-behind count m q = refl
 
-went : (note : Option RunNote) (one : Bool) (keys : List (ℕ × ℕ)) (files : List NamedBytes) (most done budget : ℕ) (old new : MachineState) (q : ProcessorState)
-    → IsCalm budget old → old.time + budget ≤ last_time → budget ≤ most → done ≤ budget
-    → Reaches done old.processor q → new ≡ passed_by done (record old { processor = q })
-    → turns note one false most (seen keys files old) ≡ turns note one false (most - done) (seen keys files new)
-went note one keys files most done budget old new q calm end few within reaches is =
+went : (stops : ℕ → Bool) (watch : WatchState) (note : Option RunNote) (one : Bool) (keys : List (ℕ × ℕ)) (files : List NamedBytes) (most done budget : ℕ) (old new : MachineState) (q : ProcessorState)
+    → AreAtBreaks stops watch → IsCalm budget old → old.time + budget ≤ last_time → budget ≤ most → done ≤ budget
+    → Reaches stops done old.processor q → new ≡ passed_by done (record old { processor = q })
+    → turns note one false most (seen watch keys files old) ≡ turns note one false (most - done) (seen watch keys files new)
+went stops watch note one keys files most done budget old new q at_breaks calm end few within reaches is =
     let all : most ≡ done + (most - done) = omega (arith, few, within) in
-    let s = seen keys files old in
+    let s = seen watch keys files old in
     ap (λ (n : ℕ). turns note one false n s) all
-    ∙ burst-turns note one done budget (most - done) s q (calm-erased budget old calm) within end reaches
+    ∙ burst-turns stops note one done budget (most - done) s q at_breaks (calm-erased budget old calm) within end reaches
     ∙ ap (λ (x : MachineState). turns note one false (most - done) (with_machine s x)) (erased-behind done old q)
-    ∙ ap (λ (x : MachineState). turns note one false (most - done) (seen keys files x)) (sym (is ∙ behind-is done old q))
+    ∙ ap (λ (x : MachineState). turns note one false (most - done) (seen watch keys files x)) (sym (is ∙ behind-is done old q))
 
-ended : (note : Option RunNote) (one : Bool) (keys : List (ℕ × ℕ)) (files : List NamedBytes) (most done budget : ℕ) (old new : MachineState) (mid q : ProcessorState)
-    → IsCalm budget old → old.time + budget ≤ last_time → budget ≤ most → done < budget
-    → Reaches done old.processor mid → step mid ≡ record { processor = q; end = step_end.ChainLimit } → new ≡ passed_by done (record old { processor = q })
-    → turns note one false most (seen keys files old) ≡ silent (Some ChainLimit) (seen keys files new)
-ended note one keys files most done budget old new mid q calm end few within reaches chain is =
+ended : (stops : ℕ → Bool) (watch : WatchState) (note : Option RunNote) (one : Bool) (keys : List (ℕ × ℕ)) (files : List NamedBytes) (most done budget : ℕ) (old new : MachineState) (mid q : ProcessorState)
+    → AreAtBreaks stops watch → IsCalm budget old → old.time + budget ≤ last_time → budget ≤ most → done < budget
+    → Reaches stops done old.processor mid → stops mid.cpu.pc ≡ false → step mid ≡ record { processor = q; end = step_end.ChainLimit } → new ≡ passed_by done (record old { processor = q })
+    → turns note one false most (seen watch keys files old) ≡ silent (Some ChainLimit) (seen watch keys files new)
+ended stops watch note one keys files most done budget old new mid q at_breaks calm end few within reaches passes chain is =
     let left = most - done - 1 in
     let all : most ≡ done + suc left = omega (arith, few, within) in
-    let s = seen keys files old in
+    let s = seen watch keys files old in
     let m = s.machine in
     let quiet = calm-erased budget old calm in
     let at = with_machine s (behind done m mid) in
     let plain = behind-plain done budget m mid quiet within in
     let early = behind-early done budget m mid within end in
-    let next = plain-chain note at q plain early (ap step (behind-processor done m mid) ∙ chain) in
+    let next = plain-chain note at q plain (unbroken-at stops done s mid at_breaks passes) early (ap step (behind-processor done m mid) ∙ chain) in
     ap (λ (n : ℕ). turns note one false n s) all
-    ∙ burst-turns note one done budget (suc left) s mid quiet (omega (arith, within)) end reaches
+    ∙ burst-turns stops note one done budget (suc left) s mid at_breaks quiet (omega (arith, within)) end reaches
     ∙ turns-stop note one false left at ChainLimit (ap (λ (p : Part). p.stop) next)
     ∙ next
     ∙ ap (λ (x : MachineState). silent (Some ChainLimit) (with_machine s x)) (behind-with done m mid q ∙ erased-behind done old q)
-    ∙ ap (λ (x : MachineState). silent (Some ChainLimit) (seen keys files x)) (sym (is ∙ behind-is done old q))
+    ∙ ap (λ (x : MachineState). silent (Some ChainLimit) (seen watch keys files x)) (sym (is ∙ behind-is done old q))
 
-pub burst-told : (most done budget : ℕ) (end : Step) (old new : MachineState) (q : ProcessorState) → IsCalm budget old → old.time + budget ≤ last_time → budget ≤ most
-    → IsBurst old.processor budget done end q → new ≡ passed_by done (record old { processor = q }) → Bursts most done end old new
-burst-told most done budget step_end.Executed old new q calm last few burst is =
-    λ note one keys files. let all = burst.0 in went note one keys files most done budget old new q calm last few (omega (arith, all)) burst.1 is
-burst-told most done budget step_end.Transfer old new q calm last few burst is =
-    λ note one keys files. let some = burst.0 in went note one keys files most done budget old new q calm last few (omega (arith, some)) burst.1 is
-burst-told most done budget step_end.ChainLimit old new q calm last few burst is =
-    λ note one keys files. let (mid, within, reaches, chain) = burst in ended note one keys files most done budget old new mid q calm last few within reaches chain is
+pub burst-told : (stops : ℕ → Bool) (watch : WatchState) (most done budget : ℕ) (end : BurstEnd) (old new : MachineState) (q : ProcessorState) → AreAtBreaks stops watch → IsCalm budget old
+    → old.time + budget ≤ last_time → budget ≤ most → IsBurst stops old.processor budget done end q → new ≡ passed_by done (record old { processor = q }) → Bursts watch most done end old new
+burst-told stops watch most done budget burst_end.Spent old new q at_breaks calm last few burst is =
+    λ note one keys files. let all = burst.0 in went stops watch note one keys files most done budget old new q at_breaks calm last few (omega (arith, all)) burst.1 is
+burst-told stops watch most done budget burst_end.Transfer old new q at_breaks calm last few burst is =
+    λ note one keys files. let some = burst.0 in went stops watch note one keys files most done budget old new q at_breaks calm last few (omega (arith, some)) burst.1 is
+burst-told stops watch most done budget burst_end.AtStop old new q at_breaks calm last few burst is =
+    λ note one keys files. let some = burst.0 in went stops watch note one keys files most done budget old new q at_breaks calm last few (omega (arith, some)) burst.1 is
+burst-told stops watch most done budget burst_end.ChainLimit old new q at_breaks calm last few burst is =
+    λ note one keys files. let (mid, within, reaches, passes, chain) = burst in
+    ended stops watch note one keys files most done budget old new mid q at_breaks calm last few within reaches passes chain is
 
 -- a calm that is longer
 pub calm-less : (less more : ℕ) (m : MachineState) → less ≤ more → IsCalm more m → IsCalm less m

@@ -1,13 +1,12 @@
 -- What the machine does does not depend on the numbers of open files.
-use Rattle.std.proofs.Common.{◌≡◌, ℕ, ◌==◌, Bool, true, false, List, map, Option, Some, None, is_some, slice_index, nat_lt, refl, ap, sym, ◌∙◌, if◌then◌else◌}
+use Rattle.std.proofs.Common.{◌≡◌, ℕ, ◌==◌, Bool, true, false, Option, Some, None, is_some, slice_index, nat_lt, refl, ap, ◌∙◌, if◌then◌else◌}
 use Rattle.nova_word.specs.Bits.{bits}
 use Rattle.nova_memory.specs.Memory.{MemoryState, get}
-use Rattle.nova_memory.specs.Address.{Reference, address}
+use Rattle.nova_memory.specs.Address.{address}
 use Rattle.unit_list.specs.Bus.{unit_at}
 use Rattle.nova_interrupts.specs.Interrupts.{enabled, disabled}
 use Rattle.nova_interrupts.specs.Requests.{acknowledged}
-use Rattle.nova_machine.specs.declared.machine.Stop.{Stop}
-use Rattle.nova_machine.specs.declared.machine.Stop.TheVariants.{Halt, ChainLimit, UnknownDevice}
+use Rattle.nova_machine.specs.declared.machine.Stop.TheVariants.{Halt, UnknownDevice}
 use Rattle.nova_processor.specs.Processor.{ProcessorState}
 use Rattle.nova_processor.specs.Instruction.{memory_reference, arithmetic}
 use Rattle.nova_processor.specs.InputOutput.{input, past, tested, unanswered, multiply_divide}

@@ -1,11 +1,10 @@
 -- What a unit wants of the machine, by its kind.
-use Rattle.std.proofs.Common.{◌≡◌, ◌==◌, if◌then◌else◌, ◌⊎◌, inl, inr, ℕ, ◌+◌, ◌<◌, ◌≤◌, Bool, true, false, IsTrue, List, [], ◌∷◌, refl, ap, sym, subst, ◌∙◌, arith, Option, Some, None, zero, suc, slice_get, slice_index, option_map, nat_lt, get_or, codes, drop}
+use Rattle.std.proofs.Common.{◌≡◌, ◌==◌, if◌then◌else◌, inl, inr, ℕ, ◌<◌, ◌≤◌, Bool, true, false, IsTrue, List, [], ◌∷◌, refl, ap, sym, subst, arith, Option, Some, None, zero, suc, slice_get, slice_index, option_map, nat_lt, get_or, codes, drop}
 use Rattle.std.specs.Prelude.{IfSome}
 use Rattle.std.proofs.lemmas.Option.{same_Some}
 use Rattle.std.proofs.lemmas.Bool.Decides.{nat_tests}
 use Rattle.unit_trait.specs.declared.kind.Kind.{Kind}
 use Rattle.unit_trait.specs.declared.kind.Kind.TheVariants.{Dsk, Mta, Lpt, Ptr, Ptp, Clk, Tti, Tto, Tti1, Tto1}
-use Rattle.unit_trait.specs.declared.calls.Want.{Want}
 use Rattle.unit_trait.specs.declared.calls.Want.TheVariants as want
 use Rattle.unit_trait.specs.declared.calls.TapeOrder.{TapeOrder}
 use Rattle.unit_trait.specs.Kinds.{code_of, units_of}
@@ -19,10 +18,8 @@ use Rattle.unit_trait.specs.Device.{Register, position, kept_register}
 use Rattle.unit_trait.specs.Registers.{registers}
 use Rattle.unit_trait.specs.Calls.{UnitState, Due}
 use Rattle.unit_trait.specs.Row.{row, row_of, InRange, Fits}
-use Rattle.unit_trait.proofs.Codes.{same-code}
 use Rattle.unit_list.specs.Bus.{AllFit, unit_at, row_or_nothing, row_at}
 use Rattle.unit_list.proofs.Room.{kind-found}
-use Rattle.unit_list.proofs.Room.{room-in}
 use Rattle.host_files.specs.Lists.{NamedBytes}
 use Rattle.host_files.specs.declared.files.FileCall.TheVariants.{Write}
 use Rattle.unit_trait.specs.declared.kind.UnitName.{UnitName}
@@ -33,11 +30,12 @@ use Rattle.unit_files.specs.declared.faults.SectorAnswer.TheVariants as sectors
 use Rattle.nova_machine.specs.declared.service.Hosted.TheVariants.{Gets}
 use Rattle.nova_machine.specs.Sectors.{got_of_sector}
 use Rattle.unit_files.specs.Attachments.{Attachment, Held, attachments_of, attachment_at, file_place}
-use Rattle.unit_files.specs.Buffer.{disk_unit, disk_sectors, said_of_reading, said_of_writing}
+use Rattle.unit_files.specs.Buffer.{disk_unit, disk_sectors}
 use Rattle.unit_files.specs.Acts.{most_bytes, ByteSaid, ByteIs, WasWritten, AtEnd, read_act, write_act, write_said, failure_at}
 use Rattle.unit_files.specs.Answers.{said_of_byte, failure_of_byte}
 use Rattle.unit_files.specs.Shapes.{MayRead}
-use Rattle.nova_machine.specs.Wants.{key_stop, got_of_byte}
+use Rattle.nova_machine.specs.Wants.{got_of_byte}
+use Rattle.expect_actions.specs.Expects.{ExpectTable}
 use Rattle.nova_machine.specs.Comes.{AreTold, AreFree}
 use Rattle.nova_machine.specs.Hosting.{IsTapeOrder, CanBeHosted, HasRoom, IsHosted, hosted_of}
 
@@ -151,25 +149,21 @@ said-read tells slots u answer place files (inl told) said may = said told
 said-read tells slots u answer place files (inr free) said may =
     none-read answer (attachment_at (attachments_of slots) u) place files (free-none slots (file_place u) free) may
 
-no-key : (key : Option ℕ) (place : ℕ) → key_stop key (want.ReadByte place) ≡ None
-no-key None place = refl
-no-key (Some k) place = refl
-
-read-is : (answer : ByteAnswer) (a : Option Attachment) (place : ℕ) (files : List NamedBytes) (key : Option ℕ) → MayRead answer a place
-    → said_of_byte answer ≡ read_act (failure_of_byte answer) a place files → IsHosted (want.ReadByte place) a files key (hosted_of answer)
-read-is (byte.Byte b) a place files key may said = (ap got_of_byte (sym said), no-key key place)
-read-is byte.End a place files key may said = (ap got_of_byte (sym said), no-key key place)
-read-is byte.NoFile a place files key may said = (ap got_of_byte (sym said), no-key key place)
-read-is (byte.Failed f) a place files key may said = ap got_of_byte (sym said)
-read-is byte.Written a place files key may said = absurd may
+read-is : (answer : ByteAnswer) (a : Option Attachment) (place : ℕ) (files : List NamedBytes) (key : Option ℕ) (expects : ExpectTable) → MayRead answer a place
+    → said_of_byte answer ≡ read_act (failure_of_byte answer) a place files → IsHosted (want.ReadByte place) a files key expects (hosted_of answer)
+read-is (byte.Byte b) a place files key expects may said = (ap got_of_byte (sym said), refl)
+read-is byte.End a place files key expects may said = (ap got_of_byte (sym said), refl)
+read-is byte.NoFile a place files key expects may said = (ap got_of_byte (sym said), refl)
+read-is (byte.Failed f) a place files key expects may said = ap got_of_byte (sym said)
+read-is byte.Written a place files key expects may said = absurd may
 
 -- a byte of a unit's file was read for it
-pub read-hosted : (tells : Bool) (slots : List (Option Held)) (u : UnitName) (answer : ByteAnswer) (place : ℕ) (files : List NamedBytes) (key : Option ℕ) → AreTold tells slots
+pub read-hosted : (tells : Bool) (slots : List (Option Held)) (u : UnitName) (answer : ByteAnswer) (place : ℕ) (files : List NamedBytes) (key : Option ℕ) (expects : ExpectTable) → AreTold tells slots
     → (IsTrue tells → said_of_byte answer ≡ read_act (failure_of_byte answer) (attachment_at (attachments_of slots) u) place files)
     → MayRead answer (attachment_at (attachments_of slots) u) place
-    → IsHosted (want.ReadByte place) (attachment_at (attachments_of slots) u) files key (hosted_of answer)
-read-hosted tells slots u answer place files key told said may =
-    read-is answer (attachment_at (attachments_of slots) u) place files key may (said-read tells slots u answer place files told said may)
+    → IsHosted (want.ReadByte place) (attachment_at (attachments_of slots) u) files key expects (hosted_of answer)
+read-hosted tells slots u answer place files key expects told said may =
+    read-is answer (attachment_at (attachments_of slots) u) place files key expects may (said-read tells slots u answer place files told said may)
 
 pub read-room : (answer : ByteAnswer) (a : Option Attachment) (place : ℕ) → MayRead answer a place → HasRoom (want.ReadByte place) (hosted_of answer)
 unfolding most_bytes

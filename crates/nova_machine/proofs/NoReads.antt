@@ -13,9 +13,9 @@ use Rattle.unit_files.specs.Acts.{Failure}
 use Rattle.nova_machine.specs.Notes.{UnitNote, RunNote, at_unit, at_time}
 use Rattle.nova_machine.specs.Seen.{Seen, with_machine, attached_in}
 use Rattle.nova_machine.specs.Parts.{Part, followed, then_part}
-use Rattle.nova_machine.specs.Wants.{prints, answer_to, key_stop}
+use Rattle.nova_machine.specs.Wants.{prints, answer_to, own_stop}
 use Rattle.nova_machine.specs.Service.{want_at, key_at, asked, replied, hosted, service, services, serving, taken}
-use Rattle.nova_machine.specs.Turn.{prepared, turn}
+use Rattle.nova_machine.specs.Turn.{breaks_tested, breaks_tested_unless, attended, prepared, turn}
 use Rattle.nova_machine.specs.Run.{last_time, next_turn, turns, run}
 use Rattle.nova_machine.specs.Tapes.{NoAnswer}
 
@@ -42,7 +42,7 @@ service-reads fault u s =
     let w = want_at u s.machine in
     let made = prints w (with_machine s (asked u s.machine)) in
     let none = prints-reads (want_at u s.machine) (with_machine s (asked u s.machine)) in
-    reads_of-append made _ ∙ ap (λ (n : ℕ). reads_of made + n) (replied-reads u (key_stop (key_at s) w) (answer_to fault (attachment_at (attached_in s.machine) u) s.files (key_at s) w) (hosted fault u s)) ∙ omega (arith, none)
+    reads_of-append made _ ∙ ap (λ (n : ℕ). reads_of made + n) (replied-reads u (own_stop (key_at s) s.watch.expects w) (answer_to fault (attachment_at (attached_in s.machine) u) s.files (key_at s) w) (hosted fault u s)) ∙ omega (arith, none)
 
 services-reads : (note : Option UnitNote) (us : List UnitName) (s : Seen) → reads_of (services note us s).made ≡ 0
 unfolding services
@@ -53,13 +53,22 @@ serving-reads : (note : Option UnitNote) (s : Seen) → reads_of (serving note s
 unfolding serving
 serving-reads note s = services-reads note (dues s.machine.events) s
 
-prepared-reads : (note : Option UnitNote) (s : Seen) → reads_of (prepared note s).made ≡ 0
+attended-reads : (note : Option UnitNote) (s : Seen) → reads_of (attended note s).made ≡ 0
+unfolding attended
+attended-reads note s = then-reads (serving note s) _ (serving-reads note s) (λ next. refl)
+
+tested-reads : (first : Bool) (s : Seen) → reads_of (breaks_tested_unless first s).made ≡ 0
+unfolding breaks_tested
+tested-reads true s = refl
+tested-reads false s = refl
+
+prepared-reads : (note : Option UnitNote) (first : Bool) (s : Seen) → reads_of (prepared note first s).made ≡ 0
 unfolding prepared
-prepared-reads note s = then-reads (serving note s) _ (serving-reads note s) (λ next. refl)
+prepared-reads note first s = then-reads (attended note s) (λ at. breaks_tested_unless first at) (attended-reads note s) (tested-reads first)
 
 turn-reads : (note : Option UnitNote) (first : Bool) (s : Seen) → reads_of (turn note first s).made ≡ 0
 unfolding turn
-turn-reads note first s = then-reads (prepared note s) _ (prepared-reads note s) (λ next. refl)
+turn-reads note first s = then-reads (prepared note first s) _ (prepared-reads note first s) (λ next. refl)
 
 reads-if : (b : Bool) (x y : Part) → reads_of x.made ≡ 0 → reads_of y.made ≡ 0 → reads_of (if b then x else y).made ≡ 0
 reads-if true x y first second = first

@@ -1,5 +1,5 @@
 -- What an operation on the file of a drive is, by the definition of one on the drive.
-use Rattle.std.proofs.Common.{◌≡◌, ◌≢◌, ℕ, ◌==◌, ◌&&◌, not, nat_le, Bool, true, false, IsTrue, inl, inr, List, Option, Some, None, Result, Ok, Err, refl, ap, sym, subst, ◌∙◌, eq-eqb, arith, if◌then◌else◌}
+use Rattle.std.proofs.Common.{◌≡◌, ℕ, ◌==◌, ◌&&◌, Bool, true, false, IsTrue, inl, inr, List, Option, Some, None, Result, Ok, Err, refl, ap, sym, ◌∙◌, eq-eqb, if◌then◌else◌}
 use Rattle.std.proofs.Math.Path.{fun_ext}
 use Rattle.std.proofs.lemmas.Bool.{eqb-true}
 use Rattle.host_files.specs.Lists.{NamedBytes, bytes_of, changed}
@@ -10,19 +10,17 @@ use Rattle.nova_memory.specs.Memory.{MemoryState}
 use Rattle.unit_trait.specs.declared.kind.UnitName.{UnitName}
 use Rattle.unit_trait.specs.declared.calls.TapeOrder.{TapeOrder}
 use Rattle.unit_trait.specs.declared.calls.Got.{Got}
-use Rattle.unit_trait.specs.declared.calls.Want.TheVariants as want
-use Rattle.nova_machine.specs.Wants.{key_stop}
 use Rattle.unit_files.specs.Attachments.{Attachment, Held, attachments_of, attachment_at, file_place, read_only_of, read_only_at}
 use Rattle.unit_files.specs.Acts.{Failure}
-use Rattle.unit_files.specs.Causes.{IsQuiet, IsFaultOf}
+use Rattle.unit_files.specs.Causes.{IsQuiet}
 use Rattle.unit_files.specs.Open.{AllOpen}
 use Rattle.unit_files.specs.View.{HoldsFile}
 use Rattle.unit_files.proofs.Opened.{file-of}
 use Rattle.nova_machine.specs.declared.tape.TapeStop.{TapeStop}
 use Rattle.nova_machine.specs.declared.tape.TapeStop.TheVariants.{Image, Call}
-use Rattle.nova_machine.specs.Comes.{AreFree, AreTold}
-use Rattle.nova_machine.specs.Tapes.{NoAnswer, writes_tape, image_of, operation, tape_answer, tape_memory, tape_files, memory_operated, image_operated}
-use Rattle.nova_machine.specs.Operated.{operated, failure_of, CountsStop, StopCause, RaisesOne}
+use Rattle.nova_machine.specs.Comes.{AreTold}
+use Rattle.nova_machine.specs.Tapes.{writes_tape, image_of, operation, tape_answer, tape_memory, tape_files, memory_operated, image_operated}
+use Rattle.nova_machine.specs.Operated.{operated, failure_of, CountsStop, StopCause}
 use Rattle.nova_machine.proofs.Hosting.{free-none}
 
 quiet : (file : ℕ) (old new : FileState) → ChangesOnly file old new → new.faults file ≡ old.faults file → IsQuiet old new
@@ -99,8 +97,3 @@ on-file result tells slots unit file opened order files files' memory memory' al
           ∙ sym (ap (λ (x : Option Attachment). tape_memory fault x files order memory) holds.attachment);
       files_are = files_are are_told ∙ ap (λ (n : List ℕ). changed files n (image_operated fault memory order)) name ∙ sym (files-of fault a b memory files order holds.attachment free);
     }
-
--- no key comes to a tape
-pub no-key-comes : (key : Option ℕ) (order : TapeOrder) → key_stop key (want.Tape order) ≡ None
-no-key-comes None order = refl
-no-key-comes (Some k) order = refl

@@ -1,12 +1,12 @@
 -- Counts of faults over several calls.
-use Rattle.std.proofs.Common.{◌≡◌, ◌⊎◌, inl, inr, ℕ, Bool, IsTrue, List, ap, sym, subst, ◌∙◌, Option, Some, None, refl}
+use Rattle.std.proofs.Common.{◌≡◌, ℕ, Bool, List, ap, sym, subst, ◌∙◌, Option, Some, None, refl}
 use Rattle.fault_counts.specs.Faults.{raised}
 use Rattle.host_files.specs.State.{FileState}
 use Rattle.unit_files.specs.Attachments.{Held}
 use Rattle.unit_files.specs.Causes.{IsQuiet, IsFaultOf}
 use Rattle.nova_machine.specs.declared.machine.Stop.{Stop}
 use Rattle.nova_machine.specs.declared.machine.Stop.TheVariants.{FileFault}
-use Rattle.nova_machine.specs.Comes.{FileCause, AreTold, AreFree}
+use Rattle.nova_machine.specs.Comes.{FileCause, AreTold}
 
 pub told-same : (tells : Bool) (before now : List (Option Held)) → now ≡ before → AreTold tells before → AreTold tells now
 told-same tells before now same told = subst (λ (x : List (Option Held)). AreTold tells x) (sym same) told

@@ -6,10 +6,13 @@ use Rattle.nova_machine.specs.declared.machine.Stop.{Stop}
 use Rattle.nova_machine.specs.declared.machine.Stop.TheVariants.{Stepped, Limit}
 use Rattle.nova_machine.specs.Notes.{UnitNote, RunNote, at_time}
 use Rattle.nova_machine.specs.Seen.{Seen}
-use Rattle.nova_machine.specs.Parts.{Part, silent, behind_made}
-use Rattle.nova_machine.specs.Turn.{turn}
+use Rattle.nova_machine.specs.Parts.{Part, silent, behind_made, followed, then_part}
+use Rattle.nova_machine.specs.Turned.{still}
+use Rattle.nova_machine.specs.Turn.{fetch, attended, breaks_tested_unless, prepared, turn}
 use Rattle.nova_machine.specs.Run.{turns, run, next_turn, expired, last_time}
 use Rattle.nova_machine.specs.Laws.{IsLimit, PassesNoBreak, Unchanged, RunSplits, RunTakesTime}
+use Rattle.expect_actions.specs.Breaks.{has_break}
+use Rattle.nova_machine.proofs.Plain.{breaks-none}
 use Rattle.nova_machine.proofs.Runs.{turns-none, turns-stop, turns-go}
 use Rattle.nova_machine.proofs.Turns.{turns-turn, unchanged-same, unchanged-then}
 
@@ -79,10 +82,40 @@ stop-cases (Some s) = inr (s, refl)
 behind-behind : (first second : List (Observation Seen)) (p : Part) → behind_made first (behind_made second p) ≡ behind_made (first ++ second) p
 behind-behind first second p = ap (λ l. record { made = l; after = p.after; stop = p.stop }) (sym (append_assoc first second p.made))
 
--- a first turn is like every other where it tests no break
+-- a first turn is like every other where no break has the address that it would test
+unbroken-part : (made : List (Observation Seen)) (stop : Option Stop) (after : Seen)
+    → (stop ≡ None → has_break after.machine.processor.cpu.pc after.watch.breaks.list ≡ false)
+    → followed made stop after (λ at. breaks_tested_unless true at) ≡ followed made stop after (λ at. breaks_tested_unless false at)
+unbroken-part made (Some stop) after none = refl
+unbroken-part made None after none = ap (λ (p : Part). behind_made made p) (sym (breaks-none after (none refl)))
+
+prepared-is : (note : Option UnitNote) (first : Bool) (s : Seen) → prepared note first s ≡ then_part (attended note s) (λ at. breaks_tested_unless first at)
+unfolding prepared
+prepared-is note first s = refl
+
+turn-is : (note : Option UnitNote) (first : Bool) (s : Seen) → turn note first s ≡ then_part (prepared note first s) (λ ready. still ready (fetch ready.machine))
+unfolding turn
+turn-is note first s = refl
+
+unbroken-turn : (note : Option UnitNote) (s : Seen)
+    → ((attended note s).stop ≡ None → has_break (attended note s).after.machine.processor.cpu.pc (attended note s).after.watch.breaks.list ≡ false)
+    → turn note true s ≡ turn note false s
+unbroken-turn note s none =
+    let at = attended note s in
+    turn-is note true s
+    ∙ ap (λ (p : Part). then_part p (λ ready. still ready (fetch ready.machine)))
+    (prepared-is note true s ∙ unbroken-part at.made at.stop at.after none ∙ sym (prepared-is note false s))
+    ∙ sym (turn-is note false s)
+
+unbroken-next : (note : Option RunNote) (s : Seen) → PassesNoBreak note s → next_turn note true s ≡ next_turn note false s
+unfolding next_turn
+unbroken-next note s passes =
+    ap (λ (p : Part). if s.machine.time == last_time then silent (Some Limit) s else p) (unbroken-turn (at_time s.machine.time note) s passes)
+
 turns-first : (note : Option RunNote) (step : Bool) (k : ℕ) (s : Seen) → PassesNoBreak note s → turns note step true k s ≡ turns note step false k s
-turns-first note step zero s same = turns-none note step true s ∙ sym (turns-none note step false s)
-turns-first note step (suc k) s same =
+turns-first note step zero s passes = turns-none note step true s ∙ sym (turns-none note step false s)
+turns-first note step (suc k) s passes =
+    let same = unbroken-next note s passes in
     elim (stop-cases (next_turn note false s).stop) [
       | inl goes ↦
           turns-go note step true k s (ap (λ (p : Part). p.stop) same ∙ goes)
@@ -92,8 +125,8 @@ turns-first note step (suc k) s same =
     ]
 
 any-first : (note : Option RunNote) (step first : Bool) (k : ℕ) (s : Seen) → PassesNoBreak note s → turns note step first k s ≡ turns note step true k s
-any-first note step true k s same = refl
-any-first note step false k s same = sym (turns-first note step k s same)
+any-first note step true k s passes = refl
+any-first note step false k s passes = sym (turns-first note step k s passes)
 
 -- turns that only the count or the end of time has ended, and k more
 turns-limited : (note : Option RunNote) (one step first : Bool) (n k : ℕ) (s : Seen) → IsLimit (turns note one first n s).stop → 0 < k → PassesNoBreak note (turns note one first n s).after

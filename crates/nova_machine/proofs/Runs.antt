@@ -3,8 +3,9 @@ use Rattle.std.proofs.Common.{◌≡◌, ◌≢◌, ℕ, zero, suc, ◌-◌, ◌
 use Rattle.std.proofs.lemmas.Bool.Decides.{nat_tests}
 use Rattle.nova_machine.specs.declared.machine.Stop.{Stop}
 use Rattle.nova_machine.specs.declared.machine.Stop.TheVariants.{Limit, ChainLimit, FileFault}
-use Rattle.nova_processor.specs.declared.burst.Step.{Step}
-use Rattle.nova_processor.specs.declared.burst.Step.TheVariants as step_end
+use Rattle.nova_processor.specs.declared.burst.BurstEnd.{BurstEnd}
+use Rattle.nova_processor.specs.declared.burst.BurstEnd.TheVariants as burst_end
+use Rattle.expect_actions.specs.Watch.{WatchState}
 use Rattle.nova_machine.specs.Machine.{MachineState}
 use Rattle.nova_machine.specs.Notes.{UnitNote, RunNote, at_time, unit_note, run_note}
 use Rattle.nova_machine.specs.Seen.{Seen, seen}
@@ -115,19 +116,21 @@ chain-of note one first left most s mid next tells b c early is turned same =
     (subst P (sym same) (silent-comes (Some ChainLimit) (Some ChainLimit) next next tells c tt refl refl))
 
 -- a burst that no chain has ended
-pub burst-goes : (note : Option RunNote) (most done : ℕ) (end : Step) (old new : MachineState) (one : Bool) (keys : List (ℕ × ℕ)) (files : List NamedBytes)
-    → end ≢ step_end.ChainLimit → Bursts most done end old new
-    → turns note one false most (seen keys files old) ≡ turns note one false (most - done) (seen keys files new)
-burst-goes note most done step_end.Executed old new one keys files other told = told note one keys files
-burst-goes note most done step_end.Transfer old new one keys files other told = told note one keys files
-burst-goes note most done step_end.ChainLimit old new one keys files other told = absurd (other refl)
+pub burst-goes : (watch : WatchState) (note : Option RunNote) (most done : ℕ) (end : BurstEnd) (old new : MachineState) (one : Bool) (keys : List (ℕ × ℕ)) (files : List NamedBytes)
+    → end ≢ burst_end.ChainLimit → Bursts watch most done end old new
+    → turns note one false most (seen watch keys files old) ≡ turns note one false (most - done) (seen watch keys files new)
+burst-goes watch note most done burst_end.Spent old new one keys files other told = told note one keys files
+burst-goes watch note most done burst_end.Transfer old new one keys files other told = told note one keys files
+burst-goes watch note most done burst_end.AtStop old new one keys files other told = told note one keys files
+burst-goes watch note most done burst_end.ChainLimit old new one keys files other told = absurd (other refl)
 
-pub burst-ends : (note : Option RunNote) (most done : ℕ) (end : Step) (old new : MachineState) (one : Bool) (keys : List (ℕ × ℕ)) (files : List NamedBytes)
-    → end ≡ step_end.ChainLimit → Bursts most done end old new
-    → turns note one false most (seen keys files old) ≡ silent (Some ChainLimit) (seen keys files new)
-burst-ends note most done step_end.ChainLimit old new one keys files is told = told note one keys files
-burst-ends note most done step_end.Executed old new one keys files is told = absurd (cc)
-burst-ends note most done step_end.Transfer old new one keys files is told = absurd (cc)
+pub burst-ends : (watch : WatchState) (note : Option RunNote) (most done : ℕ) (end : BurstEnd) (old new : MachineState) (one : Bool) (keys : List (ℕ × ℕ)) (files : List NamedBytes)
+    → end ≡ burst_end.ChainLimit → Bursts watch most done end old new
+    → turns note one false most (seen watch keys files old) ≡ silent (Some ChainLimit) (seen watch keys files new)
+burst-ends watch note most done burst_end.ChainLimit old new one keys files is told = told note one keys files
+burst-ends watch note most done burst_end.Spent old new one keys files is told = absurd (cc)
+burst-ends watch note most done burst_end.Transfer old new one keys files is told = absurd (cc)
+burst-ends watch note most done burst_end.AtStop old new one keys files is told = absurd (cc)
 
 -- ---- the note of a run
 

@@ -1,5 +1,5 @@
 -- What every instruction and every turn keeps, and how time grows over a turn.
-use Rattle.std.proofs.Common.{◌≡◌, ℕ, zero, suc, ◌+◌, ◌≤◌, ◌==◌, Bool, true, false, List, [], ◌∷◌, Option, Some, None, Result, Ok, Err, slice_index, refl, ap, ◌∙◌, if◌then◌else◌, arith}
+use Rattle.std.proofs.Common.{◌≡◌, ℕ, zero, suc, ◌+◌, ◌≤◌, ◌==◌, Bool, true, false, List, [], ◌∷◌, Option, Some, None, option_map, Result, Ok, Err, slice_index, refl, ap, ◌∙◌, if◌then◌else◌, arith}
 use Rattle.std.proofs.lemmas.Bool.Decides.{nat_tests}
 use Rattle.observations.specs.Observations.{Observation}
 use Rattle.nova_word.specs.Bits.{bits}
@@ -16,7 +16,7 @@ use Rattle.event_queue.specs.EventList.{dues}
 use Rattle.nova_interrupts.specs.Interrupts.{enabled, disabled}
 use Rattle.nova_interrupts.specs.Requests.{acknowledged}
 use Rattle.nova_machine.specs.declared.machine.Stop.{Stop}
-use Rattle.nova_machine.specs.declared.machine.Stop.TheVariants.{Halt, ChainLimit, UnknownDevice, Wru}
+use Rattle.nova_machine.specs.declared.machine.Stop.TheVariants.{Halt, ChainLimit, UnknownDevice, Break, Expect, Wru}
 use Rattle.nova_processor.specs.Processor.{ProcessorState}
 use Rattle.nova_machine.specs.Machine.{MachineState, on_processor, reset_devices}
 use Rattle.unit_files.specs.Attachments.{Attachment, attachment_at}
@@ -30,9 +30,11 @@ use Rattle.nova_machine.specs.Turned.{Turned, begun, ticked, executed, goes_on, 
 use Rattle.nova_processor.specs.Instruction.{jump, jump_to_subroutine, store_and_skip, load, store, without_accumulator, memory_reference, arithmetic}
 use Rattle.nova_processor.specs.InputOutput.{multiply, divide, input, is_input, past, passed, tested, unanswered, multiply_divide}
 use Rattle.nova_machine.specs.Transfer.{asked_unit, flags_in, to_unit, to_device, mask_set, central_function, central_pulse, central, to_processor, transfer}
-use Rattle.nova_machine.specs.Wants.{prints, stop_by, key_stop, wru, answer_to, memory_behind}
+use Rattle.nova_machine.specs.Wants.{prints, stop_by, key_stop, own_stop, wru, answer_to, memory_behind}
+use Rattle.expect_actions.specs.Breaks.{stop_at}
+use Rattle.expect_actions.specs.Expects.{ExpectTable, match_at}
 use Rattle.nova_machine.specs.Service.{asked, answered, first_stop, replied, hosted, want_at, key_at, service, taken, services, serving}
-use Rattle.nova_machine.specs.Turn.{with_memory, refer_to, refer, execute, fetch, is_interrupted, jump_to, interrupt_reference, enter, interrupt, prepared, turn}
+use Rattle.nova_machine.specs.Turn.{with_memory, refer_to, refer, execute, fetch, is_interrupted, jump_to, interrupt_reference, enter, interrupt, breaks_tested, breaks_tested_unless, attended, prepared, turn}
 use Rattle.nova_machine.specs.Laws.{IsLimit, Unchanged}
 use Rattle.unit_trait.specs.declared.calls.TapeOrder.{TapeOrder}
 use Rattle.host_files.specs.Lists.{NamedBytes}
@@ -312,27 +314,35 @@ stop_by-other u unit_stop.Go limit = limit
 stop_by-other u unit_stop.End limit = limit
 stop_by-other u unit_stop.NoFile limit = limit
 
-key_stop-other : (key : Option ℕ) (w : Want) (stop : Option Stop) → ¬ IsLimit stop → ¬ IsLimit (first_stop (key_stop key w) stop)
-key_stop-other (Some key) want.Key stop other = test (key == wru)
+key_stop-other : (key : Option ℕ) (stop : Option Stop) → ¬ IsLimit stop → ¬ IsLimit (first_stop (key_stop key) stop)
+key_stop-other None stop other = other
+key_stop-other (Some key) stop other = test (key == wru)
   where
     test : (b : Bool) → ¬ IsLimit (first_stop (if b then Some Wru else None) stop)
-    test true limit = limit
-    test false limit = other limit
-key_stop-other None want.Key stop other = other
-key_stop-other key w stop other = other
+    test true = λ limit. limit
+    test false = other
 
-replied-prepares : (u : UnitName) (key : Option ℕ) (w : Want) (answer : Result Got NoAnswer) (before s : Seen) → Stays before.machine s.machine
-    → Prepares before (replied u (key_stop key w) answer s)
+match-other : (place : Option ℕ) (stop : Option Stop) → ¬ IsLimit stop → ¬ IsLimit (first_stop (option_map Expect place) stop)
+match-other None stop other = other
+match-other (Some k) stop other = λ limit. limit
+
+own_stop-other : (key : Option ℕ) (expects : ExpectTable) (w : Want) (stop : Option Stop) → ¬ IsLimit stop → ¬ IsLimit (first_stop (own_stop key expects w) stop)
+own_stop-other key expects want.Key stop other = key_stop-other key stop other
+own_stop-other key expects (want.Console byte) stop other = match-other (match_at byte expects) stop other
+own_stop-other key expects w stop other = other
+
+replied-prepares : (u : UnitName) (key : Option ℕ) (expects : ExpectTable) (w : Want) (answer : Result Got NoAnswer) (before s : Seen) → Stays before.machine s.machine
+    → Prepares before (replied u (own_stop key expects w) answer s)
 unfolding answered
-replied-prepares u key w (Ok g) before s stays = record {
+replied-prepares u key expects w (Ok g) before s stays = record {
   stays = record {
     acts = record { time = stays.acts.time; unchanged = record { size = stays.acts.unchanged.size; sr = stays.acts.unchanged.sr; stop_dev = stays.acts.unchanged.stop_dev; slots = stays.acts.unchanged.slots } };
     hold = stays.hold;
   };
-  other = key_stop-other key w _ (stop_by-other u _);
+  other = own_stop-other key expects w _ (stop_by-other u _);
 }
-replied-prepares u key w (Err (FileFails f)) before s stays = record { stays = stays; other = λ limit. limit }
-replied-prepares u key w (Err (ImageIsBad place)) before s stays = record { stays = stays; other = λ limit. limit }
+replied-prepares u key expects w (Err (FileFails f)) before s stays = record { stays = stays; other = λ limit. limit }
+replied-prepares u key expects w (Err (ImageIsBad place)) before s stays = record { stays = stays; other = λ limit. limit }
 
 prepares-behind : (s : Seen) (made : List (Observation Seen)) (p : Part) → Prepares s p → Prepares s (behind_made made p)
 prepares-behind s made p prepares = record { stays = prepares.stays; other = prepares.other }
@@ -381,7 +391,7 @@ service-prepares fault u s =
     let x = taken s in
     let w = want_at u x.machine in
     prepares-behind s (prints w (with_machine x (asked u x.machine))) _
-    (replied-prepares u (key_at x) w (answer_to fault (attachment_at (attached_in x.machine) u) x.files (key_at x) w) s (hosted fault u x) (record { acts = record { time = refl; unchanged = record { size = size-behind fault _ x.files x.machine.disk w x.machine.processor.memory; sr = refl; stop_dev = refl; slots = refl } }; hold = refl }))
+    (replied-prepares u (key_at x) x.watch.expects w (answer_to fault (attachment_at (attached_in x.machine) u) x.files (key_at x) w) s (hosted fault u x) (record { acts = record { time = refl; unchanged = record { size = size-behind fault _ x.files x.machine.disk w x.machine.processor.memory; sr = refl; stop_dev = refl; slots = refl } }; hold = refl }))
 
 services-prepare : (note : Option UnitNote) (us : List UnitName) (s : Seen) → Prepares s (services note us s)
 unfolding services
@@ -425,11 +435,25 @@ enters-interrupt : (m : MachineState) → Enters m (interrupt m)
 unfolding interrupt
 enters-interrupt m = enters-if (is_interrupted m) m _ _ (enters-enter m) (record { stays = record { acts = acts-same m; hold = refl }; other = λ limit. limit })
 
-pub prepared-prepares : (note : Option UnitNote) (s : Seen) → Prepares s (prepared note s)
-unfolding prepared
-prepared-prepares note s =
+attended-prepares : (note : Option UnitNote) (s : Seen) → Prepares s (attended note s)
+unfolding attended
+attended-prepares note s =
     then-prepares s (serving note s) (λ served. still served (interrupt served.machine)) (serving-prepares note s)
     (λ next. record { stays = (enters-interrupt next.machine).stays; other = (enters-interrupt next.machine).other })
+
+-- a test of the breaks, as a piece
+broken-other : (stop : Option ℕ) → ¬ IsLimit (option_map Break stop)
+broken-other None = λ limit. limit
+broken-other (Some k) = λ limit. limit
+
+tested-prepares : (first : Bool) (s : Seen) → Prepares s (breaks_tested_unless first s)
+unfolding breaks_tested
+tested-prepares true s = record { stays = record { acts = acts-same s.machine; hold = refl }; other = λ limit. limit }
+tested-prepares false s = record { stays = record { acts = acts-same s.machine; hold = refl }; other = broken-other (stop_at s.machine.processor.cpu.pc s.watch.breaks.list) }
+
+pub prepared-prepares : (note : Option UnitNote) (first : Bool) (s : Seen) → Prepares s (prepared note first s)
+unfolding prepared
+prepared-prepares note first s = then-prepares s (attended note s) (λ at. breaks_tested_unless first at) (attended-prepares note s) (tested-prepares first)
 
 -- a whole turn
 pub record TurnsPart (before : Seen) (p : Part) : Type 0 where
@@ -465,4 +489,4 @@ turns-followed s made None ready stays other =
 pub turns-turn : (note : Option UnitNote) (first : Bool) (s : Seen) → TurnsPart s (turn note first s)
 unfolding turn
 turns-turn note first s =
-    let p = prepared-prepares note s in turns-followed s (prepared note s).made (prepared note s).stop (prepared note s).after p.stays p.other
+    let p = prepared-prepares note first s in turns-followed s (prepared note first s).made (prepared note first s).stop (prepared note first s).after p.stays p.other

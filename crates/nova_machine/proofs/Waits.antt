@@ -1,18 +1,19 @@
 -- A loop that waits for a flag: a round of it takes two instructions of time and changes nothing else.
-use Rattle.std.proofs.Common.{◌≡◌, ◌≢◌, ℕ, zero, suc, ◌+◌, ◌-◌, ◌*◌, ◌%◌, ◌^◌, ◌<◌, ◌≤◌, ◌==◌, Bool, true, false, not, nat_lt, is_some, option_map, unwrap_or, List, Option, Some, None, refl, ap, sym, ◌∙◌, arith, if◌then◌else◌}
+use Rattle.std.proofs.Common.{◌≡◌, ℕ, zero, suc, ◌+◌, ◌-◌, ◌*◌, ◌%◌, ◌^◌, ◌<◌, ◌≤◌, ◌==◌, Bool, true, false, not, nat_lt, is_some, option_map, unwrap_or, Option, Some, None, refl, ap, sym, ◌∙◌, arith, if◌then◌else◌}
 use Rattle.std.proofs.lemmas.Bool.Decides.{nat_tests}
 use Rattle.nova_word.specs.Bits.{bits}
 use Rattle.nova_memory.specs.Memory.{get}
 use Rattle.nova_memory.specs.Address.{indexed, chain, address}
-use Rattle.host_files.specs.Lists.{NamedBytes}
 use Rattle.unit_trait.specs.Calls.{UnitState}
 use Rattle.unit_list.specs.declared.bus.Flags.{Flags}
 use Rattle.unit_list.specs.Bus.{unit_at, flags_of}
-use Rattle.nova_processor.specs.declared.burst.Step.TheVariants as step_end
+use Rattle.nova_processor.specs.declared.burst.BurstEnd.TheVariants as burst_end
+use Rattle.expect_actions.specs.Breaks.{has_break}
+use Rattle.expect_actions.specs.Watch.{WatchState}
 use Rattle.nova_processor.specs.Processor.{ProcessorState}
 use Rattle.nova_processor.specs.Instruction.{following, advanced, jump, without_accumulator, memory_reference, load, store, jump_to_subroutine, store_and_skip, arithmetic}
 use Rattle.nova_processor.specs.InputOutput.{past, tested, flag_skips, unanswered, multiply_divide}
-use Rattle.nova_processor.specs.Burst.{Stepped, steps, refers_to, refers, passes, step_of, step}
+use Rattle.nova_processor.specs.Burst.{steps, refers_to, refers, passes, step_of, step}
 use Rattle.nova_machine.specs.declared.machine.Stop.TheVariants.{UnknownDevice}
 use Rattle.nova_machine.specs.Machine.{MachineState, on_processor}
 use Rattle.nova_machine.specs.Notes.{RunNote, at_time}
@@ -26,7 +27,7 @@ use Rattle.nova_machine.specs.Quiet.{IsPlain}
 use Rattle.nova_machine.specs.Bursts.{passed_by, IsCalm, Bursts}
 use Rattle.nova_machine.specs.Waits.{IsTest, IsUntaken, IsJump, IsWaiting}
 use Rattle.nova_machine.proofs.Runs.{next-early}
-use Rattle.nova_machine.proofs.Bursts.{behind_step, executed-is, plain-turn, plain-next, turns-silent, behind, behind-none, behind-more, behind-plain, behind-early, behind-processor, behind-is, calm-erased, erased-behind}
+use Rattle.nova_machine.proofs.Bursts.{behind_step, executed-is, IsUnbroken, plain-turn, plain-next, turns-silent, behind, behind-none, behind-more, behind-plain, behind-early, behind-processor, behind-is, calm-erased, erased-behind}
 
 -- ---- the skip
 
@@ -124,24 +125,36 @@ waiting-behind count m waiting = record {
   back = waiting.back;
 }
 
-skip-next : (note : Option RunNote) (s : Seen) → IsPlain s.machine → s.machine.time < last_time → IsWaiting s.machine
+skip-next : (note : Option RunNote) (s : Seen) → IsPlain s.machine → IsUnbroken s → s.machine.time < last_time → IsWaiting s.machine
     → next_turn note false s ≡ silent None (with_machine s (behind_step s.machine (past s.machine.processor)))
-skip-next note s plain early waiting =
-    next-early note false s early ∙ plain-turn (at_time s.machine.time note) false s plain ∙ ap (λ (t : Turned). still s t) (skip-is s.machine waiting)
+skip-next note s plain none early waiting =
+    next-early note false s early ∙ plain-turn (at_time s.machine.time note) s plain none ∙ ap (λ (t : Turned). still s t) (skip-is s.machine waiting)
+
+-- no break is at the two instructions of the loop
+pub record AreUnbroken (watch : WatchState) (m : MachineState) : Type 0 where
+  pub test : has_break m.processor.cpu.pc watch.breaks.list ≡ false
+  pub back : has_break (following m.processor.cpu.pc) watch.breaks.list ≡ false
+
+at-unbroken : (count : ℕ) (s : Seen) (q : ProcessorState) → has_break q.cpu.pc s.watch.breaks.list ≡ false → IsUnbroken (with_machine s (behind count s.machine q))
+at-unbroken count s q none = ap (λ (p : ProcessorState). has_break p.cpu.pc s.watch.breaks.list) (behind-processor count s.machine q) ∙ none
+
+past-at : (watch : WatchState) (p : ProcessorState) → has_break (following p.cpu.pc) watch.breaks.list ≡ false → has_break (past p).cpu.pc watch.breaks.list ≡ false
+unfolding past advanced
+past-at watch p none = none
 
 -- a round, behind so many instructions
-round : (note : Option RunNote) (one : Bool) (count most left : ℕ) (s : Seen) → IsWaiting s.machine → IsCalm most s.machine → suc count < most
+round : (note : Option RunNote) (one : Bool) (count most left : ℕ) (s : Seen) → AreUnbroken s.watch s.machine → IsWaiting s.machine → IsCalm most s.machine → suc count < most
     → s.machine.time + most ≤ last_time
     → turns note one false (suc (suc left)) (with_machine s (behind count s.machine s.machine.processor))
     ≡ turns note one false left (with_machine s (behind (suc (suc count)) s.machine s.machine.processor))
-round note one count most left s waiting calm within end =
+round note one count most left s unbroken waiting calm within end =
     let m = s.machine in
     let p = m.processor in
     let at = with_machine s (behind count m p) in
     let mid = with_machine s (behind (suc count) m (past p)) in
     let before : count < most = omega (arith, within) in
-    let skips = skip-next note at (behind-plain count most m p calm before) (behind-early count most m p before end) (waiting-behind count m waiting) in
-    let jumps = plain-next note mid p (behind-plain (suc count) most m (past p) calm within) (behind-early (suc count) most m (past p) within end)
+    let skips = skip-next note at (behind-plain count most m p calm before) (at-unbroken count s p unbroken.test) (behind-early count most m p before end) (waiting-behind count m waiting) in
+    let jumps = plain-next note mid p (behind-plain (suc count) most m (past p) calm within) (at-unbroken (suc count) s (past p) (past-at s.watch p unbroken.back)) (behind-early (suc count) most m (past p) within end)
     (ap step (behind-processor (suc count) m (past p)) ∙ back-is p waiting.back) in
     turns-silent note one (suc left) at (with_machine s (behind_step at.machine (past at.machine.processor))) skips
     ∙ ap (λ (q : ProcessorState). turns note one false (suc left) (with_machine s (behind_step at.machine (past q)))) (behind-processor count m p)
@@ -149,21 +162,21 @@ round note one count most left s waiting calm within end =
     ∙ turns-silent note one left mid (with_machine s (behind_step mid.machine p)) jumps
     ∙ ap (λ (x : MachineState). turns note one false left (with_machine s x)) (behind-more (suc count) m (past p) p)
 
-rounds-pass : (note : Option RunNote) (one : Bool) (rounds most left : ℕ) (s : Seen) → IsWaiting s.machine → IsCalm most s.machine → rounds * 2 ≤ most
+rounds-pass : (note : Option RunNote) (one : Bool) (rounds most left : ℕ) (s : Seen) → AreUnbroken s.watch s.machine → IsWaiting s.machine → IsCalm most s.machine → rounds * 2 ≤ most
     → s.machine.time + most ≤ last_time
     → turns note one false (rounds * 2 + left) s ≡ turns note one false left (with_machine s (behind (rounds * 2) s.machine s.machine.processor))
-rounds-pass note one zero most left s waiting calm within end =
+rounds-pass note one zero most left s unbroken waiting calm within end =
     let none : zero * 2 + left ≡ left = omega arith in
     let no_time : 0 ≡ zero * 2 = omega arith in
     ap (λ (n : ℕ). turns note one false n s) none
     ∙ ap (λ (x : MachineState). turns note one false left (with_machine s x)) (sym (behind-none s.machine s.machine.processor refl))
     ∙ ap (λ (n : ℕ). turns note one false left (with_machine s (behind n s.machine s.machine.processor))) no_time
-rounds-pass note one (suc rounds) most left s waiting calm within end =
+rounds-pass note one (suc rounds) most left s unbroken waiting calm within end =
     let both : suc rounds * 2 + left ≡ rounds * 2 + suc (suc left) = omega arith in
     let count : suc (suc (rounds * 2)) ≡ suc rounds * 2 = omega arith in
     ap (λ (n : ℕ). turns note one false n s) both
-    ∙ rounds-pass note one rounds most (suc (suc left)) s waiting calm (omega (arith, within)) end
-    ∙ round note one (rounds * 2) most left s waiting calm (omega (arith, within)) end
+    ∙ rounds-pass note one rounds most (suc (suc left)) s unbroken waiting calm (omega (arith, within)) end
+    ∙ round note one (rounds * 2) most left s unbroken waiting calm (omega (arith, within)) end
     ∙ ap (λ (n : ℕ). turns note one false left (with_machine s (behind n s.machine s.machine.processor))) count
 
 -- ---- what the calls come to
@@ -175,19 +188,19 @@ waiting-erased m waiting = record {
   back = waiting.back;
 }
 
-pub waits-told : (most rounds budget : ℕ) (old new : MachineState) → IsWaiting old → IsCalm budget old → old.time + budget ≤ last_time → budget ≤ most → rounds * 2 ≤ budget
-    → new ≡ passed_by (rounds * 2) old → Bursts most (rounds * 2) step_end.Executed old new
-waits-told most rounds budget old new waiting calm end few within is = λ note one keys files.
+pub waits-told : (watch : WatchState) (most rounds budget : ℕ) (old new : MachineState) → AreUnbroken watch old → IsWaiting old → IsCalm budget old → old.time + budget ≤ last_time → budget ≤ most → rounds * 2 ≤ budget
+    → new ≡ passed_by (rounds * 2) old → Bursts watch most (rounds * 2) burst_end.Transfer old new
+waits-told watch most rounds budget old new unbroken waiting calm end few within is = λ note one keys files.
     let all : most ≡ rounds * 2 + (most - rounds * 2) = omega (arith, few, within) in
-    let s = seen keys files old in
+    let s = seen watch keys files old in
     ap (λ (n : ℕ). turns note one false n s) all
-    ∙ rounds-pass note one rounds budget (most - rounds * 2) s (waiting-erased old waiting) (calm-erased budget old calm) within end
+    ∙ rounds-pass note one rounds budget (most - rounds * 2) s (record { test = unbroken.test; back = unbroken.back }) (waiting-erased old waiting) (calm-erased budget old calm) within end
     ∙ ap (λ (x : MachineState). turns note one false (most - rounds * 2) (with_machine s x)) (erased-behind (rounds * 2) old old.processor)
-    ∙ ap (λ (x : MachineState). turns note one false (most - rounds * 2) (seen keys files x)) (sym (is ∙ behind-is (rounds * 2) old old.processor))
+    ∙ ap (λ (x : MachineState). turns note one false (most - rounds * 2) (seen watch keys files x)) (sym (is ∙ behind-is (rounds * 2) old old.processor))
 
 -- a burst, and a wait behind it
-pub burst-and-wait : (most done waited : ℕ) (old mid new : MachineState) → Bursts most done step_end.Transfer old mid → Bursts (most - done) waited step_end.Executed mid new
-    → Bursts most (done + waited) step_end.Transfer old new
-burst-and-wait most done waited old mid new first second = λ note one keys files.
+pub burst-and-wait : (watch : WatchState) (most done waited : ℕ) (old mid new : MachineState) → Bursts watch most done burst_end.Transfer old mid → Bursts watch (most - done) waited burst_end.Transfer mid new
+    → Bursts watch most (done + waited) burst_end.Transfer old new
+burst-and-wait watch most done waited old mid new first second = λ note one keys files.
     let rest : most - done - waited ≡ most - (done + waited) = omega arith in
-    first note one keys files ∙ second note one keys files ∙ ap (λ (n : ℕ). turns note one false n (seen keys files new)) rest
+    first note one keys files ∙ second note one keys files ∙ ap (λ (n : ℕ). turns note one false n (seen watch keys files new)) rest

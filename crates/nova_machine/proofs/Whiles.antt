@@ -11,7 +11,7 @@ use Rattle.nova_machine.specs.declared.machine.Stop.{Stop}
 use Rattle.unit_trait.specs.declared.calls.Got.{Got}
 use Rattle.unit_files.specs.Attachments.{attachment_at}
 use Rattle.unit_files.specs.Acts.{Failure}
-use Rattle.nova_machine.specs.Wants.{answer_to, key_stop}
+use Rattle.nova_machine.specs.Wants.{answer_to, own_stop}
 use Rattle.nova_machine.specs.Notes.{UnitNote, at_unit}
 use Rattle.nova_machine.specs.Seen.{Seen, attached_in}
 use Rattle.nova_machine.specs.Parts.{Part, behind_made, followed, then_part}
@@ -39,7 +39,7 @@ service-dues : (fault : Option Failure) (u : UnitName) (s : Seen) → AllFit s.m
 unfolding service hosted asked
 service-dues fault u s fit =
     let w = want_at u s.machine in
-    replied-dues u (key_stop (key_at s) w) (answer_to fault (attachment_at (attached_in s.machine) u) s.files (key_at s) w) (hosted fault u s) (after-fits (code_of u.kind) u.unit s.machine.units fit)
+    replied-dues u (own_stop (key_at s) s.watch.expects w) (answer_to fault (attachment_at (attached_in s.machine) u) s.files (key_at s) w) (hosted fault u s) (after-fits (code_of u.kind) u.unit s.machine.units fit)
 
 serving-is : (note : Option UnitNote) (s : Seen) → serving note s ≡ services note (dues s.machine.events) s
 unfolding serving

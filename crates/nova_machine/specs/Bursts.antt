@@ -3,8 +3,9 @@ use Rattle.std.specs.Prelude.{◌≡◌, ◌&&◌, ◌==◌, ℕ, ◌+◌, ◌-�
 use Rattle.event_queue.specs.EventList.{lowered, IsClear}
 use Rattle.nova_interrupts.specs.Interrupts.{released}
 use Rattle.nova_interrupts.specs.Requests.{requested}
-use Rattle.nova_processor.specs.declared.burst.Step.{Step}
-use Rattle.nova_processor.specs.declared.burst.Step.TheVariants as step
+use Rattle.nova_processor.specs.declared.burst.BurstEnd.{BurstEnd}
+use Rattle.nova_processor.specs.declared.burst.BurstEnd.TheVariants as burst_end
+use Rattle.expect_actions.specs.Watch.{WatchState}
 use Rattle.nova_machine.specs.declared.machine.Stop.TheVariants.{ChainLimit}
 use Rattle.nova_machine.specs.Machine.{MachineState}
 use Rattle.host_files.specs.Lists.{NamedBytes}
@@ -26,12 +27,12 @@ pub record IsCalm (count : ℕ) (m : MachineState) : Type 0 where
   pub quiet : 0 < count → (m.ints.on && requested m.ints.mask m.units) ≡ false
   pub clear : IsClear count m.events
 
--- Of so many turns some are done: those that are left come to what they all come to, whichever keys, files and failing
--- calls there are. A chain without an end has ended them.
-abbrev pub Bursts : ℕ → ℕ → Step → MachineState → MachineState → Type 0
-Bursts most done step.ChainLimit old new =
+-- Of so many turns some are done, under these watch tables: those that are left come to what they all come to, whichever
+-- keys, files and failing calls there are. A chain without an end has ended them.
+abbrev pub Bursts : WatchState → ℕ → ℕ → BurstEnd → MachineState → MachineState → Type 0
+Bursts watch most done burst_end.ChainLimit old new =
     (note : Option RunNote) (step : Bool) (keys : List (ℕ × ℕ)) (files : List NamedBytes)
-    → turns note step false most (seen keys files old) ≡ silent (Some ChainLimit) (seen keys files new)
-Bursts most done end old new =
+    → turns note step false most (seen watch keys files old) ≡ silent (Some ChainLimit) (seen watch keys files new)
+Bursts watch most done end old new =
     (note : Option RunNote) (step : Bool) (keys : List (ℕ × ℕ)) (files : List NamedBytes)
-    → turns note step false most (seen keys files old) ≡ turns note step false (most - done) (seen keys files new)
+    → turns note step false most (seen watch keys files old) ≡ turns note step false (most - done) (seen watch keys files new)

@@ -9,7 +9,6 @@ use Rattle.host_files.specs.OneList.{longest_list}
 use Rattle.unit_trait.specs.declared.calls.TapeOrder.{TapeOrder}
 use Rattle.unit_trait.specs.declared.calls.Want.{Want}
 use Rattle.unit_trait.specs.declared.calls.Want.TheVariants as want
-use Rattle.unit_trait.specs.declared.calls.Got.{Got}
 use Rattle.unit_trait.specs.declared.calls.Got.TheVariants as got
 use Rattle.unit_files.specs.declared.faults.ByteAnswer.{ByteAnswer}
 use Rattle.unit_files.specs.declared.faults.ByteAnswer.TheVariants as byte
@@ -17,11 +16,13 @@ use Rattle.unit_files.specs.Attachments.{Attachment, is_paper, is_tape, only_wri
 use Rattle.unit_files.specs.Buffer.{disk_sectors}
 use Rattle.unit_files.specs.Answers.{failure_in}
 use Rattle.nova_machine.specs.declared.machine.Stop.{Stop}
-use Rattle.nova_machine.specs.declared.machine.Stop.TheVariants.{BadImage, FileFault, ConsoleFault, Wru as WruStop}
+use Rattle.nova_machine.specs.declared.machine.Stop.TheVariants.{BadImage, FileFault, ConsoleFault, Wru as WruStop, Expect}
 use Rattle.nova_machine.specs.declared.service.Hosted.{Hosted}
-use Rattle.nova_machine.specs.declared.service.Hosted.TheVariants.{Gets, Wru, Stops}
+use Rattle.nova_machine.specs.declared.service.Hosted.TheVariants.{Gets, Wru, Matched, Stops}
 use Rattle.nova_machine.specs.Tapes.{FileFails, ImageIsBad}
-use Rattle.nova_machine.specs.Wants.{wru, answer_to, key_stop, bytes_of, IsConsole}
+use Rattle.expect_actions.specs.Expects.{ExpectTable}
+use Rattle.expect_actions.specs.Watch.{WatchState}
+use Rattle.nova_machine.specs.Wants.{wru, answer_to, own_stop, watch_after, bytes_of, IsConsole}
 
 abbrev pub hosted_of : ByteAnswer → Hosted
 hosted_of (byte.Byte b) = Gets (got.Byte b)
@@ -44,14 +45,25 @@ abbrev pub bytes_printed : Want → Hosted → List ℕ
 bytes_printed want (Stops stop) = []
 bytes_printed want other = bytes_of want
 
+-- the watch tables behind that: a byte that the console refused is not waited for
+abbrev pub watch_behind : ℕ → Want → Hosted → WatchState → WatchState
+watch_behind time want (Stops stop) watch = watch
+watch_behind time want other watch = watch_after time want watch
+
+-- what is made of a printed byte: the unit is done, and the run may stop at the text that it ends
+abbrev pub hosted_byte : Option ℕ → Hosted
+hosted_byte None = Gets got.Done
+hosted_byte (Some k) = Matched k
+
 -- what was made of a want: the answer, or the failure or the place that its stop claims
-abbrev pub IsHosted : Want → Option Attachment → List NamedBytes → Option ℕ → Hosted → Type 0
-IsHosted want a files key (Gets g) = (answer_to None a files key want ≡ Ok g) × (key_stop key want ≡ None)
-IsHosted want a files key Wru = (answer_to None a files key want ≡ Ok got.NoKey) × (key_stop key want ≡ Some WruStop)
-IsHosted want a files key (Stops (FileFault f)) = answer_to (Some (failure_in f)) a files key want ≡ Err (FileFails (failure_in f))
-IsHosted want a files key (Stops (BadImage unit place)) = answer_to None a files key want ≡ Err (ImageIsBad place)
-IsHosted want a files key (Stops ConsoleFault) = IsConsole want
-IsHosted want a files key (Stops stop) = ⊥
+abbrev pub IsHosted : Want → Option Attachment → List NamedBytes → Option ℕ → ExpectTable → Hosted → Type 0
+IsHosted want a files key expects (Gets g) = (answer_to None a files key want ≡ Ok g) × (own_stop key expects want ≡ None)
+IsHosted want a files key expects Wru = (answer_to None a files key want ≡ Ok got.NoKey) × (own_stop key expects want ≡ Some WruStop)
+IsHosted want a files key expects (Matched k) = (answer_to None a files key want ≡ Ok got.Done) × (own_stop key expects want ≡ Some (Expect k))
+IsHosted want a files key expects (Stops (FileFault f)) = answer_to (Some (failure_in f)) a files key want ≡ Err (FileFails (failure_in f))
+IsHosted want a files key expects (Stops (BadImage unit place)) = answer_to None a files key want ≡ Err (ImageIsBad place)
+IsHosted want a files key expects (Stops ConsoleFault) = IsConsole want
+IsHosted want a files key expects (Stops stop) = ⊥
 
 -- a stop for a bad image is that unit's
 abbrev pub IsImageOf : UnitName → Option Stop → Type 0
@@ -61,6 +73,7 @@ IsImageOf unit stop = Unit {0}
 -- what is made of a want is one that its unit may get: no byte past the largest place
 abbrev pub HasRoom : Want → Hosted → Type 0
 HasRoom want (Gets g) = IsBelowEnd want g
+HasRoom want (Matched k) = IsBelowEnd want got.Done
 HasRoom want other = Unit {0}
 
 -- an operation that the tape's registers can say

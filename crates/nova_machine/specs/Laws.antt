@@ -1,12 +1,14 @@
 -- What holds of every run, in a reader's words. A law is proved where a public function's contract is that law.
-use Rattle.std.specs.Prelude.{◌≡◌, ℕ, ◌+◌, ◌<◌, ◌≤◌, ◌⊎◌, Bool, true, false, Option, Some}
+use Rattle.std.specs.Prelude.{◌≡◌, ℕ, ◌+◌, ◌<◌, ◌≤◌, ◌⊎◌, Bool, false, Option, Some, None}
+use Rattle.expect_actions.specs.Breaks.{has_break}
 use Rattle.nova_machine.specs.declared.machine.Stop.{Stop}
 use Rattle.nova_machine.specs.declared.machine.Stop.TheVariants.{Stepped, Limit}
 use Rattle.nova_machine.specs.Machine.{MachineState}
-use Rattle.nova_machine.specs.Notes.{RunNote}
+use Rattle.nova_machine.specs.Notes.{RunNote, at_time}
 use Rattle.nova_machine.specs.Seen.{Seen}
 use Rattle.nova_machine.specs.Parts.{behind_made}
-use Rattle.nova_machine.specs.Run.{run, next_turn, expired, last_time}
+use Rattle.nova_machine.specs.Turn.{attended}
+use Rattle.nova_machine.specs.Run.{run, expired, last_time}
 
 -- the stops of a run that only its count or the end of time has ended
 abbrev pub IsLimit : Option Stop → Type 0
@@ -14,9 +16,11 @@ IsLimit (Some Stepped) = Unit {0}
 IsLimit (Some Limit) = Unit {0}
 IsLimit _ = ⊥
 
--- the next turn is the same, whether it is a run's first or not: no break stands where it tests
+-- no break has the address that the next turn tests, where it comes to that
 abbrev pub PassesNoBreak : Option RunNote → Seen → Type 0
-PassesNoBreak note s = next_turn note true s ≡ next_turn note false s
+PassesNoBreak note s =
+    let at = attended (at_time s.machine.time note) s in
+    at.stop ≡ None → has_break at.after.machine.processor.cpu.pc at.after.watch.breaks.list ≡ false
 
 -- a run of n + k is a run of n and then a run of k, with what the first made in front
 pub record RunSplits : Type 0 where

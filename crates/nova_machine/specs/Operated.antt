@@ -2,12 +2,12 @@
 use Rattle.std.specs.Prelude.{◌≡◌, ℕ, ◌≤◌, Option, Some, None, option_map, Result, Ok, Err}
 use Rattle.fault_counts.specs.Faults.{raised}
 use Rattle.host_files.specs.declared.files.FileCall.{FileCall}
-use Rattle.host_files.specs.declared.files.FileCall.TheVariants.{Opening, Length, Read, Write, SetLength, Closing}
+use Rattle.host_files.specs.declared.files.FileCall.TheVariants.{Opening, Closing}
 use Rattle.host_files.specs.OneList.{longest_list}
 use Rattle.host_files.specs.State.{FileState}
 use Rattle.unit_files.specs.Causes.{IsQuiet}
 use Rattle.unit_trait.specs.declared.calls.Got.{Got}
-use Rattle.unit_trait.specs.declared.calls.Got.TheVariants.{Done, Key, NoKey, Byte, End, NoFile, ReadOnly, LineFull, Tape}
+use Rattle.unit_trait.specs.declared.calls.Got.TheVariants.{Tape}
 use Rattle.unit_files.specs.Acts.{Failure}
 use Rattle.simh_tape.specs.declared.items.TapeFault.{TapeFault}
 use Rattle.simh_tape.specs.declared.items.TapeFault.TheVariants.{BadImage, Failed}

@@ -1,6 +1,6 @@
 -- A sector of the disk, and its words in memory (How to Use the Nova Computers, "Fixed Head Disk"). In the image of a
 -- disk the low byte of each word stands first.
-use Rattle.std.specs.Prelude.{ℕ, zero, suc, ◌+◌, ◌*◌, ◌/◌, ◌%◌, ◌^◌, Bool, true, false, List, [], ◌∷◌, ◌++◌, slice_index, Option, Some, None}
+use Rattle.std.specs.Prelude.{ℕ, zero, suc, ◌+◌, ◌*◌, ◌/◌, ◌%◌, ◌^◌, Bool, true, false, List, [], ◌∷◌, ◌++◌, slice_index, Option, Some}
 use Rattle.nova_memory.specs.Memory.{MemoryState, get, put}
 use Rattle.unit_trait.specs.declared.calls.Want.{Want}
 use Rattle.unit_trait.specs.declared.calls.Want.TheVariants as want

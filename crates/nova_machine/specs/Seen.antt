@@ -1,12 +1,16 @@
--- What a run works on, and what an early end of it must show: the machine, the timed keys, and all files by their names.
+-- What a run works on, and what an early end of it must show: the machine, the watch tables, the timed keys, and all files
+-- by their names.
 -- The numbers of open files are no part of it: the future of a run does not depend on them. Lines join the machine here.
 use Rattle.std.specs.Prelude.{ℕ, List, map, Option, option_map}
 use Rattle.host_files.specs.Lists.{NamedBytes}
 use Rattle.unit_files.specs.Attachments.{Attachment, Held, attachments_of}
+use Rattle.expect_actions.specs.Watch.{WatchState}
 use Rattle.nova_machine.specs.Machine.{MachineState}
 
 pub record Seen : Type 0 where
   pub machine : MachineState
+  -- breaks, texts that are waited for on the console, and bytes that were sent to its keyboard
+  pub watch : WatchState
   -- the keys of the console, each with its time
   pub keys : List (ℕ × ℕ)
   pub files : List NamedBytes
@@ -19,8 +23,8 @@ unnumbered slot = option_map (λ (h : Held). record h { file = 0 }) slot
 abbrev pub erased : MachineState → MachineState
 erased m = record m { slots = map unnumbered m.slots }
 
-abbrev pub seen : List (ℕ × ℕ) → List NamedBytes → MachineState → Seen
-seen keys files m = record { machine = erased m; keys = keys; files = files }
+abbrev pub seen : WatchState → List (ℕ × ℕ) → List NamedBytes → MachineState → Seen
+seen watch keys files m = record { machine = erased m; watch = watch; keys = keys; files = files }
 
 abbrev pub with_machine : Seen → MachineState → Seen
 with_machine s m = record s { machine = m }

@@ -11,12 +11,13 @@ use Rattle.unit_files.specs.Attachments.{Attachment, attachment_at}
 use Rattle.host_files.specs.Lists.{NamedBytes}
 use Rattle.unit_files.specs.Acts.{Failure}
 use Rattle.expect_actions.specs.KeysFile.{due_key}
+use Rattle.expect_actions.specs.Sends.{due_send}
 use Rattle.nova_machine.specs.declared.machine.Stop.{Stop}
 use Rattle.nova_machine.specs.Machine.{MachineState}
 use Rattle.nova_machine.specs.Notes.{UnitNote, at_unit}
 use Rattle.nova_machine.specs.Sectors.{disk_after}
 use Rattle.nova_machine.specs.Tapes.{NoAnswer}
-use Rattle.nova_machine.specs.Wants.{answer_to, memory_behind, files_after, taken_after, key_stop, prints, stop_by, unanswered}
+use Rattle.nova_machine.specs.Wants.{answer_to, memory_behind, files_after, taken_after, watch_after, first_key, typed_key, own_stop, prints, stop_by, unanswered}
 use Rattle.nova_machine.specs.Seen.{Seen, with_machine, attached_in}
 use Rattle.nova_machine.specs.Parts.{Part, silent, behind_made, then_part}
 use Rattle.nova_machine.specs.Turned.{Turned, still}
@@ -52,11 +53,18 @@ abbrev pub replied : UnitName → Option Stop → Result Got NoAnswer → Seen �
 replied unit stop (Ok answer) s = still s (stopping stop (answered unit answer s.machine))
 replied unit stop (Err why) s = silent (Some (unanswered unit why)) s
 
--- the key that is due
-abbrev pub key_at : Seen → Option ℕ
-key_at s = due_key s.keys s.machine.taken s.machine.time
+-- the key that is due of those that are typed at their times, and the byte that is due of those that were sent
+abbrev pub typed_at : Seen → Option ℕ
+typed_at s = due_key s.keys s.machine.taken s.machine.time
 
--- what a unit wants was done that has this attachment, where this key is due: a key is taken, a sector is moved, or a block
+abbrev pub sent_at : Seen → Option ℕ
+sent_at s = due_send s.machine.time s.watch.sends
+
+-- the key that comes
+abbrev pub key_at : Seen → Option ℕ
+key_at s = first_key (sent_at s) (typed_at s)
+
+-- what a unit wants was done that has this attachment, where this key of the typed ones comes: it is taken, a sector is moved, or a block
 -- of a tape is read
 abbrev pub done_for : Option Failure → Option ℕ → Option Attachment → List NamedBytes → Want → MachineState → MachineState
 done_for fault key a files want m = record m {
@@ -71,7 +79,8 @@ hosted fault unit s =
     let want = want_at unit s.machine in
     let a = attachment_at (attached_in s.machine) unit in
     record s {
-      machine = done_for fault (key_at s) a s.files want (asked unit s.machine);
+      machine = done_for fault (typed_key (sent_at s) (typed_at s)) a s.files want (asked unit s.machine);
+      watch = watch_after s.machine.time want s.watch;
       files = files_after fault a s.machine.processor.memory s.files want;
     }
 
@@ -82,7 +91,7 @@ service fault unit s =
     let want = want_at unit s.machine in
     let a = attachment_at (attached_in s.machine) unit in
     behind_made (prints want (with_machine s (asked unit s.machine)))
-    (replied unit (key_stop (key_at s) want) (answer_to fault a s.files (key_at s) want) (hosted fault unit s))
+    (replied unit (own_stop (key_at s) s.watch.expects want) (answer_to fault a s.files (key_at s) want) (hosted fault unit s))
 
 -- the machine without the event that is due first
 abbrev pub taken : Seen → Seen

@@ -6,14 +6,15 @@ use Rattle.nova_memory.specs.Address.{address}
 use Rattle.unit_trait.specs.declared.kind.UnitName.{UnitName}
 use Rattle.unit_list.specs.Bus.{unit_at}
 use Rattle.nova_machine.specs.declared.machine.Stop.{Stop}
-use Rattle.nova_machine.specs.declared.machine.Stop.TheVariants.{Halt, ChainLimit, UnknownDevice, UnitEnd, UnitNone, BadImage, FileFault, Wru}
+use Rattle.nova_machine.specs.declared.machine.Stop.TheVariants.{Halt, ChainLimit, UnknownDevice, Break, Expect, UnitEnd, UnitNone, BadImage, FileFault, Wru}
+use Rattle.expect_actions.specs.Breaks.{stop_at}
 use Rattle.unit_files.specs.declared.faults.UnitFault.{UnitFault}
 use Rattle.nova_machine.specs.Machine.{MachineState}
 use Rattle.nova_machine.specs.Notes.{UnitNote}
 use Rattle.nova_machine.specs.Seen.{Seen}
 use Rattle.nova_processor.specs.Instruction.{following}
 use Rattle.nova_machine.specs.Service.{serving}
-use Rattle.nova_machine.specs.Turn.{with_memory, is_interrupted, interrupt_reference, prepared, turn}
+use Rattle.nova_machine.specs.Turn.{with_memory, is_interrupted, interrupt_reference, attended, prepared, turn}
 
 -- the word that an instruction of that machine has
 abbrev pub fetched : MachineState → ℕ
@@ -50,12 +51,12 @@ pub record IsEndlessEntry (note : Option UnitNote) (s : Seen) : Type 0 where
   pub chain : (interrupt_reference (serving note s).after.machine).address ≡ None
 
 -- what comes before the instruction goes on to it
-abbrev pub IsReached : Option UnitNote → Seen → Type 0
-IsReached note s = (prepared note s).stop ≡ None
+abbrev pub IsReached : Option UnitNote → Bool → Seen → Type 0
+IsReached note first s = (prepared note first s).stop ≡ None
 
 -- the machine that executes the instruction
-abbrev pub ready : Option UnitNote → Seen → MachineState
-ready note s = (prepared note s).after.machine
+abbrev pub ready : Option UnitNote → Bool → Seen → MachineState
+ready note first s = (prepared note first s).after.machine
 
 -- Halt has taken its time and gone on behind itself
 pub record IsHalted (before after : MachineState) : Type 0 where
@@ -71,6 +72,12 @@ behind_chain m = with_memory m (address m.processor.memory (fetched m) m.process
 abbrev pub behind_entry : MachineState → MachineState
 behind_entry m = with_memory (record m { ints = record m.ints { on = false } }) (interrupt_reference m).memory
 
+-- the break with that number stops the turn
+pub record IsBroken (note : Option UnitNote) (first : Bool) (s : Seen) (k : ℕ) : Type 0 where
+  pub later : first ≡ false
+  pub attends : (attended note s).stop ≡ None
+  pub stops : stop_at (attended note s).after.machine.processor.cpu.pc (attended note s).after.watch.breaks.list ≡ Some k
+
 pub record TurnStops : Type 0 where
   -- a service that stops ends the turn there, and every other turn goes on from it
   pub service : (note : Option UnitNote) (first : Bool) (s : Seen) (stop : Stop) → (serving note s).stop ≡ Some stop → turn note first s ≡ serving note s
@@ -79,11 +86,15 @@ pub record TurnStops : Type 0 where
   pub bad_image : (note : Option UnitNote) (first : Bool) (s : Seen) (unit : UnitName) (place : ℕ) → ((turn note first s).stop ≡ Some (BadImage unit place)) ↔ ((serving note s).stop ≡ Some (BadImage unit place))
   pub file_fault : (note : Option UnitNote) (first : Bool) (s : Seen) (f : UnitFault) → ((turn note first s).stop ≡ Some (FileFault f)) ↔ ((serving note s).stop ≡ Some (FileFault f))
   pub wru : (note : Option UnitNote) (first : Bool) (s : Seen) → ((turn note first s).stop ≡ Some Wru) ↔ ((serving note s).stop ≡ Some Wru)
-  pub halt : (note : Option UnitNote) (first : Bool) (s : Seen) → ((turn note first s).stop ≡ Some Halt) ↔ (IsReached note s × IsHalt (fetched (ready note s)))
-  pub unknown_device : (note : Option UnitNote) (first : Bool) (s : Seen) → ((turn note first s).stop ≡ Some UnknownDevice) ↔ (IsReached note s × IsUnknown (fetched (ready note s)) (ready note s))
-  pub chain_limit : (note : Option UnitNote) (first : Bool) (s : Seen) → ((turn note first s).stop ≡ Some ChainLimit) ↔ (IsEndlessEntry note s ⊎ (IsReached note s × IsEndless (fetched (ready note s)) (ready note s)))
+  pub expect : (note : Option UnitNote) (first : Bool) (s : Seen) (k : ℕ) → ((turn note first s).stop ≡ Some (Expect k)) ↔ ((serving note s).stop ≡ Some (Expect k))
+  -- a break stops a turn that is not a run's first, once the services and the interrupt go on to it
+  pub break_ : (note : Option UnitNote) (first : Bool) (s : Seen) (k : ℕ) → ((turn note first s).stop ≡ Some (Break k)) ↔ IsBroken note first s k
+  pub halt : (note : Option UnitNote) (first : Bool) (s : Seen) → ((turn note first s).stop ≡ Some Halt) ↔ (IsReached note first s × IsHalt (fetched (ready note first s)))
+  pub unknown_device : (note : Option UnitNote) (first : Bool) (s : Seen) → ((turn note first s).stop ≡ Some UnknownDevice) ↔ (IsReached note first s × IsUnknown (fetched (ready note first s)) (ready note first s))
+  pub chain_limit : (note : Option UnitNote) (first : Bool) (s : Seen) → ((turn note first s).stop ≡ Some ChainLimit) ↔ (IsEndlessEntry note s ⊎ (IsReached note first s × IsEndless (fetched (ready note first s)) (ready note first s)))
   -- what stands after them
-  pub halted : (note : Option UnitNote) (first : Bool) (s : Seen) → (turn note first s).stop ≡ Some Halt → IsHalted (ready note s) (turn note first s).after.machine
-  pub unknown : (note : Option UnitNote) (first : Bool) (s : Seen) → (turn note first s).stop ≡ Some UnknownDevice → (turn note first s).after ≡ (prepared note s).after
-  pub unended : (note : Option UnitNote) (first : Bool) (s : Seen) → IsReached note s → (turn note first s).stop ≡ Some ChainLimit → (turn note first s).after.machine ≡ behind_chain (ready note s)
+  pub halted : (note : Option UnitNote) (first : Bool) (s : Seen) → (turn note first s).stop ≡ Some Halt → IsHalted (ready note first s) (turn note first s).after.machine
+  pub unknown : (note : Option UnitNote) (first : Bool) (s : Seen) → (turn note first s).stop ≡ Some UnknownDevice → (turn note first s).after ≡ (prepared note first s).after
+  pub unended : (note : Option UnitNote) (first : Bool) (s : Seen) → IsReached note first s → (turn note first s).stop ≡ Some ChainLimit → (turn note first s).after.machine ≡ behind_chain (ready note first s)
   pub unentered : (note : Option UnitNote) (first : Bool) (s : Seen) → IsEndlessEntry note s → (turn note first s).after.machine ≡ behind_entry (serving note s).after.machine
+  pub broken : (note : Option UnitNote) (first : Bool) (s : Seen) (k : ℕ) → (turn note first s).stop ≡ Some (Break k) → (turn note first s).after.machine ≡ (attended note s).after.machine

@@ -1,13 +1,14 @@
--- One step of the machine: the units whose events are due are served, an interrupt may be entered, and the word at PC is
--- fetched and executed.
-use Rattle.std.specs.Prelude.{ℕ, ◌&&◌, Bool, false, not, Option, Some, None, nat_lt, if◌then◌else◌}
+-- One step of the machine: the units whose events are due are served, an interrupt may be entered, the breaks are tested,
+-- and the word at PC is fetched and executed.
+use Rattle.std.specs.Prelude.{ℕ, ◌&&◌, Bool, false, not, Option, Some, None, option_map, nat_lt, if◌then◌else◌}
 use Rattle.nova_memory.specs.Memory.{MemoryState, get, put}
 use Rattle.nova_memory.specs.Address.{Reference, address}
 use Rattle.nova_interrupts.specs.Requests.{requested}
-use Rattle.nova_machine.specs.declared.machine.Stop.TheVariants.{ChainLimit}
+use Rattle.nova_machine.specs.declared.machine.Stop.TheVariants.{ChainLimit, Break}
+use Rattle.expect_actions.specs.Breaks.{stop_at, after_test}
 use Rattle.nova_machine.specs.Machine.{MachineState}
 use Rattle.nova_machine.specs.Seen.{Seen}
-use Rattle.nova_machine.specs.Parts.{Part, then_part}
+use Rattle.nova_machine.specs.Parts.{Part, silent, then_part}
 use Rattle.nova_machine.specs.Turned.{Turned, goes_on, stops, still, executed}
 use Rattle.nova_processor.specs.Instruction.{memory_reference, arithmetic}
 use Rattle.nova_machine.specs.Transfer.{transfer}
@@ -64,11 +65,25 @@ enter m =
 unfoldable pub interrupt : MachineState → Turned
 interrupt m = if is_interrupted m then enter m else goes_on m
 
--- what comes before the instruction: the services, and the interrupt
-unfoldable pub prepared : Option UnitNote → Seen → Part
-prepared note s = then_part (serving note s) (λ served. still served (interrupt served.machine))
+-- the services, and the interrupt
+unfoldable pub attended : Option UnitNote → Seen → Part
+attended note s = then_part (serving note s) (λ served. still served (interrupt served.machine))
 
--- A turn, which may be a run's first: what comes before the instruction, and the instruction. Where a service or the
--- interrupt stops, the turn ends there. One call on a unit's file may fail in it.
+-- the breaks are tested at PC
+unfoldable pub breaks_tested : Seen → Part
+breaks_tested s =
+    silent (option_map Break (stop_at s.machine.processor.cpu.pc s.watch.breaks.list))
+    (record s { watch = record s.watch { breaks = after_test s.machine.processor.cpu.pc s.watch.breaks } })
+
+-- a run's first turn tests none
+abbrev pub breaks_tested_unless : Bool → Seen → Part
+breaks_tested_unless first s = if first then silent None s else breaks_tested s
+
+-- what comes before the instruction
+unfoldable pub prepared : Option UnitNote → Bool → Seen → Part
+prepared note first s = then_part (attended note s) (λ at. breaks_tested_unless first at)
+
+-- A turn, which may be a run's first: what comes before the instruction, and the instruction. Where a service, the interrupt
+-- or a break stops, the turn ends there. One call on a unit's file may fail in it.
 unfoldable pub turn : Option UnitNote → Bool → Seen → Part
-turn note first s = then_part (prepared note s) (λ ready. still ready (fetch ready.machine))
+turn note first s = then_part (prepared note first s) (λ ready. still ready (fetch ready.machine))

@@ -1,5 +1,5 @@
 -- What the machine does for a unit whose event is due.
-use Rattle.std.specs.Prelude.{ℕ, ◌+◌, ◌<◌, ◌==◌, ◌≡◌, IsTrue, false, List, [], ◌∷◌, Option, Some, None, Result, Ok, Err, if◌then◌else◌}
+use Rattle.std.specs.Prelude.{ℕ, ◌+◌, ◌<◌, ◌==◌, ◌≡◌, IsTrue, false, List, [], ◌∷◌, Option, Some, None, option_map, Result, Ok, Err, if◌then◌else◌}
 use Rattle.observations.specs.Observations.{Observation, Prints}
 use Rattle.host_files.specs.declared.files.FileCall.{FileCall}
 use Rattle.host_files.specs.declared.files.FileCall.TheVariants as call
@@ -17,10 +17,23 @@ use Rattle.unit_files.specs.Attachments.{Attachment, is_disk, is_tape}
 use Rattle.unit_files.specs.Acts.{Failure, ByteSaid, ByteIs, WasWritten, AtEnd, NothingThere, ByteFailed, read_act, write_act, write_files}
 use Rattle.unit_files.specs.Buffer.{Buffer}
 use Rattle.nova_memory.specs.Memory.{MemoryState}
+use Rattle.expect_actions.specs.Expects.{ExpectTable, match_at, after_printed}
+use Rattle.expect_actions.specs.Sends.{sends_left}
+use Rattle.expect_actions.specs.Watch.{WatchState}
 use Rattle.nova_machine.specs.Sectors.{got_of_sector, said_of_sector, memory_after}
 use Rattle.nova_machine.specs.Tapes.{NoAnswer, FileFails, ImageIsBad, tape_answer, tape_memory, tape_files}
 use Rattle.nova_machine.specs.declared.machine.Stop.{Stop}
-use Rattle.nova_machine.specs.declared.machine.Stop.TheVariants.{UnitEnd, UnitNone, BadImage, FileFault, Wru}
+use Rattle.nova_machine.specs.declared.machine.Stop.TheVariants.{UnitEnd, UnitNone, BadImage, FileFault, Wru, Expect}
+
+-- the key that comes where a byte was sent to the keyboard and is due, and where a key is typed: the byte comes first
+abbrev pub first_key : Option ℕ → Option ℕ → Option ℕ
+first_key None typed = typed
+first_key (Some sent) typed = Some sent
+
+-- the typed key is taken only where no sent byte comes first
+abbrev pub typed_key : Option ℕ → Option ℕ → Option ℕ
+typed_key None typed = typed
+typed_key (Some sent) typed = None
 
 -- the key that stops a run: control E
 abbrev pub wru : ℕ
@@ -68,10 +81,22 @@ abbrev pub taken_after : ℕ → Option ℕ → Want → ℕ
 taken_after taken (Some key) want.Key = taken + 1
 taken_after taken key other = taken
 
--- the key that stops a run was taken
-abbrev pub key_stop : Option ℕ → Want → Option Stop
-key_stop (Some key) want.Key = if key == wru then Some Wru else None
-key_stop key other = None
+-- how the watch tables stand at that time once that was done: a byte that was sent is taken, and a printed one is waited for
+abbrev pub watch_after : ℕ → Want → WatchState → WatchState
+watch_after time want.Key watch = record watch { sends = sends_left time watch.sends }
+watch_after time (want.Console byte) watch = record watch { expects = after_printed byte watch.expects }
+watch_after time other watch = watch
+
+-- a key that stops a run was taken
+abbrev pub key_stop : Option ℕ → Option Stop
+key_stop None = None
+key_stop (Some key) = if key == wru then Some Wru else None
+
+-- the stop that the machine has for itself: a key that stops a run was taken, or the text was printed that is waited for
+abbrev pub own_stop : Option ℕ → ExpectTable → Want → Option Stop
+own_stop key expects want.Key = key_stop key
+own_stop key expects (want.Console byte) = option_map Expect (match_at byte expects)
+own_stop key expects other = None
 
 -- a byte for the console is printed
 abbrev pub IsConsole : Want → Type 0

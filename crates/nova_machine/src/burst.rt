@@ -5,44 +5,77 @@ ghost use Rattle.nova_machine.specs.Run.{last_time};
 
 use crate::machine::Machine;
 use crate::run::LAST_TIME;
-use nova_processor::{Burst, Step};
+use expect_actions::{Breaks, Watch};
+use nova_processor::{Burst, BurstEnd, Nowhere, Stops};
+use nova_word::Addr;
 use unit_trait::Unit;
 
+/// The addresses at which breaks are.
+#[derive(Clone, Copy)]
+struct AtBreaks<'a>(&'a Breaks);
+
+impl<'a> Stops for AtBreaks<'a> {
+    ghost use Rattle.expect_actions.specs.Breaks.{has_break};
+
+    ghost stops = { λ s a. has_break a s.0.now.list };
+
+    #[inline(always)]
+    fn is_at(&self, address: Addr) -> bool {
+        self.0.has(address)
+    }
+}
+
 impl<U: Unit> Machine<U> {
+    ghost use Rattle.nova_processor.specs.Burst.{IsBurst};
+    ghost use Rattle.expect_actions.specs.Breaks.{has_break};
     ghost use Rattle.nova_machine.specs.Bursts.{Bursts, IsCalm, passed_by};
 
     /// Makes turns, as many at the most, while nothing but an instruction of the processor alone can come. Where a word
     /// of input and output is next and begins a loop that waits for a flag, the rounds of the loop pass too.
-    pub(crate) fn burst(&mut self, most: u64) -> Burst
+    pub(crate) fn burst(&mut self, most: u64, watch: &Watch) -> Burst
         ensures few { result.done ≤ most }
-        ensures told { Bursts most result.done result.end self.old self.new }
+        ensures told { Bursts watch.now most result.done result.end self.old self.new }
         ensures slots { self.new.slots ≡ self.old.slots }
         ensures later { self.old.time ≤ self.new.time }
     {
-        let burst = self.work(most);
+        let burst = self.work(most, watch);
         match burst.end {
-            Step::Executed | Step::ChainLimit => burst,
-            Step::Transfer => {
-                let waited = self.wait(most - burst.done);
+            BurstEnd::Spent | BurstEnd::ChainLimit | BurstEnd::AtStop => burst,
+            BurstEnd::Transfer => {
+                let waited = self.wait(most - burst.done, watch);
                 Burst {
                     done: burst.done + waited,
-                    end: Step::Transfer,
+                    end: BurstEnd::Transfer,
                 }
             }
         }
     }
 
     /// Makes turns, as many at the most, of instructions of the processor alone.
-    fn work(&mut self, most: u64) -> Burst
+    fn work(&mut self, most: u64, watch: &Watch) -> Burst
         ensures few { result.done ≤ most }
-        ensures told { Bursts most result.done result.end self.old self.new }
+        ensures told { Bursts watch.now most result.done result.end self.old self.new }
         ensures slots { self.new.slots ≡ self.old.slots }
         ensures later { self.old.time ≤ self.new.time }
     {
         let budget = most.min(LAST_TIME - self.time).min(self.calm());
-        let burst = self.processor.burst(budget);
+        let burst = self.step_to_break(budget, &watch.breaks);
         self.pass_time(burst.done as u32);
         burst
+    }
+
+    /// Executes instructions of the processor alone, as many at the most, up to a break. Time does not pass.
+    fn step_to_break(&mut self, budget: u64, breaks: &Breaks) -> Burst
+        ensures few { result.done ≤ budget }
+        ensures told { IsBurst (λ address. has_break address breaks.now.list) self.old.processor budget result.done result.end
+            self.new.processor }
+        ensures rest { self.new ≡ record self.old { processor = self.new.processor } }
+    {
+        if breaks.is_empty() {
+            self.processor.burst(budget, &Nowhere)
+        } else {
+            self.processor.burst(budget, &AtBreaks(breaks))
+        }
     }
 
     /// For how many instructions no event is due and no interrupt can come, at least.

@@ -10,6 +10,7 @@ ghost use Rattle.unit_files.specs.Open.{AllOpen};
 ghost use Rattle.nova_machine.specs.Comes.{AreTold, StopCounts, FileCause};
 ghost use Rattle.nova_machine.specs.Tapes.{writes_tape, tape_memory, tape_files, operation, memory_operated, image_operated};
 ghost use Rattle.nova_machine.specs.Operated.{operated, failure_of, IsOnImage, IsTapeCall, StopCause};
+ghost use Rattle.expect_actions.specs.Expects.{ExpectTable};
 ghost use Rattle.nova_machine.specs.Notes.{unit_note, failure_of_stop};
 ghost use Rattle.nova_machine.specs.Hosting.{IsHosted, IsImageOf, HasRoom, IsTapeOrder, stop_in};
 ghost use Rattle.nova_machine.specs.Wants.{HasUnit};
@@ -43,8 +44,8 @@ impl<U: Unit> Machine<U> {
           };
         } }
         ensures rest { (record self.new { processor = self.old.processor }) ≡ self.old }
-        ensures said { AreTold F.tells self.old.slots → (key : Option ℕ) → IsHosted (wants.Tape order)
-            (attachment_at (attached_in self.old) unit) (F.state files.old).files key result }
+        ensures said { AreTold F.tells self.old.slots → (key : Option ℕ) (expects : ExpectTable) → IsHosted (wants.Tape order)
+            (attachment_at (attached_in self.old) unit) (F.state files.old).files key expects result }
         ensures files { AreTold F.tells self.old.slots → (F.state files.new).files
             ≡ tape_files (failure_of_stop (stop_in result)) (attachment_at (attached_in self.old) unit)
             self.old.processor.memory (F.state files.old).files order }
@@ -82,8 +83,8 @@ fn operate_drive<F: Files>(
     ensures memory { AreTold F.tells attached.now.slots → memory.new
         ≡ tape_memory (failure_of_stop (stop_in result)) (attachment_at (attachments_of attached.now.slots) unit)
         (F.state files.old).files order memory.old }
-    ensures said { AreTold F.tells attached.now.slots → (key : Option ℕ) → IsHosted (wants.Tape order)
-        (attachment_at (attachments_of attached.now.slots) unit) (F.state files.old).files key result }
+    ensures said { AreTold F.tells attached.now.slots → (key : Option ℕ) (expects : ExpectTable) → IsHosted (wants.Tape order)
+        (attachment_at (attachments_of attached.now.slots) unit) (F.state files.old).files key expects result }
     ensures files { AreTold F.tells attached.now.slots → (F.state files.new).files
         ≡ tape_files (failure_of_stop (stop_in result)) (attachment_at (attachments_of attached.now.slots) unit)
         memory.old (F.state files.old).files order }

@@ -28,6 +28,12 @@ pub enum Stop {
     ChainLimit,
     /// The word at PC is for a device that is not there, and STOP_DEV is 1. It was not executed.
     UnknownDevice,
+    /// The break with that place, from 0 in rising address, was tested at PC, and its count is 0. The instruction there was
+    /// not executed.
+    Break(usize),
+    /// The console's printer has printed the last byte of a text that is waited for: that of the entry with that place,
+    /// from 0. The entry is gone, and the printer is done.
+    Expect(usize),
     /// The count of a STEP was reached.
     Stepped,
     /// The limit of instructions was reached, or the end of time.

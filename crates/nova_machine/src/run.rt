@@ -4,9 +4,9 @@ ghost use Rattle.nova_machine.specs.Notes.{run_note};
 ghost use Rattle.nova_machine.specs.Wants.{HasUnit};
 
 use crate::machine::{Machine, RunLimit, Stop, Turn};
-use expect_actions::Keys;
+use expect_actions::{Keys, Watch};
 use host_files::{Files, Sink};
-use nova_processor::Step;
+use nova_processor::BurstEnd;
 use unit_trait::Unit;
 
 /// The end of time, in instructions.
@@ -40,14 +40,15 @@ impl<U: Unit> Machine<U> {
     pub fn run<S: Sink, F: Files>(
         &mut self,
         limit: RunLimit,
+        watch: &mut Watch,
         keys: &Keys,
         files: &mut F,
         out: &mut S,
     ) -> Stop
         requires open { AllOpen self.old.slots (F.state files.old).opened }
         ensures told { AreTold F.tells self.old.slots
-            → Comes (run (run_note self.new.time (Some result)) limit.step limit.count (seen keys.now (F.state files.old).files self.old))
-            (Some result) (seen keys.now (F.state files.new).files self.new) S.tells (S.written out.old) (S.written out.new) }
+            → Comes (run (run_note self.new.time (Some result)) limit.step limit.count (seen watch.old keys.now (F.state files.old).files self.old))
+            (Some result) (seen watch.new keys.now (F.state files.new).files self.new) S.tells (S.written out.old) (S.written out.new) }
         ensures counts { StopCounts (Some result) (S.fault_count out.old) (S.fault_count out.new) }
         ensures unit { HasUnit result }
         ensures slots { self.new.slots ≡ self.old.slots }
@@ -60,15 +61,17 @@ impl<U: Unit> Machine<U> {
             if self.time == LAST_TIME {
                 return Stop::Limit;
             }
-            match self.turn(first, keys, files, out) {
+            match self.turn(first, watch, keys, files, out) {
                 Turn::Stopped(stop) => return stop,
                 Turn::Executed => (),
             }
             first = false;
-            let burst = self.burst(left - 1);
+            let burst = self.burst(left - 1, watch);
             match burst.end {
-                Step::ChainLimit => return Stop::ChainLimit,
-                Step::Executed | Step::Transfer => left -= 1 + burst.done,
+                BurstEnd::ChainLimit => return Stop::ChainLimit,
+                BurstEnd::Spent | BurstEnd::Transfer | BurstEnd::AtStop => {
+                    left -= 1 + burst.done;
+                }
             }
         }
         limit.expired()

@@ -7,7 +7,7 @@ ghost use Rattle.unit_trait.specs.Row.{initial_unit};
 
 use crate::machine::{Machine, RunLimit, Stop, Turn};
 use clock_unit::Clk;
-use expect_actions::Keys;
+use expect_actions::{Keys, Watch};
 use host_files::{ByteSink, MemFiles, Sink};
 use nova_word::{Addr, Word};
 use std::alloc::{AllocError, Global};
@@ -124,7 +124,8 @@ impl<U: Unit> Machine<U> {
     {
         self.attached = Attached::new(alloc)?;
         let mut files = MemFiles::with_room(alloc, 0)?;
-        Ok(self.turn(first, &Keys::none(alloc), &mut files, out))
+        let mut watch = Watch::new(alloc)?;
+        Ok(self.turn(first, &mut watch, &Keys::none(alloc), &mut files, out))
     }
 
     /// A run, with no file attached, and for which no key is typed.
@@ -136,7 +137,8 @@ impl<U: Unit> Machine<U> {
     ) -> Result<Stop, AllocError> {
         self.attached = Attached::new(alloc)?;
         let mut files = MemFiles::with_room(alloc, 0)?;
-        Ok(self.run(limit, &Keys::none(alloc), &mut files, out))
+        let mut watch = Watch::new(alloc)?;
+        Ok(self.run(limit, &mut watch, &Keys::none(alloc), &mut files, out))
     }
 }
 

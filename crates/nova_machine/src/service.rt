@@ -9,15 +9,17 @@ ghost use Rattle.event_queue.specs.EventList.{due, dues, wished, IsApart};
 ghost use Rattle.unit_list.specs.Bus.{AllFit, TakesAnswerIn, IsBelowEnd, row_at, after_at, kinds_of};
 ghost use Rattle.unit_trait.specs.declared.calls.Got.{Got};
 ghost use Rattle.expect_actions.specs.KeysFile.{due_key};
+ghost use Rattle.expect_actions.specs.Sends.{due_send};
+ghost use Rattle.expect_actions.specs.Expects.{match_at};
 ghost use Rattle.nova_machine.specs.declared.machine.Stop.TheVariants.{ConsoleFault};
 ghost use Rattle.nova_machine.specs.declared.service.Hosted.TheVariants.{Gets, Stops};
 ghost use Rattle.nova_machine.specs.Comes.{IsOwn, StopCounts};
 ghost use Rattle.nova_machine.specs.Notes.{unit_note, failure_of_stop};
-ghost use Rattle.nova_machine.specs.Hosting.{CanBeHosted, IsImageOf, hosted_of, hosted_key, stop_in, bytes_printed};
-ghost use Rattle.nova_machine.specs.Wants.{taken_after, files_after, stop_by, HasUnit};
+ghost use Rattle.nova_machine.specs.Hosting.{CanBeHosted, IsImageOf, hosted_of, hosted_key, hosted_byte, stop_in, bytes_printed, watch_behind};
+ghost use Rattle.nova_machine.specs.Wants.{taken_after, files_after, watch_after, first_key, typed_key, stop_by, HasUnit};
 
 use crate::machine::{Machine, Stop};
-use expect_actions::Keys;
+use expect_actions::{Keys, Watch};
 use host_files::{Failed, Files, Sink, put_all};
 use unit_files::ByteAnswer;
 use unit_list::{due_at, got_at};
@@ -34,13 +36,14 @@ impl<U: Unit> Machine<U> {
     /// Serves the units whose events are due, first come first.
     pub(crate) fn serve<S: Sink, F: Files>(
         &mut self,
+        watch: &mut Watch,
         keys: &Keys,
         files: &mut F,
         out: &mut S,
     ) -> Option<Stop>
         requires open { AllOpen self.old.slots (F.state files.old).opened }
-        ensures told { AreTold F.tells self.old.slots → Comes (serving (unit_note result) (seen keys.now (F.state files.old).files self.old)) result
-            (seen keys.now (F.state files.new).files self.new) S.tells (S.written out.old) (S.written out.new) }
+        ensures told { AreTold F.tells self.old.slots → Comes (serving (unit_note result) (seen watch.old keys.now (F.state files.old).files self.old)) result
+            (seen watch.new keys.now (F.state files.new).files self.new) S.tells (S.written out.old) (S.written out.new) }
         ensures rest { result ≡ None → due self.new.events ≡ None }
         ensures time { self.new.time ≡ self.old.time }
         ensures counts { StopCounts result (S.fault_count out.old) (S.fault_count out.new) }
@@ -50,7 +53,7 @@ impl<U: Unit> Machine<U> {
         ensures file_cause { FileCause result self.old.slots (F.state files.old) (F.state files.new) }
     {
         'events: while let Some(unit) = self.take_due() {
-            if let Some(stop) = self.serve_unit(unit, keys, files, out) {
+            if let Some(stop) = self.serve_unit(unit, watch, keys, files, out) {
                 return Some(stop);
             }
         }
@@ -76,6 +79,7 @@ impl<U: Unit> Machine<U> {
     fn serve_unit<S: Sink, F: Files>(
         &mut self,
         unit: UnitName,
+        watch: &mut Watch,
         keys: &Keys,
         files: &mut F,
         out: &mut S,
@@ -83,8 +87,8 @@ impl<U: Unit> Machine<U> {
         requires number { unit.unit < units_of unit.kind }
         requires listed { IsAmong unit.kind (kinds_of self.old.units) }
         requires open { AllOpen self.old.slots (F.state files.old).opened }
-        ensures told { AreTold F.tells self.old.slots → Comes (service (failure_of_stop result) unit (seen keys.now (F.state files.old).files self.old)) result
-            (seen keys.now (F.state files.new).files self.new) S.tells (S.written out.old) (S.written out.new) }
+        ensures told { AreTold F.tells self.old.slots → Comes (service (failure_of_stop result) unit (seen watch.old keys.now (F.state files.old).files self.old)) result
+            (seen watch.new keys.now (F.state files.new).files self.new) S.tells (S.written out.old) (S.written out.new) }
         ensures own { IfSome (unit_note result) (λ n. n.unit ≡ unit) }
         ensures dues { result ≡ None → dues self.new.events ≡ dues self.old.events }
         ensures time { self.new.time ≡ self.old.time }
@@ -95,11 +99,15 @@ impl<U: Unit> Machine<U> {
         ensures file_cause { FileCause result self.old.slots (F.state files.old) (F.state files.new) }
     {
         let want = self.ask(unit);
-        match self.host(want, unit, keys, files, out) {
+        match self.host(want, unit, watch, keys, files, out) {
             Hosted::Gets(got) => self.answer(unit, got),
             Hosted::Wru => {
                 let _ = self.answer(unit, Got::NoKey);
                 Some(Stop::Wru)
+            }
+            Hosted::Matched(place) => {
+                let _ = self.answer(unit, Got::Done);
+                Some(Stop::Expect(place))
             }
             Hosted::Stops(stop) => Some(stop),
         }
@@ -180,6 +188,8 @@ pub(crate) enum Hosted {
     Gets(Got),
     /// The key that stops a run was taken: the unit gets no key.
     Wru,
+    /// The byte was printed, and ends the text of the entry with that place which is waited for: the unit is done.
+    Matched(usize),
     /// The unit gets no answer.
     Stops(Stop),
 }
@@ -197,6 +207,7 @@ impl<U: Unit> Machine<U> {
         &mut self,
         want: Want,
         unit: UnitName,
+        watch: &mut Watch,
         keys: &Keys,
         files: &mut F,
         out: &mut S,
@@ -205,15 +216,18 @@ impl<U: Unit> Machine<U> {
         requires open { AllOpen self.old.slots (F.state files.old).opened }
         requires kind { CanBeHosted want unit.kind }
         ensures machine { AreTold F.tells self.old.slots → self.new ≡ done_for (failure_of_stop (stop_in result))
-            (due_key keys.now self.old.taken self.old.time) (attachment_at (attached_in self.old) unit)
-            (F.state files.old).files want self.old }
+            (typed_key (due_send self.old.time watch.old.sends) (due_key keys.now self.old.taken self.old.time))
+            (attachment_at (attached_in self.old) unit) (F.state files.old).files want self.old }
+        ensures watch { watch.new ≡ watch_behind self.old.time want result watch.old }
         ensures slots { self.new.slots ≡ self.old.slots }
         ensures units { self.new.units ≡ self.old.units }
         ensures dues { dues self.new.events ≡ dues self.old.events }
         ensures kinds { kinds_of self.new.units ≡ kinds_of self.old.units }
         ensures time { self.new.time ≡ self.old.time }
         ensures said { AreTold F.tells self.old.slots → IsHosted want (attachment_at (attached_in self.old) unit)
-            (F.state files.old).files (due_key keys.now self.old.taken self.old.time) result }
+            (F.state files.old).files
+            (first_key (due_send self.old.time watch.old.sends) (due_key keys.now self.old.taken self.old.time))
+            watch.old.expects result }
         ensures files { AreTold F.tells self.old.slots → (F.state files.new).files
             ≡ files_after (failure_of_stop (stop_in result)) (attachment_at (attached_in self.old) unit)
             self.old.processor.memory (F.state files.old).files want }
@@ -228,9 +242,9 @@ impl<U: Unit> Machine<U> {
     {
         match want {
             Want::Nothing | Want::LinePut { line: _, byte: _ } => Hosted::Gets(Got::Done),
-            Want::Key => self.take_key(keys),
+            Want::Key => self.take_key(watch, keys),
             Want::LineKey(_) => Hosted::Gets(Got::NoKey),
-            Want::Console(byte) => print(byte, out),
+            Want::Console(byte) => print(byte, watch, out),
             Want::ReadByte { place } => made_of(self.attached.read_byte(unit, place, files)),
             Want::WriteByte { place, byte } => {
                 made_of(self.attached.write_byte(unit, place, byte, files))
@@ -249,35 +263,58 @@ impl<U: Unit> Machine<U> {
         }
     }
 
-    /// Takes the key that is due, where one is.
-    fn take_key(&mut self, keys: &Keys) -> Hosted
+    /// Takes the key that comes, where one does: a byte that was sent is taken before one that is typed.
+    fn take_key(&mut self, watch: &mut Watch, keys: &Keys) -> Hosted
+        ensures machine { self.new ≡ record self.old {
+          taken = taken_after self.old.taken
+              (typed_key (due_send self.old.time watch.old.sends) (due_key keys.now self.old.taken self.old.time)) wants.Key;
+        } }
+        ensures watch { watch.new ≡ watch_after self.old.time wants.Key watch.old }
+        ensures taken { result ≡ hosted_key
+            (first_key (due_send self.old.time watch.old.sends) (due_key keys.now self.old.taken self.old.time)) }
+    {
+        match watch.sends.take(self.time) {
+            Some(byte) => key_of(Some(byte)),
+            None => key_of(self.take_typed(keys)),
+        }
+    }
+
+    /// Takes the typed key that is due, where one is.
+    fn take_typed(&mut self, keys: &Keys) -> Option<u8>
         ensures machine { self.new ≡ record self.old {
           taken = taken_after self.old.taken (due_key keys.now self.old.taken self.old.time) wants.Key;
         } }
-        ensures taken { result ≡ hosted_key (due_key keys.now self.old.taken self.old.time) }
+        ensures taken { result ≡ due_key keys.now self.old.taken self.old.time }
     {
-        match keys.due(self.taken, self.time) {
-            None => Hosted::Gets(Got::NoKey),
-            Some(key) => {
-                self.taken += 1;
-                if key == WRU {
-                    Hosted::Wru
-                } else {
-                    Hosted::Gets(Got::Key(key))
-                }
-            }
-        }
+        let key = keys.due(self.taken, self.time)?;
+        self.taken += 1;
+        Some(key)
     }
 }
 
-/// Prints a byte on the console.
-fn print<S: Sink>(byte: u8, out: &mut S) -> Hosted
-    ensures said { (result ≡ Gets gots.Done) ⊎ (result ≡ Stops ConsoleFault) }
+/// What a key means for the keyboard, where one came.
+fn key_of(key: Option<u8>) -> Hosted
+    ensures { result ≡ hosted_key key }
+{
+    match key {
+        None => Hosted::Gets(Got::NoKey),
+        Some(WRU) => Hosted::Wru,
+        Some(key) => Hosted::Gets(Got::Key(key)),
+    }
+}
+
+/// Prints a byte on the console, where it may end a text that is waited for.
+fn print<S: Sink>(byte: u8, watch: &mut Watch, out: &mut S) -> Hosted
+    ensures said { (result ≡ hosted_byte (match_at byte watch.old.expects)) ⊎ (result ≡ Stops ConsoleFault) }
+    ensures watch { watch.new ≡ watch_behind 0 (wants.Console byte) result watch.old }
     ensures printed { IsTrue S.tells → S.written out.new ≡ S.written out.old ++ bytes_printed (wants.Console byte) result }
     ensures counts { StopCounts (stop_in result) (S.fault_count out.old) (S.fault_count out.new) }
 {
     match put_all(out, &[byte]) {
-        Ok(()) => Hosted::Gets(Got::Done),
+        Ok(()) => match watch.expects.printed(byte) {
+            None => Hosted::Gets(Got::Done),
+            Some(place) => Hosted::Matched(place),
+        },
         Err(Failed) => Hosted::Stops(Stop::ConsoleFault),
     }
 }

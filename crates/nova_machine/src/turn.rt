@@ -1,4 +1,5 @@
-ghost use Rattle.std.specs.Prelude.{◌≡◌, ◌<◌, ◌+◌, true, None, IfSome};
+ghost use Rattle.std.specs.Prelude.{◌≡◌, ◌<◌, ◌+◌, ℕ, List, true, None, IfSome};
+ghost use Rattle.host_files.specs.Lists.{NamedBytes};
 ghost use Rattle.event_queue.specs.EventList.{due};
 ghost use Rattle.nova_machine.specs.Comes.{IsOwn};
 ghost use Rattle.nova_machine.specs.Notes.{unit_note};
@@ -7,7 +8,7 @@ ghost use Rattle.nova_machine.specs.Wants.{HasUnit};
 
 use crate::instruction_end::InstructionEnd;
 use crate::machine::{Machine, Stop, Turn};
-use expect_actions::Keys;
+use expect_actions::{Keys, Watch};
 use host_files::{Files, Sink};
 use nova_memory::ChainLimit;
 use nova_word::{Addr, Word};
@@ -18,7 +19,7 @@ const JMP_THROUGH_1: Word = Word(0o2001);
 
 impl<U: Unit> Machine<U> {
     ghost use Rattle.nova_machine.specs.Seen.{seen};
-    ghost use Rattle.nova_machine.specs.Parts.{stop_of};
+    ghost use Rattle.nova_machine.specs.Parts.{stop_of, silent};
     ghost use Rattle.nova_machine.specs.Ends.{end_stop};
     ghost use Rattle.nova_machine.specs.Comes.{Comes, AreTold, StopCounts, FileCause};
     ghost use Rattle.unit_files.specs.Open.{AllOpen};
@@ -26,33 +27,33 @@ impl<U: Unit> Machine<U> {
     ghost use Rattle.nova_machine.specs.Machine.{on_processor};
     ghost use Rattle.nova_processor.specs.Instruction.{arithmetic, memory_reference};
     ghost use Rattle.nova_machine.specs.Turned.{begun, ticked};
-    ghost use Rattle.nova_machine.specs.Turn.{refer, execute, fetch, enter, interrupt, prepared, turn, is_interrupted};
+    ghost use Rattle.nova_machine.specs.Turn.{refer, execute, fetch, enter, interrupt, breaks_tested, attended, prepared, turn, is_interrupted};
 
     /// A turn. First the units are served whose events are due, in the order of their events. Then, where interrupts
     /// are on and do not wait and a unit asks for one, it is entered: interrupts go off, PC goes to location 0, and the
-    /// program goes on as by JMP @1. Then the word at PC is executed, which takes one instruction of time and clears
-    /// `Hold`.
+    /// program goes on as by JMP @1. Then the breaks are tested at PC, unless this is the first turn of a run, which
+    /// `first` says. Then the word at PC is executed, which takes one instruction of time and clears `Hold`.
     ///
-    /// A unit reads and writes the file that is attached to it, and the keyboard takes the first of the keys that is due.
+    /// A unit reads and writes the file that is attached to it. The keyboard takes the first byte that was sent to it, if
+    /// that is due, and else the first of the keys that is due. A byte that is printed on the console may end a text that
+    /// is waited for, and then the turn ends behind its service.
     ///
     /// Where a service stops, the turn ends there. After a stop as `ChainLimit` or `UnknownDevice` the registers of the
     /// processor, `Hold` among them, and the time are as they were before the instruction, or the interrupt.
-    ///
-    /// `first` says whether this is the first turn of a run. Nothing depends on it yet: it is for breakpoints, which
-    /// the first turn passes.
     #[inline]
     #[tactic(auto, unfolding(crate::specs::Turn::turn))]
     pub fn turn<S: Sink, F: Files>(
         &mut self,
         first: bool,
+        watch: &mut Watch,
         keys: &Keys,
         files: &mut F,
         out: &mut S,
     ) -> Turn
         requires early { self.old.time < last_time }
         requires open { AllOpen self.old.slots (F.state files.old).opened }
-        ensures told { AreTold F.tells self.old.slots → Comes (turn (unit_note (stop_of result)) first (seen keys.now (F.state files.old).files self.old))
-            (stop_of result) (seen keys.now (F.state files.new).files self.new) S.tells (S.written out.old) (S.written out.new) }
+        ensures told { AreTold F.tells self.old.slots → Comes (turn (unit_note (stop_of result)) first (seen watch.old keys.now (F.state files.old).files self.old))
+            (stop_of result) (seen watch.new keys.now (F.state files.new).files self.new) S.tells (S.written out.old) (S.written out.new) }
         ensures time { stop_of result ≡ None → self.new.time ≡ self.old.time + 1 }
         ensures fault { IfSome (unit_note (stop_of result)) (λ n. self.new.time ≡ self.old.time) }
         ensures counts { StopCounts (stop_of result) (S.fault_count out.old) (S.fault_count out.new) }
@@ -61,23 +62,65 @@ impl<U: Unit> Machine<U> {
         ensures opened { (F.state files.new).opened ≡ (F.state files.old).opened }
         ensures file_cause { FileCause (stop_of result) self.old.slots (F.state files.old) (F.state files.new) }
     {
-        match self.prepare(keys, files, out) {
+        match self.prepare(first, watch, keys, files, out) {
             Some(stop) => Turn::Stopped(stop),
             None => self.fetch().turn(),
         }
     }
 
-    /// What comes before the instruction: nothing, where the turn is plain.
+    /// What comes before the instruction.
     #[inline]
+    #[tactic(auto, unfolding(crate::specs::Turn::prepared))]
     fn prepare<S: Sink, F: Files>(
         &mut self,
+        first: bool,
+        watch: &mut Watch,
         keys: &Keys,
         files: &mut F,
         out: &mut S,
     ) -> Option<Stop>
         requires open { AllOpen self.old.slots (F.state files.old).opened }
-        ensures told { AreTold F.tells self.old.slots → Comes (prepared (unit_note result) (seen keys.now (F.state files.old).files self.old))
-            result (seen keys.now (F.state files.new).files self.new) S.tells (S.written out.old) (S.written out.new) }
+        ensures told { AreTold F.tells self.old.slots → Comes (prepared (unit_note result) first (seen watch.old keys.now (F.state files.old).files self.old))
+            result (seen watch.new keys.now (F.state files.new).files self.new) S.tells (S.written out.old) (S.written out.new) }
+        ensures rest { result ≡ None → due self.new.events ≡ None }
+        ensures time { self.new.time ≡ self.old.time }
+        ensures counts { StopCounts result (S.fault_count out.old) (S.fault_count out.new) }
+        ensures unit { IfSome result HasUnit }
+        ensures slots { self.new.slots ≡ self.old.slots }
+        ensures opened { (F.state files.new).opened ≡ (F.state files.old).opened }
+        ensures file_cause { FileCause result self.old.slots (F.state files.old) (F.state files.new) }
+    {
+        match self.come_to(watch, keys, files, out) {
+            Some(stop) => Some(stop),
+            None if first => None,
+            None => self.test_breaks(watch),
+        }
+    }
+
+    /// Tests the breaks at PC.
+    #[inline]
+    #[tactic(auto, unfolding(crate::specs::Turn::breaks_tested))]
+    fn test_breaks(&self, watch: &mut Watch) -> Option<Stop>
+        ensures told { (keys : List (ℕ × ℕ)) (files : List NamedBytes) →
+            breaks_tested (seen watch.old keys files self.now) ≡ silent result (seen watch.new keys files self.now) }
+        ensures other { IsOwn result }
+        ensures unit { IfSome result HasUnit }
+    {
+        watch.breaks.test(self.processor.cpu.pc).map(Stop::Break)
+    }
+
+    /// The services, and the interrupt: nothing, where the turn is plain.
+    #[inline]
+    fn come_to<S: Sink, F: Files>(
+        &mut self,
+        watch: &mut Watch,
+        keys: &Keys,
+        files: &mut F,
+        out: &mut S,
+    ) -> Option<Stop>
+        requires open { AllOpen self.old.slots (F.state files.old).opened }
+        ensures told { AreTold F.tells self.old.slots → Comes (attended (unit_note result) (seen watch.old keys.now (F.state files.old).files self.old))
+            result (seen watch.new keys.now (F.state files.new).files self.new) S.tells (S.written out.old) (S.written out.new) }
         ensures rest { result ≡ None → due self.new.events ≡ None }
         ensures time { self.new.time ≡ self.old.time }
         ensures counts { StopCounts result (S.fault_count out.old) (S.fault_count out.new) }
@@ -89,7 +132,7 @@ impl<U: Unit> Machine<U> {
         if self.is_plain() {
             None
         } else {
-            self.attend(keys, files, out)
+            self.attend(watch, keys, files, out)
         }
     }
 
@@ -101,13 +144,19 @@ impl<U: Unit> Machine<U> {
         !self.events.may_be_due() && self.quiet
     }
 
-    /// What comes before the instruction.
+    /// The services, and the interrupt.
     #[inline(never)]
-    #[tactic(auto, unfolding(crate::specs::Turn::prepared))]
-    fn attend<S: Sink, F: Files>(&mut self, keys: &Keys, files: &mut F, out: &mut S) -> Option<Stop>
+    #[tactic(auto, unfolding(crate::specs::Turn::attended))]
+    fn attend<S: Sink, F: Files>(
+        &mut self,
+        watch: &mut Watch,
+        keys: &Keys,
+        files: &mut F,
+        out: &mut S,
+    ) -> Option<Stop>
         requires open { AllOpen self.old.slots (F.state files.old).opened }
-        ensures told { AreTold F.tells self.old.slots → Comes (prepared (unit_note result) (seen keys.now (F.state files.old).files self.old))
-            result (seen keys.now (F.state files.new).files self.new) S.tells (S.written out.old) (S.written out.new) }
+        ensures told { AreTold F.tells self.old.slots → Comes (attended (unit_note result) (seen watch.old keys.now (F.state files.old).files self.old))
+            result (seen watch.new keys.now (F.state files.new).files self.new) S.tells (S.written out.old) (S.written out.new) }
         ensures rest { result ≡ None → due self.new.events ≡ None }
         ensures time { self.new.time ≡ self.old.time }
         ensures counts { StopCounts result (S.fault_count out.old) (S.fault_count out.new) }
@@ -116,7 +165,7 @@ impl<U: Unit> Machine<U> {
         ensures opened { (F.state files.new).opened ≡ (F.state files.old).opened }
         ensures file_cause { FileCause result self.old.slots (F.state files.old) (F.state files.new) }
     {
-        match self.serve(keys, files, out) {
+        match self.serve(watch, keys, files, out) {
             Some(stop) => Some(stop),
             None => self.interrupt(),
         }

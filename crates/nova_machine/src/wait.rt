@@ -1,10 +1,13 @@
 // Loops that wait for a flag of a unit, a skip and a JMP back to it: their rounds pass at once, up to the next event.
-ghost use Rattle.std.specs.Prelude.{◌≡◌, ◌≤◌, true};
+ghost use Rattle.std.specs.Prelude.{◌≡◌, ◌≤◌, ◌||◌, true};
+ghost use Rattle.expect_actions.specs.Breaks.{has_break};
+ghost use Rattle.nova_processor.specs.Instruction.{following};
 ghost use Rattle.nova_machine.specs.Waits.{IsTest};
-ghost use Rattle.nova_processor.specs.declared.burst.Step.TheVariants.{Executed};
+ghost use Rattle.nova_processor.specs.declared.burst.BurstEnd.TheVariants.{Transfer};
 
 use crate::machine::Machine;
 use crate::run::LAST_TIME;
+use expect_actions::{Breaks, Watch};
 use nova_memory::indexed;
 use nova_processor::{Cpu, flag_skips};
 use unit_list::flags_at;
@@ -17,19 +20,28 @@ impl<U: Unit> Machine<U> {
 
     /// Where the machine is at a loop that waits for a flag, lets its rounds pass, up to the next event, and answers how
     /// many instructions that were, as many as that at the most. All but the time is as it was then.
-    pub(crate) fn wait(&mut self, most: u64) -> u64
+    pub(crate) fn wait(&mut self, most: u64, watch: &Watch) -> u64
         ensures few { result ≤ most }
-        ensures told { Bursts most result Executed self.old self.new }
+        ensures told { Bursts watch.now most result Transfer self.old self.new }
         ensures slots { self.new.slots ≡ self.old.slots }
         ensures later { self.old.time ≤ self.new.time }
     {
-        if !self.is_waiting() {
+        if self.meets_break(&watch.breaks) || !self.is_waiting() {
             return 0;
         }
         let budget = most.min(LAST_TIME - self.time).min(self.calm());
         let rounds = budget / 2;
         self.pass_time((rounds * 2) as u32);
         rounds * 2
+    }
+
+    /// Whether a break is at one of the two instructions of such a loop.
+    fn meets_break(&self, breaks: &Breaks) -> bool
+        ensures { result ≡ (has_break self.now.processor.cpu.pc breaks.now.list
+            || has_break (following self.now.processor.cpu.pc) breaks.now.list) }
+    {
+        let pc = self.processor.cpu.pc;
+        breaks.has(pc) || breaks.has(pc.plus(1))
     }
 
     /// Whether a skip that is not taken is next, and behind it a JMP back to it.

@@ -50,8 +50,9 @@ pub left-again : (p q : ProcessorState) (end : Step) → step p ≡ record { pro
 left-again p q end is left =
     ap step (left-there p q end is left) ∙ is ∙ ap (λ (e : Step). record { processor = q; end = e }) left
 
-pub reaches-next : (count : ℕ) (start p q : ProcessorState) → Reaches count start p → step p ≡ steps q → Reaches (count + 1) start q
-reaches-next count start p q before is =
-    let P : ℕ → Type 0 = λ n. Reaches n start q in
+pub reaches-next : (stops : ℕ → Bool) (count : ℕ) (start p q : ProcessorState) → Reaches stops count start p → stops p.cpu.pc ≡ false → step p ≡ steps q
+    → Reaches stops (count + 1) start q
+reaches-next stops count start p q before passes is =
+    let P : ℕ → Type 0 = λ n. Reaches stops n start q in
     let both : suc count ≡ count + 1 = omega arith in
-    subst P both (p, before, is)
+    subst P both (p, before, passes, is)

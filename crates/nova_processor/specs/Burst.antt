@@ -1,10 +1,12 @@
 -- Instructions on the processor alone, one behind another: those that no unit has a part in.
-use Rattle.std.specs.Prelude.{◌≡◌, ℕ, zero, suc, ◌==◌, ◌<◌, nat_lt, Option, Some, None, if◌then◌else◌}
+use Rattle.std.specs.Prelude.{◌≡◌, ℕ, zero, suc, ◌==◌, ◌<◌, Bool, true, false, nat_lt, Option, Some, None, if◌then◌else◌}
 use Rattle.nova_word.specs.Bits.{bits}
 use Rattle.nova_memory.specs.Memory.{get}
 use Rattle.nova_memory.specs.Address.{address}
 use Rattle.nova_processor.specs.declared.burst.Step.{Step}
 use Rattle.nova_processor.specs.declared.burst.Step.TheVariants.{Executed, Transfer, ChainLimit}
+use Rattle.nova_processor.specs.declared.burst.BurstEnd.{BurstEnd}
+use Rattle.nova_processor.specs.declared.burst.BurstEnd.TheVariants as ended
 use Rattle.nova_processor.specs.Processor.{ProcessorState}
 use Rattle.nova_processor.specs.Instruction.{without_accumulator, load, store, memory_reference, arithmetic}
 use Rattle.nova_processor.specs.InputOutput.{multiply_divide}
@@ -49,14 +51,16 @@ step_of word p =
 unfoldable pub step : ProcessorState → Stepped
 step p = step_of (get p.memory p.cpu.pc) p
 
--- so many steps lead from one processor to another, each executed
-abbrev pub Reaches : ℕ → ProcessorState → ProcessorState → Type 0
-Reaches zero p q = q ≡ p
-Reaches (suc count) p q = (mid : ProcessorState) × Reaches count p mid × (step mid ≡ steps q)
+-- so many steps lead from one processor to another, each executed, and none from a stop
+abbrev pub Reaches : (ℕ → Bool) → ℕ → ProcessorState → ProcessorState → Type 0
+Reaches stops zero p q = q ≡ p
+Reaches stops (suc count) p q = (mid : ProcessorState) × Reaches stops count p mid × (stops mid.cpu.pc ≡ false) × (step mid ≡ steps q)
 
 -- what a burst came to: all the budget was executed; or a word of input and output is next, which is left; or a chain without an end,
--- which has changed words of memory and nothing else
-abbrev pub IsBurst : ProcessorState → ℕ → ℕ → Step → ProcessorState → Type 0
-IsBurst p budget done Executed q = (done ≡ budget) × Reaches done p q
-IsBurst p budget done Transfer q = (done < budget) × Reaches done p q × (step q ≡ record { processor = q; end = Transfer })
-IsBurst p budget done ChainLimit q = (mid : ProcessorState) × (done < budget) × Reaches done p mid × (step mid ≡ record { processor = q; end = ChainLimit })
+-- which has changed words of memory and nothing else; or a stop is next
+abbrev pub IsBurst : (ℕ → Bool) → ProcessorState → ℕ → ℕ → BurstEnd → ProcessorState → Type 0
+IsBurst stops p budget done ended.Spent q = (done ≡ budget) × Reaches stops done p q
+IsBurst stops p budget done ended.Transfer q = (done < budget) × Reaches stops done p q × (step q ≡ record { processor = q; end = Transfer })
+IsBurst stops p budget done ended.ChainLimit q =
+    (mid : ProcessorState) × (done < budget) × Reaches stops done p mid × (stops mid.cpu.pc ≡ false) × (step mid ≡ record { processor = q; end = ChainLimit })
+IsBurst stops p budget done ended.AtStop q = (done < budget) × Reaches stops done p q × (stops q.cpu.pc ≡ true)

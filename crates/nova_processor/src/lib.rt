@@ -8,9 +8,11 @@ pub mod cpu;
 pub mod input_output;
 mod memory_reference;
 pub mod processor;
+pub mod stops;
 
-pub use burst::{Burst, Step};
+pub use burst::{Burst, BurstEnd, Step};
 pub use cpu::Cpu;
 pub use input_output::flag_skips;
 pub use processor::Processor;
 pub use std::alloc::AllocError as OutOfMemory;
+pub use stops::{Nowhere, Stops};

@@ -1,5 +1,6 @@
 pub mod OutsideLemmas
 pub mod WordsLemmas
+pub mod WorkloadLemmas
 pub mod WordFileLemmas
 pub mod ReadingLemmas
 pub mod StandardLemmas

@@ -16,6 +16,7 @@ use Rattle.scp_script.specs.Loop.{IsExitStatus, LetsThrough, status_of}
 use Rattle.scp_script.specs.Perform.{beginning_with, IsSession}
 use Rattle.nova_top.specs.declared.options.Options.{Options}
 use Rattle.nova_top.specs.Words.{options_of}
+use Rattle.expect_actions.specs.Watch.{WatchState}
 use Rattle.nova_top.specs.Outside.{Outside, Left, left_by, Start, Refused, Begins, start_of, session_with, opening, trace_from, whole_trace, outcome}
 use Rattle.nova_top.specs.Ends.{IsOutcome, IsComplete, machine_left}
 use Rattle.nova_top.specs.Program.{IsRefused}
@@ -120,10 +121,10 @@ opening-reads : (words : List (List ℕ)) (options : Options) (keys : List Key) 
 unfolding session_with beginning_with
 opening-reads words options keys script files input own = refl
 
-pub session-outcome : (words : List (List ℕ)) (options : Options) (keys keys' : List Key) (script : Option (List ℕ)) (input left before after : List ℕ) (files files' : List NamedBytes) (finish : Finish) (now : MachineState) (notes own : List Note) (used : ℕ)
+pub session-outcome : (words : List (List ℕ)) (options : Options) (keys keys' : List Key) (script : Option (List ℕ)) (input left before after : List ℕ) (files files' : List NamedBytes) (finish : Finish) (watch : WatchState) (now : MachineState) (notes own : List Note) (used : ℕ)
     → start_of (options_of words) words files notes ≡ (Begins options keys script, used) → drop used notes ≡ own → IsExitStatus finish
-    → IsSession (opening words options keys script files input own) finish (seen keys' files' now) left before after → IsOutcome words input left before after files files' (status_of finish) (Some now) notes
-session-outcome words options keys keys' script input left before after files files' finish now notes own used start rest small s =
+    → IsSession (opening words options keys script files input own) finish (seen watch keys' files' now) left before after → IsOutcome words input left before after files files' (status_of finish) (Some now) notes
+session-outcome words options keys keys' script input left before after files files' finish watch now notes own used start rest small s =
     record {
       taken = s.end.taken;
       gives = s.gives;
@@ -133,7 +134,7 @@ session-outcome words options keys keys' script input left before after files fi
       written = s.end.written;
       rest = s.rest ∙ ap (drop s.made) (opening-input words options keys script files input own);
       is = outcome-start words input files notes (length s.end.taken) s.gives (Begins options keys script) used own start rest
-          ∙ session-cut words options keys script files input own (length s.end.taken) s.gives (status_of finish) s.made s.end.taken (record { live = seen keys' files' now; notes = [] }) s.end.outcome;
+          ∙ session-cut words options keys script files input own (length s.end.taken) s.gives (status_of finish) s.made s.end.taken (record { live = seen watch keys' files' now; notes = [] }) s.end.outcome;
     }
 
 -- ---- the laws, at the outcome

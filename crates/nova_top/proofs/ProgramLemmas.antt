@@ -1,5 +1,5 @@
 -- How the program starts and what its session comes to.
-use Rattle.std.proofs.Common.{◌≡◌, ◌≢◌, ◌⊎◌, inl, inr, ℕ, zero, suc, ◌<◌, ◌≤◌, Bool, true, false, IsTrue, List, [], ◌∷◌, ◌++◌, length, get_or, replicate, refl, ap, sym, ◌∙◌, subst, arith, append-nil, Option, Some, None, IfSome, is_some, string_bytes, String, Global, Result, Ok, Err}
+use Rattle.std.proofs.Common.{◌≡◌, ◌≢◌, ◌⊎◌, inl, inr, ℕ, zero, suc, ◌<◌, ◌≤◌, Bool, true, false, IsTrue, List, [], ◌∷◌, ◌++◌, length, get_or, replicate, refl, ap, sym, ◌∙◌, subst, arith, append-nil, Option, Some, None, IfSome, IsSome, is_some, is_none, string_bytes, String, Global, Result, Ok, Err}
 use Rattle.std.proofs.lemmas.List.{length-map}
 use Rattle.std.proofs.Math.Seq.{drop-append_seam, drop-length}
 use Rattle.std.proofs.lemmas.Bool.{eq-eqb}
@@ -20,6 +20,7 @@ use Rattle.fault_notes.proofs.Adding.{counted-both}
 use Rattle.file_commands.specs.AllUnits.{IsUnwritten}
 use Rattle.file_commands.proofs.Emptying.{unwritten-since}
 use Rattle.expect_actions.specs.KeysFile.{Key}
+use Rattle.expect_actions.specs.Watch.{WatchState, empty_watch}
 use Rattle.nova_machine.specs.Machine.{MachineState, new_machine, reset_machine, reset_devices}
 use Rattle.nova_machine.specs.Seen.{seen, erased, attached_in}
 use Rattle.scp_commands.specs.Live.{Live, CommandState, live_in}
@@ -32,9 +33,11 @@ use Rattle.scp_script.specs.declared.perform_session.Opening.{Opening}
 use Rattle.scp_script.specs.Perform.{beginning, beginning_with, IsSession, RunsShort, IsPerformed, Performed}
 use Rattle.nova_top.specs.declared.options.Options.{Options}
 use Rattle.nova_top.specs.Standard.{IsStandard, standard_units}
+use Rattle.scp_script.specs.Actions.{texts_of as waiting_texts}
 use Rattle.nova_top.specs.Words.{options_of, texts_of}
+use Rattle.nova_top.specs.Workload.{with_workload}
 use Rattle.nova_top.specs.Outside.{Denial, Begins, Refused, denied, start_of, session_with, opening, usage_text, unopened_text}
-use Rattle.nova_top.specs.Ends.{IsOutcome, IsCutShort, HasKeysFile, HasScript, StatusCause, NoneFailed, IsComplete, KeptUnwritten}
+use Rattle.nova_top.specs.Ends.{IsOutcome, IsCutShort, HasKeysFile, HasScript, StatusCause, NoneFailed, IsComplete, KeptUnwritten, HasWorkload}
 use Rattle.nova_top.specs.declared.word_files.Refusal.{Refusal}
 use Rattle.nova_top.specs.declared.word_files.Refusal.TheVariants.{Unopened, BadKeys}
 use Rattle.nova_top.specs.declared.word_files.Refusal.TheVariants as refusal
@@ -49,36 +52,38 @@ none-attached zero place = refl
 none-attached (suc slots) zero = refl
 none-attached (suc slots) (suc place) = none-attached slots place
 
-no-slots : (units : List UnitState) (unit : UnitName) → attachment_at (attached_in (erased (new_machine units))) unit ≡ None
+no-slots : (workload : Option ℕ) (units : List UnitState) (unit : UnitName) → attachment_at (attached_in (erased (with_workload workload (new_machine units)))) unit ≡ None
 unfolding new_machine reset_machine reset_devices
-no-slots units unit = none-attached file_units (file_place unit)
+no-slots None units unit = none-attached file_units (file_place unit)
+no-slots (Some number) units unit = none-attached file_units (file_place unit)
 
-no-closing : (units : List UnitState) (live : Live) (n : CommandNote) → live.machine ≡ erased (new_machine units) → IsLate live n → ⊥
-no-closing units live n new closing =
-    let none = ap (λ (m : MachineState). attachment_at (attached_in m) closing.unit) new ∙ no-slots units closing.unit in
+no-closing : (workload : Option ℕ) (units : List UnitState) (live : Live) (n : CommandNote) → live.machine ≡ erased (with_workload workload (new_machine units)) → IsLate live n → ⊥
+no-closing workload units live n new closing =
+    let none = ap (λ (m : MachineState). attachment_at (attached_in m) closing.unit) new ∙ no-slots workload units closing.unit in
     let no : false ≡ true = subst (λ (a : Option Attachment). IsTrue (is_some a)) none closing.there in
     cc
 
-no-behind : (units : List UnitState) (live : Live) (behind : List CommandNote) → live.machine ≡ erased (new_machine units) → ComeBehind live behind → behind ≡ []
-no-behind units live [] new come = refl
-no-behind units live (n ∷ behind) new come = absurd (no-closing units live n new come.0)
+no-behind : (workload : Option ℕ) (units : List UnitState) (live : Live) (behind : List CommandNote) → live.machine ≡ erased (with_workload workload (new_machine units)) → ComeBehind live behind → behind ≡ []
+no-behind workload units live [] new come = refl
+no-behind workload units live (n ∷ behind) new come = absurd (no-closing workload units live n new come.0)
 
 -- so no closing comes behind its start, and the notes are those of its commands
 pub follows : (words : List (List ℕ)) (options : Options) (keys : List Key) (script : Option (List ℕ)) (files : List NamedBytes) (input : List ℕ) (own : List Note)
     → MayFollow (opening words options keys script files input []).spent (opening words options keys script files input []).live own → Follow 0 own
 unfolding session_with beginning_with
 follows words options keys script files input own h =
-    let none = no-behind standard_units (opening words options keys script files input []).live h.behind refl h.closings in
+    let none = no-behind options.workload standard_units (opening words options keys script files input []).live h.behind refl h.closings in
     subst (λ (n : List Note). Follow 0 n) (sym (h.are ∙ ap (λ (b : List CommandNote). numbered 0 b ++ h.later) none)) h.follows
 
 -- ---- what stands before the first line
 
--- A session that is begun: with a new machine, with keys and a script of which the notes so far are all that was used, and
+-- A session that is begun: with a new machine, in whose memory a workload may be, with nothing watched, with keys and a script of which the notes so far are all that was used, and
 -- opened as the words say.
 pub record Begun (tells : Bool) (words : List (List ℕ)) (options : Options) (s : CommandState) (o : Opening) (old new : FileState) : Type 0 where
   pub command : s.command ≡ 0
   pub limit : s.limit ≡ options.limit
-  pub machine : s.machine ≡ new_machine standard_units
+  pub machine : s.machine ≡ with_workload options.workload (new_machine standard_units)
+  pub watch : s.watch ≡ empty_watch
   pub open_ : AllOpen s.machine.slots new.opened
   pub around : Around s.machine.slots old.opened new.opened
   pub files : IsTrue tells → new.files ≡ old.files
@@ -90,23 +95,31 @@ pub record Begun (tells : Bool) (words : List (List ℕ)) (options : Options) (s
 pub record Made (units : List UnitState) (options : Options) (s : CommandState) : Type 0 where
   pub standard : IsStandard units
   pub machine : s.machine ≡ new_machine units
+  pub watch : s.watch ≡ empty_watch
   pub limit : s.limit ≡ options.limit
   pub notes : s.notes ≡ []
   pub command : s.command ≡ 0
   pub open_ : (opened : List Opened) → AllOpen s.machine.slots opened
   pub around : (opened : List Opened) → Around s.machine.slots opened opened
 
--- with what the files of the words say
-pub begun-files : (tells : Bool) (words : List (List ℕ)) (options : Options) (units : List UnitState) (i s : CommandState) (keys : List Key) (o : Opening) (notes : List FaultNote) (spare : ℕ) (old new : FileState)
-    → Made units options s → i ≡ s → (IsTrue tells → StartsWith words options old.files (notes_said notes) (Begins options keys (script_text o))) → OpensAs words options o
+-- a workload leaves the files of a machine
+workload-slots : (workload : Option ℕ) (m : MachineState) → (with_workload workload m).slots ≡ m.slots
+workload-slots None m = refl
+workload-slots (Some number) m = refl
+
+-- with what the files of the words say, and its workload
+pub begun-files : (tells : Bool) (words : List (List ℕ)) (options : Options) (units : List UnitState) (i s : CommandState) (m : MachineState) (keys : List Key) (o : Opening) (notes : List FaultNote) (spare : ℕ) (old new : FileState)
+    → Made units options s → i ≡ s → m ≡ with_workload options.workload i.machine → (IsTrue tells → StartsWith words options old.files (notes_said notes) (Begins options keys (script_text o))) → OpensAs words options o
     → (IsTrue tells → new.files ≡ old.files) → new.opened ≡ old.opened → AreKept [] notes old new
-    → Begun tells words options (record { machine = i.machine; keys = keys; limit = i.limit; notes = notes; command = i.command; spare = spare }) o old new
-begun-files tells words options units i s keys o notes spare old new made same starts opens files opened keeps =
-    let slots = sym (ap (λ (u : CommandState). u.machine.slots) same) in
+    → Begun tells words options (record { machine = m; watch = i.watch; keys = keys; limit = i.limit; notes = notes; command = i.command; spare = spare }) o old new
+begun-files tells words options units i s m keys o notes spare old new made same filled starts opens files opened keeps =
+    let whole : m ≡ with_workload options.workload s.machine = filled ∙ ap (λ (u : CommandState). with_workload options.workload u.machine) same in
+    let slots : s.machine.slots ≡ m.slots = sym (workload-slots options.workload s.machine) ∙ ap (λ (x : MachineState). x.slots) (sym whole) in
     record {
       command = ap (λ (u : CommandState). u.command) same ∙ made.command;
       limit = ap (λ (u : CommandState). u.limit) same ∙ made.limit;
-      machine = ap (λ (u : CommandState). u.machine) same ∙ made.machine ∙ ap new_machine made.standard;
+      machine = whole ∙ ap (with_workload options.workload) (made.machine ∙ ap new_machine made.standard);
+      watch = ap (λ (u : CommandState). u.watch) same ∙ made.watch;
       open_ = subst (λ (h : List (Option Held)). AllOpen h new.opened) slots (made.open_ new.opened);
       around = subst (λ (h : List (Option Held)). Around h old.opened new.opened) slots (subst (λ (o : List Opened). Around s.machine.slots old.opened o) (sym opened) (made.around old.opened));
       files = files;
@@ -121,12 +134,13 @@ same-start : (tells : Bool) (words : List (List ℕ)) (options : Options) (s : C
     → Begun tells words options s o old mid → IsTrue tells → beginning s mid.files o input notes ≡ opening words options s.keys (script_text o) old.files input notes
 unfolding beginning beginning_with session_with
 same-start tells words options s o old mid input notes begun told = λ i. record {
-  live = record { machine = erased (begun.machine i); keys = s.keys; files = begun.files told i };
+  live = record { machine = erased (begun.machine i); watch = begun.watch i; keys = s.keys; files = begun.files told i };
   notes = notes;
   spent = begun.command i;
   limit = begun.limit i;
   budget = begun.opens.budget i;
-  scripts = begun.opens.scripts i;
+  texts = waiting_texts [] (begun.opens.scripts i);
+  reads = begun.opens.reads i;
   prompt = begun.opens.prompt i;
   input = input;
   open_ = true;
@@ -135,12 +149,12 @@ same-start tells words options s o old mid input notes begun told = λ i. record
 -- what came of a session, seen as the program lets it go
 pub lines-told : (s t v : CommandState) (o : Opening) (files files' : List NamedBytes) (input left before after : List ℕ) (finish : Finish) → v ≡ t → t.keys ≡ s.keys
     → Performed (λ (n : List Note). beginning s files o input n) finish (live_in t files') left before after (notes_said s.notes) (notes_said t.notes)
-    → Performed (λ (n : List Note). beginning s files o input n) finish (seen s.keys files' v.machine) left before after (notes_said s.notes) (notes_said v.notes)
+    → Performed (λ (n : List Note). beginning s files o input n) finish (seen v.watch s.keys files' v.machine) left before after (notes_said s.notes) (notes_said v.notes)
 lines-told s t v o files files' input left before after finish view keys p =
     let left_off : CommandState → Type 0 =
     λ u. Performed (λ (n : List Note). beginning s files o input n) finish (live_in u files') left before after (notes_said s.notes) (notes_said u.notes) in
     let seen_keys : List Key → Type 0 =
-    λ k. Performed (λ (n : List Note). beginning s files o input n) finish (seen k files' v.machine) left before after (notes_said s.notes) (notes_said v.notes) in
+    λ k. Performed (λ (n : List Note). beginning s files o input n) finish (seen v.watch k files' v.machine) left before after (notes_said s.notes) (notes_said v.notes) in
     subst seen_keys (ap (λ (u : CommandState). u.keys) view ∙ keys) (subst left_off (sym view) p)
 
 -- ---- what the session comes to
@@ -174,27 +188,27 @@ at-opening tells words options s o old mid input left before after finish live n
     let by_start : (List Note → Session) → Type 0 = λ start. Performed start finish live left before after (notes_said s.notes) notes' in
     subst by_start (λ i (n : List Note). same-start tells words options s o old mid input n begun told i) p
 
-pub performed-outcome : (tells : Bool) (words : List (List ℕ)) (options : Options) (s : CommandState) (o : Opening) (old mid : FileState) (files' : List NamedBytes) (input left before after : List ℕ) (finish : Finish) (now : MachineState) (notes' : List Note)
+pub performed-outcome : (tells : Bool) (words : List (List ℕ)) (options : Options) (s : CommandState) (o : Opening) (old mid : FileState) (files' : List NamedBytes) (input left before after : List ℕ) (finish : Finish) (watch : WatchState) (now : MachineState) (notes' : List Note)
     → options_of words ≡ Some options → Begun tells words options s o old mid → IsTrue tells → IsExitStatus finish → status_of finish ≢ 103
-    → Performed (λ (n : List Note). beginning s mid.files o input n) finish (seen s.keys files' now) left before after (notes_said s.notes) notes'
+    → Performed (λ (n : List Note). beginning s mid.files o input n) finish (seen watch s.keys files' now) left before after (notes_said s.notes) notes'
     → IsOutcome words input left before after old.files files' (status_of finish) (Some now) notes'
-performed-outcome tells words options s o old mid files' input left before after finish now notes' chosen begun told small other performed =
-    let p = at-opening tells words options s o old mid input left before after finish (seen s.keys files' now) notes' begun told performed in
+performed-outcome tells words options s o old mid files' input left before after finish watch now notes' chosen begun told small other performed =
+    let p = at-opening tells words options s o old mid input left before after finish (seen watch s.keys files' now) notes' begun told performed in
     let follow = follows words options s.keys (script_text o) old.files input p.own p.first in
     let start = ap (λ (c : Option Options). start_of c words old.files (notes_said s.notes ++ p.own)) chosen ∙ begun.starts told p.own follow in
-    let session = performed-session (opening words options s.keys (script_text o) old.files input p.own) finish (seen s.keys files' now) left before after other p.is in
+    let session = performed-session (opening words options s.keys (script_text o) old.files input p.own) finish (seen watch s.keys files' now) left before after other p.is in
     subst (λ (n : List Note). IsOutcome words input left before after old.files files' (status_of finish) (Some now) n) (sym p.kept)
-    (session-outcome words options s.keys s.keys (script_text o) input left before after old.files files' finish now (notes_said s.notes ++ p.own) p.own (length (notes_said s.notes)) start
+    (session-outcome words options s.keys s.keys (script_text o) input left before after old.files files' finish watch now (notes_said s.notes ++ p.own) p.own (length (notes_said s.notes)) start
     (drop-append_seam (notes_said s.notes) p.own) small session)
 
-pub performed-cut : (tells : Bool) (words : List (List ℕ)) (options : Options) (s : CommandState) (o : Opening) (old mid : FileState) (files' : List NamedBytes) (input left before after : List ℕ) (finish : Finish) (now : MachineState) (notes' : List Note)
+pub performed-cut : (tells : Bool) (words : List (List ℕ)) (options : Options) (s : CommandState) (o : Opening) (old mid : FileState) (files' : List NamedBytes) (input left before after : List ℕ) (finish : Finish) (watch : WatchState) (now : MachineState) (notes' : List Note)
     → options_of words ≡ Some options → Begun tells words options s o old mid → IsTrue tells → IsExitStatus finish → status_of finish ≡ 103
-    → Performed (λ (n : List Note). beginning s mid.files o input n) finish (seen s.keys files' now) left before after (notes_said s.notes) notes'
+    → Performed (λ (n : List Note). beginning s mid.files o input n) finish (seen watch s.keys files' now) left before after (notes_said s.notes) notes'
     → IsCutShort words input left before after old.files files' (Some now) notes'
-performed-cut tells words options s o old mid files' input left before after finish now notes' chosen begun told small memory performed =
-    let p = at-opening tells words options s o old mid input left before after finish (seen s.keys files' now) notes' begun told performed in
+performed-cut tells words options s o old mid files' input left before after finish watch now notes' chosen begun told small memory performed =
+    let p = at-opening tells words options s o old mid input left before after finish (seen watch s.keys files' now) notes' begun told performed in
     let follow = follows words options s.keys (script_text o) old.files input p.own p.first in
-    let short = performed-short (opening words options s.keys (script_text o) old.files input p.own) finish (seen s.keys files' now) left before after small memory p.is in
+    let short = performed-short (opening words options s.keys (script_text o) old.files input p.own) finish (seen watch s.keys files' now) left before after small memory p.is in
     subst (λ (n : List Note). IsCutShort words input left before after old.files files' (Some now) n) (sym p.kept)
     (record {
       options = options;
@@ -204,30 +218,30 @@ performed-cut tells words options s o old mid files' input left before after fin
         script = script_text o;
         used = length (notes_said s.notes);
         starts = begun.starts told p.own follow;
-        live = seen s.keys files' now;
+        live = seen watch s.keys files' now;
         machine_is = refl;
         files_are = refl;
-        short = subst (λ (n : List Note). RunsShort (opening words options s.keys (script_text o) old.files input n) (seen s.keys files' now) left before after) (sym (drop-append_seam (notes_said s.notes) p.own)) short;
+        short = subst (λ (n : List Note). RunsShort (opening words options s.keys (script_text o) old.files input n) (seen watch s.keys files' now) left before after) (sym (drop-append_seam (notes_said s.notes) p.own)) short;
       });
     })
 
 -- the same at the names of the code
-pub session-answer : (tells : Bool) (words : List (List ℕ)) (options : Options) (s : CommandState) (o : Opening) (old mid : FileState) (files' : List NamedBytes) (input left before after : List ℕ) (finish : Finish) (now : MachineState) (status : ℕ) (machine : Option MachineState) (notes' : List Note)
+pub session-answer : (tells : Bool) (words : List (List ℕ)) (options : Options) (s : CommandState) (o : Opening) (old mid : FileState) (files' : List NamedBytes) (input left before after : List ℕ) (finish : Finish) (watch : WatchState) (now : MachineState) (status : ℕ) (machine : Option MachineState) (notes' : List Note)
     → options_of words ≡ Some options → Begun tells words options s o old mid → IsTrue tells → IsExitStatus finish → status ≡ status_of finish → machine ≡ Some now → status ≢ 103
-    → Performed (λ (n : List Note). beginning s mid.files o input n) finish (seen s.keys files' now) left before after (notes_said s.notes) notes'
+    → Performed (λ (n : List Note). beginning s mid.files o input n) finish (seen watch s.keys files' now) left before after (notes_said s.notes) notes'
     → IsOutcome words input left before after old.files files' status machine notes'
-session-answer tells words options s o old mid files' input left before after finish now status machine notes' chosen begun told small is there other performed =
+session-answer tells words options s o old mid files' input left before after finish watch now status machine notes' chosen begun told small is there other performed =
     subst (λ (m : Option MachineState). IsOutcome words input left before after old.files files' status m notes') (sym there)
     (subst (λ (n : ℕ). IsOutcome words input left before after old.files files' n (Some now) notes') (sym is)
-    (performed-outcome tells words options s o old mid files' input left before after finish now notes' chosen begun told small (λ e. other (is ∙ e)) performed))
+    (performed-outcome tells words options s o old mid files' input left before after finish watch now notes' chosen begun told small (λ e. other (is ∙ e)) performed))
 
-pub memory-answer : (tells : Bool) (words : List (List ℕ)) (options : Options) (s : CommandState) (o : Opening) (old mid : FileState) (files' : List NamedBytes) (input left before after : List ℕ) (finish : Finish) (now : MachineState) (status : ℕ) (machine : Option MachineState) (notes' : List Note)
+pub memory-answer : (tells : Bool) (words : List (List ℕ)) (options : Options) (s : CommandState) (o : Opening) (old mid : FileState) (files' : List NamedBytes) (input left before after : List ℕ) (finish : Finish) (watch : WatchState) (now : MachineState) (status : ℕ) (machine : Option MachineState) (notes' : List Note)
     → options_of words ≡ Some options → Begun tells words options s o old mid → IsTrue tells → IsExitStatus finish → status ≡ status_of finish → machine ≡ Some now → status ≡ 103
-    → Performed (λ (n : List Note). beginning s mid.files o input n) finish (seen s.keys files' now) left before after (notes_said s.notes) notes'
+    → Performed (λ (n : List Note). beginning s mid.files o input n) finish (seen watch s.keys files' now) left before after (notes_said s.notes) notes'
     → IsCutShort words input left before after old.files files' machine notes'
-memory-answer tells words options s o old mid files' input left before after finish now status machine notes' chosen begun told small is there memory performed =
+memory-answer tells words options s o old mid files' input left before after finish watch now status machine notes' chosen begun told small is there memory performed =
     subst (λ (m : Option MachineState). IsCutShort words input left before after old.files files' m notes') (sym there)
-    (performed-cut tells words options s o old mid files' input left before after finish now notes' chosen begun told small (sym is ∙ memory) performed)
+    (performed-cut tells words options s o old mid files' input left before after finish watch now notes' chosen begun told small (sym is ∙ memory) performed)
 
 -- ---- causes
 
@@ -508,3 +522,40 @@ pub denied-unwritten : (words : List (List ℕ)) (refusal : Refusal) (status sin
 denied-unwritten words (Unopened place) status sink sink_now machine notes old new h is = never-unwritten 101 status sink sink_now machine notes old new h (omega arith) is
 denied-unwritten words (BadKeys place) status sink sink_now machine notes old new h is = never-unwritten 105 status sink sink_now machine notes old new h (omega arith) is
 denied-unwritten words refusal.OutOfMemory status sink sink_now machine notes old new h is = absurd (let h0 = h.0 in omega (arith, h0, is))
+
+-- ---- memory that ran out for a file
+
+not-refused : (there status : ℕ) (text before after : List ℕ) → IsRefused there text status before after → there ≢ 103 → status ≢ 103
+not-refused there status text before after (inl h) other is = let h0 = h.0 in other (sym h0 ∙ is)
+not-refused there status text before after (inr h) other is = let h0 = h.0 in omega (arith, h0, is)
+
+cut-before : (words : List (List ℕ)) (options : Options) (input before after : List ℕ) (files files' : List NamedBytes) (machine : Option MachineState) (notes : List Note)
+    → options_of words ≡ Some options → machine ≡ None → files' ≡ files → after ≡ before → IsCutShort words input input before after files files' machine notes
+cut-before words options input before after files files' machine notes chosen none same unprinted = record {
+  options = options;
+  words_are = chosen;
+  cut = inl (record { none = none; unprinted = unprinted; unread = refl; unchanged = same });
+}
+
+pub files-memory : (words : List (List ℕ)) (options : Options) (input before after : List ℕ) (files files' : List NamedBytes) (refusal : Refusal) (status : ℕ) (machine : Option MachineState) (notes : List Note)
+    → options_of words ≡ Some options → machine ≡ None → files' ≡ files → status ≡ 103 → IsDenied (denial_of words refusal) status before after
+    → IsCutShort words input input before after files files' machine notes
+files-memory words options input before after files files' (Unopened place) status machine notes chosen none same is denied =
+    absurd (not-refused 101 status _ before after denied (λ e. omega (arith, e)) is)
+files-memory words options input before after files files' (BadKeys place) status machine notes chosen none same is denied =
+    absurd (not-refused 105 status _ before after denied (λ e. omega (arith, e)) is)
+files-memory words options input before after files files' refusal.OutOfMemory status machine notes chosen none same is denied =
+    cut-before words options input before after files files' machine notes chosen none same denied.1
+
+-- ---- a workload
+
+some-given : (o : Option ℕ) → IsSome o → is_none o ≡ false
+some-given (Some number) given = refl
+some-given None given = sym given
+
+-- a workload that is among the words is that of their options
+pub workload-given : (words : List (List ℕ)) (options : Options) → options_of words ≡ Some options → HasWorkload words → is_none options.workload ≡ false
+workload-given words options is given =
+    let both : Some options ≡ Some given.options = sym is ∙ given.words_are in
+    let same : options ≡ given.options = cc in
+    ap (λ (o : Options). is_none o.workload) same ∙ some-given given.options.workload given.given

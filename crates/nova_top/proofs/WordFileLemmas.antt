@@ -1,5 +1,5 @@
 -- The files that the words name, and how the program starts with them.
-use Rattle.std.proofs.Common.{◌≡◌, ℕ, ◌+◌, ◌<◌, Bool, true, false, suc, List, [], ◌∷◌, ◌++◌, length, drop, take, get_or, map, refl, ap, sym, ◌∙◌, subst, arith, append_assoc, length-append, Option, Some, None, IfSome, option_map, String, Global, string_bytes, Result, Ok, Err}
+use Rattle.std.proofs.Common.{◌≡◌, ℕ, ◌+◌, ◌<◌, Bool, true, false, suc, List, [], ◌∷◌, ◌++◌, length, drop, take, get_or, map, refl, ap, sym, ◌∙◌, subst, arith, append_assoc, length-append, Option, Some, None, IfSome, option_map, String, Global, string_bytes, Result, Ok, Err, is_none}
 use Rattle.std.specs.Prelude.{cond, take_while}
 use Rattle.std.specs.List.{prefix_len}
 use Rattle.std.specs.Global.{Vec}
@@ -22,6 +22,7 @@ use Rattle.nova_top.specs.declared.options.Options.{Options}
 use Rattle.nova_top.specs.declared.word_files.Refusal.{Refusal}
 use Rattle.nova_top.specs.declared.word_files.Beginning.{Beginning}
 use Rattle.nova_top.specs.Words.{keys_name, script_name, script_words, texts_of}
+use Rattle.nova_top.specs.Workload.{first_text}
 use Rattle.nova_top.specs.Outside.{Denial, is_call_on, calls_on, word_file, taken_keys, taken_script, Start, Begins, denied, start_by, start_of, first_scripts}
 use Rattle.nova_top.specs.Program.{StartsWith, word_notes, denial_of, ComesOf, IsTaken, Takes, as_file, script_text, BeginsAs, OpensAs}
 
@@ -160,10 +161,10 @@ script-denied words options files keys kept kept' kept'' refusal none k s =
 pub both-begin : (words : List (List ℕ)) (options : Options) (files : List NamedBytes) (keys : List Key) (script : Option (List ℕ)) (kept kept' kept'' : List FaultNote) → kept ≡ []
     → Takes subject.Keys words (taken_keys (keys_name words options) files) kept kept' (Ok keys)
     → Takes subject.Script words (taken_script (script_name words options) files) kept' kept'' (Ok script)
-    → StartsWith words options files (notes_said kept'') (Begins options keys script)
+    → StartsWith words options files (notes_said kept'') (Begins options keys (first_text options.workload script))
 both-begin words options files keys script kept kept' kept'' none k s =
-    starts-as words options files (notes_said kept'') (word_notes subject.Keys k.calls ++ word_notes subject.Script s.calls) (Begins options keys script) (both-kept kept kept' kept'' k.calls s.calls none k.added s.added)
-    (behind-keys words options files keys k.calls s.calls (Ok script) (Begins options keys script) k.taken s.taken refl)
+    starts-as words options files (notes_said kept'') (word_notes subject.Keys k.calls ++ word_notes subject.Script s.calls) (Begins options keys (first_text options.workload script)) (both-kept kept kept' kept'' k.calls s.calls none k.added s.added)
+    (behind-keys words options files keys k.calls s.calls (Ok script) (Begins options keys (first_text options.workload script)) k.taken s.taken refl)
 
 -- the same of what the code hands on
 pub denied-along : (words : List (List ℕ)) (options : Options) (files : List NamedBytes) (kept : List Note) (refusal : Refusal) (r : Result Beginning Refusal) → r ≡ Err refusal
@@ -186,8 +187,9 @@ scripts-same None arguments words same = refl
 scripts-same (Some text) arguments words same = ap (λ (w : List (List ℕ)). begun (take 10 w) (as_file text) ∷ []) same
 
 pub opens : (words : List (List ℕ)) (options : Options) (script : Option (List ℕ)) (arguments : Vec (String Global)) (opening : Opening) → opening.script ≡ option_map as_file script → opening.arguments ≡ arguments
-    → opening.prompt ≡ options.prompt → opening.budget ≡ options.budget → texts_of arguments.items ≡ script_words words options → OpensAs words options opening
-opens words options script arguments opening is held prompt budget same = record {
+    → opening.reads ≡ is_none options.workload → opening.prompt ≡ options.prompt → opening.budget ≡ options.budget → texts_of arguments.items ≡ script_words words options → OpensAs words options opening
+opens words options script arguments opening is held reads prompt budget same = record {
+  reads = reads;
   prompt = prompt;
   budget = budget;
   scripts = (λ i. first_script (is i) (held i).items) ∙ scripts-same script arguments.items (script_words words options) same

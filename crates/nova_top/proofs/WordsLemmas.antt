@@ -10,7 +10,7 @@ use Rattle.nova_top.specs.declared.options.Options.{Options}
 use Rattle.nova_top.specs.declared.options.Choices.{Choices}
 use Rattle.nova_top.specs.declared.options.Wanted.{Wanted}
 use Rattle.nova_top.specs.declared.options.Wanted.TheVariants as wanted
-use Rattle.nova_top.specs.Words.{options_from, options_of, all_chosen, next_choice, chosen_option, limit_of, usual_budget, within_budget, budget_of, is_file_name, texts_of}
+use Rattle.nova_top.specs.Words.{options_from, options_of, all_chosen, next_choice, chosen_option, limit_of, usual_budget, within_budget, budget_of, workload_of, is_file_name, texts_of}
 use Rattle.nova_top.specs.Words.{wants_option, names_script, are_arguments, with_script, FilesAreNamed}
 
 -- what the words from one on choose: a script with its arguments, or what it chooses and then what the others do
@@ -117,27 +117,30 @@ budget-fits : (word : List ℕ) → IfSome (budget_of word) (λ (n : ℕ). n ≤
 unfolding budget_of
 budget-fits word = within-fits (limit_of word)
 
-chosen-by : (place : ℕ) (c : Choices) (quiet limit budget keys : Bool) → Allowed (place + 1) c → IfSome
+chosen-by : (place : ℕ) (c : Choices) (quiet limit budget keys workload : Bool) → Allowed (place + 1) c → IfSome
     (if quiet then Some (record c { quiet = true }) else if limit then Some (record c { wanted = wanted.Limit })
-    else if budget then Some (record c { wanted = wanted.Budget }) else if keys then Some (record c { wanted = wanted.Keys }) else None)
+    else if budget then Some (record c { wanted = wanted.Budget }) else if keys then Some (record c { wanted = wanted.Keys })
+    else if workload then Some (record c { wanted = wanted.Workload }) else None)
     (Allowed (place + 1))
-chosen-by place c true limit budget keys holds = holds
-chosen-by place c false true budget keys holds = holds
-chosen-by place c false false true keys holds = holds
-chosen-by place c false false false true holds = holds
-chosen-by place c false false false false holds = tt
+chosen-by place c true limit budget keys workload holds = holds
+chosen-by place c false true budget keys workload holds = holds
+chosen-by place c false false true keys workload holds = holds
+chosen-by place c false false false true workload holds = holds
+chosen-by place c false false false false true holds = holds
+chosen-by place c false false false false false holds = tt
 
 chosen-allowed : (place : ℕ) (c : Choices) (word : List ℕ) → Allowed (place + 1) c → IfSome (chosen_option c word) (Allowed (place + 1))
 unfolding chosen_option
 chosen-allowed place c word holds =
     chosen-by place c (bytes_eq word (codes "-q") && not c.quiet) (bytes_eq word (codes "-l") && is_none c.limit) (bytes_eq word (codes "-m") && is_none c.budget)
-    (bytes_eq word (codes "-k") && is_none c.keys) holds
+    (bytes_eq word (codes "-k") && is_none c.keys) (bytes_eq word (codes "-g") && is_none c.workload) holds
 
 by-wanted : (w : Wanted) (place : ℕ) (c : Choices) (word : List ℕ) → Allowed (place + 1) c → IfSome (elim w [
   | wanted.Option ↦ chosen_option c word
   | wanted.Limit ↦ option_map (λ (n : ℕ). record c { limit = Some n; wanted = wanted.Option }) (limit_of word)
   | wanted.Budget ↦ option_map (λ (n : ℕ). record c { budget = Some n; wanted = wanted.Option }) (budget_of word)
   | wanted.Keys ↦ if is_file_name word then Some (record c { keys = Some place; wanted = wanted.Option }) else None
+  | wanted.Workload ↦ option_map (λ (n : ℕ). record c { workload = Some n; wanted = wanted.Option }) (workload_of word)
 ]) (Allowed (place + 1))
 by-wanted wanted.Option place c word holds = chosen-allowed place c word holds
 by-wanted wanted.Limit place c word holds =
@@ -146,6 +149,8 @@ by-wanted wanted.Budget place c word holds =
     some-map-if (Allowed (place + 1)) (λ (n : ℕ). n ≤ 2 ^ 32) (λ (n : ℕ). record c { budget = Some n; wanted = wanted.Option }) (budget_of word) (budget-fits word) (λ n fits. (holds.0, fits))
 by-wanted wanted.Keys place c word holds =
     some-if (Allowed (place + 1)) (is_file_name word) (Some (record c { keys = Some place; wanted = wanted.Option })) None (omega arith, holds.1) tt
+by-wanted wanted.Workload place c word holds =
+    some-map (Allowed (place + 1)) (λ (n : ℕ). record c { workload = Some n; wanted = wanted.Option }) (workload_of word) (λ n. holds)
 
 next-some : (place : ℕ) (c : Choices) (word : List ℕ) → Allowed place c → IfSome (next_choice place c word) (Allowed (place + 1))
 unfolding next_choice
@@ -161,11 +166,13 @@ all-by : (w : Wanted) (n : ℕ) (made : Options) → Fits n made → IfSome (eli
   | wanted.Limit ↦ None
   | wanted.Budget ↦ None
   | wanted.Keys ↦ None
+  | wanted.Workload ↦ None
 ]) (Fits n)
 all-by wanted.Option n made fits = fits
 all-by wanted.Limit n made fits = tt
 all-by wanted.Budget n made fits = tt
 all-by wanted.Keys n made fits = tt
+all-by wanted.Workload n made fits = tt
 
 usual-fits : (o : Option ℕ) → IfSome o (λ (n : ℕ). n ≤ 2 ^ 32) → unwrap_or o usual_budget ≤ 2 ^ 32
 usual-fits None fits = omega arith
@@ -184,7 +191,7 @@ fits-more m n o more fits = (below-more o.keys m n more fits.0, below-more o.scr
 
 script-fits : (place : ℕ) (c : Choices) (word : List ℕ) (more : List (List ℕ)) → Allowed place c → IfSome (with_script place c word more) (Fits (place + 1))
 script-fits place c word more holds =
-    some-if (Fits (place + 1)) (is_file_name word && are_arguments more) (option_map (λ (options : Options). record options { script = Some place }) (all_chosen c)) None
+    some-if (Fits (place + 1)) (is_file_name word && are_arguments more && is_none c.workload) (option_map (λ (options : Options). record options { script = Some place }) (all_chosen c)) None
     (some-map-if (Fits (place + 1)) (Fits place) (λ (options : Options). record options { script = Some place }) (all_chosen c) (all-fits c place holds)
     (λ o fits. (below-next o.keys place fits.0, omega arith, fits.2))) tt
 

@@ -73,6 +73,12 @@ pub record HasScript (words : List (List ℕ)) : Type 0 where
   pub words_are : options_of words ≡ Some options
   pub named : IsSome options.script
 
+-- a workload is among the words
+pub record HasWorkload (words : List (List ℕ)) : Type 0 where
+  pub options : Options
+  pub words_are : options_of words ≡ Some options
+  pub given : IsSome options.workload
+
 -- Each status has its cause, told or not: 100 comes exactly where the words are outside their grammar, yielding only to
 -- 102; 101 comes only where there is a keys file or a script, and 105 only where there is a keys file; 102 comes only where the console's count rose by one (at the end
 -- of its type by none), and at any other status that count stands still; so it is with 106 and the input's; and there is no

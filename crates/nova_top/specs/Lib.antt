@@ -1,6 +1,7 @@
 pub mod Counts
 pub mod Standard
 pub mod Words
+pub mod Workload
 pub mod Outside
 pub mod Ends
 pub mod Laws

@@ -1,5 +1,5 @@
 -- All that is handed to the program, and what it comes to.
-use Rattle.std.specs.Prelude.{ℕ, ◌+◌, ◌==◌, ◌&&◌, Bool, List, [], ◌∷◌, ◌++◌, codes, decimal, drop, take, map, take_while, false, Option, Some, None, Result, Ok, Err}
+use Rattle.std.specs.Prelude.{ℕ, ◌+◌, ◌==◌, ◌&&◌, Bool, List, [], ◌∷◌, ◌++◌, codes, decimal, drop, take, map, take_while, false, is_none, Option, Some, None, Result, Ok, Err}
 use Rattle.observations.specs.Observations.{Prints, Trace, map_trace}
 use Rattle.observations.specs.Cut.{Outcome, cut_trace}
 use Rattle.host_files.specs.declared.files.FileCall.{FileCall}
@@ -9,6 +9,7 @@ use Rattle.fault_notes.specs.declared.note.Subject.TheVariants as subject
 use Rattle.fault_notes.specs.Notes.{CommandNote, Note, same_subject, handed}
 use Rattle.whole_files.specs.Whole.{WholeSaid, WholeIs, whole_act}
 use Rattle.expect_actions.specs.KeysFile.{Key, keys_read}
+use Rattle.expect_actions.specs.Watch.{empty_watch}
 use Rattle.nova_machine.specs.Machine.{MachineState, new_machine}
 use Rattle.scp_commands.specs.Live.{CommandState}
 use Rattle.scp_script.specs.Scripts.{Script, begun}
@@ -16,6 +17,7 @@ use Rattle.scp_script.specs.Session.{State, Session, trace}
 use Rattle.scp_script.specs.Perform.{beginning_with}
 use Rattle.nova_top.specs.declared.options.Options.{Options}
 use Rattle.nova_top.specs.Standard.{standard_units}
+use Rattle.nova_top.specs.Workload.{with_workload, first_text}
 use Rattle.nova_top.specs.Words.{options_of, keys_name, script_name, script_words}
 
 -- The words and the input; all files by their names; the calls on files that fail, in order; how many bytes the console
@@ -105,11 +107,11 @@ pub data Start : Type 0 where
 abbrev pub denied : Denial → Start
 denied d = Refused d.status d.text
 
--- the keys come first, and the script is taken where they were
+-- The keys come first, and the script is taken where they were. Where there is a workload, its commands are the script.
 abbrev pub start_by : Options → Result (List Key) Denial × ℕ → Result (Option (List ℕ)) Denial × ℕ → Start × ℕ
 start_by options (Err denial, used) script = (denied denial, used)
 start_by options (Ok keys, used) (Err denial, more) = (denied denial, used + more)
-start_by options (Ok keys, used) (Ok script, more) = (Begins options keys script, used + more)
+start_by options (Ok keys, used) (Ok script, more) = (Begins options keys (first_text options.workload script), used + more)
 
 -- how it starts, and how many of the notes that uses: first the keys', and then the script's
 abbrev pub start_of : Option Options → List (List ℕ) → List NamedBytes → List Note → Start × ℕ
@@ -120,9 +122,9 @@ start_of (Some options) words files notes =
 
 -- ---- what it does
 
--- what commands stand in before a session's first line
+-- what commands stand in before a session's first line: nothing is watched
 abbrev pub state_with : MachineState → List Key → ℕ → CommandState
-state_with m keys limit = record { machine = m; keys = keys; limit = limit; notes = []; command = 0; spare = 0 }
+state_with m keys limit = record { machine = m; watch = empty_watch; keys = keys; limit = limit; notes = []; command = 0; spare = 0 }
 
 -- the script with which a session begins, and these words for its name and its arguments: its lines are not printed, and of
 -- failed commands only ASSERT ends it
@@ -130,15 +132,17 @@ abbrev pub first_scripts : Option (List ℕ) → List (List ℕ) → List Script
 first_scripts None words = []
 first_scripts (Some text) words = begun (take 10 words) (record { text = text; echo = false; strict = false }) ∷ []
 
--- a session with that machine, those keys and those scripts, before its first line
+-- A session with that machine, those keys and those scripts, before its first line. The input is read where there is no
+-- workload.
 unfoldable pub session_with : MachineState → List Key → Options → List Script → List NamedBytes → List ℕ → List Note → Session
 session_with m keys options scripts files input notes =
-    beginning_with (state_with m keys options.limit) files options.prompt options.budget scripts input notes
+    beginning_with (state_with m keys options.limit) files (is_none options.workload) options.prompt options.budget scripts input notes
 
--- a new session, with a new machine of the standard units, and with the script whose name and arguments are among the words
+-- a new session, with a new machine of the standard units, in whose memory a workload may be, and with a script whose name and
+-- arguments are among the words
 abbrev pub opening : List (List ℕ) → Options → List Key → Option (List ℕ) → List NamedBytes → List ℕ → List Note → Session
 opening words options keys script files input notes =
-    session_with (new_machine standard_units) keys options (first_scripts script (script_words words options)) files input notes
+    session_with (with_workload options.workload (new_machine standard_units)) keys options (first_scripts script (script_words words options)) files input notes
 
 -- What it does from there on, with the notes that are left. A text that refuses the words, the keys file or the script is all
 -- that is printed then, there is no machine, and the input is unread.

@@ -1,5 +1,5 @@
 -- The parts of the program: how it starts, a text that refuses that, and a session.
-use Rattle.std.specs.Prelude.{◌≡◌, ◌⊎◌, ℕ, ◌<◌, List, [], ◌∷◌, ◌++◌, length, get_or, map, Option, Some, None, IfSome, IsSome, option_map, false, Result, Ok, Err}
+use Rattle.std.specs.Prelude.{◌≡◌, ◌⊎◌, ℕ, ◌<◌, List, [], ◌∷◌, ◌++◌, length, get_or, map, Option, Some, None, IfSome, IsSome, option_map, is_none, false, Result, Ok, Err}
 use Rattle.std.specs.Global.{Vec}
 use Rattle.fault_counts.specs.Faults.{raised}
 use Rattle.host_files.specs.declared.files.FileCall.{FileCall}
@@ -12,6 +12,7 @@ use Rattle.whole_files.specs.declared.whole.FailedCall.{FailedCall}
 use Rattle.whole_files.specs.declared.whole.WholeFault.{WholeFault}
 use Rattle.whole_files.specs.Whole.{WholeSaid, whole_act}
 use Rattle.whole_files.specs.Claims.{said_of_bytes}
+use Rattle.expect_actions.specs.Watch.{WatchState}
 use Rattle.nova_machine.specs.Machine.{MachineState}
 use Rattle.scp_commands.specs.declared.do_file.DoFile.{DoFile}
 use Rattle.scp_script.specs.declared.perform_session.Opening.{Opening}
@@ -96,6 +97,7 @@ BeginsAs words options files kept (Err refusal) = IfSome (denial_of words refusa
 
 -- a session is opened as the words say
 pub record OpensAs (words : List (List ℕ)) (options : Options) (opening : Opening) : Type 0 where
+  pub reads : opening.reads ≡ is_none options.workload
   pub prompt : opening.prompt ≡ options.prompt
   pub budget : opening.budget ≡ options.budget
   pub scripts : first_script opening.script opening.arguments.items ≡ first_scripts (script_text opening) (script_words words options)
@@ -109,9 +111,10 @@ IsRefused status_there text status before after = ((status ≡ status_there) × 
 abbrev pub RefusedCause : ℕ → ℕ → ℕ → ℕ → Type 0
 RefusedCause status_there status sink sink_now = ((status ≡ status_there) × (sink_now ≡ sink)) ⊎ ((status ≡ 102) × (sink_now ≡ raised sink))
 
--- a session that ended: by that finish, with that machine
-abbrev pub SessionEnds : ℕ → Option MachineState → (Finish → MachineState → Type 0) → (Finish → Type 0) → Type 0
-SessionEnds status machine Told Cause = (finish : Finish) × (now : MachineState) × (status ≡ status_of finish) × (machine ≡ Some now) × Told finish now × Cause finish
+-- a session that ended: by that finish, with that machine and those watch tables
+abbrev pub SessionEnds : ℕ → Option MachineState → (Finish → WatchState → MachineState → Type 0) → (Finish → Type 0) → Type 0
+SessionEnds status machine Told Cause =
+    (finish : Finish) × (watch : WatchState) × (now : MachineState) × (status ≡ status_of finish) × (machine ≡ Some now) × Told finish watch now × Cause finish
 
 -- the status behind a text that was printed, or not
 abbrev pub status_printed : {T E : Type 0} → Result T E → ℕ → ℕ

@@ -29,36 +29,47 @@ within_budget (Some n) = if nat_le n usual_budget then Some n else None
 unfoldable pub budget_of : List ℕ → Option ℕ
 budget_of word = within_budget (limit_of word)
 
+-- the number of a workload is from 1 to 65535
+abbrev pub within_workloads : Option ℕ → Option ℕ
+within_workloads None = None
+within_workloads (Some n) = if nat_le n 65535 then Some n else None
+
+unfoldable pub workload_of : List ℕ → Option ℕ
+workload_of word = within_workloads (limit_of word)
+
 -- a file can have a name of 1 to 255 bytes
 abbrev pub is_file_name : List ℕ → Bool
 is_file_name word = nat_le 1 (length word) && nat_le (length word) 255
 
--- `-q`, `-l`, `-m` and `-k` are chosen at most once each
+-- `-q`, `-l`, `-m`, `-k` and `-g` are chosen at most once each
 unfoldable pub chosen_option : Choices → List ℕ → Option Choices
 chosen_option c word =
     if bytes_eq word (codes "-q") && not c.quiet then Some (record c { quiet = true })
     else if bytes_eq word (codes "-l") && is_none c.limit then Some (record c { wanted = wanted.Limit })
     else if bytes_eq word (codes "-m") && is_none c.budget then Some (record c { wanted = wanted.Budget })
     else if bytes_eq word (codes "-k") && is_none c.keys then Some (record c { wanted = wanted.Keys })
+    else if bytes_eq word (codes "-g") && is_none c.workload then Some (record c { wanted = wanted.Workload })
     else None
 
--- what one more word chooses, which stands at that place: an option, the limit behind `-l`, the budget behind `-m`, or the
--- file behind `-k`
+-- what one more word chooses, which stands at that place: an option, the limit behind `-l`, the budget behind `-m`, the
+-- file behind `-k`, or the number behind `-g`
 unfoldable pub next_choice : ℕ → Choices → List ℕ → Option Choices
 next_choice place c word = elim c.wanted [
   | wanted.Option ↦ chosen_option c word
   | wanted.Limit ↦ option_map (λ (n : ℕ). record c { limit = Some n; wanted = wanted.Option }) (limit_of word)
   | wanted.Budget ↦ option_map (λ (n : ℕ). record c { budget = Some n; wanted = wanted.Option }) (budget_of word)
   | wanted.Keys ↦ if is_file_name word then Some (record c { keys = Some place; wanted = wanted.Option }) else None
+  | wanted.Workload ↦ option_map (λ (n : ℕ). record c { workload = Some n; wanted = wanted.Option }) (workload_of word)
 ]
 
 -- what all words chose, where none is missing
 unfoldable pub all_chosen : Choices → Option Options
 all_chosen c = elim c.wanted [
-  | wanted.Option ↦ Some (record { prompt = not c.quiet; limit = unwrap_or c.limit usual_limit; budget = unwrap_or c.budget usual_budget; keys = c.keys; script = None })
+  | wanted.Option ↦ Some (record { prompt = not c.quiet; limit = unwrap_or c.limit usual_limit; budget = unwrap_or c.budget usual_budget; keys = c.keys; workload = c.workload; script = None })
   | wanted.Limit ↦ None
   | wanted.Budget ↦ None
   | wanted.Keys ↦ None
+  | wanted.Workload ↦ None
 ]
 
 -- ---- a script
@@ -75,10 +86,10 @@ names_script word = not (nat_eq (slice_index word 0) 45)
 abbrev pub are_arguments : List (List ℕ) → Bool
 are_arguments words = nat_le (length words) 9 && list_all (λ (word : List ℕ). nat_le 1 (length word)) words
 
--- what all words chose, with a script at that place, behind whose name these words stand
+-- what all words chose, with a script at that place, behind whose name these words stand. A workload takes no script.
 abbrev pub with_script : ℕ → Choices → List ℕ → List (List ℕ) → Option Options
 with_script place c word more =
-    if is_file_name word && are_arguments more then option_map (λ (options : Options). record options { script = Some place }) (all_chosen c) else None
+    if is_file_name word && are_arguments more && is_none c.workload then option_map (λ (options : Options). record options { script = Some place }) (all_chosen c) else None
 
 -- ---- all words
 
@@ -92,7 +103,7 @@ options_from place c (word ∷ more) =
 
 -- what the words choose, where they are in their grammar
 unfoldable pub options_of : List (List ℕ) → Option Options
-options_of words = options_from 0 (record { quiet = false; limit = None; budget = None; keys = None; wanted = wanted.Option }) words
+options_of words = options_from 0 (record { quiet = false; limit = None; budget = None; keys = None; workload = None; wanted = wanted.Option }) words
 
 -- the name of the keys file, if one is given
 abbrev pub keys_name : List (List ℕ) → Options → Option (List ℕ)

@@ -8,6 +8,7 @@ pub mod program;
 pub mod standard;
 pub mod word_files;
 mod words;
+mod workload;
 
 pub use laws::{console_takes_first_part, more_room_same_end, whole_without_faults};
 pub use program::{Ending, simulate};

@@ -5,11 +5,13 @@ pub struct Options {
     pub prompt: bool,
     /// How many instructions a run may execute, from 1 to 2^48.
     pub limit: u64,
-    /// The units to pay for lines, from 1 to 2^32.
+    /// The units to pay for lines and actions, from 1 to 2^32.
     pub budget: u64,
     /// Which of the words, counted from 0, names the keys file.
     pub keys: Option<usize>,
-    /// Which of them names the script. Those behind it are its arguments.
+    /// The number of the workload that is done in place of a session, from 1 to 65535.
+    pub workload: Option<u16>,
+    /// Which of the words names the script. Those behind it are its arguments.
     pub script: Option<usize>,
 }
 
@@ -24,6 +26,8 @@ pub enum Wanted {
     Budget,
     /// The file of `-k`.
     Keys,
+    /// The number of `-g`.
+    Workload,
 }
 
 /// What the words up to some place chose.
@@ -33,5 +37,6 @@ pub struct Choices {
     pub limit: Option<u64>,
     pub budget: Option<u64>,
     pub keys: Option<usize>,
+    pub workload: Option<u16>,
     pub wanted: Wanted,
 }

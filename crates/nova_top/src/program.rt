@@ -1,4 +1,4 @@
-ghost use Rattle.std.specs.Prelude.{◌≡◌, ◌≢◌, ◌≤◌, ◌^◌, List, [], map, None, IsTrue, IsSome, string_bytes};
+ghost use Rattle.std.specs.Prelude.{◌≡◌, ◌≢◌, ◌≤◌, ◌^◌, List, [], map, None, false, IsTrue, IsSome, string_bytes};
 ghost use Rattle.fault_counts.specs.Faults.{Rose, CountsFault};
 ghost use Rattle.host_files.specs.Streams.{Puts};
 ghost use Rattle.host_files.specs.State.{Opened};
@@ -12,13 +12,14 @@ ghost use Rattle.nova_top.specs.Standard.{IsStandard};
 ghost use Rattle.nova_top.specs.Words.{texts_of};
 ghost use Rattle.nova_top.specs.Outside.{usage_text, unopened_text, bad_keys_text};
 ghost use Rattle.nova_top.specs.Ends.{IsOutcome, IsCutShort, StatusCause, MachineThere, IsComplete, FilesAtEnd, KeptUnwritten};
-ghost use Rattle.nova_top.specs.Ends.{NoneFailed};
+ghost use Rattle.nova_top.specs.Ends.{NoneFailed, HasWorkload};
 ghost use Rattle.nova_top.specs.Program.{IsRefused, RefusedCause, RefusalCause, SessionEnds};
 ghost use Rattle.nova_top.specs.Program.{denial_of, IsDenied, DeniedCause, status_printed};
 
 use crate::options::Options;
 use crate::word_files::{Beginning, Refusal, begin};
 use crate::words::options_of;
+use crate::workload::set_up;
 use expect_actions::Keys;
 use host_files::{Failed, Files, Sink, Source, put_all, put_pieces};
 use itoa::Buffer;
@@ -46,7 +47,8 @@ pub struct Ending<U: Unit> {
 /// The whole program, over the words, the units, the input, the console and the files that are handed in. The units are
 /// the standard ones (`is_standard`); the program is the same over whichever types they have, so they may be boxes.
 ///
-/// The keys file of `-k` and then the script are read before the session begins. Files that are attached at the end of
+/// The keys file of `-k` and then the script are read before the session begins. With `-g` the workload of its number is
+/// run in place of that, and the input is left unread. Files that are attached at the end of
 /// the input, or at EXIT, are closed, behind writing back what the disk holds; at any other end they stay open, and where
 /// that can't be written back, which is status 107 at the end of the input.
 pub fn simulate<U: Unit, C: Source, S: Sink, F: Files>(
@@ -80,6 +82,7 @@ pub fn simulate<U: Unit, C: Source, S: Sink, F: Files>(
     ensures machine { MachineThere (texts_of words.now) result.status result.machine }
     ensures files { FilesAtEnd result.machine (F.state files.old).opened (F.state files.new).opened }
     ensures unread { result.machine ≡ None → input.new ≡ input.old }
+    ensures workload { HasWorkload (texts_of words.now) → input.new ≡ input.old }
 {
     let Some(options) = options_of(words) else {
         return usage(alloc, output);
@@ -94,6 +97,7 @@ pub fn simulate<U: Unit, C: Source, S: Sink, F: Files>(
     match begin(alloc, words, options, files, &mut session.notes) {
         Ok(Beginning { keys, opening }) => {
             session.keys = keys;
+            set_up(&mut session.machine, options.workload);
             lines(alloc, session, &opening, input, output, files)
         }
         Err(refusal) => refuse_files(words, refusal, session.notes, output),
@@ -196,9 +200,9 @@ fn lines<U: Unit, C: Source, S: Sink, F: Files>(
     requires budget { opening.now.budget ≤ 2 ^ 32 }
     requires open { AllOpen session.machine.slots (F.state files.old).opened }
     ensures ended { SessionEnds result.status result.machine
-        (λ finish now. IsTrue C.tells → IsTrue F.tells → IsTrue S.tells → Performed
+        (λ finish watch now. IsTrue C.tells → IsTrue F.tells → IsTrue S.tells → Performed
         (λ notes. beginning session (F.state files.old).files opening.now (C.left input.old) notes)
-        finish (seen session.keys (F.state files.new).files now) (C.left input.new) (S.written output.old)
+        finish (seen watch session.keys (F.state files.new).files now) (C.left input.new) (S.written output.old)
         (S.written output.new) (notes_said session.notes) (notes_said result.faults.items))
         (λ finish. FinishCause finish (S.fault_count output.old) (S.fault_count output.new) (C.fault_count input.old)
         (C.fault_count input.new)) }
@@ -208,6 +212,7 @@ fn lines<U: Unit, C: Source, S: Sink, F: Files>(
     ensures files { (base : List Opened) → Around session.machine.slots base (F.state files.old).opened
         → FilesAtEnd result.machine base (F.state files.new).opened }
     ensures there { IsSome result.machine }
+    ensures unread { opening.now.reads ≡ false → input.new ≡ input.old }
 {
     let mut session = session;
     let finish = perform(alloc, &mut session, opening, input, files, output);

@@ -1,5 +1,5 @@
 // The files that the words name: the keys file and the script.
-ghost use Rattle.std.specs.Prelude.{◌≡◌, ◌+◌, ◌<◌, ◌≤◌, ◌++◌, ℕ, List, [], IsTrue, IfOk, IfErr, IfSome, option_map};
+ghost use Rattle.std.specs.Prelude.{◌≡◌, ◌+◌, ◌<◌, ◌≤◌, ◌++◌, ℕ, List, [], IsTrue, IfOk, IfErr, IfSome, option_map, is_none};
 ghost use Rattle.std.specs.Prelude.{string_bytes, length, get_or, vec_len, vec_capacity};
 ghost use Rattle.fault_notes.specs.Notes.{notes_said};
 ghost use Rattle.fault_notes.specs.declared.note.Subject.TheVariants as subject;
@@ -10,8 +10,10 @@ ghost use Rattle.nova_top.specs.Words.{texts_of, keys_name, script_name, script_
 ghost use Rattle.nova_top.specs.Outside.{keys_from, taken_keys, script_from, taken_script};
 ghost use Rattle.nova_top.specs.Program.{noted_call, ReadsFile, ComesOf, Takes, RefusalCause, as_file, BeginsAs};
 ghost use Rattle.nova_top.specs.Program.{OpensAs};
+ghost use Rattle.nova_top.specs.Workload.{first_text};
 
 use crate::options::Options;
+use crate::workload::first_text;
 use expect_actions::{Keys, KeysFault};
 use fault_notes::{FaultNote, Subject, keep};
 use host_files::Files;
@@ -60,19 +62,34 @@ pub fn begin<F: Files>(
 {
     let keys = take_keys(alloc, words, options, files, notes)?;
     let script = take_script(alloc, words, options, files, notes)?;
-    match copy_script_words(alloc, words, options) {
-        Ok(arguments) => Ok(Beginning {
-            keys,
-            opening: open_with(options, script, arguments),
-        }),
+    match opening_of(alloc, words, options, script) {
+        Ok(opening) => Ok(Beginning { keys, opening }),
         Err(_) => Err(Refusal::OutOfMemory),
     }
+}
+
+/// How a session is opened where the words name a script of that text, or none. Memory is taken for the words that are its
+/// name and its arguments, and for the commands of a workload.
+fn opening_of(
+    alloc: Global,
+    words: &[String],
+    options: Options,
+    script: Option<ScriptText>,
+) -> Result<Opening, AllocError>
+    requires named { FilesAreNamed (texts_of words.now) options }
+    ensures opens { IfOk result (OpensAs (texts_of words.now) options) }
+    ensures script { IfOk result (λ opening. opening.script ≡ option_map as_file (first_text options.workload script)) }
+{
+    let arguments = copy_script_words(alloc, words, options)?;
+    let text = first_text(alloc, options.workload, script)?;
+    Ok(open_with(options, text, arguments))
 }
 
 /// How a session is opened with a script of that text, and these words for its name and its arguments.
 fn open_with(options: Options, script: Option<ScriptText>, arguments: Vec<String>) -> Opening
     ensures script { result.script ≡ option_map as_file script }
     ensures arguments { result.arguments ≡ arguments }
+    ensures reads { result.reads ≡ is_none options.workload }
     ensures prompt { result.prompt ≡ options.prompt }
     ensures budget { result.budget ≡ options.budget }
 {
@@ -87,6 +104,7 @@ fn open_with(options: Options, script: Option<ScriptText>, arguments: Vec<String
     Opening {
         script,
         arguments,
+        reads: options.workload.is_none(),
         prompt: options.prompt,
         budget: options.budget,
     }

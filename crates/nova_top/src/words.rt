@@ -1,7 +1,8 @@
 ghost use Rattle.std.specs.Prelude.{◌≡◌, ◌≤◌, ◌^◌, ◌&&◌, nat_eq, nat_le, slice_index, codes, bytes_eq, string_bytes};
 ghost use Rattle.std.specs.Prelude.{length, IfSome};
 ghost use Rattle.std.specs.List.{list_all};
-ghost use Rattle.nova_top.specs.Words.{limit_of, budget_of, is_file_name, next_choice, chosen_option, all_chosen};
+ghost use Rattle.nova_top.specs.Words.{limit_of, budget_of, workload_of, is_file_name, next_choice, chosen_option};
+ghost use Rattle.nova_top.specs.Words.{all_chosen};
 ghost use Rattle.nova_top.specs.Words.{wants_option, names_script, are_arguments, with_script, options_of, texts_of};
 ghost use Rattle.nova_top.specs.Words.{FilesAreNamed};
 
@@ -12,14 +13,17 @@ use scp_commands::MOST_INSTRUCTIONS;
 /// How many units a session has to pay for its lines where the words don't say. They can't say more.
 const USUAL_BUDGET: u64 = 1 << 32;
 
+/// The largest number of a workload.
+const LARGEST_WORKLOAD: u64 = 65535;
+
 /// How many bytes the name of a file has at most.
 const LONGEST_NAME: usize = 255;
 
 /// How many arguments a script has at most.
 const MOST_ARGUMENTS: usize = 9;
 
-/// What the words choose, where they are in their grammar: `-q`, `-l instructions`, `-m commands` and `-k keysfile`, in
-/// any order, each at most once, and then perhaps a script and its arguments.
+/// What the words choose, where they are in their grammar: `-q`, `-l instructions`, `-m commands`, `-k keysfile` and
+/// `-g number`, in any order, each at most once, and then, without `-g`, perhaps a script and its arguments.
 #[tactic(auto, unfolding(crate::specs::Words::options_of))]
 pub fn options_of(words: &[String]) -> Option<Options>
     ensures options { result ≡ options_of (texts_of words.now) }
@@ -31,6 +35,7 @@ pub fn options_of(words: &[String]) -> Option<Options>
         limit: None,
         budget: None,
         keys: None,
+        workload: None,
         wanted: Wanted::Option,
     };
     for place in 0..words.len() {
@@ -62,7 +67,7 @@ fn with_script(
 ) -> Option<Options>
     ensures { result ≡ with_script place choices (string_bytes name.now) (texts_of arguments.now) }
 {
-    if !(is_file_name(name) && are_arguments(arguments)) {
+    if !(is_file_name(name) && are_arguments(arguments) && choices.workload.is_none()) {
         return None;
     }
     match all_chosen(choices) {
@@ -122,6 +127,14 @@ fn next_choice(choices: Choices, place: usize, word: &String) -> Option<Choices>
                 None
             }
         }
+        Wanted::Workload => match workload_of(word) {
+            Some(number) => Some(Choices {
+                workload: Some(number),
+                wanted: Wanted::Option,
+                ..choices
+            }),
+            None => None,
+        },
     }
 }
 
@@ -150,6 +163,11 @@ fn chosen_option(choices: Choices, word: &String) -> Option<Choices>
             wanted: Wanted::Keys,
             ..choices
         })
+    } else if is_word(word, b"-g") && choices.workload.is_none() {
+        Some(Choices {
+            wanted: Wanted::Workload,
+            ..choices
+        })
     } else {
         None
     }
@@ -166,9 +184,10 @@ fn all_chosen(choices: Choices) -> Option<Options>
             limit: choices.limit.unwrap_or(MOST_INSTRUCTIONS),
             budget: choices.budget.unwrap_or(USUAL_BUDGET),
             keys: choices.keys,
+            workload: choices.workload,
             script: None,
         }),
-        Wanted::Limit | Wanted::Budget | Wanted::Keys => None,
+        Wanted::Limit | Wanted::Budget | Wanted::Keys | Wanted::Workload => None,
     }
 }
 
@@ -200,13 +219,24 @@ fn limit_of(word: &String) -> Option<u64>
     }
 }
 
-/// A budget of lines, from 1 to 2^32, without a leading zero.
+/// A budget of lines and actions, from 1 to 2^32, without a leading zero.
 #[tactic(auto, unfolding(crate::specs::Words::budget_of))]
 fn budget_of(word: &String) -> Option<u64>
     ensures { result ≡ budget_of (string_bytes word.now) }
 {
     match limit_of(word) {
         Some(budget) if budget <= USUAL_BUDGET => Some(budget),
+        _ => None,
+    }
+}
+
+/// The number of a workload, from 1 to 65535, without a leading zero.
+#[tactic(auto, unfolding(crate::specs::Words::workload_of))]
+fn workload_of(word: &String) -> Option<u16>
+    ensures { result ≡ workload_of (string_bytes word.now) }
+{
+    match limit_of(word) {
+        Some(number) if number <= LARGEST_WORKLOAD => Some(number as u16),
         _ => None,
     }
 }

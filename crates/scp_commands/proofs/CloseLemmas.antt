@@ -21,6 +21,7 @@ use Rattle.fault_notes.specs.declared.note.FaultNote.{FaultNote}
 use Rattle.fault_notes.specs.Notes.{CommandNote, Note, same_subject, numbered, failure_now, notes_said, said_of}
 use Rattle.file_commands.specs.AllUnits.{attachable, Filed, Emptied, emptied_as, said_in, written_in, without_file, filed_of, emptied, Empties}
 use Rattle.file_commands.proofs.Emptying.{emptied-nothing, emptied-more}
+use Rattle.expect_actions.specs.Watch.{WatchState}
 use Rattle.nova_machine.specs.Machine.{MachineState, attached_files, with_attached_files}
 use Rattle.host_files.specs.Lists.{NamedBytes}
 use Rattle.nova_machine.specs.Seen.{attached_in, erased, seen}
@@ -466,14 +467,14 @@ kept-left number time from to u before after old now e =
 same-attached : (m : MachineState) → with_attached (erased m) (attached_in (erased m)) ≡ erased m
 same-attached m = ap (λ (l : List (Option Held)). record m { slots = l }) (ap numberless (attached-erased m) ∙ sym (unnumbered-is m.slots))
 
-pub left-is : (number time : ℕ) (keys : List (ℕ × ℕ)) (files files' : List NamedBytes) (m : MachineState) (a held : AttachedFiles) (k : Option UnitName) (before after : List FaultNote) (old now : FileState)
+pub left-is : (number time : ℕ) (watch : WatchState) (keys : List (ℕ × ℕ)) (files files' : List NamedBytes) (m : MachineState) (a held : AttachedFiles) (k : Option UnitName) (before after : List FaultNote) (old now : FileState)
     → held ≡ attached_files m → Empties number time attachable (filed_of held files) (filed_of a files') k before after old now
-    → seen keys files' (with_attached_files m a) ≡ left_by k (filed_of a files') (seen keys files m)
-left-is number time keys files files' m a held None before after old now was e = seen-with keys files' m a (attachments_of a.slots) a.disk refl refl
-left-is number time keys files files' m a held (Some u) before after old now was e =
+    → seen watch keys files' (with_attached_files m a) ≡ left_by k (filed_of a files') (seen watch keys files m)
+left-is number time watch keys files files' m a held None before after old now was e = seen-with watch keys files' m a (attachments_of a.slots) a.disk refl refl
+left-is number time watch keys files files' m a held (Some u) before after old now was e =
     let same = kept-left number time (filed_of held files) (filed_of a files') u before after old now e in
-    seen-with keys files' m a (attached_in (erased m)) m.disk (same.0 ∙ ap (λ (x : AttachedFiles). attachments_of x.slots) was ∙ sym (attached-erased m)) (same.1 ∙ ap (λ (x : AttachedFiles). x.disk) was)
-    ∙ ap (λ (x : MachineState). record { machine = x; keys = keys; files = files' }) (same-attached m)
+    seen-with watch keys files' m a (attached_in (erased m)) m.disk (same.0 ∙ ap (λ (x : AttachedFiles). attachments_of x.slots) was ∙ sym (attached-erased m)) (same.1 ∙ ap (λ (x : AttachedFiles). x.disk) was)
+    ∙ ap (λ (x : MachineState). record { machine = x; watch = watch; keys = keys; files = files' }) (same-attached m)
 
 -- the notes that are kept
 pub keeps-of : (number time now : ℕ) (tells : Bool) (from to : Filed) (k : Option UnitName) (before after : List FaultNote) (old new : FileState)

@@ -24,6 +24,7 @@ use Rattle.fault_notes.specs.declared.note.FaultNote.{FaultNote}
 use Rattle.fault_notes.specs.Notes.{CommandNote, Note, numbered, failure_now, notes_said}
 use Rattle.file_commands.specs.declared.stamp.Stamp.{Stamp}
 use Rattle.file_commands.specs.Notes.{fault_of_detach, kept_of, own_of}
+use Rattle.expect_actions.specs.Watch.{WatchState}
 use Rattle.nova_machine.specs.Machine.{MachineState, attached_files, with_attached_files}
 use Rattle.nova_machine.specs.Seen.{erased, seen, attached_in}
 use Rattle.scp_commands.specs.declared.next.Next.TheVariants.{Go}
@@ -45,21 +46,21 @@ detach_result (Err fault) = Err (detach_fault fault)
 
 -- ---- what is left behind it
 
-pub detached-live : (keys : List (ℕ × ℕ)) (after : List NamedBytes) (m : MachineState) (a held : AttachedFiles) (unit : UnitName) (r : Result (Option UnitFault) DetachFault)
+pub detached-live : (watch : WatchState) (keys : List (ℕ × ℕ)) (after : List NamedBytes) (m : MachineState) (a held : AttachedFiles) (unit : UnitName) (r : Result (Option UnitFault) DetachFault)
     → held ≡ attached_files m → attachments_of a.slots ≡ detached_by (said_of_detach r) unit (attachments_of held.slots) → a.disk ≡ buffer_left (said_of_detach r) unit held.disk
-    → OnErr r (a ≡ held) → seen keys after (with_attached_files m a) ≡ record { machine = detached_machine (said_of_detach r) unit (erased m); keys = keys; files = after }
-detached-live keys after m a held unit (Ok fault) was are holds refused =
+    → OnErr r (a ≡ held) → seen watch keys after (with_attached_files m a) ≡ record { machine = detached_machine (said_of_detach r) unit (erased m); watch = watch; keys = keys; files = after }
+detached-live watch keys after m a held unit (Ok fault) was are holds refused =
     let said = said_of_detach (Ok fault) in
-    seen-with keys after m a (detached unit (attached_in (erased m))) (buffer_left said unit m.disk)
+    seen-with watch keys after m a (detached unit (attached_in (erased m))) (buffer_left said unit m.disk)
     (are ∙ ap (λ (l : List (Option Attachment)). detached unit l) (ap (λ (x : AttachedFiles). attachments_of x.slots) was ∙ sym (attached-erased m)))
     (holds ∙ ap (λ (x : AttachedFiles). buffer_left said unit x.disk) was)
-detached-live keys after m a held unit (Err fault) was are holds refused = by-fault fault
+detached-live watch keys after m a held unit (Err fault) was are holds refused = by-fault fault
   where
-    kept : seen keys after (with_attached_files m a) ≡ seen keys after m
-    kept = ap (λ (x : MachineState). seen keys after x) (same-with m a held was refused)
+    kept : seen watch keys after (with_attached_files m a) ≡ seen watch keys after m
+    kept = ap (λ (x : MachineState). seen watch keys after x) (same-with m a held was refused)
 
     by-fault : (fault : DetachFault)
-        → seen keys after (with_attached_files m a) ≡ record { machine = detached_machine (said_of_detach (Err fault)) unit (erased m); keys = keys; files = after }
+        → seen watch keys after (with_attached_files m a) ≡ record { machine = detached_machine (said_of_detach (Err fault)) unit (erased m); watch = watch; keys = keys; files = after }
     by-fault detach.NotAttached = kept
     by-fault (detach.Failed f) = kept
 

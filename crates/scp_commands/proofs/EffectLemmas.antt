@@ -1,6 +1,6 @@
 -- What holds of every command: it reads nothing, the status of an exit is small, and one that is refused has changed
 -- nothing but files.
-use Rattle.std.proofs.Common.{◌≡◌, ℕ, Bool, true, false, List, [], ◌∷◌, refl, sym, subst, ◌∙◌, Option, Some, None, Result, Ok, Err, if◌then◌else◌, nat_le, ◌&&◌, ◌^◌, min, unwrap_or, arith}
+use Rattle.std.proofs.Common.{◌≡◌, ℕ, Bool, true, false, List, [], ◌∷◌, refl, sym, subst, ◌∙◌, Option, Some, None, Result, Ok, Err, if◌then◌else◌, nat_le, nat_lt, not, ◌==◌, length, ◌+◌, ◌&&◌, ◌^◌, min, unwrap_or, arith}
 use Rattle.std.proofs.lemmas.Bool.{leb-true}
 use Rattle.observations.specs.Observations.{Prints, reads_of, map_made}
 use Rattle.observations.proofs.MadeLemmas.{reads_of-append, reads_of-map}
@@ -36,6 +36,11 @@ use Rattle.scp_commands.specs.Live.{Live, Standing, standing}
 use Rattle.scp_commands.specs.Reply.{Answer, Reply, goes, says, refused}
 use Rattle.scp_commands.specs.Doing.{Does, IsExitAnswer}
 use Rattle.scp_commands.specs.RunEffects.{stop_line, run_answer, used_by, run_failure, ran, address_fits, started, run_from, stepped, step_of, reset_reply}
+use Rattle.expect_actions.specs.Expects.{most_expects}
+use Rattle.expect_actions.specs.Sends.{most_sends}
+use Rattle.scp_commands.specs.RunEffects.{last_address}
+use Rattle.scp_commands.specs.WatchEffects.{largest_count, text_of_quoted, lacks_room_for_break, can_be_expected}
+use Rattle.scp_commands.specs.WatchEffects.{break_reply, no_break_reply, expect_reply, no_expect_reply, send_reply, no_send_reply}
 use Rattle.scp_commands.specs.ListEffects.{lacks_device, examine_after, examine_reply, handed, deposit_after, deposit_reply}
 use Rattle.scp_commands.specs.FileEffects.{lacks_unit, mode_of, attach_answer, attached_machine, attach_with, attach_reply}
 use Rattle.scp_commands.specs.FileEffects.{detach_answer, detach_used, detached_machine, flushed_files, detach_with, detach_reply, detach_all_reply, detach_one_or_all, emptied_all, left_by, kept_answer, emptied_reply}
@@ -77,7 +82,7 @@ fair-refused : {W : CommandFault → Type 0} (fault : CommandFault) (live : Live
 fair-refused fault live = record {
   reads = refl;
   exit = tt;
-  untouched = λ other h. record { machine = refl; keys = refl; text = refl };
+  untouched = λ other h. record { machine = refl; watch = refl; keys = refl; text = refl };
   files = λ other h none. refl;
 }
 
@@ -146,7 +151,7 @@ fair-attach_with : (fault : Option Failure) (mode : AttachMode) (unit : UnitName
 fair-attach_with fault mode unit name option live = record {
   reads = refl;
   exit = answer-exit said;
-  untouched = λ other h. record { machine = machine-kept said other h; keys = refl; text = refl };
+  untouched = λ other h. record { machine = machine-kept said other h; watch = refl; keys = refl; text = refl };
   files = λ other h none. files-kept fault mode unit name option (attached_in live.machine) live.files other h none;
 }
   where
@@ -199,13 +204,13 @@ fair-detach_with where_ fault unit live = by-said (detach_said fault unit (attac
     by-said HadNone is = record {
       reads = refl;
       exit = tt;
-      untouched = λ other h. record { machine = refl; keys = refl; text = refl };
+      untouched = λ other h. record { machine = refl; watch = refl; keys = refl; text = refl };
       files = λ other h none. none-flushed fault unit (attachment_at (attached_in live.machine) unit) live.machine.disk live.files is;
     }
     by-said (StillHeld f) is = record {
       reads = refl;
       exit = tt;
-      untouched = λ other h. record { machine = refl; keys = refl; text = refl };
+      untouched = λ other h. record { machine = refl; watch = refl; keys = refl; text = refl };
       files = λ other h none.
           let same : FileFailed (subject.Unit unit) ≡ other = cc in
           absurd (none (subst (λ (x : CommandFault). LeavesTraces (request.Detach where_) x) same tt));
@@ -226,7 +231,7 @@ fair-emptied W next e live small leaves = by-keeper e.kept
     by-keeper (Some u) = record {
       reads = refl;
       exit = tt;
-      untouched = λ other h. record { machine = refl; keys = refl; text = refl };
+      untouched = λ other h. record { machine = refl; watch = refl; keys = refl; text = refl };
       files = λ other h none.
           let same : FileFailed (subject.Unit u) ≡ other = cc in
           absurd (none (subst W same (leaves u)));
@@ -247,9 +252,11 @@ unfolding show_reply
 fair-show live shown.Time = fair-says _ live live
 fair-show live shown.Cpu = fair-says _ live live
 fair-show live shown.Queue = fair-says _ live live
+fair-show live shown.Break = fair-says _ live live
+fair-show live shown.Expect = fair-says _ live live
+fair-show live shown.Send = fair-says _ live live
 fair-show live shown.Version = fair-says _ live live
 fair-show live (shown.Unit unit) = fair-if (lacks_unit live.machine unit) live _ _ (fair-refused _ live) (fair-says _ live live)
-fair-show live subject = fair-refused _ live
 
 fair-exit : (notes : List CommandNote) (live : Live) (status : Option ℕ) → Fair (LeavesTraces (request.Exit status)) live (exit_reply notes live status)
 unfolding exit_reply
@@ -266,6 +273,39 @@ fair-exit notes live status = exit-if (nat_le (unwrap_or status 0) 99) refl
 fair-set_size : {W : CommandFault → Type 0} (live : Live) (k : ℕ) → Fair W live (set_size_reply live k)
 unfolding set_size_reply
 fair-set_size live k = fair-if (fits_size k) live _ _ (fair-goes live _) (fair-refused _ live)
+
+-- ---- BREAK, EXPECT and SEND
+
+fair-break : {W : CommandFault → Type 0} (live : Live) (at count : ℕ) (actions : List ℕ) → Fair W live (break_reply live at count actions)
+unfolding break_reply
+fair-break live at count actions =
+    fair-if (not (nat_le at last_address && nat_le count largest_count)) live _ _ (fair-refused _ live)
+    (fair-if (lacks_room_for_break at live.watch.breaks.list) live _ _ (fair-refused _ live) (fair-goes live _))
+
+fair-no_break : {W : CommandFault → Type 0} (live : Live) (at : Option ℕ) → Fair W live (no_break_reply live at)
+unfolding no_break_reply
+fair-no_break live None = fair-goes live _
+fair-no_break live (Some at) = fair-if (nat_le at last_address) live _ _ (fair-goes live _) (fair-refused _ live)
+
+fair-expect : {W : CommandFault → Type 0} (live : Live) (count : ℕ) (quoted actions : List ℕ) → Fair W live (expect_reply live count quoted actions)
+unfolding expect_reply
+fair-expect live count quoted actions =
+    fair-if (not (can_be_expected count (text_of_quoted quoted))) live _ _ (fair-refused _ live)
+    (fair-if (length live.watch.expects.list == most_expects) live _ _ (fair-refused _ live) (fair-goes live _))
+
+fair-no_expect : {W : CommandFault → Type 0} (live : Live) → Fair W live (no_expect_reply live)
+unfolding no_expect_reply
+fair-no_expect live = fair-goes live _
+
+fair-send : {W : CommandFault → Type 0} (live : Live) (after delay : ℕ) (quoted : List ℕ) → Fair W live (send_reply live after delay quoted)
+unfolding send_reply
+fair-send live after delay quoted =
+    fair-if (not (nat_le after largest_count && nat_le delay largest_count)) live _ _ (fair-refused _ live)
+    (fair-if (nat_lt most_sends (length live.watch.sends + length (text_of_quoted quoted))) live _ _ (fair-refused _ live) (fair-goes live _))
+
+fair-no_send : {W : CommandFault → Type 0} (live : Live) → Fair W live (no_send_reply live)
+unfolding no_send_reply
+fair-no_send live = fair-goes live _
 
 -- ---- ECHO and ASSERT
 
@@ -284,7 +324,7 @@ unfolding assert_reply
 fair-assert live test = record {
   reads = refl;
   exit = assert-exit (lacks_device live.machine test.device) (tested live.machine test);
-  untouched = λ fault h. record { machine = refl; keys = refl; text = refl };
+  untouched = λ fault h. record { machine = refl; watch = refl; keys = refl; text = refl };
   files = λ fault h none. refl;
 }
 
@@ -295,7 +335,7 @@ unfolding do_reply
 fair-do notes live echo strict name = record {
   reads = refl;
   exit = do-exit (whole_act (whole_calls subject.Script live.machine.time notes) name live.files).0;
-  untouched = λ fault h. record { machine = refl; keys = refl; text = refl };
+  untouched = λ fault h. record { machine = refl; watch = refl; keys = refl; text = refl };
   files = λ fault h none. refl;
 }
   where
@@ -315,7 +355,7 @@ unfolding load_reply
 fair-load notes live name = record {
   reads = refl;
   exit = load-exit said;
-  untouched = λ fault h. record { machine = load-kept said fault h; keys = refl; text = refl };
+  untouched = λ fault h. record { machine = load-kept said fault h; watch = refl; keys = refl; text = refl };
   files = λ fault h none. refl;
 }
   where
@@ -353,7 +393,7 @@ fair-dump_after from to name act live = by-said act.said
     by-said WriteFailed = record {
       reads = refl;
       exit = tt;
-      untouched = λ fault h. record { machine = refl; keys = refl; text = refl };
+      untouched = λ fault h. record { machine = refl; watch = refl; keys = refl; text = refl };
       files = λ fault h none.
           let same : FileFailed subject.Dump ≡ fault = cc in
           absurd (none (subst (λ (x : CommandFault). LeavesTraces (request.Dump from to name) x) same tt));
@@ -377,6 +417,12 @@ fair-effect limit notes live (request.Go address) = fair-run_from limit notes fa
 fair-effect limit notes live request.Cont = fair-ran notes false limit live live
 fair-effect limit notes live (request.Step count) = fair-step_of limit notes (unwrap_or count 1) live
 fair-effect limit notes live request.Reset = fair-reset live
+fair-effect limit notes live (request.Break at count actions) = fair-break live at count actions
+fair-effect limit notes live (request.NoBreak at) = fair-no_break live at
+fair-effect limit notes live (request.Expect count text actions) = fair-expect live count text actions
+fair-effect limit notes live request.NoExpect = fair-no_expect live
+fair-effect limit notes live (request.Send after delay text) = fair-send live after delay text
+fair-effect limit notes live request.NoSend = fair-no_send live
 fair-effect limit notes live (request.Attach option unit name) = fair-attach notes live option unit name
 fair-effect limit notes live (request.Detach unit) = fair-detach_where notes live unit
 fair-effect limit notes live (request.SetSize k) = fair-set_size live k

@@ -23,3 +23,6 @@ pub mod TapeLemmas
 pub mod ScriptLemmas
 pub mod SetLemmas
 pub mod AskedLemmas
+pub mod PrintedLemmas
+pub mod QuotedLemmas
+pub mod WatchLines

@@ -1,5 +1,5 @@
 -- What a command comes to, by what it asks for.
-use Rattle.std.proofs.Common.{◌≡◌, ℕ, ◌<◌, Bool, true, false, List, [], Option, Some, None, Result, Ok, Err, refl, ap, sym, ◌∙◌, subst, append-nil, if◌then◌else◌, arith}
+use Rattle.std.proofs.Common.{◌≡◌, ℕ, ◌<◌, Bool, true, false, List, [], ◌+◌, length, nat_le, nat_lt, not, ◌==◌, ◌&&◌, Option, Some, None, Result, Ok, Err, refl, ap, sym, ◌∙◌, subst, append-nil, if◌then◌else◌, arith}
 use Rattle.host_files.specs.State.{FileState}
 use Rattle.unit_trait.specs.declared.kind.UnitName.{UnitName}
 use Rattle.fault_notes.specs.declared.note.FaultNote.{FaultNote}
@@ -15,7 +15,9 @@ use Rattle.operand_forms.specs.declared.listing.Test.{Test}
 use Rattle.scp_parser.specs.declared.command.Piece.{Piece}
 use Rattle.scp_parser.specs.declared.command.Verb.{Verb}
 use Rattle.scp_parser.specs.declared.command.Verb.TheVariants as verb
-use Rattle.scp_parser.specs.Command.{Request, Attach, Do, Load, Dump, piece_of, request_of, file_name_of}
+use Rattle.scp_parser.specs.Command.{Request, Break, Expect, Send, Attach, Do, Load, Dump, piece_of, request_of, file_name_of, given_text, given_quoted}
+use Rattle.expect_actions.specs.Expects.{most_expects}
+use Rattle.expect_actions.specs.Sends.{most_sends}
 use Rattle.scp_examine.specs.declared.fault.ExamineFault.{ExamineFault}
 use Rattle.scp_examine.specs.declared.fault.ExamineFault.TheVariants as list
 use Rattle.scp_examine.specs.Effect.{examine_fault, fault_of_deposit, tested}
@@ -27,6 +29,9 @@ use Rattle.scp_commands.specs.Reply.{Answer, Reply, goes, refused}
 use Rattle.scp_commands.specs.RunEffects.{reset_reply}
 use Rattle.scp_commands.specs.ListEffects.{lacks_device, examine_after, examine_reply, handed, deposit_after, deposit_reply}
 use Rattle.scp_commands.specs.FileEffects.{lacks_unit}
+use Rattle.scp_commands.specs.RunEffects.{last_address}
+use Rattle.scp_commands.specs.WatchEffects.{largest_count, text_of_quoted, lacks_room_for_break, can_be_expected}
+use Rattle.scp_commands.specs.WatchEffects.{break_reply, no_break_reply, expect_reply, no_expect_reply, send_reply, no_send_reply}
 use Rattle.scp_commands.specs.ShowEffects.{show_reply}
 use Rattle.scp_commands.specs.SetEffects.{set_size_reply}
 use Rattle.scp_commands.specs.ScriptEffects.{test_answer, echo_reply, assert_reply, goto_reply}
@@ -69,6 +74,25 @@ pub dump-named : (line : List ℕ) (v : Verb) (from to : ℕ) (file : Piece) (r 
 dump-named line v from to file r name read is named =
     let asks = read ∙ ap (request_of line) is in
     asks ∙ ap (Dump from to) (sym (named ∙ ap file_name_of asks))
+
+-- a BREAK, an EXPECT and a SEND, by the texts that they give
+pub break-given : (line : List ℕ) (v : Verb) (at count : ℕ) (actions : Piece) (r : Request) (text : List ℕ) → r ≡ request_of line v → v ≡ verb.Break at count actions
+    → text ≡ given_text r → r ≡ Break at count text
+break-given line v at count actions r text read is gives =
+    let asks = read ∙ ap (request_of line) is in
+    asks ∙ ap (Break at count) (sym (gives ∙ ap given_text asks))
+
+pub expect-given : (line : List ℕ) (v : Verb) (count : ℕ) (quoted actions : Piece) (r : Request) (text behind : List ℕ) → r ≡ request_of line v
+    → v ≡ verb.Expect count quoted actions → text ≡ given_quoted r → behind ≡ given_text r → r ≡ Expect count text behind
+expect-given line v count quoted actions r text behind read is quotes gives =
+    let asks = read ∙ ap (request_of line) is in
+    asks ∙ ap (λ (t : List ℕ). Expect count t (piece_of line actions)) (sym (quotes ∙ ap given_quoted asks)) ∙ ap (Expect count text) (sym (gives ∙ ap given_text asks))
+
+pub send-given : (line : List ℕ) (v : Verb) (after delay : ℕ) (quoted : Piece) (r : Request) (text : List ℕ) → r ≡ request_of line v → v ≡ verb.Send after delay quoted
+    → text ≡ given_quoted r → r ≡ Send after delay text
+send-given line v after delay quoted r text read is quotes =
+    let asks = read ∙ ap (request_of line) is in
+    asks ∙ ap (Send after delay) (sym (quotes ∙ ap given_quoted asks))
 
 -- nothing is done
 pub goes-does : (live : Live) (tells : Bool) (text : List ℕ) → Does (goes live) (Ok Go) (standing 0 live) tells text text
@@ -151,9 +175,40 @@ unfolding show_reply
 show-no-file live shown.Time = tt
 show-no-file live shown.Cpu = tt
 show-no-file live shown.Queue = tt
+show-no-file live shown.Break = tt
+show-no-file live shown.Expect = tt
+show-no-file live shown.Send = tt
 show-no-file live shown.Version = tt
 show-no-file live (shown.Unit unit) = no-file-if (lacks_unit live.machine unit) _ _ tt tt
-show-no-file live subject = tt
+
+pub break-no-file : (live : Live) (at count : ℕ) (actions : List ℕ) → IsOfNoFile (break_reply live at count actions).answer
+unfolding break_reply
+break-no-file live at count actions =
+    no-file-if (not (nat_le at last_address && nat_le count largest_count)) _ _ tt (no-file-if (lacks_room_for_break at live.watch.breaks.list) _ _ tt tt)
+
+pub no_break-no-file : (live : Live) (at : Option ℕ) → IsOfNoFile (no_break_reply live at).answer
+unfolding no_break_reply
+no_break-no-file live None = tt
+no_break-no-file live (Some at) = no-file-if (nat_le at last_address) _ _ tt tt
+
+pub expect-no-file : (live : Live) (count : ℕ) (quoted actions : List ℕ) → IsOfNoFile (expect_reply live count quoted actions).answer
+unfolding expect_reply
+expect-no-file live count quoted actions =
+    no-file-if (not (can_be_expected count (text_of_quoted quoted))) _ _ tt (no-file-if (length live.watch.expects.list == most_expects) _ _ tt tt)
+
+pub no_expect-no-file : (live : Live) → IsOfNoFile (no_expect_reply live).answer
+unfolding no_expect_reply
+no_expect-no-file live = tt
+
+pub send-no-file : (live : Live) (after delay : ℕ) (quoted : List ℕ) → IsOfNoFile (send_reply live after delay quoted).answer
+unfolding send_reply
+send-no-file live after delay quoted =
+    no-file-if (not (nat_le after largest_count && nat_le delay largest_count)) _ _ tt
+    (no-file-if (nat_lt most_sends (length live.watch.sends + length (text_of_quoted quoted))) _ _ tt tt)
+
+pub no_send-no-file : (live : Live) → IsOfNoFile (no_send_reply live).answer
+unfolding no_send_reply
+no_send-no-file live = tt
 
 pub set_size-no-file : (live : Live) (k : ℕ) → IsOfNoFile (set_size_reply live k).answer
 unfolding set_size_reply
@@ -187,6 +242,8 @@ reset-slots m = refl
 
 -- memory may be wanted where the room is not there yet
 pub may-want : (spare : ℕ) (request : Request) → spare < 16 → MayWant spare request
+may-want spare (Break at count actions) few = tt
+may-want spare (Expect count text actions) few = tt
 may-want spare (Attach option unit name) few = tt
 may-want spare (Do echo strict name arguments) few = tt
 may-want spare (Load name) few = tt
@@ -204,6 +261,12 @@ pub record IsOther (v : Verb) : Type 0 where
   pub cont : v ≡ verb.Cont → ⊥
   pub step : (count : Option ℕ) → v ≡ verb.Step count → ⊥
   pub reset : v ≡ verb.Reset → ⊥
+  pub break_ : (at count : ℕ) (actions : Piece) → v ≡ verb.Break at count actions → ⊥
+  pub no_break : (at : Option ℕ) → v ≡ verb.NoBreak at → ⊥
+  pub expect : (count : ℕ) (text actions : Piece) → v ≡ verb.Expect count text actions → ⊥
+  pub no_expect : v ≡ verb.NoExpect → ⊥
+  pub send : (after delay : ℕ) (text : Piece) → v ≡ verb.Send after delay text → ⊥
+  pub no_send : v ≡ verb.NoSend → ⊥
   pub attach : (option : ℕ) (unit : UnitName) (name : Piece) → v ≡ verb.Attach option unit name → ⊥
   pub detach : (unit : Option UnitName) → v ≡ verb.Detach unit → ⊥
   pub set_size : (k : ℕ) → v ≡ verb.SetSize k → ⊥
@@ -226,6 +289,12 @@ other-is limit own live line (verb.Go address) o = absurd (o.go address refl)
 other-is limit own live line verb.Cont o = absurd (o.cont refl)
 other-is limit own live line (verb.Step count) o = absurd (o.step count refl)
 other-is limit own live line verb.Reset o = absurd (o.reset refl)
+other-is limit own live line (verb.Break at count actions) o = absurd (o.break_ at count actions refl)
+other-is limit own live line (verb.NoBreak at) o = absurd (o.no_break at refl)
+other-is limit own live line (verb.Expect count text actions) o = absurd (o.expect count text actions refl)
+other-is limit own live line verb.NoExpect o = absurd (o.no_expect refl)
+other-is limit own live line (verb.Send after delay text) o = absurd (o.send after delay text refl)
+other-is limit own live line verb.NoSend o = absurd (o.no_send refl)
 other-is limit own live line (verb.Attach option unit name) o = absurd (o.attach option unit name refl)
 other-is limit own live line (verb.Detach unit) o = absurd (o.detach unit refl)
 other-is limit own live line (verb.SetSize k) o = absurd (o.set_size k refl)

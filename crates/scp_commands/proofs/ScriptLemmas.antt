@@ -2,6 +2,7 @@
 use Rattle.std.proofs.Common.{◌≡◌, ◌∙◌, ℕ, Bool, true, false, IsTrue, List, [], ◌∷◌, ◌++◌, Option, Some, None, Result, Ok, Err, refl, ap, sym, if◌then◌else◌}
 use Rattle.host_files.specs.Lists.{NamedBytes}
 use Rattle.host_files.specs.Streams.{Puts}
+use Rattle.expect_actions.specs.Watch.{WatchState}
 use Rattle.nova_machine.specs.Machine.{MachineState}
 use Rattle.nova_machine.specs.Seen.{erased, seen}
 use Rattle.operand_forms.specs.declared.listing.Condition.{Condition}
@@ -83,9 +84,9 @@ own-answer false (Err list.Console) own = absurd own
 pub assert-own : (m : MachineState) (test : Test) → IsPlain (assert_answer m test)
 assert-own m test = own-answer (lacks_device m test.device) (tested m test) (own-tested m test)
 
-pub assert-does : (m : MachineState) (keys : List (ℕ × ℕ)) (files : List NamedBytes) (test : Test) (answer : Answer) (tells : Bool) (text : List ℕ) → answer ≡ assert_answer m test
-    → Does (assert_reply (seen keys files m) test) answer (standing 0 (seen keys files m)) tells text text
+pub assert-does : (m : MachineState) (watch : WatchState) (keys : List (ℕ × ℕ)) (files : List NamedBytes) (test : Test) (answer : Answer) (tells : Bool) (text : List ℕ) → answer ≡ assert_answer m test
+    → Does (assert_reply (seen watch keys files m) test) answer (standing 0 (seen watch keys files m)) tells text text
 unfolding assert_reply
-assert-does m keys files test answer tells text is =
-    let live = seen keys files m in
+assert-does m watch keys files test answer tells text is =
+    let live = seen watch keys files m in
     silent-does (assert_reply live test) answer (standing 0 live) tells text (assert-own (erased m) test) (is ∙ sym (erased-assert m test)) refl refl

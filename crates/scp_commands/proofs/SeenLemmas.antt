@@ -3,6 +3,7 @@ use Rattle.std.proofs.Common.{◌≡◌, ℕ, List, [], ◌∷◌, map, Option, 
 use Rattle.host_files.specs.Lists.{NamedBytes}
 use Rattle.unit_files.specs.Attachments.{Attachment, Held, attachments_of}
 use Rattle.unit_files.specs.Buffer.{Buffer, AttachedFiles}
+use Rattle.expect_actions.specs.Watch.{WatchState}
 use Rattle.nova_machine.specs.Machine.{MachineState, attached_files, with_attached_files}
 use Rattle.nova_machine.specs.Seen.{unnumbered, erased, seen, attached_in}
 use Rattle.scp_commands.specs.Live.{numberless, with_attached}
@@ -36,11 +37,11 @@ erased-with m a attached disk are holds =
     let slots = unnumbered-is a.slots ∙ ap numberless are in
     λ i. record m { slots = slots i; disk = holds i }
 
-pub seen-with : (keys : List (ℕ × ℕ)) (after : List NamedBytes) (m : MachineState) (a : AttachedFiles) (attached : List (Option Attachment)) (disk : Buffer)
+pub seen-with : (watch : WatchState) (keys : List (ℕ × ℕ)) (after : List NamedBytes) (m : MachineState) (a : AttachedFiles) (attached : List (Option Attachment)) (disk : Buffer)
     → attachments_of a.slots ≡ attached → a.disk ≡ disk
-    → seen keys after (with_attached_files m a) ≡ record { machine = record (with_attached (erased m) attached) { disk = disk }; keys = keys; files = after }
-seen-with keys after m a attached disk are holds =
-    ap (λ (x : MachineState). record { machine = x; keys = keys; files = after }) (erased-with m a attached disk are holds)
+    → seen watch keys after (with_attached_files m a) ≡ record { machine = record (with_attached (erased m) attached) { disk = disk }; watch = watch; keys = keys; files = after }
+seen-with watch keys after m a attached disk are holds =
+    ap (λ (x : MachineState). record { machine = x; watch = watch; keys = keys; files = after }) (erased-with m a attached disk are holds)
 
 -- what is attached to a machine is given back to it
 pub same-with : (m : MachineState) (a held : AttachedFiles) → held ≡ attached_files m → a ≡ held → with_attached_files m a ≡ m

@@ -2,6 +2,7 @@
 use Rattle.std.proofs.Common.{◌≡◌, ◌∙◌, ℕ, ◌&&◌, ◌^◌, nat_le, Bool, true, false, List, Option, Some, None, Ok, refl, ap, sym, subst, if◌then◌else◌}
 use Rattle.host_files.specs.Lists.{NamedBytes}
 use Rattle.fault_notes.specs.Notes.{CommandNote, Note, notes_said}
+use Rattle.expect_actions.specs.Watch.{WatchState}
 use Rattle.nova_machine.specs.Machine.{MachineState, reset_machine, reset_devices}
 use Rattle.nova_machine.specs.Seen.{erased, seen}
 use Rattle.scp_commands.specs.declared.next.Next.TheVariants.{Go}
@@ -38,12 +39,12 @@ pub started-slots : (resets : Bool) (address : Option ℕ) (m : MachineState) �
 started-slots resets address m = starting-slots address (reset_where resets m) ∙ reset-slots resets m
 
 -- RESET prints nothing
-pub reset-does : (keys : List (ℕ × ℕ)) (files : List NamedBytes) (m new : MachineState) (tells : Bool) (text : List ℕ) → new ≡ reset_machine m
-    → Does (reset_reply (seen keys files m)) (Ok Go) (standing 0 (seen keys files new)) tells text text
+pub reset-does : (watch : WatchState) (keys : List (ℕ × ℕ)) (files : List NamedBytes) (m new : MachineState) (tells : Bool) (text : List ℕ) → new ≡ reset_machine m
+    → Does (reset_reply (seen watch keys files m)) (Ok Go) (standing 0 (seen watch keys files new)) tells text text
 unfolding reset_reply
-reset-does keys files m new tells text is =
-    subst (λ (x : MachineState). Does (goes (record { machine = x; keys = keys; files = files })) (Ok Go) (standing 0 (seen keys files new)) tells text text)
-    (ap erased is ∙ sym (erased-reset_machine m)) (refl, goes-said (seen keys files new) tells text)
+reset-does watch keys files m new tells text is =
+    subst (λ (x : MachineState). Does (goes (record { machine = x; watch = watch; keys = keys; files = files })) (Ok Go) (standing 0 (seen watch keys files new)) tells text text)
+    (ap erased is ∙ sym (erased-reset_machine m)) (refl, goes-said (seen watch keys files new) tells text)
 
 -- ---- an address, and a count, that is out of range
 
@@ -58,13 +59,13 @@ step-refused limit count live fits given = ap (λ (b : Bool). if b then stepped 
 
 -- ---- a run from an address
 
-run_from-runs : (limit : ℕ) (resets : Bool) (address : Option ℕ) (keys : List (ℕ × ℕ)) (files : List NamedBytes) (m : MachineState) → address_fits address ≡ true → (given : List CommandNote)
-    → run_from limit given resets address (seen keys files m) ≡ running limit given (seen keys files (starting_at address (reset_where resets m)))
+run_from-runs : (limit : ℕ) (resets : Bool) (address : Option ℕ) (watch : WatchState) (keys : List (ℕ × ℕ)) (files : List NamedBytes) (m : MachineState) → address_fits address ≡ true → (given : List CommandNote)
+    → run_from limit given resets address (seen watch keys files m) ≡ running limit given (seen watch keys files (starting_at address (reset_where resets m)))
 unfolding run_from
-run_from-runs limit resets address keys files m fits given =
-    ap (λ (b : Bool). if b then running limit given (started resets address (seen keys files m)) else refused OutOfRange (seen keys files m)) fits
-    ∙ ap (λ (x : MachineState). running limit given (record { machine = starting_at address x; keys = keys; files = files })) (erased-reset_where resets m)
-    ∙ ap (λ (x : MachineState). running limit given (record { machine = x; keys = keys; files = files })) (erased-starting address (reset_where resets m))
+run_from-runs limit resets address watch keys files m fits given =
+    ap (λ (b : Bool). if b then running limit given (started resets address (seen watch keys files m)) else refused OutOfRange (seen watch keys files m)) fits
+    ∙ ap (λ (x : MachineState). running limit given (record { machine = starting_at address x; watch = watch; keys = keys; files = files })) (erased-reset_where resets m)
+    ∙ ap (λ (x : MachineState). running limit given (record { machine = x; watch = watch; keys = keys; files = files })) (erased-starting address (reset_where resets m))
 
 -- a run of the machine that was readied
 pub started-did : (old at : CommandState) (resets : Bool) (address : Option ℕ) (files : List NamedBytes) (answer : Answer) (new : Live) (tells : Bool) (before after : List ℕ) (notes' : List Note)
@@ -73,6 +74,6 @@ pub started-did : (old at : CommandState) (resets : Bool) (address : Option ℕ)
     → Did (λ given. run_from old.limit given resets address (live_in old files)) old.command answer new tells before after (notes_said old.notes) notes'
 started-did old at resets address files answer new tells before after notes' is fits did =
     let readied = starting_at address (reset_where resets old.machine) in
-    did-same (λ given. running old.limit given (seen old.keys files readied)) (λ given. run_from old.limit given resets address (live_in old files)) old.command answer new tells before after
-    (notes_said old.notes) notes' (run_from-runs old.limit resets address old.keys files old.machine fits)
+    did-same (λ given. running old.limit given (seen old.watch old.keys files readied)) (λ given. run_from old.limit given resets address (live_in old files)) old.command answer new tells before after
+    (notes_said old.notes) notes' (run_from-runs old.limit resets address old.watch old.keys files old.machine fits)
     (subst (λ (s : CommandState). Did (λ given. running s.limit given (live_in s files)) s.command answer new tells before after (notes_said s.notes) notes') is did)

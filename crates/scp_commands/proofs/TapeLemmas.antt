@@ -17,6 +17,7 @@ use Rattle.whole_files.specs.declared.whole.WholeFault.TheVariants as fault
 use Rattle.whole_files.specs.Whole.{WholeSaid, whole_act}
 use Rattle.whole_files.specs.Writing.{write_act}
 use Rattle.whole_files.specs.Claims.{said_of, said_of_bytes, claimed}
+use Rattle.expect_actions.specs.Watch.{WatchState}
 use Rattle.nova_machine.specs.Machine.{MachineState}
 use Rattle.nova_machine.specs.Seen.{erased, seen}
 use Rattle.nova_machine.specs.Turn.{with_memory}
@@ -126,29 +127,29 @@ read-none (Err why) m is = refl
 
 -- ---- LOAD
 
-loaded-live : (keys : List (ℕ × ℕ)) (m : MachineState) (files : List NamedBytes) (bytes : Result (Vec ℕ) WholeFault)
+loaded-live : (watch : WatchState) (keys : List (ℕ × ℕ)) (m : MachineState) (files : List NamedBytes) (bytes : Result (Vec ℕ) WholeFault)
     → IfSome (said_of_bytes bytes) (λ (said : WholeSaid).
-    seen keys files (read_machine bytes m) ≡ with_machine (seen keys files m) (loaded_machine said (erased m)))
-loaded-live keys m files (Ok v) =
-    ap (λ (x : MachineState). record { machine = x; keys = keys; files = files }) (tape-erased (tape_in m v.items) m)
-loaded-live keys m files (Err fault.NoFile) = refl
-loaded-live keys m files (Err fault.TooLong) = refl
-loaded-live keys m files (Err fault.Failed) = refl
-loaded-live keys m files (Err fault.OutOfMemory) = tt
+    seen watch keys files (read_machine bytes m) ≡ with_machine (seen watch keys files m) (loaded_machine said (erased m)))
+loaded-live watch keys m files (Ok v) =
+    ap (λ (x : MachineState). record { machine = x; watch = watch; keys = keys; files = files }) (tape-erased (tape_in m v.items) m)
+loaded-live watch keys m files (Err fault.NoFile) = refl
+loaded-live watch keys m files (Err fault.TooLong) = refl
+loaded-live watch keys m files (Err fault.Failed) = refl
+loaded-live watch keys m files (Err fault.OutOfMemory) = tt
 
-pub load-did : (number : ℕ) (keys : List (ℕ × ℕ)) (m new : MachineState) (files files' : List NamedBytes) (name : List ℕ) (w : Whole)
+pub load-did : (number : ℕ) (watch : WatchState) (keys : List (ℕ × ℕ)) (m new : MachineState) (files files' : List NamedBytes) (name : List ℕ) (w : Whole)
     (answer : Answer) (tells : Bool) (text : List ℕ) (notes notes' : List FaultNote)
     → answer ≡ whole_answer subject.Load (tape_comes m) w.bytes → new ≡ read_machine w.bytes m → files' ≡ files
     → IfSome (said_of w) (λ (said : WholeSaid). whole_act (claimed w) name files ≡ (said, length (claimed w)))
     → notes' ≡ notes ++ read_notes subject.Load (record { command = number; time = m.time }) w
-    → Did (λ (own : List CommandNote). load_reply own (seen keys files m) name) number answer (seen keys files' new) tells text text
+    → Did (λ (own : List CommandNote). load_reply own (seen watch keys files m) name) number answer (seen watch keys files' new) tells text text
     (notes_said notes) (notes_said notes')
 unfolding load_reply
-load-did number keys m new files files' name w answer tells text notes notes' answered is same told noted =
-    read-did subject.Load (tape_comes m) (λ (said : WholeSaid). with_machine (seen keys files m) (loaded_machine said (erased m)))
-    number m.time (seen keys files' new) name files w answer tells text notes notes' load-is (tape-plain m) answered
-    (subst (λ (live : Live). IfSome (said_of w) (λ (said : WholeSaid). live ≡ with_machine (seen keys files m) (loaded_machine said (erased m))))
-    (λ i. seen keys (sym same i) (sym is i)) (loaded-live keys m files w.bytes)) told noted
+load-did number watch keys m new files files' name w answer tells text notes notes' answered is same told noted =
+    read-did subject.Load (tape_comes m) (λ (said : WholeSaid). with_machine (seen watch keys files m) (loaded_machine said (erased m)))
+    number m.time (seen watch keys files' new) name files w answer tells text notes notes' load-is (tape-plain m) answered
+    (subst (λ (live : Live). IfSome (said_of w) (λ (said : WholeSaid). live ≡ with_machine (seen watch keys files m) (loaded_machine said (erased m))))
+    (λ i. seen watch keys (sym same i) (sym is i)) (loaded-live watch keys m files w.bytes)) told noted
 
 -- ---- DUMP
 

@@ -23,7 +23,7 @@ use Rattle.nova_machine.specs.declared.machine.Stop.{Stop}
 use Rattle.nova_machine.specs.declared.machine.Stop.TheVariants.{ConsoleFault, FileFault}
 use Rattle.nova_machine.specs.Comes.{AreFree}
 use Rattle.nova_machine.specs.Seen.{attached_in}
-use Rattle.scp_parser.specs.Command.{Request, Attach, Do, Load, Dump}
+use Rattle.scp_parser.specs.Command.{Request, Break, Expect, Attach, Do, Load, Dump}
 use Rattle.scp_commands.specs.declared.next.Next.{Next}
 use Rattle.scp_commands.specs.declared.next.Next.TheVariants.{Exit, Ran}
 use Rattle.scp_commands.specs.declared.fault.CommandFault.TheVariants.{Console, OutOfMemory, NoFile, FileTooLong, FileFailed}
@@ -183,8 +183,10 @@ IsRunAnswer answer = Unit {0}
 
 -- ---- want of memory
 
--- memory may be wanted where the room of 16 notes is not there yet, and by ATTACH, DO, LOAD and DUMP
+-- memory may be wanted where the room of 16 notes is not there yet, and by BREAK, EXPECT, ATTACH, DO, LOAD and DUMP
 abbrev pub MayWant : ℕ → Request → Type 0
+MayWant spare (Break at count actions) = Unit {0}
+MayWant spare (Expect count text actions) = Unit {0}
 MayWant spare (Attach option unit name) = Unit {0}
 MayWant spare (Do echo strict name arguments) = Unit {0}
 MayWant spare (Load name) = Unit {0}
@@ -201,6 +203,7 @@ says_files tells request = true
 -- nothing was done
 pub record IsUndone (says : Bool) (old new : CommandState) (before after : List ℕ) (files files' : FileState) : Type 0 where
   pub machine : new.machine ≡ old.machine
+  pub watch : new.watch ≡ old.watch
   pub notes : new.notes ≡ old.notes
   pub written : after ≡ before
   pub files_are : IsTrue says → files'.files ≡ files.files

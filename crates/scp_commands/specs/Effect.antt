@@ -2,7 +2,8 @@
 use Rattle.std.specs.Prelude.{ℕ, List, unwrap_or, true, false, Result, Ok, Err, if◌then◌else◌}
 use Rattle.fault_notes.specs.Notes.{CommandNote}
 use Rattle.scp_parser.specs.declared.fault.ParseFault.{ParseFault}
-use Rattle.scp_parser.specs.Command.{Request, Nothing, Examine, Deposit, Run, Go, Cont, Step, Reset, Attach, Detach, SetSize, Show, Do, Goto, Assert, Echo, Exit, Load, Dump}
+use Rattle.scp_parser.specs.Command.{Request, Nothing, Examine, Deposit, Run, Go, Cont, Step, Reset, Break, NoBreak, Expect, NoExpect, Send, NoSend}
+use Rattle.scp_parser.specs.Command.{Attach, Detach, SetSize, Show, Do, Goto, Assert, Echo, Exit, Load, Dump}
 use Rattle.scp_parser.specs.Reading.{reading}
 use Rattle.scp_commands.specs.declared.fault.CommandFault.{CommandFault}
 use Rattle.scp_commands.specs.declared.fault.CommandFault.TheVariants.{Parse, NotBuilt}
@@ -10,6 +11,7 @@ use Rattle.scp_commands.specs.Live.{Live}
 use Rattle.scp_commands.specs.Reply.{Reply, goes, refused}
 use Rattle.scp_commands.specs.RunEffects.{running, run_from, step_of, reset_reply}
 use Rattle.scp_commands.specs.ListEffects.{examine_reply, deposit_reply}
+use Rattle.scp_commands.specs.WatchEffects.{break_reply, no_break_reply, expect_reply, no_expect_reply, send_reply, no_send_reply}
 use Rattle.scp_commands.specs.FileEffects.{attach_reply, detach_one_or_all}
 use Rattle.scp_commands.specs.ShowEffects.{show_reply}
 use Rattle.scp_commands.specs.ExitEffects.{exit_reply}
@@ -28,6 +30,12 @@ effect limit notes live (Go address) = run_from limit notes false address live
 effect limit notes live Cont = running limit notes live
 effect limit notes live (Step count) = step_of limit notes (unwrap_or count 1) live
 effect limit notes live Reset = reset_reply live
+effect limit notes live (Break at count actions) = break_reply live at count actions
+effect limit notes live (NoBreak at) = no_break_reply live at
+effect limit notes live (Expect count text actions) = expect_reply live count text actions
+effect limit notes live NoExpect = no_expect_reply live
+effect limit notes live (Send after delay text) = send_reply live after delay text
+effect limit notes live NoSend = no_send_reply live
 effect limit notes live (Attach option unit name) = attach_reply notes live option unit name
 effect limit notes live (Detach unit) = detach_one_or_all notes live unit
 effect limit notes live (SetSize k) = set_size_reply live k

@@ -3,6 +3,8 @@ use Rattle.std.specs.Prelude.{ℕ, List, [], ◌∷◌, ◌++◌, codes, decimal
 use Rattle.nova_word.specs.Numbers.{octal_digits}
 use Rattle.binary_load.specs.declared.faults.LoadFault.{LoadFault}
 use Rattle.binary_load.specs.declared.faults.LoadFault.TheVariants as tape
+use Rattle.expect_actions.specs.declared.full.AddFault.{AddFault}
+use Rattle.expect_actions.specs.declared.full.AddFault.TheVariants as add
 use Rattle.whole_files.specs.declared.whole.WholeFault.{WholeFault}
 use Rattle.whole_files.specs.declared.whole.WholeFault.TheVariants as whole
 use Rattle.scp_parser.specs.declared.fault.ParseFault.{ParseFault}
@@ -19,7 +21,7 @@ use Rattle.scp_commands.specs.declared.fault.CommandFault.{CommandFault}
 use Rattle.scp_commands.specs.declared.fault.Detail.{Detail}
 use Rattle.scp_commands.specs.declared.fault.Detail.TheVariants.{Nothing, Place, Address}
 use Rattle.scp_commands.specs.declared.fault.CommandFault.TheVariants.{Parse, NoSuchName, OutOfRange, ReadOnlyName, Console, NotBuilt}
-use Rattle.scp_commands.specs.declared.fault.CommandFault.TheVariants.{AlreadyAttached, NotAttached, ReadOnly, NoFile, FileTooLong, FileFailed, AssertFailed, TooDeep, NoLabel, NotInDo, OutOfMemory}
+use Rattle.scp_commands.specs.declared.fault.CommandFault.TheVariants.{AlreadyAttached, NotAttached, ReadOnly, NoFile, FileTooLong, FileFailed, Full, AssertFailed, TooDeep, NoLabel, NotInDo, OutOfMemory}
 use Rattle.scp_commands.specs.declared.fault.CommandFault.TheVariants.{LoadTruncated, LoadSum, PastMemory}
 
 -- the fault of a list
@@ -55,6 +57,11 @@ tape_fault (tape.Truncated place) = LoadTruncated place
 tape_fault (tape.BadSum place) = LoadSum place
 tape_fault (tape.PastMemory origin) = PastMemory origin
 
+-- the fault of a break or an expect that was not added
+abbrev pub add_fault : AddFault → CommandFault
+add_fault add.Full = Full
+add_fault add.OutOfMemory = OutOfMemory
+
 -- the words of the fault of a line that is no command
 abbrev pub parse_words : ParseFault → List ℕ
 parse_words parse.Unknown = codes "Unknown command"
@@ -85,6 +92,7 @@ fault_words ReadOnly = Some (codes "Read only not allowed")
 fault_words NoFile = Some (codes "File not found")
 fault_words FileTooLong = Some (codes "File too long")
 fault_words (FileFailed who) = Some (codes "File error")
+fault_words Full = Some (codes "Table full")
 fault_words AssertFailed = Some (codes "Assertion failed")
 fault_words TooDeep = Some (codes "DO nested too deeply")
 fault_words NoLabel = Some (codes "Label not found")

@@ -31,6 +31,7 @@ LeavesTraces request fault = ⊥
 -- it has printed nothing, and changed nothing but files
 pub record IsUntouched (live : Live) (reply : Reply) : Type 0 where
   pub machine : reply.after.live.machine ≡ live.machine
+  pub watch : reply.after.live.watch ≡ live.watch
   pub keys : reply.after.live.keys ≡ live.keys
   pub text : reply.made ≡ []
 

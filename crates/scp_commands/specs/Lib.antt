@@ -4,6 +4,9 @@ pub mod FaultText
 pub mod RunEffects
 pub mod ListEffects
 pub mod FileEffects
+pub mod WatchEffects
+pub mod QuotedText
+pub mod WatchTexts
 pub mod ShowEffects
 pub mod ExitEffects
 pub mod WholeCalls

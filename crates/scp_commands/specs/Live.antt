@@ -1,13 +1,15 @@
 -- What commands work on: all that they may change and on which the future depends. An early end shows it as it then
--- stands. Watch tables and lines join it here.
+-- stands. Lines join it here.
 use Rattle.std.specs.Prelude.{ℕ, List, map, option_map, Option}
 use Rattle.host_files.specs.Lists.{NamedBytes}
 use Rattle.unit_files.specs.Attachments.{Attachment, Held}
 use Rattle.fault_notes.specs.declared.note.FaultNote.{FaultNote}
+use Rattle.expect_actions.specs.Watch.{WatchState}
 use Rattle.nova_machine.specs.Machine.{MachineState}
 use Rattle.nova_machine.specs.Seen.{Seen, seen}
 
--- the machine, without the numbers of open files; the timed keys; and all files by their names
+-- the machine, without the numbers of open files; the breaks, expects and sent bytes; the timed keys; and all files by
+-- their names
 abbrev pub Live : Type 0
 Live = Seen
 
@@ -30,10 +32,11 @@ numberless attached = map (λ slot. option_map (λ (a : Attachment). record { fi
 abbrev pub with_attached : MachineState → List (Option Attachment) → MachineState
 with_attached m attached = record m { slots = numberless attached }
 
--- what commands stand in: the machine, the timed keys, how many instructions a run may execute, the notes that were kept,
--- how many units of the budget are spent, and how many further notes have their room already
+-- what commands stand in: the machine, the watch tables, the timed keys, how many instructions a run may execute, the
+-- notes that were kept, how many units of the budget are spent, and how many further notes have their room already
 pub record CommandState : Type 0 where
   pub machine : MachineState
+  pub watch : WatchState
   pub keys : List (ℕ × ℕ)
   pub limit : ℕ
   pub notes : List FaultNote
@@ -42,4 +45,4 @@ pub record CommandState : Type 0 where
 
 -- what its commands work on
 abbrev pub live_in : CommandState → List NamedBytes → Live
-live_in s files = seen s.keys files s.machine
+live_in s files = seen s.watch s.keys files s.machine

@@ -15,7 +15,7 @@ use Rattle.fault_notes.specs.declared.note.Subject.{Subject}
 use Rattle.fault_notes.specs.declared.note.Subject.TheVariants as subject
 use Rattle.fault_notes.specs.Notes.{CommandNote}
 use Rattle.nova_machine.specs.declared.machine.Stop.{Stop}
-use Rattle.nova_machine.specs.declared.machine.Stop.TheVariants.{Halt, ChainLimit, UnknownDevice, Stepped, Limit, UnitEnd, UnitNone, BadImage, Wru, FileFault, ConsoleFault}
+use Rattle.nova_machine.specs.declared.machine.Stop.TheVariants.{Halt, ChainLimit, UnknownDevice, Break, Expect, Stepped, Limit, UnitEnd, UnitNone, BadImage, Wru, FileFault, ConsoleFault}
 use Rattle.nova_machine.specs.Machine.{MachineState, reset_machine}
 use Rattle.nova_machine.specs.Registers.{with_register}
 use Rattle.nova_machine.specs.Notes.{RunNote}
@@ -31,6 +31,8 @@ abbrev pub stop_name : Stop → List ℕ
 stop_name Halt = codes "HALT instruction"
 stop_name ChainLimit = codes "Indirect chain limit"
 stop_name UnknownDevice = codes "Unknown device"
+stop_name (Break place) = codes "Breakpoint"
+stop_name (Expect place) = codes "Expect matched"
 stop_name Stepped = codes "Step expired"
 stop_name Limit = codes "Instruction limit"
 stop_name (UnitEnd unit) = codes "End of file on " ++ unit_name unit

@@ -4,11 +4,12 @@ use Rattle.unit_trait.specs.Kinds.{unit_name}
 use Rattle.event_queue.specs.EventList.{Event}
 use Rattle.nova_machine.specs.Machine.{MachineState}
 use Rattle.scp_parser.specs.declared.command.Shown.{Shown}
-use Rattle.scp_parser.specs.declared.command.Shown.TheVariants.{Time, Cpu, Queue, Version, Unit as AUnit}
+use Rattle.scp_parser.specs.declared.command.Shown.TheVariants.{Time, Cpu, Queue, Break, Expect, Send, Version, Unit as AUnit}
 use Rattle.scp_commands.specs.declared.fault.CommandFault.TheVariants.{NotBuilt}
 use Rattle.scp_commands.specs.Live.{Live}
 use Rattle.scp_commands.specs.Reply.{Reply, says, refused}
 use Rattle.scp_commands.specs.FileEffects.{lacks_unit, unit_text}
+use Rattle.scp_commands.specs.WatchTexts.{breaks_text, expects_text, sends_text}
 
 -- what SHOW TIME prints
 abbrev pub time_text : MachineState → List ℕ
@@ -31,11 +32,13 @@ unfoldable pub queue_text : List Event → List ℕ
 queue_text [] = []
 queue_text (e ∷ events) = event_line e ++ queue_text events
 
--- SHOW of breakpoints, of EXPECT and SEND, and of a unit that has no file here is not built
+-- SHOW of a unit that has no file here is not built
 unfoldable pub show_reply : Live → Shown → Reply
 show_reply live Time = says (time_text live.machine) live
 show_reply live Cpu = says (cpu_text live.machine) live
 show_reply live Queue = says (queue_text live.machine.events) live
+show_reply live Break = says (breaks_text live.watch.breaks.list) live
+show_reply live Expect = says (expects_text live.watch.expects.list) live
+show_reply live Send = says (sends_text live.watch.sends) live
 show_reply live Version = says version_text live
 show_reply live (AUnit unit) = if lacks_unit live.machine unit then refused NotBuilt live else says (unit_text live.machine unit) live
-show_reply live subject = refused NotBuilt live

@@ -1,7 +1,7 @@
 -- Lines that name a command which this version does not have. They are refused before their operands are read.
 use Rattle.std.specs.Prelude.{ℕ, Bool, true, false, not, ◌&&◌, nat_le, List, length, Option, Some, None}
 use Rattle.scp_parser.specs.declared.names.CommandName.{CommandName}
-use Rattle.scp_parser.specs.declared.names.CommandName.TheVariants.{Save, Restore, Break, NoBreak, Expect, NoExpect, Send, NoSend}
+use Rattle.scp_parser.specs.declared.names.CommandName.TheVariants.{Save, Restore}
 use Rattle.scp_parser.specs.Names.{command_named}
 use Rattle.scp_parser.specs.Grammar.{longest_line}
 use Rattle.scp_parser.specs.Reading.{begins_with_mark, next_word}
@@ -10,12 +10,6 @@ use Rattle.scp_parser.specs.Reading.{begins_with_mark, next_word}
 abbrev pub is_unbuilt : CommandName → Bool
 is_unbuilt Save = true
 is_unbuilt Restore = true
-is_unbuilt Break = true
-is_unbuilt NoBreak = true
-is_unbuilt Expect = true
-is_unbuilt NoExpect = true
-is_unbuilt Send = true
-is_unbuilt NoSend = true
 is_unbuilt name = false
 
 abbrev pub is_unbuilt_name : Option CommandName → Bool

@@ -9,9 +9,8 @@ use scp_parser::{CommandName, LONGEST_LINE, command_named};
 /// Whether a line is to be read.
 ///
 /// It is not where its first word names, in either case and maybe abbreviated, a command that this version does not
-/// have: SAVE, RESTORE, BREAK, NOBREAK, EXPECT, NOEXPECT, SEND or NOSEND. Such a line is refused as
-/// `NotBuilt`, whatever follows that word. A line of more than 512 bytes, a comment, a label and a blank line name
-/// none.
+/// have: SAVE or RESTORE. Such a line is refused as `NotBuilt`, whatever follows that word. A line of more than 512
+/// bytes, a comment, a label and a blank line name none.
 #[tactic(auto, unfolding(crate::specs::Unbuilt::names_unbuilt))]
 pub fn is_built(line: &[u8]) -> bool
     ensures { result ≡ not (names_unbuilt line.now) }
@@ -44,17 +43,7 @@ fn first_word(line: &[u8]) -> &[u8]
 fn is_unbuilt(name: CommandName) -> bool
     ensures { result ≡ is_unbuilt name }
 {
-    matches!(
-        name,
-        CommandName::Save
-            | CommandName::Restore
-            | CommandName::Break
-            | CommandName::NoBreak
-            | CommandName::Expect
-            | CommandName::NoExpect
-            | CommandName::Send
-            | CommandName::NoSend
-    )
+    matches!(name, CommandName::Save | CommandName::Restore)
 }
 
 #[cfg(test)]

@@ -53,6 +53,7 @@ pub fn dump_file<U: Unit, F: Files>(
         session.new.notes (F.state files.old) (F.state files.new) }
     ensures own { IsOwn result }
     ensures exit { IsExitAnswer result }
+    ensures watch { session.new.watch ≡ session.old.watch }
     ensures keys { session.new.keys ≡ session.old.keys }
     ensures limit { session.new.limit ≡ session.old.limit }
     ensures command { session.new.command ≡ session.old.command }
@@ -111,6 +112,7 @@ fn write_tape<U: Unit, F: Files>(
         session.new.notes (F.state files.old) (F.state files.new) }
     ensures own { IsOwn result }
     ensures exit { IsExitAnswer result }
+    ensures watch { session.new.watch ≡ session.old.watch }
     ensures keys { session.new.keys ≡ session.old.keys }
     ensures limit { session.new.limit ≡ session.old.limit }
     ensures command { session.new.command ≡ session.old.command }

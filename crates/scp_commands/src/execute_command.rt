@@ -22,6 +22,9 @@ use crate::session::Session;
 use crate::set_command::set_size;
 use crate::show_command::show;
 use crate::unit_commands::{attach, detach_one_or_every};
+use crate::watch_commands::{
+    add_break, add_expect, remove_breaks, remove_expects, remove_sends, send,
+};
 use host_files::{Files, Sink};
 use scp_parser::{Command, Verb};
 use std::alloc::Global;
@@ -30,9 +33,10 @@ use unit_trait::Unit;
 /// Does a command, and prints what it has to say.
 ///
 /// A command that is refused has printed nothing and changed nothing, but that ATTACH and DUMP may have made or emptied
-/// their file, and DUMP may have written a first part of it; who called prints the text of its fault. `Console` means that the console refused a byte, also within a run: what comes
-/// before it was printed, and the session stands as it did when that byte was to be printed. `OutOfMemory` means that
-/// nothing was done: it comes where the room for 16 notes can't be taken, and from ATTACH, DO, LOAD and DUMP.
+/// their file, and DUMP may have written a first part of it; who called prints the text of its fault. `Console` means
+/// that the console refused a byte, also within a run: what comes before it was printed, and the session stands as it did
+/// when that byte was to be printed. `OutOfMemory` means that nothing was done: it comes where the room for 16 notes
+/// can't be taken, and from BREAK, EXPECT, ATTACH, DO, LOAD and DUMP.
 pub fn execute<U: Unit, F: Files, S: Sink>(
     alloc: Global,
     session: &mut Session<U>,
@@ -105,6 +109,14 @@ fn obey<U: Unit, F: Files, S: Sink>(
         Verb::Cont => run(session, files, out),
         Verb::Step(count) => step(session, count.unwrap_or(1), files, out),
         Verb::Reset => reset(session),
+        Verb::Break { at, count, .. } => add_break(session, *at, *count, command.text()),
+        Verb::NoBreak(at) => remove_breaks(session, *at),
+        Verb::Expect { count, .. } => {
+            add_expect(session, *count, command.quoted(), command.text())
+        }
+        Verb::NoExpect => remove_expects(session),
+        Verb::Send { after, delay, .. } => send(session, *after, *delay, command.quoted()),
+        Verb::NoSend => remove_sends(session),
         Verb::Attach { option, unit, .. } => {
             attach(alloc, session, *option, *unit, command.file_name(), files)
         }

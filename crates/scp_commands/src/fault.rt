@@ -2,10 +2,11 @@ ghost use Rattle.std.specs.Prelude.{◌≡◌, IsTrue, option_map};
 ghost use Rattle.fault_counts.specs.Faults.{CountsFault};
 ghost use Rattle.host_files.specs.Streams.{Puts};
 ghost use Rattle.scp_commands.specs.declared.fault.CommandFault.TheVariants.{Parse};
-ghost use Rattle.scp_commands.specs.FaultText.{list_fault, attach_fault, detach_fault, whole_fault, tape_fault};
+ghost use Rattle.scp_commands.specs.FaultText.{list_fault, attach_fault, detach_fault, whole_fault, tape_fault, add_fault};
 ghost use Rattle.scp_commands.specs.FaultText.{parse_words, parse_detail, fault_words, fault_detail, words_line, fault_text};
 
 use binary_load::LoadFault;
+use expect_actions::AddFault;
 use fault_notes::Subject;
 use host_files::{Failed, Sink, put_pieces};
 use itoa::Buffer;
@@ -38,6 +39,8 @@ pub enum CommandFault {
     FileTooLong,
     /// A call on a file failed; it may have been emptied or made before. A note says which call it was.
     FileFailed(Subject),
+    /// There is no room for another break or expect, or for all bytes of a SEND.
+    Full,
     /// The condition of an ASSERT is false.
     AssertFailed,
     /// As many scripts are open as can be: ten.
@@ -136,6 +139,16 @@ impl CommandFault {
         }
     }
 
+    /// The fault of a break or an expect that was not added.
+    pub fn of_add(fault: AddFault) -> CommandFault
+        ensures { result ≡ add_fault fault }
+    {
+        match fault {
+            AddFault::Full => CommandFault::Full,
+            AddFault::OutOfMemory => CommandFault::OutOfMemory,
+        }
+    }
+
     // The words of the fault; none for those that end the session.
     fn words(self) -> Option<&'static [u8]>
         ensures { option_map (λ words. words.now) result ≡ fault_words self }
@@ -151,6 +164,7 @@ impl CommandFault {
             CommandFault::NoFile => b"File not found",
             CommandFault::FileTooLong => b"File too long",
             CommandFault::FileFailed(_) => b"File error",
+            CommandFault::Full => b"Table full",
             CommandFault::AssertFailed => b"Assertion failed",
             CommandFault::TooDeep => b"DO nested too deeply",
             CommandFault::NoLabel => b"Label not found",

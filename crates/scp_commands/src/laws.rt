@@ -1,7 +1,9 @@
+ghost use Rattle.scp_commands.specs.QuotedText.{QuotedTextsReadBack};
 ghost use Rattle.scp_commands.specs.Laws.{RefusalsChangeNothing, ResetsLeaveTheProgram, SetCpuLeavesTheRest};
 
-/// The law that a command that is refused prints nothing and leaves the machine and the keys as they were, and all files
-/// too, but for ATTACH, DETACH, EXIT and DUMP where a call on a file failed: they may have changed that file before.
+/// The law that a command that is refused prints nothing and leaves the machine, the breaks, the expects, the sent bytes
+/// and the keys as they were, and all files too, but for ATTACH, DETACH, EXIT and DUMP where a call on a file failed:
+/// they may have changed that file before.
 pub fn refusals_change_nothing()
     ensures { RefusalsChangeNothing }
 {}
@@ -17,4 +19,9 @@ pub fn resets_leave_the_program()
 /// the machine.
 pub fn set_cpu_leaves_the_rest()
     ensures { SetCpuLeavesTheRest }
+{}
+
+/// The law that what SHOW EXPECT prints of a text reads as that text.
+pub fn quoted_texts_read_back()
+    ensures { QuotedTextsReadBack }
 {}

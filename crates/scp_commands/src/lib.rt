@@ -13,14 +13,17 @@ pub mod laws;
 mod list_commands;
 mod load_command;
 pub mod next;
+mod quoted_text;
 mod run_commands;
 mod script_commands;
 pub mod session;
 mod set_command;
 mod show_command;
+mod show_watch;
 mod stop_line;
 mod unit_commands;
 mod unit_names;
+mod watch_commands;
 mod whole_notes;
 
 pub use built_lines::is_built;
@@ -29,6 +32,9 @@ pub use do_file::{DoFile, ScriptText};
 pub use execute_command::execute;
 pub use fault::CommandFault;
 pub use fault_notes::{FaultNote, Subject};
-pub use laws::{refusals_change_nothing, resets_leave_the_program, set_cpu_leaves_the_rest};
+pub use laws::{
+    quoted_texts_read_back, refusals_change_nothing, resets_leave_the_program,
+    set_cpu_leaves_the_rest,
+};
 pub use next::Next;
 pub use session::Session;

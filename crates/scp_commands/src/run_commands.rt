@@ -219,7 +219,9 @@ fn run_up_to<U: Unit, F: Files, S: Sink>(
     ensures own { IsRunAnswer result }
     ensures exit { IsExitAnswer result }
 {
-    let stop = session.machine.run(limit, &session.keys, files, out);
+    let stop = session
+        .machine
+        .run(limit, &mut session.watch, &session.keys, files, out);
     if is_console_fault(stop) {
         return Err(CommandFault::Console);
     }

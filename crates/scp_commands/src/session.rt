@@ -2,10 +2,11 @@ ghost use Rattle.std.specs.Prelude.{◌≡◌, ◌≤◌, ◌<◌, ◌+◌, List
 ghost use Rattle.host_files.specs.State.{Opened};
 ghost use Rattle.unit_files.specs.Open.{AllOpen, Around};
 ghost use Rattle.fault_notes.specs.Notes.{notes_said};
+ghost use Rattle.expect_actions.specs.Watch.{empty_watch};
 ghost use Rattle.nova_machine.specs.BusOrder.{IsBusOrder};
 ghost use Rattle.nova_machine.specs.Machine.{new_machine};
 
-use expect_actions::Keys;
+use expect_actions::{Keys, Watch};
 use fault_notes::{FaultNote, take_room};
 use file_commands::{Stamp, detach_all};
 use host_files::Files;
@@ -19,6 +20,8 @@ use unit_trait::Unit;
 #[derive(Drop)]
 pub struct Session<U: Unit> {
     pub machine: Machine<U>,
+    /// The breaks and the expects at which a run stops, and the bytes that wait for the keyboard.
+    pub watch: Watch,
     /// The keys that are typed at given times.
     pub keys: Keys,
     /// How many instructions a run may execute, from 1 to 2^48.
@@ -38,6 +41,7 @@ impl<U: Unit> Model for Session<U> {
 
     ghost view = { λ s. record {
       machine = s.machine;
+      watch = s.watch;
       keys = s.keys;
       limit = s.limit;
       notes = s.notes.items;
@@ -53,7 +57,8 @@ impl<U: Unit> Session<U> {
     ghost use Rattle.scp_commands.specs.Doing.{Closes, Keeps};
     ghost use Rattle.scp_commands.specs.declared.next.Next.TheVariants.{Go};
 
-    /// A session of a machine with those units, before its first command. No file is attached, and no note kept.
+    /// A session of a machine with those units, before its first command. No file is attached, nothing is watched, and no
+    /// note kept.
     pub fn new(
         alloc: Global,
         units: Vec<U>,
@@ -62,6 +67,7 @@ impl<U: Unit> Session<U> {
     ) -> Result<Session<U>, OutOfMemory>
         requires { IsBusOrder (map U.unit_state units.items) }
         ensures machine { IfOk result (λ s. s.machine ≡ new_machine (map U.unit_state units.items)) }
+        ensures watch { IfOk result (λ s. s.watch ≡ empty_watch) }
         ensures keys { IfOk result (λ s. s.keys ≡ keys) }
         ensures limit { IfOk result (λ s. s.limit ≡ limit) }
         ensures notes { IfOk result (λ s. s.notes ≡ []) }
@@ -74,6 +80,7 @@ impl<U: Unit> Session<U> {
         take_room(&mut notes)?;
         Ok(Session {
             machine: Machine::new(alloc, units)?,
+            watch: Watch::new(alloc)?,
             keys,
             limit,
             notes,
@@ -102,6 +109,7 @@ impl<U: Unit> Session<U> {
         ensures keeps { Keeps self.old.command self.new.machine.time F.tells (kept_answer (keeper result) Go)
             self.old.notes self.new.notes (F.state files.old) (F.state files.new) }
         ensures cause { OnErr result (IsUnwritten self.new.machine.slots self.new.notes (F.state files.old) (F.state files.new)) }
+        ensures watch { self.new.watch ≡ self.old.watch }
         ensures keys { self.new.keys ≡ self.old.keys }
         ensures limit { self.new.limit ≡ self.old.limit }
         ensures command { self.new.command ≡ self.old.command }

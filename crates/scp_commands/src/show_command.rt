@@ -6,6 +6,7 @@ ghost use Rattle.host_files.specs.Streams.{Puts};
 ghost use Rattle.unit_trait.specs.Kinds.{units_of};
 ghost use Rattle.unit_files.specs.Attachments.{attachments_of, attachment_at};
 ghost use Rattle.event_queue.specs.EventList.{event};
+ghost use Rattle.expect_actions.specs.Watch.{WatchState};
 ghost use Rattle.nova_machine.specs.Seen.{seen};
 ghost use Rattle.scp_parser.specs.Command.{ShowsUnit};
 ghost use Rattle.scp_parser.specs.declared.command.Shown.TheVariants.{Unit as AUnit};
@@ -17,6 +18,7 @@ ghost use Rattle.scp_commands.specs.Doing.{Does, ConsoleCounts, IsShown, IsExitA
 use crate::fault::CommandFault;
 use crate::next::{Next, told_or_console};
 use crate::session::Session;
+use crate::show_watch::{put_breaks, put_expects, put_sends};
 use crate::unit_commands::lacks_unit;
 use crate::unit_names::unit_name;
 use event_queue::Events;
@@ -58,8 +60,19 @@ pub fn show<U: Unit, S: Sink>(
             let printed = put_queue(session.machine.events(), out);
             told_or_console(printed, Next::Go)
         }
+        Shown::Break => {
+            let printed = put_breaks(&session.watch.breaks, out);
+            told_or_console(printed, Next::Go)
+        }
+        Shown::Expect => {
+            let printed = put_expects(&session.watch.expects, out);
+            told_or_console(printed, Next::Go)
+        }
+        Shown::Send => {
+            let printed = put_sends(&session.watch.sends, out);
+            told_or_console(printed, Next::Go)
+        }
         Shown::Unit(unit) => show_unit(&session.machine, unit, out),
-        _ => Err(CommandFault::NotBuilt),
     }
 }
 
@@ -70,9 +83,9 @@ fn show_unit<U: Unit, S: Sink>(
     out: &mut S,
 ) -> Result<Next, CommandFault>
     requires { unit.unit < units_of unit.kind }
-    ensures told { (keys : List (ℕ × ℕ)) (files : List NamedBytes)
-        → Does (show_reply (seen keys files machine.now) (AUnit unit)) result
-        (standing 0 (seen keys files machine.now)) S.tells (S.written out.old) (S.written out.new) }
+    ensures told { (watch : WatchState) (keys : List (ℕ × ℕ)) (files : List NamedBytes)
+        → Does (show_reply (seen watch keys files machine.now) (AUnit unit)) result
+        (standing 0 (seen watch keys files machine.now)) S.tells (S.written out.old) (S.written out.new) }
     ensures counts { ConsoleCounts result (S.fault_count out.old) (S.fault_count out.new) }
     ensures own { IsShown result }
     ensures exit { IsExitAnswer result }

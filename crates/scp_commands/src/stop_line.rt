@@ -56,6 +56,8 @@ fn stop_name(stop: Stop) -> Text<LONGEST_NAME>
         Stop::Halt => words(b"HALT instruction"),
         Stop::ChainLimit => words(b"Indirect chain limit"),
         Stop::UnknownDevice => words(b"Unknown device"),
+        Stop::Break(_) => words(b"Breakpoint"),
+        Stop::Expect(_) => words(b"Expect matched"),
         Stop::Stepped => words(b"Step expired"),
         Stop::Limit => words(b"Instruction limit"),
         Stop::UnitEnd(unit) => words_and_unit(b"End of file on ", unit),

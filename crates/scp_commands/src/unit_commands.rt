@@ -52,6 +52,7 @@ pub fn attach<U: Unit, F: Files>(
         session.new.notes (F.state files.old) (F.state files.new) }
     ensures own { IsOwn result }
     ensures exit { IsExitAnswer result }
+    ensures watch { session.new.watch ≡ session.old.watch }
     ensures keys { session.new.keys ≡ session.old.keys }
     ensures limit { session.new.limit ≡ session.old.limit }
     ensures command { session.new.command ≡ session.old.command }
@@ -99,6 +100,7 @@ pub fn detach_one_or_every<U: Unit, F: Files>(
         session.new.notes (F.state files.old) (F.state files.new) }
     ensures own { IsPlain result }
     ensures exit { IsExitAnswer result }
+    ensures watch { session.new.watch ≡ session.old.watch }
     ensures keys { session.new.keys ≡ session.old.keys }
     ensures limit { session.new.limit ≡ session.old.limit }
     ensures command { session.new.command ≡ session.old.command }
@@ -130,6 +132,7 @@ fn detach<U: Unit, F: Files>(
         session.new.notes (F.state files.old) (F.state files.new) }
     ensures own { IsPlain result }
     ensures exit { IsExitAnswer result }
+    ensures watch { session.new.watch ≡ session.old.watch }
     ensures keys { session.new.keys ≡ session.old.keys }
     ensures limit { session.new.limit ≡ session.old.limit }
     ensures command { session.new.command ≡ session.old.command }
@@ -169,6 +172,7 @@ fn detach_every<U: Unit, F: Files>(
         session.new.notes (F.state files.old) (F.state files.new) }
     ensures own { IsPlain result }
     ensures exit { IsExitAnswer result }
+    ensures watch { session.new.watch ≡ session.old.watch }
     ensures keys { session.new.keys ≡ session.old.keys }
     ensures limit { session.new.limit ≡ session.old.limit }
     ensures command { session.new.command ≡ session.old.command }

@@ -162,8 +162,11 @@ file_name_of (Restore force name) = name
 file_name_of (Do echo strict name arguments) = name
 file_name_of request = []
 
--- a request that gives a text: what ECHO prints, the label that GOTO looks for, or the arguments of DO
+-- a request that gives a text: what ECHO prints, the label that GOTO looks for, the arguments of DO, or the actions of
+-- BREAK and EXPECT
 abbrev pub GivesText : Request → Type 0
+GivesText (Break at count actions) = Unit {0}
+GivesText (Expect count text actions) = Unit {0}
 GivesText (Do echo strict name arguments) = Unit {0}
 GivesText (Goto label) = Unit {0}
 GivesText (Echo text) = Unit {0}
@@ -171,10 +174,24 @@ GivesText request = ⊥
 
 -- the bytes of the text
 abbrev pub given_text : Request → List ℕ
+given_text (Break at count actions) = actions
+given_text (Expect count text actions) = actions
 given_text (Do echo strict name arguments) = arguments
 given_text (Goto label) = label
 given_text (Echo text) = text
 given_text request = []
+
+-- a request that gives a quoted text
+abbrev pub GivesQuoted : Request → Type 0
+GivesQuoted (Expect count text actions) = Unit {0}
+GivesQuoted (Send after delay text) = Unit {0}
+GivesQuoted request = ⊥
+
+-- the bytes of that text, with its quotes
+abbrev pub given_quoted : Request → List ℕ
+given_quoted (Expect count text actions) = text
+given_quoted (Send after delay text) = text
+given_quoted request = []
 
 -- what a verb keeps: each piece lies within the line and is what it is read as, and each unit can be named
 abbrev pub Keeps : List ℕ → Verb → Type 0

@@ -1,6 +1,6 @@
 -- The names of commands (SIMH Users' Guide, "Commands"; the abbreviations are this
 -- project's own). Names are read in either case.
-use Rattle.std.specs.Prelude.{◌≡◌, ℕ, ◌≤◌, Bool, ◌&&◌, List, [], ◌∷◌, length, take, map, codes, nat_le, Option, Some, None, option_map, Contains, if◌then◌else◌}
+use Rattle.std.specs.Prelude.{◌≡◌, ℕ, ◌≤◌, Bool, ◌&&◌, List, [], ◌∷◌, length, take, codes, nat_le, Option, option_map, Contains}
 use Rattle.line_words.specs.Words.{IsSpelled, is_spelled}
 use Rattle.operand_forms.specs.Names.{first_of}
 use Rattle.scp_parser.specs.declared.names.CommandName.{CommandName}

@@ -14,7 +14,7 @@ use Rattle.operand_forms.specs.declared.listing.Name.TheVariants as whose
 use Rattle.operand_forms.specs.declared.listing.Item.{Item}
 use Rattle.operand_forms.specs.declared.listing.Item.TheVariants.{At, Reg, Unknown}
 use Rattle.operand_forms.specs.declared.listing.Condition.{Condition}
-use Rattle.operand_forms.specs.Operands.{both, octal, decimal, front, behind, is_rel_byte, Compared, comparison_of, condition_with, item_of, unit_of}
+use Rattle.operand_forms.specs.Operands.{both, octal, decimal, front, behind, is_rel_byte, comparison_of, condition_with, item_of, unit_of}
 
 unfoldable pub subject_of : List ℕ → Option Shown
 subject_of text =

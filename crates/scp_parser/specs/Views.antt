@@ -1,6 +1,6 @@
 -- The forms in which the functions of the reader answer: a result that holds the rest of a line behind a reference is
 -- seen by a view.
-use Rattle.std.specs.Prelude.{◌≡◌, ℕ, ◌++◌, Bool, List, [], ◌∷◌, length, Option, Some, None, is_some, Result, Ok, Err, if◌then◌else◌}
+use Rattle.std.specs.Prelude.{◌≡◌, ℕ, ◌++◌, Bool, List, [], ◌∷◌, length, is_some, Result, Ok, Err}
 use Rattle.scp_parser.specs.declared.command.Piece.{Piece}
 use Rattle.scp_parser.specs.declared.command.Verb.{Verb}
 use Rattle.scp_parser.specs.declared.command.Verb.TheVariants as verb

@@ -1,4 +1,4 @@
-ghost use Rattle.std.specs.Prelude.{◌≡◌};
+ghost use Rattle.std.specs.Prelude.{◌≡◌, ◌≤◌, length};
 ghost use Rattle.scp_parser.specs.Command.{IsPiece, IsNamePiece, piece_of};
 
 use operand_forms::{Listing, Test};
@@ -134,13 +134,14 @@ fn name_text(line: &[u8], piece: Piece) -> &str
 // The bytes that stand in a line as that piece.
 fn piece_bytes(line: &[u8], piece: Piece) -> &[u8]
     requires { IsPiece line.now piece }
-    ensures { result.now ≡ piece_of line.now piece }
+    ensures bytes { result.now ≡ piece_of line.now piece }
+    ensures most { length result.now ≤ length line.now }
 {
     &line[piece.from..piece.to]
 }
 
 impl Command {
-    ghost use Rattle.scp_parser.specs.Command.{GivesText, given_text};
+    ghost use Rattle.scp_parser.specs.Command.{GivesText, given_text, GivesQuoted, given_quoted, IsQuoted};
     ghost use Rattle.scp_parser.specs.Command.{Nothing, IsKept, IsFileName, NamesFile, file_name_of};
 
     /// An empty line, which asks for nothing.
@@ -180,16 +181,35 @@ impl Command {
         }
     }
 
-    /// The bytes that an ECHO prints, the label that a GOTO looks for, or the arguments of a DO.
+    /// The bytes that an ECHO prints, the label that a GOTO looks for, the arguments of a DO, or the actions of a BREAK or
+    /// an EXPECT. There are at most 512.
     pub fn text(&self) -> &[u8]
         requires { GivesText self.now }
-        ensures { result.now ≡ given_text self.now }
+        ensures text { result.now ≡ given_text self.now }
+        ensures most { length result.now ≤ 512 }
     {
         let line = &self.line[..self.length];
         match &self.verb {
+            Verb::Break { actions, .. } => piece_bytes(line, *actions),
+            Verb::Expect { actions, .. } => piece_bytes(line, *actions),
             Verb::Do { arguments, .. } => piece_bytes(line, *arguments),
             Verb::Goto(label) => piece_bytes(line, *label),
             Verb::Echo(text) => piece_bytes(line, *text),
+            _ => unreachable!(),
+        }
+    }
+
+    /// The quoted text of an EXPECT or a SEND, with its quotes. It has at most 512 bytes.
+    pub fn quoted(&self) -> &[u8]
+        requires { GivesQuoted self.now }
+        ensures text { result.now ≡ given_quoted self.now }
+        ensures form { IsQuoted result.now }
+        ensures most { length result.now ≤ 512 }
+    {
+        let line = &self.line[..self.length];
+        match &self.verb {
+            Verb::Expect { text, .. } => piece_bytes(line, *text),
+            Verb::Send { text, .. } => piece_bytes(line, *text),
             _ => unreachable!(),
         }
     }

@@ -1,16 +1,17 @@
 -- What is consumed behind texts that only go on.
 use Rattle.std.proofs.Common.{◌≡◌, ◌⊎◌, ⊎_elim, inl, inr, ℕ, zero, suc, ◌+◌, ◌-◌, ◌<◌, Bool, true, false, nat_le, List, [], ◌∷◌, ◌++◌, length, drop, refl, ap, sym, ◌∙◌, arith, if◌then◌else◌}
 use Rattle.std.proofs.lemmas.List.{drop-drop}
-use Rattle.std.proofs.lemmas.Bool.{leb-true}
+use Rattle.std.proofs.lemmas.Bool.{leb-true, leb-false}
 use Rattle.observations.specs.Observations.{Observation, Prints, reads_of}
 use Rattle.observations.proofs.MadeLemmas.{reads_of-append}
 use Rattle.scp_commands.specs.Effect.{asked}
 use Rattle.script_text.specs.Lines.{first_line, line_cost}
 use Rattle.scp_script.specs.Lines.{Arrival, InputEnds, Unpaid, LineComes, arrival}
 use Rattle.scp_script.specs.Scripts.{Script, still_open, cost_of_line, text_of_line, echo_text}
-use Rattle.scp_script.specs.Session.{State, Session, input_end, emptied_in, BudgetSpent, Ends, Comes, Going, state_of, asking_in, asking, behind_line, behind_script_line, upcoming_in, upcoming, Step, step, ComesTo}
-use Rattle.scp_script.specs.Laws.{lines_size, lines_cost, AreBehind, IsBehindLines, NoScripts, LinesAreConsumed}
-use Rattle.scp_script.proofs.SessionLemmas.{arrival-paid, following-is, step-comes, step-over, upcoming-input, closing, step-still}
+use Rattle.scp_script.specs.Actions.{texts_of}
+use Rattle.scp_script.specs.Session.{State, Session, input_end, emptied_in, AllDone, BudgetSpent, Ends, Comes, Going, state_of, asking_in, asking, behind_line, behind_script_line, behind_action, upcoming_in, upcoming, Step, step, ComesTo}
+use Rattle.scp_script.specs.Laws.{lines_size, lines_cost, AreBehind, IsBehindLines, OnlyInput, LinesAreConsumed}
+use Rattle.scp_script.proofs.SessionLemmas.{arrival-paid, following-is, step-comes, step-over, upcoming-input, upcoming-done, upcoming-lines, asking-lines, upcoming-action, action-unpaid, asking-action, closing, step-still}
 use Rattle.scp_script.proofs.LineLemmas.{reply_in, left_by, text-made, text-next, made-reads, asking-reads, comes-reads}
 
 -- ---- one text
@@ -23,8 +24,9 @@ record IsNextLine (s t : Session) : Type 0 where
   pub spent : t.spent ≡ s.spent + line_cost (length (first_line s.input))
   pub limit : t.limit ≡ s.limit
   pub prompt : t.prompt ≡ s.prompt
+  pub reading : t.reads ≡ s.reads
 
--- a session behind a line of a script
+-- a session behind a line of a script, or an action
 record IsNextScript (s t : Session) : Type 0 where
   pub cost : ℕ
   pub some : 0 < cost
@@ -34,6 +36,7 @@ record IsNextScript (s t : Session) : Type 0 where
   pub spent : t.spent ≡ s.spent + cost
   pub limit : t.limit ≡ s.limit
   pub prompt : t.prompt ≡ s.prompt
+  pub reading : t.reads ≡ s.reads
 
 -- the session that a text has left
 left-is : (s behind t : Session) (text : List ℕ) → upcoming s ≡ Comes text behind → (step s).next ≡ Going t → left_by behind (asked text) ≡ t
@@ -45,45 +48,46 @@ step-reads : (s behind : Session) (text : List ℕ) → upcoming s ≡ Comes tex
 step-reads s behind text e =
     ap (λ (x : Step). reads_of x.made) (step-comes s behind text (asked text) e refl) ∙ ap (λ l. reads_of l) (text-made s behind (asked text)) ∙ made-reads s behind (asked text)
 
-at-line : (s t : Session) (line : List ℕ) → s.scripts ≡ [] → arrival s.budget s.open_ s.input ≡ LineComes line → (step s).next ≡ Going t → IsNextLine s t
+at-line : (s t : Session) (line : List ℕ) → s.texts ≡ texts_of [] [] → s.reads ≡ true → arrival s.budget s.open_ s.input ≡ LineComes line → (step s).next ≡ Going t → IsNextLine s t
 unfolding behind_line
-at-line s t line none e h =
-    let comes : upcoming s ≡ Comes line (behind_line s) = upcoming-input s (LineComes line) none e in
+at-line s t line none on e h =
+    let comes : upcoming s ≡ Comes line (behind_line s) = upcoming-input s (LineComes line) none on e in
     let left = left-is s (behind_line s) t line comes h in
     let paid = arrival-paid s.budget s.open_ s.input line e in
     let fallen : s.budget - line_cost (length (first_line s.input)) ≡ t.budget = ap (λ (x : Session). x.budget) left in
     record {
       rest = sym (ap (λ (x : Session). x.input) left);
-      reads = step-reads s (behind_line s) line comes ∙ asking-reads s none ∙ comes-reads s.budget s.open_ s.input line e;
+      reads = step-reads s (behind_line s) line comes ∙ asking-reads s none on ∙ comes-reads s.budget s.open_ s.input line e;
       budget = omega (arith, paid, fallen);
       spent = sym (ap (λ (x : Session). x.spent) left);
       limit = sym (ap (λ (x : Session). x.limit) left);
       prompt = sym (ap (λ (x : Session). x.prompt) left);
+      reading = sym (ap (λ (x : Session). x.reads) left);
     }
 
-at-arrival : (s t : Session) (a : Arrival) → s.scripts ≡ [] → arrival s.budget s.open_ s.input ≡ a → (step s).next ≡ Going t → IsNextLine s t
-at-arrival s t InputEnds none e h = let over = ap (λ (x : Step). x.next) (step-over s (input_end (emptied_in s).kept) (upcoming-input s InputEnds none e)) in absurd (cc (over, h))
-at-arrival s t Unpaid none e h = let over = ap (λ (x : Step). x.next) (step-over s BudgetSpent (upcoming-input s Unpaid none e)) in absurd (cc (over, h))
-at-arrival s t (LineComes line) none e h = at-line s t line none e h
+at-arrival : (s t : Session) (a : Arrival) → s.texts ≡ texts_of [] [] → s.reads ≡ true → arrival s.budget s.open_ s.input ≡ a → (step s).next ≡ Going t → IsNextLine s t
+at-arrival s t InputEnds none on e h = let over = ap (λ (x : Step). x.next) (step-over s (input_end (emptied_in s).kept) (upcoming-input s InputEnds none on e)) in absurd (cc (over, h))
+at-arrival s t Unpaid none on e h = let over = ap (λ (x : Step). x.next) (step-over s BudgetSpent (upcoming-input s Unpaid none on e)) in absurd (cc (over, h))
+at-arrival s t (LineComes line) none on e h = at-line s t line none on e h
 
-next-line : (s t : Session) → s.scripts ≡ [] → (step s).next ≡ Going t → IsNextLine s t
-next-line s t none h = at-arrival s t (arrival s.budget s.open_ s.input) none refl h
+next-line : (s t : Session) (reads : Bool) → s.texts ≡ texts_of [] [] → s.reads ≡ reads → (step s).next ≡ Going t → IsNextLine s t
+next-line s t true none on h = at-arrival s t (arrival s.budget s.open_ s.input) none on refl h
+next-line s t false none off h = let over = ap (λ (x : Step). x.next) (step-over s AllDone (upcoming-done s none off)) in absurd (cc (over, h))
 
-upcoming-open : (s : Session) (script : Script) (outer : List Script) (b : Bool) → still_open s.scripts ≡ script ∷ outer → nat_le (cost_of_line script) s.budget ≡ b
+upcoming-open : (s : Session) (script : Script) (outer : List Script) (b : Bool) → s.texts.actions ≡ [] → still_open s.texts.scripts ≡ script ∷ outer → nat_le (cost_of_line script) s.budget ≡ b
     → upcoming s ≡ (if b then Comes (text_of_line script) (behind_script_line s script outer) else Ends BudgetSpent)
-unfolding upcoming
-upcoming-open s script outer b is test = ap (upcoming_in s) is ∙ ap (λ (x : Bool). if x then Comes (text_of_line script) (behind_script_line s script outer) else Ends BudgetSpent) test
+upcoming-open s script outer b none is test =
+    upcoming-lines s none ∙ ap (upcoming_in s) is ∙ ap (λ (x : Bool). if x then Comes (text_of_line script) (behind_script_line s script outer) else Ends BudgetSpent) test
 
-asking-open : (s : Session) (script : Script) (outer : List Script) (b : Bool) → still_open s.scripts ≡ script ∷ outer → nat_le (cost_of_line script) s.budget ≡ b
+asking-open : (s : Session) (script : Script) (outer : List Script) (b : Bool) → s.texts.actions ≡ [] → still_open s.texts.scripts ≡ script ∷ outer → nat_le (cost_of_line script) s.budget ≡ b
     → asking s ≡ (if b then Prints (echo_text script) (state_of s) ∷ [] else [])
-unfolding asking
-asking-open s script outer b is test = ap (asking_in s) is ∙ ap (λ (x : Bool). if x then Prints (echo_text script) (state_of s) ∷ [] else []) test
+asking-open s script outer b none is test = asking-lines s none ∙ ap (asking_in s) is ∙ ap (λ (x : Bool). if x then Prints (echo_text script) (state_of s) ∷ [] else []) test
 
-at-script : (s t : Session) (script : Script) (outer : List Script) (b : Bool) → still_open s.scripts ≡ script ∷ outer → nat_le (cost_of_line script) s.budget ≡ b → (step s).next ≡ Going t
+at-script : (s t : Session) (script : Script) (outer : List Script) (b : Bool) → s.texts.actions ≡ [] → still_open s.texts.scripts ≡ script ∷ outer → nat_le (cost_of_line script) s.budget ≡ b → (step s).next ≡ Going t
     → IsNextScript s t
 unfolding behind_script_line
-at-script s t script outer true is test h =
-    let comes : upcoming s ≡ Comes (text_of_line script) (behind_script_line s script outer) = upcoming-open s script outer true is test in
+at-script s t script outer true none is test h =
+    let comes : upcoming s ≡ Comes (text_of_line script) (behind_script_line s script outer) = upcoming-open s script outer true none is test in
     let left = left-is s (behind_script_line s script outer) t (text_of_line script) comes h in
     let paid = leb-true (cost_of_line script) s.budget test in
     let fallen : s.budget - cost_of_line script ≡ t.budget = ap (λ (x : Session). x.budget) left in
@@ -91,19 +95,51 @@ at-script s t script outer true is test h =
       cost = cost_of_line script;
       some = omega arith;
       rest = sym (ap (λ (x : Session). x.input) left);
-      reads = step-reads s (behind_script_line s script outer) (text_of_line script) comes ∙ ap (λ l. reads_of l) (asking-open s script outer true is test);
+      reads = step-reads s (behind_script_line s script outer) (text_of_line script) comes ∙ ap (λ l. reads_of l) (asking-open s script outer true none is test);
       budget = omega (arith, paid, fallen);
       spent = sym (ap (λ (x : Session). x.spent) left);
       limit = sym (ap (λ (x : Session). x.limit) left);
       prompt = sym (ap (λ (x : Session). x.prompt) left);
+      reading = sym (ap (λ (x : Session). x.reads) left);
     }
-at-script s t script outer false is test h =
-    let over = ap (λ (x : Step). x.next) (step-over s BudgetSpent (upcoming-open s script outer false is test)) in absurd (cc (over, h))
+at-script s t script outer false none is test h =
+    let over = ap (λ (x : Step). x.next) (step-over s BudgetSpent (upcoming-open s script outer false none is test)) in absurd (cc (over, h))
+
+at-action : (s t : Session) (action : List ℕ) (others : List (List ℕ)) (b : Bool) → s.texts.actions ≡ action ∷ others → nat_le 1 s.budget ≡ b → (step s).next ≡ Going t → IsNextScript s t
+unfolding behind_action
+at-action s t action others true is test h =
+    let paid = leb-true 1 s.budget test in
+    let comes : upcoming s ≡ Comes action (behind_action s others) = upcoming-action s action others is paid in
+    let left = left-is s (behind_action s others) t action comes h in
+    let fallen : s.budget - 1 ≡ t.budget = ap (λ (x : Session). x.budget) left in
+    record {
+      cost = 1;
+      some = omega arith;
+      rest = sym (ap (λ (x : Session). x.input) left);
+      reads = step-reads s (behind_action s others) action comes ∙ ap (λ l. reads_of l) (asking-action s action others is);
+      budget = omega (arith, paid, fallen);
+      spent = sym (ap (λ (x : Session). x.spent) left);
+      limit = sym (ap (λ (x : Session). x.limit) left);
+      prompt = sym (ap (λ (x : Session). x.prompt) left);
+      reading = sym (ap (λ (x : Session). x.reads) left);
+    }
+at-action s t action others false is test h =
+    let short = leb-false 1 s.budget test in
+    let over = ap (λ (x : Step). x.next) (step-over s BudgetSpent (action-unpaid s action others is (omega (arith, short)))) in absurd (cc (over, h))
+
+-- a line of the input, where no action waits
+record IsInputNext (s t : Session) : Type 0 where
+  pub none : s.texts.actions ≡ []
+  pub line : IsNextLine (closing s) t
 
 -- either is the next
-next-open : (s t : Session) (scripts : List Script) → still_open s.scripts ≡ scripts → (step s).next ≡ Going t → IsNextLine (closing s) t ⊎ IsNextScript s t
-next-open s t [] is h = inl (next-line (closing s) t is (ap (λ (x : Step). x.next) (step-still s) ∙ h))
-next-open s t (script ∷ outer) is h = inr (at-script s t script outer (nat_le (cost_of_line script) s.budget) is refl h)
+next-open : (s t : Session) (scripts : List Script) → s.texts.actions ≡ [] → still_open s.texts.scripts ≡ scripts → (step s).next ≡ Going t → IsInputNext s t ⊎ IsNextScript s t
+next-open s t [] none is h = inl (record { none = none; line = next-line (closing s) t s.reads (λ i. texts_of (none i) (is i)) refl (ap (λ (x : Step). x.next) (step-still s none) ∙ h) })
+next-open s t (script ∷ outer) none is h = inr (at-script s t script outer (nat_le (cost_of_line script) s.budget) none is refl h)
+
+next-text : (s t : Session) (actions : List (List ℕ)) → s.texts.actions ≡ actions → (step s).next ≡ Going t → IsInputNext s t ⊎ IsNextScript s t
+next-text s t [] none h = next-open s t (still_open s.texts.scripts) none refl h
+next-text s t (action ∷ others) is h = inr (at-action s t action others (nat_le 1 s.budget) is refl h)
 
 -- ---- many texts
 
@@ -117,17 +153,18 @@ texts-behind zero s t made (none, same) = record {
   paid = let equal = ap (λ (x : Session). x.budget) same in omega (arith, equal);
   limit = ap (λ (x : Session). x.limit) (sym same);
   prompt = ap (λ (x : Session). x.prompt) (sym same);
+  reading = ap (λ (x : Session). x.reads) (sym same);
 }
 texts-behind (suc count) s t made (mid, more, goes, parts, rest) =
     let inner = texts-behind count mid t more rest in
     let sum = ap (λ l. reads_of l) parts ∙ reads_of-append (step s).made more in
     let size = length (first_line s.input) + 1 in
     ⊎_elim
-    (λ (one : IsNextLine (closing s) mid).
-    let read : reads_of (step s).made ≡ size = ap (λ (x : Step). reads_of x.made) (sym (step-still s)) ∙ one.reads in
-    behind-line count s mid t made more inner one read sum)
+    (λ (one : IsInputNext s mid).
+    let read : reads_of (step s).made ≡ size = ap (λ (x : Step). reads_of x.made) (sym (step-still s one.none)) ∙ one.line.reads in
+    behind-line count s mid t made more inner one.line read sum)
     (λ (one : IsNextScript s mid). behind-script count s mid t made more inner one sum)
-    (next-open s mid (still_open s.scripts) refl goes)
+    (next-text s mid s.texts.actions refl goes)
   where
     behind-line : (count : ℕ) (s mid t : Session) (made more : List (Observation State)) → AreBehind count mid more t → IsNextLine (closing s) mid
         → reads_of (step s).made ≡ length (first_line s.input) + 1 → reads_of made ≡ reads_of (step s).made + reads_of more → AreBehind (suc count) s made t
@@ -141,6 +178,7 @@ texts-behind (suc count) s t made (mid, more, goes, parts, rest) =
           paid = omega (arith, one.budget, inner.paid);
           limit = inner.limit ∙ one.limit;
           prompt = inner.prompt ∙ one.prompt;
+          reading = inner.reading ∙ one.reading;
         }
 
     behind-script : (count : ℕ) (s mid t : Session) (made more : List (Observation State)) → AreBehind count mid more t → IsNextScript s mid
@@ -154,9 +192,10 @@ texts-behind (suc count) s t made (mid, more, goes, parts, rest) =
       paid = omega (arith, one.budget, one.some, inner.paid);
       limit = inner.limit ∙ one.limit;
       prompt = inner.prompt ∙ one.prompt;
+      reading = inner.reading ∙ one.reading;
     }
 
-lines-behind : (count : ℕ) (s t : Session) (made : List (Observation State)) → ComesTo count s made t → NoScripts count s made t → IsBehindLines count s made t
+lines-behind : (count : ℕ) (s t : Session) (made : List (Observation State)) → ComesTo count s made t → OnlyInput count s made t → IsBehindLines count s made t
 lines-behind zero s t made (none, same) closed = record {
   rest = ap (λ (x : Session). x.input) (sym same);
   reads = ap (λ l. reads_of l) none;
@@ -164,7 +203,7 @@ lines-behind zero s t made (none, same) closed = record {
   spent = ap (λ (x : Session). x.spent) (sym same) ∙ omega arith;
 }
 lines-behind (suc count) s t made (mid, more, goes, parts, rest) closed =
-    let one = next-line s mid (closed 0 [] s (omega arith) (refl, refl)) goes in
+    let one = next-line s mid s.reads (closed 0 [] s (omega arith) (refl, refl)) refl goes in
     let size = length (first_line s.input) + 1 in
     let inner = lines-behind count mid t more rest
     (λ before more' mid' less comes. closed (suc before) ((step s).made ++ more') mid' (omega (arith, less)) (mid, more', goes, refl, comes)) in

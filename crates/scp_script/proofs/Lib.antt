@@ -10,3 +10,4 @@ pub mod LineLemmas
 pub mod NoteLemmas
 pub mod WholeLemmas
 pub mod LawLemmas
+pub mod ActionLemmas

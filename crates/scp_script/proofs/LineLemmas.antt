@@ -20,13 +20,13 @@ use Rattle.scp_script.specs.declared.progress.Finish.TheVariants.{Exit, EndOfInp
 use Rattle.script_text.specs.Lines.{line_cost, first_line}
 use Rattle.scp_script.specs.Lines.{InputEnds, Unpaid, LineComes, arrival, line_reads, reads_left}
 use Rattle.scp_script.specs.Reading.{AreRead}
-use Rattle.scp_script.specs.Scripts.{Script, scripts_behind}
+use Rattle.scp_script.specs.Actions.{Texts, texts_of, texts_behind}
 use Rattle.unit_trait.specs.declared.kind.UnitName.{UnitName}
 use Rattle.scp_script.specs.Session as ends
-use Rattle.scp_script.specs.Session.{emptied_in, input_end, State, Session, SessionEnd, ExitDone, InputEnded, BudgetSpent, end_status, state_of, state_at, closed, end_state, Going, Over, Ends, Comes, prompt_text, asking_input, asking, upcoming, text_reply, following, text_step, step, over_by, course, trace}
+use Rattle.scp_script.specs.Session.{emptied_in, input_end, State, Session, SessionEnd, ExitDone, AllDone, InputEnded, BudgetSpent, end_status, state_of, state_at, closed, end_state, Going, Over, Ends, Comes, prompt_text, asking_input, asking, upcoming, text_reply, following, text_step, step, over_by, course, trace}
 use Rattle.scp_script.specs.Loop.{exit_of, IsAnswer, IsShort, LetsThrough, status_of, finish_of, Finishes, Progresses}
 use Rattle.scp_script.proofs.TextLemmas.{text-reads}
-use Rattle.scp_script.proofs.SessionLemmas.{arrival-paid, trace-is, trace-asks, trace-begins, course-over, step-comes, step-over, upcoming-input, asking-is}
+use Rattle.scp_script.proofs.SessionLemmas.{arrival-paid, trace-is, trace-asks, trace-begins, course-over, step-comes, step-over, upcoming-input, upcoming-done, asking-is, asking-done}
 
 -- no read was made
 pub none-read : (open_ : Bool) (input : List ℕ) → AreRead 0 open_ input open_ input
@@ -90,61 +90,61 @@ over-before old new end finish before after e state status named lets reads writ
       named = λ _ _. sym named ∙ ap (λ c. finish_of c.end) (sym is);
     }
 
--- ---- a line of the input is asked for, where no script is open
+-- ---- a line of the input is asked for, where no action waits and no script is open
 
 -- the text of asking is the prompt
-pub asking-text : (s : Session) → s.scripts ≡ [] → text_of (asking s) ≡ prompt_text s.prompt
-asking-text s none = ap text_of (asking-is s none) ∙ append-nil (prompt_text s.prompt)
+pub asking-text : (s : Session) → s.texts ≡ texts_of [] [] → s.reads ≡ true → text_of (asking s) ≡ prompt_text s.prompt
+asking-text s none on = ap text_of (asking-is s none on) ∙ append-nil (prompt_text s.prompt)
 
-pub asking-reads : (s : Session) → s.scripts ≡ [] → reads_of (asking s) ≡ line_reads s.budget s.open_ s.input
-asking-reads s none = ap reads_of (asking-is s none) ∙ add-zero (line_reads s.budget s.open_ s.input)
+pub asking-reads : (s : Session) → s.texts ≡ texts_of [] [] → s.reads ≡ true → reads_of (asking s) ≡ line_reads s.budget s.open_ s.input
+asking-reads s none on = ap reads_of (asking-is s none on) ∙ add-zero (line_reads s.budget s.open_ s.input)
 
-over-input : (old new : Session) (end : SessionEnd) (finish : Finish) (before after : List ℕ) → old.scripts ≡ [] → upcoming old ≡ Ends end → end_state end old ≡ state_of new
+over-input : (old new : Session) (end : SessionEnd) (finish : Finish) (before after : List ℕ) → old.texts ≡ texts_of [] [] → old.reads ≡ true → upcoming old ≡ Ends end → end_state end old ≡ state_of new
     → status_of finish ≡ end_status end → finish_of end ≡ finish → ((made : ℕ) → LetsThrough finish (reads_left old.open_ old.input) made (reads_left old.open_ old.input))
     → AreRead (line_reads old.budget old.open_ old.input) old.open_ old.input new.open_ new.input → after ≡ before ++ prompt_text old.prompt → Finishes old finish new before after
-over-input old new end finish before after none e state status named lets reads written =
+over-input old new end finish before after none on e state status named lets reads written =
     over-before old new end finish before after e state status named (lets (reads_of (asking old)))
-    (subst (λ n. AreRead n old.open_ old.input new.open_ new.input) (sym (asking-reads old none)) reads) (written ∙ ap (λ t. before ++ t) (sym (asking-text old none)))
+    (subst (λ n. AreRead n old.open_ old.input new.open_ new.input) (sym (asking-reads old none on)) reads) (written ∙ ap (λ t. before ++ t) (sym (asking-text old none on)))
 
-pub input-ended : (old new : Session) (k : Option UnitName) (before after : List ℕ) → old.scripts ≡ [] → arrival old.budget old.open_ old.input ≡ InputEnds → (emptied_in old).kept ≡ k → closed old ≡ state_of new
+pub input-ended : (old new : Session) (k : Option UnitName) (before after : List ℕ) → old.texts ≡ texts_of [] [] → old.reads ≡ true → arrival old.budget old.open_ old.input ≡ InputEnds → (emptied_in old).kept ≡ k → closed old ≡ state_of new
     → AreRead (line_reads old.budget old.open_ old.input) old.open_ old.input new.open_ new.input → after ≡ before ++ prompt_text old.prompt → Finishes old (finish_of (input_end k)) new before after
-input-ended old new None before after none e kept closing reads written =
-    over-input old new InputEnded EndOfInput before after none (upcoming-input old InputEnds none e ∙ ap (λ (k : Option UnitName). Ends (input_end k)) kept) closing refl refl (λ _. refl) reads written
-input-ended old new (Some u) before after none e kept closing reads written =
-    over-input old new ends.FlushFailed FlushFailed before after none (upcoming-input old InputEnds none e ∙ ap (λ (k : Option UnitName). Ends (input_end k)) kept) closing refl refl (λ _. refl) reads written
+input-ended old new None before after none on e kept closing reads written =
+    over-input old new InputEnded EndOfInput before after none on (upcoming-input old InputEnds none on e ∙ ap (λ (k : Option UnitName). Ends (input_end k)) kept) closing refl refl (λ _. refl) reads written
+input-ended old new (Some u) before after none on e kept closing reads written =
+    over-input old new ends.FlushFailed FlushFailed before after none on (upcoming-input old InputEnds none on e ∙ ap (λ (k : Option UnitName). Ends (input_end k)) kept) closing refl refl (λ _. refl) reads written
 
-pub budget-spent : (old new : Session) (before after : List ℕ) → old.scripts ≡ [] → arrival old.budget old.open_ old.input ≡ Unpaid → state_of old ≡ state_of new
+pub budget-spent : (old new : Session) (before after : List ℕ) → old.texts ≡ texts_of [] [] → old.reads ≡ true → arrival old.budget old.open_ old.input ≡ Unpaid → state_of old ≡ state_of new
     → AreRead (line_reads old.budget old.open_ old.input) old.open_ old.input new.open_ new.input → after ≡ before ++ prompt_text old.prompt → Finishes old Commands new before after
-budget-spent old new before after none e same reads written =
-    over-input old new BudgetSpent Commands before after none (upcoming-input old Unpaid none e) same refl refl (λ _. refl) reads written
+budget-spent old new before after none on e same reads written =
+    over-input old new BudgetSpent Commands before after none on (upcoming-input old Unpaid none on e) same refl refl (λ _. refl) reads written
 
 -- the console refused a byte of the prompt
-pub prompt-refused : (old new : Session) (before after : List ℕ) → old.scripts ≡ [] → state_of old ≡ state_of new → AreRead 0 old.open_ old.input new.open_ new.input
+pub prompt-refused : (old new : Session) (before after : List ℕ) → old.texts ≡ texts_of [] [] → old.reads ≡ true → state_of old ≡ state_of new → AreRead 0 old.open_ old.input new.open_ new.input
     → AddsPart before (prompt_text old.prompt) after → Finishes old Console new before after
-prompt-refused old new before after none same reads part =
-    asking-refused old new (prompt_text old.prompt) (Reads (line_reads old.budget old.open_ old.input) (state_of old) ∷ []) before after (asking-is old none) same reads part
+prompt-refused old new before after none on same reads part =
+    asking-refused old new (prompt_text old.prompt) (Reads (line_reads old.budget old.open_ old.input) (state_of old) ∷ []) before after (asking-is old none on) same reads part
 
 -- a read fails behind the prompt
-failed-cut : (s : Session) (made : ℕ) → s.scripts ≡ [] → made < line_reads s.budget s.open_ s.input
+failed-cut : (s : Session) (made : ℕ) → s.texts ≡ texts_of [] [] → s.reads ≡ true → made < line_reads s.budget s.open_ s.input
     → cut_trace (length (prompt_text s.prompt)) made (trace s) ≡ ends 106 (prompt_text s.prompt) made (state_of s)
-failed-cut s made none short =
+failed-cut s made none on short =
     let b = trace-asks s in
     ap (cut_trace (length (prompt_text s.prompt)) made) b.is
-    ∙ ap (λ l. cut (length (prompt_text s.prompt)) made (l ++ b.more) b.ended) (asking-is s none)
+    ∙ ap (λ l. cut (length (prompt_text s.prompt)) made (l ++ b.more) b.ended) (asking-is s none on)
     ∙ ap (λ t. cut (length t) made (asking_input s ++ b.more) b.ended) (sym (append-nil (prompt_text s.prompt)))
     ∙ ap (λ n. cut (length (prompt_text s.prompt ++ [])) n (asking_input s ++ b.more) b.ended) (sym (zero-add made))
     ∙ cut-failed-after (Prints (prompt_text s.prompt) (state_of s) ∷ []) (line_reads s.budget s.open_ s.input) (state_of s) b.more b.ended made short
     ∙ ap (λ t. ends 106 t (0 + made) (state_of s)) (append-nil (prompt_text s.prompt))
     ∙ ap (λ n. ends 106 (prompt_text s.prompt) n (state_of s)) (zero-add made)
 
-pub input-failed : (old new : Session) (before after : List ℕ) (made : ℕ) → old.scripts ≡ [] → made < line_reads old.budget old.open_ old.input → state_of old ≡ state_of new
+pub input-failed : (old new : Session) (before after : List ℕ) (made : ℕ) → old.texts ≡ texts_of [] [] → old.reads ≡ true → made < line_reads old.budget old.open_ old.input → state_of old ≡ state_of new
     → AreRead made old.open_ old.input new.open_ new.input → after ≡ before ++ prompt_text old.prompt → Finishes old Input new before after
-input-failed old new before after made none short same reads written = record {
+input-failed old new before after made none on short same reads written = record {
   gives = made;
   made = made;
   lets_through = refl;
   reads = reads;
-  end = record { taken = prompt_text old.prompt; written = written; outcome = failed-cut old made none short ∙ ap (ends 106 (prompt_text old.prompt) made) same };
+  end = record { taken = prompt_text old.prompt; written = written; outcome = failed-cut old made none on short ∙ ap (ends 106 (prompt_text old.prompt) made) same };
   named = λ _ input. absurd (input refl);
 }
 
@@ -155,11 +155,21 @@ comes-reads budget true input line e =
     let test = le-leb (line_cost (length (first_line input))) budget paid in rw test refl
 comes-reads budget false input line e = absurd (cc)
 
--- ---- a script for whose next line no unit is left
+-- ---- all is done, where the input is not read
 
-pub script-unpaid : (old new : Session) (before after : List ℕ) → upcoming old ≡ Ends BudgetSpent → asking old ≡ [] → state_of old ≡ state_of new
+pub all-done : (old new : Session) (before : List ℕ) → old.texts ≡ texts_of [] [] → old.reads ≡ false → state_of old ≡ state_of new
+    → AreRead 0 old.open_ old.input new.open_ new.input → Finishes old (Exit 0) new before before
+all-done old new before none off same reads =
+    let asks = asking-done old none off in
+    over-before old new AllDone (Exit 0) before before (upcoming-done old none off) same refl refl refl
+    (subst (λ (l : List (Observation State)). AreRead (reads_of l) old.open_ old.input new.open_ new.input) (sym asks) reads)
+    (sym (append-nil before) ∙ ap (λ (l : List (Observation State)). before ++ text_of l) (sym asks))
+
+-- ---- a line of a script, or an action, for which no unit is left
+
+pub text-unpaid : (old new : Session) (before after : List ℕ) → upcoming old ≡ Ends BudgetSpent → asking old ≡ [] → state_of old ≡ state_of new
     → AreRead 0 old.open_ old.input new.open_ new.input → after ≡ before → Finishes old Commands new before after
-script-unpaid old new before after e asks same reads written =
+text-unpaid old new before after e asks same reads written =
     over-before old new BudgetSpent Commands before after e same refl refl refl
     (subst (λ (l : List (Observation State)). AreRead (reads_of l) old.open_ old.input new.open_ new.input) (sym asks) reads)
     (written ∙ sym (append-nil before) ∙ ap (λ (l : List (Observation State)). before ++ text_of l) (sym asks))
@@ -168,7 +178,7 @@ script-unpaid old new before after e asks same reads written =
 
 -- its reply in the session behind it
 abbrev pub reply_in : Session → Asked → Reply
-reply_in behind what = text_reply behind.limit behind.scripts (handed behind.spent behind.notes) behind.live what
+reply_in behind what = text_reply behind.limit behind.texts (handed behind.spent behind.notes) behind.live what
 
 -- what is made in it
 abbrev pub made_by : Session → Session → Asked → List (Observation State)
@@ -179,7 +189,7 @@ abbrev pub left_by : Session → Asked → Session
 left_by behind what = record behind {
   live = (reply_in behind what).after.live;
   notes = drop (reply_in behind what).after.used behind.notes;
-  scripts = scripts_behind behind.scripts what (reply_in behind what).answer;
+  texts = texts_behind behind.texts what (reply_in behind what).answer (reply_in behind what).after.live.watch;
 }
 
 pub text-made : (s behind : Session) (what : Asked) → (text_step (asking s) behind what).made ≡ made_by s behind what
@@ -198,7 +208,7 @@ text-text s behind what =
 none-made : (behind : Session) (what : Asked) → reads_of (map_made (state_at behind.notes) (reply_in behind what).made) ≡ 0
 none-made behind what =
     reads_of-map (state_at behind.notes) (reply_in behind what).made
-    ∙ text-reads behind.limit behind.scripts (handed behind.spent behind.notes) behind.live what
+    ∙ text-reads behind.limit behind.texts (handed behind.spent behind.notes) behind.live what
 
 pub made-reads : (s behind : Session) (what : Asked) → reads_of (made_by s behind what) ≡ reads_of (asking s)
 made-reads s behind what =
@@ -267,22 +277,22 @@ text-whole-cut s behind status gives state what is enough =
 placed : (behind new : Session) (used : ℕ) → drop used behind.notes ≡ new.notes → state_of new ≡ state_at behind.notes (standing used new.live)
 placed behind new used notes = ap (λ (l : List Note). record { live = new.live; notes = l }) (sym notes)
 
--- the session behind a text, but for what commands work on, their notes and the scripts
+-- the session behind a text, but for what commands work on, their notes and the texts still to come
 abbrev pub IsBehind : Session → Session → Type 0
-IsBehind behind new = new ≡ record behind { live = new.live; notes = new.notes; scripts = new.scripts }
+IsBehind behind new = new ≡ record behind { live = new.live; notes = new.notes; texts = new.texts }
 
 left-is : (behind new : Session) (what : Asked) → IsBehind behind new → state_of new ≡ state_at behind.notes (reply_in behind what).after
-    → new.scripts ≡ scripts_behind behind.scripts what (reply_in behind what).answer → left_by behind what ≡ new
-left-is behind new what same state scripts =
-    ap (λ (x : State). record behind { live = x.live; notes = x.notes; scripts = scripts_behind behind.scripts what (reply_in behind what).answer }) (sym state)
-    ∙ ap (λ (l : List Script). record behind { live = new.live; notes = new.notes; scripts = l }) (sym scripts)
+    → new.texts ≡ texts_behind behind.texts what (reply_in behind what).answer (reply_in behind what).after.live.watch → left_by behind what ≡ new
+left-is behind new what same state texts =
+    ap (λ (x : State). record behind { live = x.live; notes = x.notes; texts = texts_behind behind.texts what (reply_in behind what).answer (reply_in behind what).after.live.watch }) (sym state)
+    ∙ ap (λ (t : Texts). record behind { live = new.live; notes = new.notes; texts = t }) (sym texts)
     ∙ sym same
 
 -- what a text comes to, which used so many of the notes
 pub answered : (old behind new : Session) (text : List ℕ) (what : Asked) (used : ℕ) (result : Progress) (tells : Bool) (before mid after : List ℕ) (kept kept' : List FaultNote) → IsTrue tells
     → upcoming old ≡ Comes text behind → asked text ≡ what → IsBehind behind new → mid ≡ before ++ text_of (asking old) → drop used behind.notes ≡ new.notes
     → AreRead (reads_of (asking old)) old.open_ old.input new.open_ new.input
-    → IsAnswer (reply_in behind what) (scripts_behind behind.scripts what) result new.scripts (standing used new.live) tells mid after → IsShort result old.live new.live kept kept' mid after
+    → IsAnswer (reply_in behind what) (texts_behind behind.texts what) result new.texts (standing used new.live) tells mid after → IsShort result old.live new.live kept kept' mid after
     → Progresses old result new before after
 answered old behind new text what used GoesOn tells before mid after kept kept' told e c b asks notes reads a short =
     let is = step-comes old behind text what e c in

@@ -1,5 +1,7 @@
 -- A line with the notes that were kept in it: what is handed to its text, and what is left.
-use Rattle.std.proofs.Common.{Option, Some, None, ◌≡◌, ◌≢◌, ◌⊎◌, ℕ, ◌+◌, ◌-◌, ◌<◌, ◌≤◌, Bool, IsTrue, List, [], ◌∷◌, ◌++◌, length, drop, refl, ap, sym, ◌∙◌, subst, arith, append_assoc, append-nil, inl}
+use Rattle.std.proofs.Common.{Option, Some, None, ◌≡◌, ◌≢◌, ◌⊎◌, ℕ, ◌+◌, ◌-◌, ◌<◌, ◌≤◌, Bool, true, IsTrue, List, [], ◌∷◌, ◌++◌, length, drop, take, option_map, slice_get, refl, ap, sym, ◌∙◌, subst, arith, append_assoc, append-nil, inl}
+use Rattle.std.proofs.Math.Seq.{take-append_seam}
+use Rattle.expect_actions.specs.Actions.{first_written}
 use Rattle.fault_counts.specs.Faults.{raised}
 use Rattle.observations.specs.Observations.{Observation, Trace, text_of, reads_of}
 use Rattle.host_files.specs.Lists.{NamedBytes}
@@ -21,10 +23,11 @@ use Rattle.scp_script.specs.declared.progress.Finish.TheVariants.{Exit, EndOfInp
 use Rattle.script_text.specs.Lines.{line_cost, first_line, has_lf}
 use Rattle.scp_script.specs.Lines.{InputEnds, LineComes, arrival, line_reads}
 use Rattle.scp_script.specs.Reading.{AreRead}
-use Rattle.scp_script.specs.Scripts.{Script, still_open, cost_of_line, text_of_line, echo_text, past_line, scripts_behind}
-use Rattle.scp_script.specs.Session.{State, Session, Comes, Step, Course, prompt_text, asking, behind_line, behind_script_line, upcoming, emptied_in, input_end, closed, text_reply, course, trace}
+use Rattle.scp_script.specs.Scripts.{Script, still_open, cost_of_line, text_of_line, echo_text, past_line}
+use Rattle.scp_script.specs.Actions.{texts_of, texts_behind}
+use Rattle.scp_script.specs.Session.{State, Session, Comes, Step, Course, prompt_text, asking, behind_line, behind_script_line, behind_action, upcoming, emptied_in, input_end, closed, text_reply, course, trace}
 use Rattle.scp_script.specs.Loop.{session_of, IsAnswer, IsShort, Answers, AnswerCounts, HasExitStatus, status_of, finish_of, EndsAs, Finishes, MayFollow, MayCome, StopsShort, RunsOut, Progresses, ProgressCause, Stepped, KeptInLine}
-use Rattle.scp_script.proofs.SessionLemmas.{arrival-paid, upcoming-input, upcoming-script, asking-script, trace-is, closing, asking-still, step-still, course-still}
+use Rattle.scp_script.proofs.SessionLemmas.{arrival-paid, upcoming-input, upcoming-script, asking-script, upcoming-action, asking-action, trace-is, closing, asking-still, step-still, course-still}
 use Rattle.scp_script.proofs.LineLemmas.{none-read, comes-reads, asking-text, asking-reads, IsBehind, answered, input-ended}
 
 -- a session to which these calls are still to come
@@ -76,7 +79,7 @@ pub text-stepped : (old behind new : Session) (text : List ℕ) (what : Asked) (
     → ((l : List Note) → upcoming (with_notes old l) ≡ Comes text (with_notes behind l)) → asked text ≡ what → IsBehind behind new → old.spent < new.spent
     → ((l : List Note) → text_of (asking (with_notes old l)) ≡ shown) → mid ≡ before ++ shown → ((l : List Note) → reads_of (asking (with_notes old l)) ≡ made)
     → AreRead made old.open_ old.input new.open_ new.input
-    → Answers behind.limit behind.live behind.scripts what new.spent result new.live new.scripts tells mid after notes notes' → IsShort result old.live new.live kept kept' mid after
+    → Answers behind.limit behind.live behind.texts what new.spent result new.live new.texts tells mid after notes notes' → IsShort result old.live new.live kept kept' mid after
     → Stepped (with_notes old) result (with_notes new) before after notes notes'
 text-stepped old behind new text what shown made result tells before mid after notes notes' kept kept' told e c b less asks prompted counts reads a short = record {
   own = numbered new.spent a.own;
@@ -90,53 +93,57 @@ text-stepped old behind new text what shown made result tells before mid after n
       answered (with_notes old all) (with_notes behind all) (with_notes new more) text what (length a.own) result tells before mid after kept kept' told (e all) c
       (ap (λ (x : Session). record x { notes = more }) b) (prompted ∙ ap (λ t. before ++ t) (sym (asks all))) (dropped new.spent a.own more)
       (subst (λ n. AreRead n old.open_ old.input new.open_ new.input) (sym (counts all)) reads)
-      (subst (λ l. IsAnswer (text_reply behind.limit behind.scripts l behind.live what) (scripts_behind behind.scripts what) result new.scripts (standing (length a.own) new.live) tells mid after)
+      (subst (λ l. IsAnswer (text_reply behind.limit behind.texts l behind.live what) (texts_behind behind.texts what) result new.texts (standing (length a.own) new.live) tells mid after)
       (sym given) (a.answers m.behind m.closings)) short;
 }
 
-session-equal : (s t : Session) → s.live ≡ t.live → s.notes ≡ t.notes → s.spent ≡ t.spent → s.limit ≡ t.limit → s.budget ≡ t.budget → s.scripts ≡ t.scripts → s.prompt ≡ t.prompt → s.input ≡ t.input → s.open_ ≡ t.open_ → s ≡ t
-session-equal s t live notes spent limit budget scripts prompt input open_ =
+session-equal : (s t : Session) → s.live ≡ t.live → s.notes ≡ t.notes → s.spent ≡ t.spent → s.limit ≡ t.limit → s.budget ≡ t.budget → s.texts ≡ t.texts → s.reads ≡ t.reads → s.prompt ≡ t.prompt → s.input ≡ t.input → s.open_ ≡ t.open_ → s ≡ t
+session-equal s t live notes spent limit budget texts reads prompt input open_ =
     ap (λ x. record s { live = x }) live
     ∙ ap (λ x. record s { live = t.live; notes = x }) notes
     ∙ ap (λ x. record s { live = t.live; notes = t.notes; spent = x }) spent
     ∙ ap (λ x. record s { live = t.live; notes = t.notes; spent = t.spent; limit = x }) limit
-    ∙ ap (λ x. record t { budget = x; scripts = s.scripts; prompt = s.prompt; input = s.input; open_ = s.open_ }) budget
-    ∙ ap (λ x. record t { scripts = x; prompt = s.prompt; input = s.input; open_ = s.open_ }) scripts
+    ∙ ap (λ x. record t { budget = x; texts = s.texts; reads = s.reads; prompt = s.prompt; input = s.input; open_ = s.open_ }) budget
+    ∙ ap (λ x. record t { texts = x; reads = s.reads; prompt = s.prompt; input = s.input; open_ = s.open_ }) texts
+    ∙ ap (λ x. record t { reads = x; prompt = s.prompt; input = s.input; open_ = s.open_ }) reads
     ∙ ap (λ x. record t { prompt = x; input = s.input; open_ = s.open_ }) prompt
     ∙ ap (λ x. record t { input = x; open_ = s.open_ }) input
     ∙ ap (λ x. record t { open_ = x }) open_
 
--- a session behind a line of the input, as the code leaves it, but for what commands work on, their notes and the scripts
+-- a session behind a line of the input, as the code leaves it, but for what commands work on, their notes and the texts that
+-- are still to come
 pub record IsBehindLine (old new : Session) : Type 0 where
   pub spent : new.spent ≡ old.spent + line_cost (length (first_line old.input))
   pub limit : new.limit ≡ old.limit
   pub budget : new.budget ≡ old.budget - line_cost (length (first_line old.input))
   pub open_ : new.open_ ≡ has_lf old.input
+  pub reading : new.reads ≡ old.reads
   pub prompt : new.prompt ≡ old.prompt
   pub reads : AreRead (line_reads old.budget old.open_ old.input) old.open_ old.input new.open_ new.input
 
 behind-input : (old new : Session) (line : List ℕ) → arrival old.budget old.open_ old.input ≡ LineComes line → IsBehindLine old new → IsBehind (behind_line old) new
 unfolding behind_line
 behind-input old new line e b =
-    session-equal new (record (behind_line old) { live = new.live; notes = new.notes; scripts = new.scripts }) refl refl b.spent b.limit b.budget refl b.prompt
+    session-equal new (record (behind_line old) { live = new.live; notes = new.notes; texts = new.texts }) refl refl b.spent b.limit b.budget refl b.reading b.prompt
     (b.reads.rest ∙ ap (λ n. drop n old.input) (comes-reads old.budget old.open_ old.input line e)) b.open_
 
--- a line of the input was done, where no script was open
+-- a line of the input was done, where no action waited and no script was open
 pub line-stepped : (old new : Session) (line : List ℕ) (what : Asked) (result : Progress) (tells : Bool) (before mid after : List ℕ) (notes notes' : List Note) (kept kept' : List FaultNote) → IsTrue tells
-    → old.scripts ≡ [] → arrival old.budget old.open_ old.input ≡ LineComes line → asked line ≡ what → IsBehindLine old new → old.spent < new.spent → mid ≡ before ++ prompt_text old.prompt
-    → Answers old.limit old.live [] what new.spent result new.live new.scripts tells mid after notes notes' → IsShort result old.live new.live kept kept' mid after
+    → old.texts ≡ texts_of [] [] → old.reads ≡ true → arrival old.budget old.open_ old.input ≡ LineComes line → asked line ≡ what → IsBehindLine old new → old.spent < new.spent → mid ≡ before ++ prompt_text old.prompt
+    → Answers old.limit old.live (texts_of [] []) what new.spent result new.live new.texts tells mid after notes notes' → IsShort result old.live new.live kept kept' mid after
     → Stepped (with_notes old) result (with_notes new) before after notes notes'
 unfolding behind_line
-line-stepped old new line what result tells before mid after notes notes' kept kept' told none e c b less prompted a short =
+line-stepped old new line what result tells before mid after notes notes' kept kept' told none on e c b less prompted a short =
     text-stepped old (behind_line old) new line what (prompt_text old.prompt) (line_reads old.budget old.open_ old.input) result tells before mid after notes notes' kept kept' told
-    (λ l. upcoming-input (with_notes old l) (LineComes line) none e) c (behind-input old new line e b) less (λ l. asking-text (with_notes old l) none) prompted
-    (λ l. asking-reads (with_notes old l) none) b.reads a short
+    (λ l. upcoming-input (with_notes old l) (LineComes line) none on e) c (behind-input old new line e b) less (λ l. asking-text (with_notes old l) none on) prompted
+    (λ l. asking-reads (with_notes old l) none on) b.reads a short
 
 -- the same behind the next line of a script
 pub record IsBehindScript (old new : Session) (script : Script) : Type 0 where
   pub spent : new.spent ≡ old.spent + cost_of_line script
   pub limit : new.limit ≡ old.limit
   pub budget : new.budget ≡ old.budget - cost_of_line script
+  pub reading : new.reads ≡ old.reads
   pub prompt : new.prompt ≡ old.prompt
   pub input : new.input ≡ old.input
   pub open_ : new.open_ ≡ old.open_
@@ -144,16 +151,16 @@ pub record IsBehindScript (old new : Session) (script : Script) : Type 0 where
 behind-script : (old new : Session) (script : Script) (outer : List Script) → IsBehindScript old new script → IsBehind (behind_script_line old script outer) new
 unfolding behind_script_line
 behind-script old new script outer b =
-    session-equal new (record (behind_script_line old script outer) { live = new.live; notes = new.notes; scripts = new.scripts }) refl refl b.spent b.limit b.budget refl b.prompt b.input b.open_
+    session-equal new (record (behind_script_line old script outer) { live = new.live; notes = new.notes; texts = new.texts }) refl refl b.spent b.limit b.budget refl b.reading b.prompt b.input b.open_
 
 pub same-read : (o o' : Bool) (i i' : List ℕ) → o' ≡ o → i' ≡ i → AreRead 0 o i o' i'
 same-read o o' i i' open_ input = subst (λ (x : Bool). AreRead 0 o i x i') (sym open_) (subst (λ (x : List ℕ). AreRead 0 o i o x) (sym input) (none-read o i))
 
 -- a line of the innermost script was done
 pub script-stepped : (old new : Session) (script : Script) (outer : List Script) (what : Asked) (result : Progress) (tells : Bool) (before mid after : List ℕ) (notes notes' : List Note) (kept kept' : List FaultNote) → IsTrue tells
-    → old.scripts ≡ script ∷ outer → script.place < length script.text → cost_of_line script ≤ old.budget → asked (text_of_line script) ≡ what → IsBehindScript old new script
+    → old.texts ≡ texts_of [] (script ∷ outer) → script.place < length script.text → cost_of_line script ≤ old.budget → asked (text_of_line script) ≡ what → IsBehindScript old new script
     → old.spent < new.spent → mid ≡ before ++ echo_text script
-    → Answers old.limit old.live (past_line script ∷ outer) what new.spent result new.live new.scripts tells mid after notes notes' → IsShort result old.live new.live kept kept' mid after
+    → Answers old.limit old.live (texts_of [] (past_line script ∷ outer)) what new.spent result new.live new.texts tells mid after notes notes' → IsShort result old.live new.live kept kept' mid after
     → Stepped (with_notes old) result (with_notes new) before after notes notes'
 unfolding behind_script_line
 script-stepped old new script outer what result tells before mid after notes notes' kept kept' told is more fits c b less prompted a short =
@@ -161,6 +168,57 @@ script-stepped old new script outer what result tells before mid after notes not
     (λ l. upcoming-script (with_notes old l) script outer is more fits) c (behind-script old new script outer b) less
     (λ l. ap text_of (asking-script (with_notes old l) script outer is more fits) ∙ append-nil (echo_text script)) prompted
     (λ l. ap reads_of (asking-script (with_notes old l) script outer is more fits)) (same-read old.open_ new.open_ old.input new.input b.open_ b.input) a short
+
+-- the same behind an action
+pub record IsBehindAction (old new : Session) : Type 0 where
+  pub spent : new.spent ≡ old.spent + 1
+  pub limit : new.limit ≡ old.limit
+  pub budget : new.budget ≡ old.budget - 1
+  pub reading : new.reads ≡ old.reads
+  pub prompt : new.prompt ≡ old.prompt
+  pub input : new.input ≡ old.input
+  pub open_ : new.open_ ≡ old.open_
+
+behind-action : (old new : Session) (others : List (List ℕ)) → IsBehindAction old new → IsBehind (behind_action old others) new
+unfolding behind_action
+behind-action old new others b =
+    session-equal new (record (behind_action old others) { live = new.live; notes = new.notes; texts = new.texts }) refl refl b.spent b.limit b.budget refl b.reading b.prompt b.input b.open_
+
+-- the action that waited first was done
+pub action-stepped : (old new : Session) (action : List ℕ) (others : List (List ℕ)) (what : Asked) (result : Progress) (tells : Bool) (before after : List ℕ) (notes notes' : List Note) (kept kept' : List FaultNote) → IsTrue tells
+    → old.texts.actions ≡ action ∷ others → 1 ≤ old.budget → asked action ≡ what → IsBehindAction old new → old.spent < new.spent
+    → Answers old.limit old.live (texts_of others old.texts.scripts) what new.spent result new.live new.texts tells before after notes notes' → IsShort result old.live new.live kept kept' before after
+    → Stepped (with_notes old) result (with_notes new) before after notes notes'
+unfolding behind_action
+action-stepped old new action others what result tells before after notes notes' kept kept' told is fits c b less a short =
+    text-stepped old (behind_action old others) new action what [] 0 result tells before before after notes notes' kept kept' told
+    (λ l. upcoming-action (with_notes old l) action others is fits) c (behind-action old new others b) less
+    (λ l. ap text_of (asking-action (with_notes old l) action others is)) (sym (append-nil before))
+    (λ l. ap reads_of (asking-action (with_notes old l) action others is)) (same-read old.open_ new.open_ old.input new.input b.open_ b.input) a short
+
+-- the actions that wait begin with one
+pub record HasFirst (l : List (List ℕ)) : Type 0 where
+  pub action : List ℕ
+  pub others : List (List ℕ)
+  pub is : l ≡ action ∷ others
+
+pub has-first : (l : List (List ℕ)) → l ≢ [] → HasFirst l
+has-first [] some = absurd (some refl)
+has-first (action ∷ others) some = record { action = action; others = others; is = refl }
+
+-- what is taken of them is its text
+pub action-text : (l : List (List ℕ)) (action : List ℕ) (others : List (List ℕ)) (out out' : List ℕ) (n : ℕ) → l ≡ action ∷ others → Some n ≡ option_map length (slice_get l 0) → out' ≡ first_written l out
+    → take n out' ≡ action
+action-text l action others out out' n is count text =
+    let counted : Some n ≡ Some (length action) = count ∙ ap (λ (x : List (List ℕ)). option_map length (slice_get x 0)) is in
+    let many : n ≡ length action = cc in
+    let all : out' ≡ action ++ drop (length action) out = text ∙ ap (λ (x : List (List ℕ)). first_written x out) is in
+    (λ i. take (many i) (all i)) ∙ take-append_seam action (drop (length action) out)
+
+pub action-there : (l : List (List ℕ)) (action : List ℕ) (others : List (List ℕ)) → l ≡ action ∷ others → None ≡ option_map length (slice_get l 0) → ⊥
+action-there l action others is none =
+    let never : None ≡ Some (length action) = none ∙ ap (λ (x : List (List ℕ)). option_map length (slice_get x 0)) is in
+    absurd (cc)
 
 -- the session is over, and no note was kept for that
 pub over-alone : (old new : Session) (finish : Finish) (before after : List ℕ) (notes notes' : List Note) → notes' ≡ notes
@@ -189,13 +247,13 @@ ended-so None old new before after f = f
 ended-so (Some u) old new before after f = f
 
 -- the input has ended, and the units have lost their files, up to one that has kept it
-pub input-closed : (old new : Session) (k : Option UnitName) (before after : List ℕ) (notes notes' : List Note) → old.scripts ≡ [] → arrival old.budget old.open_ old.input ≡ InputEnds
+pub input-closed : (old new : Session) (k : Option UnitName) (before after : List ℕ) (notes notes' : List Note) → old.texts ≡ texts_of [] [] → old.reads ≡ true → arrival old.budget old.open_ old.input ≡ InputEnds
     → Closes old.spent old.live new.live k notes notes' → AreRead (line_reads old.budget old.open_ old.input) old.open_ old.input new.open_ new.input → after ≡ before ++ prompt_text old.prompt
     → Stepped (with_notes old) (IsOver (finish_of (input_end k))) (with_notes new) before after notes notes'
-input-closed old new k before after notes notes' none_open e c reads written =
+input-closed old new k before after notes notes' none_open on e c reads written =
     let own = numbered old.spent c.own in
     let closing = closed-own old c.own c.used ∙ ap (λ (x : Live). record { live = x; notes = [] }) (sym c.after) in
-    let over = input-ended (with_notes old (own ++ [])) (with_notes new []) k before after none_open e (kept-own old c.own ∙ c.keeps) closing reads written in
+    let over = input-ended (with_notes old (own ++ [])) (with_notes new []) k before after none_open on e (kept-own old c.own ∙ c.keeps) closing reads written in
     record {
       own = own;
       kept = c.kept;
@@ -215,15 +273,15 @@ room-refused old new before same = subst (λ (x : Session). RunsOut old x before
 
 -- ---- scripts that have ended are closed before the next text
 
-short-still : (s : Session) (live : Live) (before after : List ℕ) → StopsShort (closing s) live before after → StopsShort s live before after
-short-still s live before after h = record {
+short-still : (s : Session) (live : Live) (before after : List ℕ) → s.texts.actions ≡ [] → StopsShort (closing s) live before after → StopsShort s live before after
+short-still s live before after none h = record {
   live_is = h.live_is;
-  written = subst (λ (l : List (Observation State)). (after ≡ before) ⊎ (after ≡ before ++ text_of l)) (asking-still s) h.written;
+  written = subst (λ (l : List (Observation State)). (after ≡ before) ⊎ (after ≡ before ++ text_of l)) (asking-still s none) h.written;
 }
 
-over-still : (s : Session) (finish : Finish) (new : Session) (before after : List ℕ) → Finishes (closing s) finish new before after → Finishes s finish new before after
-over-still s finish new before after f =
-    let course_is = course-still s in
+over-still : (s : Session) (finish : Finish) (new : Session) (before after : List ℕ) → s.texts.actions ≡ [] → Finishes (closing s) finish new before after → Finishes s finish new before after
+over-still s finish new before after none f =
+    let course_is = course-still s none in
     let trace_is : trace (closing s) ≡ trace s = trace-is (closing s) (course s) course_is ∙ sym (trace-is s (course s) refl) in
     record {
       gives = f.gives;
@@ -234,34 +292,34 @@ over-still s finish new before after f =
       named = λ console input. f.named console input ∙ ap (λ (c : Course). finish_of c.end) course_is;
     }
 
-progress-still : (s : Session) (p : Progress) (new : Session) (before after : List ℕ) → Progresses (closing s) p new before after → Progresses s p new before after
-progress-still s GoesOn new before after g = record {
-  next = ap (λ (x : Step). x.next) (sym (step-still s)) ∙ g.next;
-  written = g.written ∙ ap (λ (x : Step). before ++ text_of x.made) (step-still s);
-  reads = subst (λ n. AreRead n s.open_ s.input new.open_ new.input) (ap (λ (x : Step). reads_of x.made) (step-still s)) g.reads;
+progress-still : (s : Session) (p : Progress) (new : Session) (before after : List ℕ) → s.texts.actions ≡ [] → Progresses (closing s) p new before after → Progresses s p new before after
+progress-still s GoesOn new before after none g = record {
+  next = ap (λ (x : Step). x.next) (sym (step-still s none)) ∙ g.next;
+  written = g.written ∙ ap (λ (x : Step). before ++ text_of x.made) (step-still s none);
+  reads = subst (λ n. AreRead n s.open_ s.input new.open_ new.input) (ap (λ (x : Step). reads_of x.made) (step-still s none)) g.reads;
 }
-progress-still s (IsOver OutOfMemory) new before after r = record {
-  short = short-still s new.live before after r.short;
+progress-still s (IsOver OutOfMemory) new before after none r = record {
+  short = short-still s new.live before after none r.short;
   made = r.made;
-  few = subst (λ (l : List (Observation State)). r.made ≤ reads_of l) (asking-still s) r.few;
+  few = subst (λ (l : List (Observation State)). r.made ≤ reads_of l) (asking-still s none) r.few;
   reads = r.reads;
 }
-progress-still s (IsOver (Exit status)) new before after f = over-still s (Exit status) new before after f
-progress-still s (IsOver EndOfInput) new before after f = over-still s EndOfInput new before after f
-progress-still s (IsOver FlushFailed) new before after f = over-still s FlushFailed new before after f
-progress-still s (IsOver Commands) new before after f = over-still s Commands new before after f
-progress-still s (IsOver Console) new before after f = over-still s Console new before after f
-progress-still s (IsOver Input) new before after f = over-still s Input new before after f
+progress-still s (IsOver (Exit status)) new before after none f = over-still s (Exit status) new before after none f
+progress-still s (IsOver EndOfInput) new before after none f = over-still s EndOfInput new before after none f
+progress-still s (IsOver FlushFailed) new before after none f = over-still s FlushFailed new before after none f
+progress-still s (IsOver Commands) new before after none f = over-still s Commands new before after none f
+progress-still s (IsOver Console) new before after none f = over-still s Console new before after none f
+progress-still s (IsOver Input) new before after none f = over-still s Input new before after none f
 
 -- what is known behind the closing is known before
-pub closed-before : (old : Session) (scripts : List Script) (p : Progress) (new : List Note → Session) (before after : List ℕ) (notes notes' : List Note) → still_open old.scripts ≡ scripts
-    → Stepped (with_notes (record old { scripts = scripts })) p new before after notes notes' → Stepped (with_notes old) p new before after notes notes'
-closed-before old scripts p new before after notes notes' is s = record {
+pub closed-before : (old : Session) (scripts : List Script) (p : Progress) (new : List Note → Session) (before after : List ℕ) (notes notes' : List Note) → old.texts.actions ≡ [] → still_open old.texts.scripts ≡ scripts
+    → Stepped (with_notes (record old { texts = texts_of old.texts.actions scripts })) p new before after notes notes' → Stepped (with_notes old) p new before after notes notes'
+closed-before old scripts p new before after notes notes' none is s = record {
   own = s.own;
   kept = s.kept;
   first = s.first;
-  goes = λ more come. progress-still (with_notes old (s.own ++ more)) p (new more) before after
-      (subst (λ (l : List Script). Progresses (record (with_notes old (s.own ++ more)) { scripts = l }) p (new more) before after) (sym is) (s.goes more come));
+  goes = λ more come. progress-still (with_notes old (s.own ++ more)) p (new more) before after none
+      (subst (λ (l : List Script). Progresses (record (with_notes old (s.own ++ more)) { texts = texts_of old.texts.actions l }) p (new more) before after) (sym is) (s.goes more come));
 }
 
 -- an answer that is not for want of memory

@@ -1,5 +1,5 @@
 -- A command has a script next only where it is a DO.
-use Rattle.std.proofs.Common.{ℕ, ◌<◌, Bool, true, false, List, length, sym, subst, Option, Some, None, Result, Ok, Err, if◌then◌else◌, nat_le, ◌&&◌, ◌^◌, min, unwrap_or}
+use Rattle.std.proofs.Common.{ℕ, ◌+◌, ◌<◌, ◌==◌, Bool, not, true, false, List, length, sym, subst, Option, Some, None, Result, Ok, Err, if◌then◌else◌, nat_le, nat_lt, ◌&&◌, ◌^◌, min, unwrap_or}
 use Rattle.fault_notes.specs.declared.note.Subject.TheVariants as subject
 use Rattle.fault_notes.specs.Notes.{CommandNote, failure_now}
 use Rattle.unit_trait.specs.declared.kind.UnitName.{UnitName}
@@ -27,6 +27,11 @@ use Rattle.scp_commands.specs.RunEffects.{run_answer, run_failure, ran, address_
 use Rattle.scp_commands.specs.ListEffects.{lacks_device, examine_after, examine_reply, handed, deposit_after, deposit_reply}
 use Rattle.scp_commands.specs.FileEffects.{lacks_unit, mode_of, attach_answer, attach_reply}
 use Rattle.scp_commands.specs.FileEffects.{detach_answer, detach_reply, detach_all_reply, detach_one_or_all, emptied_all, kept_answer}
+use Rattle.expect_actions.specs.Expects.{most_expects}
+use Rattle.expect_actions.specs.Sends.{most_sends}
+use Rattle.scp_commands.specs.RunEffects.{last_address}
+use Rattle.scp_commands.specs.WatchEffects.{largest_count, text_of_quoted, lacks_room_for_break, can_be_expected}
+use Rattle.scp_commands.specs.WatchEffects.{break_reply, no_break_reply, expect_reply, no_expect_reply, send_reply, no_send_reply}
 use Rattle.scp_commands.specs.ShowEffects.{show_reply}
 use Rattle.scp_commands.specs.ExitEffects.{exit_reply}
 use Rattle.scp_commands.specs.SetEffects.{set_size_reply}
@@ -131,7 +136,37 @@ show-none live shown.Cpu = tt
 show-none live shown.Queue = tt
 show-none live shown.Version = tt
 show-none live (shown.Unit unit) = none-if (lacks_unit live.machine unit) _ _ tt tt
-show-none live subject = tt
+show-none live shown.Break = tt
+show-none live shown.Expect = tt
+show-none live shown.Send = tt
+
+break-none : (live : Live) (at count : ℕ) (actions : List ℕ) → NoScript (break_reply live at count actions).answer
+unfolding break_reply
+break-none live at count actions =
+    none-if (not (nat_le at last_address && nat_le count largest_count)) _ _ tt (none-if (lacks_room_for_break at live.watch.breaks.list) _ _ tt tt)
+
+no_break-none : (live : Live) (at : Option ℕ) → NoScript (no_break_reply live at).answer
+unfolding no_break_reply
+no_break-none live None = tt
+no_break-none live (Some at) = none-if (nat_le at last_address) _ _ tt tt
+
+expect-none : (live : Live) (count : ℕ) (quoted actions : List ℕ) → NoScript (expect_reply live count quoted actions).answer
+unfolding expect_reply
+expect-none live count quoted actions =
+    none-if (not (can_be_expected count (text_of_quoted quoted))) _ _ tt (none-if (length live.watch.expects.list == most_expects) _ _ tt tt)
+
+no_expect-none : (live : Live) → NoScript (no_expect_reply live).answer
+unfolding no_expect_reply
+no_expect-none live = tt
+
+send-none : (live : Live) (after delay : ℕ) (quoted : List ℕ) → NoScript (send_reply live after delay quoted).answer
+unfolding send_reply
+send-none live after delay quoted =
+    none-if (not (nat_le after largest_count && nat_le delay largest_count)) _ _ tt (none-if (nat_lt most_sends (length live.watch.sends + length (text_of_quoted quoted))) _ _ tt tt)
+
+no_send-none : (live : Live) → NoScript (no_send_reply live).answer
+unfolding no_send_reply
+no_send-none live = tt
 
 exit-none : (notes : List CommandNote) (live : Live) (status : Option ℕ) → NoScript (exit_reply notes live status).answer
 unfolding exit_reply
@@ -210,6 +245,12 @@ room-effect scripts limit notes live (request.Go address) fits = room-none scrip
 room-effect scripts limit notes live request.Cont fits = room-none scripts _ (ran-none notes false limit live)
 room-effect scripts limit notes live (request.Step count) fits = room-none scripts _ (step-none limit notes (unwrap_or count 1) live)
 room-effect scripts limit notes live request.Reset fits = room-none scripts _ (reset-none live)
+room-effect scripts limit notes live (request.Break at count actions) fits = room-none scripts _ (break-none live at count actions)
+room-effect scripts limit notes live (request.NoBreak at) fits = room-none scripts _ (no_break-none live at)
+room-effect scripts limit notes live (request.Expect count text actions) fits = room-none scripts _ (expect-none live count text actions)
+room-effect scripts limit notes live request.NoExpect fits = room-none scripts _ (no_expect-none live)
+room-effect scripts limit notes live (request.Send after delay text) fits = room-none scripts _ (send-none live after delay text)
+room-effect scripts limit notes live request.NoSend fits = room-none scripts _ (no_send-none live)
 room-effect scripts limit notes live (request.Attach option unit name) fits = room-none scripts _ (attach-none notes live option unit name)
 room-effect scripts limit notes live (request.Detach unit) fits = room-none scripts _ (detach_where-none notes live unit)
 room-effect scripts limit notes live (request.SetSize k) fits = room-none scripts _ (set_size-none live k)

@@ -1,5 +1,5 @@
 -- The trace of a session, one text further.
-use Rattle.std.proofs.Common.{◌≡◌, ℕ, zero, suc, ◌-◌, ◌<◌, ◌≤◌, Bool, not, ◌||◌, nat_le, nat_lt, nat_eq, List, [], ◌∷◌, ◌++◌, length, drop, refl, ap, sym, ◌∙◌, arith, if◌then◌else◌, append_assoc, append-nil, Ok, Err}
+use Rattle.std.proofs.Common.{◌≡◌, ℕ, zero, suc, ◌-◌, ◌<◌, ◌≤◌, Bool, true, false, not, ◌||◌, nat_le, nat_lt, nat_eq, List, [], ◌∷◌, ◌++◌, length, drop, refl, ap, sym, ◌∙◌, arith, if◌then◌else◌, append_assoc, append-nil, Ok, Err}
 use Rattle.std.proofs.lemmas.Bool.{leb-true, le-leb, lt-leb, lt-ltb, cond_both}
 use Rattle.observations.specs.Observations.{Observation, Prints, Ended, after_made}
 use Rattle.scp_commands.specs.declared.next.Next.TheVariants.{Go, Ran, Do, Goto, Exit}
@@ -8,8 +8,9 @@ use Rattle.scp_commands.specs.Reply.{Answer}
 use Rattle.scp_commands.specs.Effect.{Asked, asked}
 use Rattle.script_text.specs.Lines.{line_cost, first_line, command_line}
 use Rattle.scp_script.specs.Lines.{Arrival, InputEnds, Unpaid, LineComes, arrival}
-use Rattle.scp_script.specs.Scripts.{Script, still_open, cost_of_line, text_of_line, echo_text, scripts_behind}
-use Rattle.scp_script.specs.Session.{State, Session, SessionEnd, ExitDone, InputEnded, FlushFailed, BudgetSpent, end_status, state_of, closed, end_state, Following, Going, Over, Upcoming, Ends, Comes, asking_input, asking_in, asking, behind_line, behind_script_line, upcoming_of, upcoming_in, upcoming, text_reply, following, text_step, Step, step_upcoming, step, Course, over_by, after_step, texts, course, trace}
+use Rattle.scp_script.specs.Scripts.{Script, still_open, cost_of_line, text_of_line, echo_text}
+use Rattle.scp_script.specs.Actions.{Texts, texts_of, texts_behind}
+use Rattle.scp_script.specs.Session.{State, Session, SessionEnd, ExitDone, AllDone, InputEnded, FlushFailed, BudgetSpent, end_status, state_of, closed, end_state, Following, Going, Over, Upcoming, Ends, Comes, asking_input, asking_in, asking_at, asking, behind_line, behind_script_line, behind_action, upcoming_of, upcoming_in, upcoming_at, upcoming, text_reply, following, text_step, Step, step_upcoming, step, Course, over_by, after_step, texts, course, trace}
 
 pub going-equal : {s t : Session} → Going s ≡ Going t → s ≡ t
 going-equal h = cc
@@ -33,6 +34,10 @@ behind-script-budget : (s : Session) (script : Script) (outer : List Script) →
 unfolding behind_script_line
 behind-script-budget s script outer = refl
 
+behind-action-budget : (s : Session) (others : List (List ℕ)) → (behind_action s others).budget ≡ s.budget - 1
+unfolding behind_action
+behind-action-budget s others = refl
+
 pub following-is : (answer : Answer) (s t : Session) → following answer s ≡ Going t → s ≡ t
 following-is (Ok (Exit status)) s t h = absurd (cc)
 following-is (Ok Go) s t h = going-equal h
@@ -45,9 +50,9 @@ following-is (Err fault) s t h = going-equal h
 text-budget : (made : List (Observation State)) (behind t : Session) (what : Asked) → (text_step made behind what).next ≡ Going t → t.budget ≡ behind.budget
 unfolding text_step
 text-budget made behind t what h =
-    let reply = text_reply behind.limit behind.scripts (handed behind.spent behind.notes) behind.live what in
+    let reply = text_reply behind.limit behind.texts (handed behind.spent behind.notes) behind.live what in
     ap (λ (x : Session). x.budget)
-    (sym (following-is reply.answer (record behind { live = reply.after.live; notes = drop reply.after.used behind.notes; scripts = scripts_behind behind.scripts what reply.answer }) t h))
+    (sym (following-is reply.answer (record behind { live = reply.after.live; notes = drop reply.after.used behind.notes; texts = texts_behind behind.texts what reply.answer reply.after.live.watch }) t h))
 
 arrival-pays : (s t : Session) (a : Arrival) → arrival s.budget s.open_ s.input ≡ a → (step_upcoming s (upcoming_of s a)).next ≡ Going t → t.budget < s.budget
 arrival-pays s t InputEnds e h = absurd (cc)
@@ -58,7 +63,11 @@ arrival-pays s t (LineComes line) e h =
     omega (arith, paid, same, behind-budget s)
 
 upcoming-pays : (s t : Session) (scripts : List Script) → (step_upcoming s (upcoming_in s scripts)).next ≡ Going t → t.budget < s.budget
-upcoming-pays s t [] = arrival-pays s t (arrival s.budget s.open_ s.input) refl
+upcoming-pays s t [] =
+    cond_both s.reads (upcoming_of s (arrival s.budget s.open_ s.input)) (Ends AllDone)
+    (λ u. (step_upcoming s u).next ≡ Going t → t.budget < s.budget)
+    (λ _. arrival-pays s t (arrival s.budget s.open_ s.input) refl)
+    (λ _ h. absurd (cc))
 upcoming-pays s t (script ∷ outer) =
     cond_both (nat_le (cost_of_line script) s.budget) (Comes (text_of_line script) (behind_script_line s script outer)) (Ends BudgetSpent)
     (λ u. (step_upcoming s u).next ≡ Going t → t.budget < s.budget)
@@ -68,10 +77,22 @@ upcoming-pays s t (script ∷ outer) =
     omega (arith, paid, same, behind-script-budget s script outer))
     (λ _ h. absurd (cc))
 
+-- an action was paid too
+action-pays : (s t : Session) (actions : List (List ℕ)) → (step_upcoming s (upcoming_at s actions)).next ≡ Going t → t.budget < s.budget
+action-pays s t [] = upcoming-pays s t (still_open s.texts.scripts)
+action-pays s t (action ∷ others) =
+    cond_both (nat_le 1 s.budget) (Comes action (behind_action s others)) (Ends BudgetSpent)
+    (λ u. (step_upcoming s u).next ≡ Going t → t.budget < s.budget)
+    (λ fits h.
+    let paid = leb-true 1 s.budget fits in
+    let same = text-budget (asking s) (behind_action s others) t (asked action) h in
+    omega (arith, paid, same, behind-action-budget s others))
+    (λ _ h. absurd (cc))
+
 -- a text after which the session goes on costs a unit
 pub going-pays : (s t : Session) → (step s).next ≡ Going t → t.budget < s.budget
 unfolding step upcoming
-going-pays s t h = upcoming-pays s t (still_open s.scripts) h
+going-pays s t h = action-pays s t s.texts.actions h
 
 after-step-same : (made : List (Observation State)) (next : Following) (f g : Session → Course) → ((t : Session) → next ≡ Going t → f t ≡ g t) → after_step made next f ≡ after_step made next g
 after-step-same made (Going t) f g same = ap (λ c. record { trace = after_made made c.trace; end = c.end }) (same t refl)
@@ -164,53 +185,96 @@ still-none : (scripts : List Script) → scripts ≡ [] → still_open scripts �
 unfolding still_open
 still-none scripts none = ap still_open none
 
--- a line of the input, where no script is open
-pub upcoming-input : (s : Session) (a : Arrival) → s.scripts ≡ [] → arrival s.budget s.open_ s.input ≡ a → upcoming s ≡ upcoming_of s a
+-- a line, where no action waits
+pub upcoming-lines : (s : Session) → s.texts.actions ≡ [] → upcoming s ≡ upcoming_in s (still_open s.texts.scripts)
 unfolding upcoming
-upcoming-input s a none e = ap (upcoming_in s) (still-none s.scripts none) ∙ ap (upcoming_of s) e
+upcoming-lines s none = ap (upcoming_at s) none
 
-pub asking-is : (s : Session) → s.scripts ≡ [] → asking s ≡ asking_input s
+pub asking-lines : (s : Session) → s.texts.actions ≡ [] → asking s ≡ asking_in s (still_open s.texts.scripts)
 unfolding asking
-asking-is s none = ap (asking_in s) (still-none s.scripts none)
+asking-lines s none = ap (asking_at s) none
+
+-- the same of the texts in which none does
+no-action : (s : Session) (scripts : List Script) → s.texts ≡ texts_of [] scripts → s.texts.actions ≡ []
+no-action s scripts is = ap (λ (t : Texts). t.actions) is
+
+those-scripts : (s : Session) (scripts : List Script) → s.texts ≡ texts_of [] scripts → s.texts.scripts ≡ scripts
+those-scripts s scripts is = ap (λ (t : Texts). t.scripts) is
+
+upcoming-none : (s : Session) → s.texts ≡ texts_of [] [] → upcoming s ≡ upcoming_in s []
+upcoming-none s none = upcoming-lines s (no-action s [] none) ∙ ap (upcoming_in s) (still-none s.texts.scripts (those-scripts s [] none))
+
+asking-none : (s : Session) → s.texts ≡ texts_of [] [] → asking s ≡ asking_in s []
+asking-none s none = asking-lines s (no-action s [] none) ∙ ap (asking_in s) (still-none s.texts.scripts (those-scripts s [] none))
+
+-- a line of the input, where no script is open
+pub upcoming-input : (s : Session) (a : Arrival) → s.texts ≡ texts_of [] [] → s.reads ≡ true → arrival s.budget s.open_ s.input ≡ a → upcoming s ≡ upcoming_of s a
+upcoming-input s a none reads e =
+    upcoming-none s none ∙ ap (λ (b : Bool). if b then upcoming_of s (arrival s.budget s.open_ s.input) else Ends AllDone) reads ∙ ap (upcoming_of s) e
+
+pub asking-is : (s : Session) → s.texts ≡ texts_of [] [] → s.reads ≡ true → asking s ≡ asking_input s
+asking-is s none reads = asking-none s none ∙ ap (λ (b : Bool). if b then asking_input s else []) reads
+
+-- the end, where the input is not read
+pub upcoming-done : (s : Session) → s.texts ≡ texts_of [] [] → s.reads ≡ false → upcoming s ≡ Ends AllDone
+upcoming-done s none reads = upcoming-none s none ∙ ap (λ (b : Bool). if b then upcoming_of s (arrival s.budget s.open_ s.input) else Ends AllDone) reads
+
+pub asking-done : (s : Session) → s.texts ≡ texts_of [] [] → s.reads ≡ false → asking s ≡ []
+asking-done s none reads = asking-none s none ∙ ap (λ (b : Bool). if b then asking_input s else []) reads
+
+-- an action
+pub upcoming-action : (s : Session) (action : List ℕ) (others : List (List ℕ)) → s.texts.actions ≡ action ∷ others → 1 ≤ s.budget → upcoming s ≡ Comes action (behind_action s others)
+unfolding upcoming
+upcoming-action s action others is fits =
+    let test = le-leb 1 s.budget fits in
+    ap (upcoming_at s) is ∙ ap (λ (b : Bool). if b then Comes action (behind_action s others) else Ends BudgetSpent) test
+
+pub action-unpaid : (s : Session) (action : List ℕ) (others : List (List ℕ)) → s.texts.actions ≡ action ∷ others → s.budget < 1 → upcoming s ≡ Ends BudgetSpent
+unfolding upcoming
+action-unpaid s action others is short =
+    let test = lt-leb 1 s.budget short in
+    ap (upcoming_at s) is ∙ ap (λ (b : Bool). if b then Comes action (behind_action s others) else Ends BudgetSpent) test
+
+pub asking-action : (s : Session) (action : List ℕ) (others : List (List ℕ)) → s.texts.actions ≡ action ∷ others → asking s ≡ []
+unfolding asking
+asking-action s action others is = ap (asking_at s) is
 
 -- a script that has another line is open
 still-top : (script : Script) (outer : List Script) → script.place < length script.text → still_open (script ∷ outer) ≡ script ∷ outer
 unfolding still_open
 still-top script outer more = let test = lt-ltb script.place (length script.text) more in rw test refl
 
-still-there : (scripts : List Script) (script : Script) (outer : List Script) → scripts ≡ script ∷ outer → script.place < length script.text → still_open scripts ≡ script ∷ outer
-still-there scripts script outer is more = ap still_open is ∙ still-top script outer more
+still-there : (s : Session) (script : Script) (outer : List Script) → s.texts ≡ texts_of [] (script ∷ outer) → script.place < length script.text → still_open s.texts.scripts ≡ script ∷ outer
+still-there s script outer is more = ap still_open (those-scripts s (script ∷ outer) is) ∙ still-top script outer more
 
 -- a line of a script
-pub upcoming-script : (s : Session) (script : Script) (outer : List Script) → s.scripts ≡ script ∷ outer → script.place < length script.text → cost_of_line script ≤ s.budget
+pub upcoming-script : (s : Session) (script : Script) (outer : List Script) → s.texts ≡ texts_of [] (script ∷ outer) → script.place < length script.text → cost_of_line script ≤ s.budget
     → upcoming s ≡ Comes (text_of_line script) (behind_script_line s script outer)
-unfolding upcoming
 upcoming-script s script outer is more fits =
     let test = le-leb (cost_of_line script) s.budget fits in
-    ap (upcoming_in s) (still-there s.scripts script outer is more)
+    upcoming-lines s (no-action s (script ∷ outer) is) ∙ ap (upcoming_in s) (still-there s script outer is more)
     ∙ ap (λ (b : Bool). if b then Comes (text_of_line script) (behind_script_line s script outer) else Ends BudgetSpent) test
 
-pub upcoming-unpaid : (s : Session) (script : Script) (outer : List Script) → s.scripts ≡ script ∷ outer → script.place < length script.text → s.budget < cost_of_line script
+pub upcoming-unpaid : (s : Session) (script : Script) (outer : List Script) → s.texts ≡ texts_of [] (script ∷ outer) → script.place < length script.text → s.budget < cost_of_line script
     → upcoming s ≡ Ends BudgetSpent
-unfolding upcoming
 upcoming-unpaid s script outer is more short =
     let test = lt-leb (cost_of_line script) s.budget short in
-    ap (upcoming_in s) (still-there s.scripts script outer is more)
+    upcoming-lines s (no-action s (script ∷ outer) is) ∙ ap (upcoming_in s) (still-there s script outer is more)
     ∙ ap (λ (b : Bool). if b then Comes (text_of_line script) (behind_script_line s script outer) else Ends BudgetSpent) test
 
-pub asking-script : (s : Session) (script : Script) (outer : List Script) → s.scripts ≡ script ∷ outer → script.place < length script.text → cost_of_line script ≤ s.budget
+pub asking-script : (s : Session) (script : Script) (outer : List Script) → s.texts ≡ texts_of [] (script ∷ outer) → script.place < length script.text → cost_of_line script ≤ s.budget
     → asking s ≡ Prints (echo_text script) (state_of s) ∷ []
-unfolding asking
 asking-script s script outer is more fits =
     let test = le-leb (cost_of_line script) s.budget fits in
-    ap (asking_in s) (still-there s.scripts script outer is more) ∙ ap (λ (b : Bool). if b then Prints (echo_text script) (state_of s) ∷ [] else []) test
+    asking-lines s (no-action s (script ∷ outer) is) ∙ ap (asking_in s) (still-there s script outer is more)
+    ∙ ap (λ (b : Bool). if b then Prints (echo_text script) (state_of s) ∷ [] else []) test
 
-pub asking-unpaid : (s : Session) (script : Script) (outer : List Script) → s.scripts ≡ script ∷ outer → script.place < length script.text → s.budget < cost_of_line script
+pub asking-unpaid : (s : Session) (script : Script) (outer : List Script) → s.texts ≡ texts_of [] (script ∷ outer) → script.place < length script.text → s.budget < cost_of_line script
     → asking s ≡ []
-unfolding asking
 asking-unpaid s script outer is more short =
     let test = lt-leb (cost_of_line script) s.budget short in
-    ap (asking_in s) (still-there s.scripts script outer is more) ∙ ap (λ (b : Bool). if b then Prints (echo_text script) (state_of s) ∷ [] else []) test
+    asking-lines s (no-action s (script ∷ outer) is) ∙ ap (asking_in s) (still-there s script outer is more)
+    ∙ ap (λ (b : Bool). if b then Prints (echo_text script) (state_of s) ∷ [] else []) test
 
 -- ---- scripts that have ended may be closed before
 
@@ -222,17 +286,17 @@ still-still (s ∷ outer) =
     (λ more. rw more refl)
     (λ _. still-still outer)
 
--- a session in which they are
+-- a session in which they are, where no action waits
 abbrev pub closing : Session → Session
-closing s = record s { scripts = still_open s.scripts }
+closing s = record s { texts = texts_of s.texts.actions (still_open s.texts.scripts) }
 
 asking-closing : (s : Session) (scripts : List Script) → asking_in (closing s) scripts ≡ asking_in s scripts
 asking-closing s [] = refl
 asking-closing s (script ∷ outer) = refl
 
-pub asking-still : (s : Session) → asking (closing s) ≡ asking s
-unfolding asking
-asking-still s = ap (asking_in (closing s)) (still-still s.scripts) ∙ asking-closing s (still_open s.scripts)
+pub asking-still : (s : Session) → s.texts.actions ≡ [] → asking (closing s) ≡ asking s
+asking-still s none =
+    asking-lines (closing s) none ∙ ap (asking_in (closing s)) (still-still s.texts.scripts) ∙ asking-closing s (still_open s.texts.scripts) ∙ sym (asking-lines s none)
 
 arrival-closing : (s : Session) (a : Arrival) → upcoming_of (closing s) a ≡ upcoming_of s a
 unfolding behind_line
@@ -242,28 +306,29 @@ arrival-closing s (LineComes line) = refl
 
 upcoming-closing : (s : Session) (scripts : List Script) → upcoming_in (closing s) scripts ≡ upcoming_in s scripts
 unfolding behind_script_line
-upcoming-closing s [] = arrival-closing s (arrival s.budget s.open_ s.input)
+upcoming-closing s [] = ap (λ (u : Upcoming). if s.reads then u else Ends AllDone) (arrival-closing s (arrival s.budget s.open_ s.input))
 upcoming-closing s (script ∷ outer) = refl
 
-upcoming-still : (s : Session) → upcoming (closing s) ≡ upcoming s
-unfolding upcoming
-upcoming-still s = ap (upcoming_in (closing s)) (still-still s.scripts) ∙ upcoming-closing s (still_open s.scripts)
+upcoming-still : (s : Session) → s.texts.actions ≡ [] → upcoming (closing s) ≡ upcoming s
+upcoming-still s none =
+    upcoming-lines (closing s) none ∙ ap (upcoming_in (closing s)) (still-still s.texts.scripts) ∙ upcoming-closing s (still_open s.texts.scripts) ∙ sym (upcoming-lines s none)
 
 end-closing : (end : SessionEnd) (s : Session) → end_state end (closing s) ≡ end_state end s
 unfolding closed
 end-closing (ExitDone status) s = refl
+end-closing AllDone s = refl
 end-closing InputEnded s = refl
 end-closing FlushFailed s = refl
 end-closing BudgetSpent s = refl
 
-step-closing : (s : Session) (u : Upcoming) → step_upcoming (closing s) u ≡ step_upcoming s u
-step-closing s (Ends end) =
-    ap (λ l. record { made = l; next = Over end (end_state end (closing s)) }) (asking-still s) ∙ ap (λ x. record { made = asking s; next = Over end x }) (end-closing end s)
-step-closing s (Comes text behind) = ap (λ l. text_step l behind (asked text)) (asking-still s)
+step-closing : (s : Session) (u : Upcoming) → s.texts.actions ≡ [] → step_upcoming (closing s) u ≡ step_upcoming s u
+step-closing s (Ends end) none =
+    ap (λ l. record { made = l; next = Over end (end_state end (closing s)) }) (asking-still s none) ∙ ap (λ x. record { made = asking s; next = Over end x }) (end-closing end s)
+step-closing s (Comes text behind) none = ap (λ l. text_step l behind (asked text)) (asking-still s none)
 
-pub step-still : (s : Session) → step (closing s) ≡ step s
+pub step-still : (s : Session) → s.texts.actions ≡ [] → step (closing s) ≡ step s
 unfolding step
-step-still s = ap (step_upcoming (closing s)) (upcoming-still s) ∙ step-closing s (upcoming s)
+step-still s none = ap (step_upcoming (closing s)) (upcoming-still s none) ∙ step-closing s (upcoming s) none
 
-pub course-still : (s : Session) → course (closing s) ≡ course s
-course-still s = line-by-line (closing s) ∙ ap (λ (x : Step). after_step x.made x.next course) (step-still s) ∙ sym (line-by-line s)
+pub course-still : (s : Session) → s.texts.actions ≡ [] → course (closing s) ≡ course s
+course-still s none = line-by-line (closing s) ∙ ap (λ (x : Step). after_step x.made x.next course) (step-still s none) ∙ sym (line-by-line s)

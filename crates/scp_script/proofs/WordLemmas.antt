@@ -5,6 +5,7 @@ use Rattle.std.specs.Prelude.{string_bytes}
 use Rattle.std.specs.declared.string.String.{String}
 use Rattle.std.specs.declared.alloc.Global.{Global}
 use Rattle.scp_commands.specs.declared.do_file.DoFile.{DoFile}
+use Rattle.scp_script.specs.declared.texts.Texts.{Texts}
 use Rattle.scp_script.specs.Scripts.{Script, begun, first_script}
 
 -- where ten are not there yet
@@ -36,16 +37,20 @@ word-left X f words index word kept now within is so_far full same =
     ∙ sym (all-taken (map f (take index words)) (f word) (sym (ap length so_far) ∙ full))
     ∙ ap (take 10) (sym (one-more X f words index word within is))
 
--- the script that a session begins with
+-- the texts that a session begins with
 
-pub none-first : (scripts : List Script) (script : Option DoFile) (words : List (String Global)) → scripts ≡ [] → script ≡ None → scripts ≡ first_script script words
-none-first scripts script words none is = none ∙ ap (λ (o : Option DoFile). first_script o words) (sym is)
+-- no action waits
+abbrev held : List Script → Texts
+held scripts = record { actions = []; scripts = scripts }
 
-pub some-first : (scripts outer : List Script) (first : Script) (script : Option DoFile) (file copy : DoFile) (arguments : List (List ℕ)) (words given : List (String Global))
-    → scripts ≡ first ∷ outer → outer ≡ [] → first ≡ begun arguments copy → arguments ≡ take 10 (map (λ word. string_bytes word) given) → given ≡ words → copy ≡ file → script ≡ Some file
-    → scripts ≡ first_script script words
-some-first scripts outer first script file copy arguments words given pushed none is taken same copied there =
-    pushed ∙ ap (λ (l : List Script). first ∷ l) none
-    ∙ ap (λ (s : Script). s ∷ []) (is ∙ ap (λ a. begun a copy) taken ∙ ap (λ (w : List (String Global)). begun (take 10 (map (λ word. string_bytes word) w)) copy) same
+pub none-first : (texts : Texts) (script : Option DoFile) (words : List (String Global)) → texts ≡ record { actions = []; scripts = [] } → script ≡ None → texts ≡ record { actions = []; scripts = first_script script words }
+none-first texts script words none is = none ∙ ap (λ (o : Option DoFile). held (first_script o words)) (sym is)
+
+pub some-first : (texts outer : Texts) (first : Script) (script : Option DoFile) (file copy : DoFile) (arguments : List (List ℕ)) (words given : List (String Global))
+    → texts ≡ record outer { scripts = first ∷ outer.scripts } → outer ≡ record { actions = []; scripts = [] } → first ≡ begun arguments copy → arguments ≡ take 10 (map (λ word. string_bytes word) given) → given ≡ words → copy ≡ file → script ≡ Some file
+    → texts ≡ record { actions = []; scripts = first_script script words }
+some-first texts outer first script file copy arguments words given pushed none is taken same copied there =
+    pushed ∙ ap (λ (t : Texts). record t { scripts = first ∷ t.scripts }) none
+    ∙ ap (λ (s : Script). held (s ∷ [])) (is ∙ ap (λ a. begun a copy) taken ∙ ap (λ (w : List (String Global)). begun (take 10 (map (λ word. string_bytes word) w)) copy) same
     ∙ ap (λ (f : DoFile). begun (take 10 (map (λ word. string_bytes word) words)) f) copied)
-    ∙ ap (λ (o : Option DoFile). first_script o words) (sym there)
+    ∙ ap (λ (o : Option DoFile). held (first_script o words)) (sym there)

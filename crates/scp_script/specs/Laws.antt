@@ -2,6 +2,7 @@
 use Rattle.std.specs.Prelude.{◌≡◌, ℕ, zero, suc, ◌+◌, ◌<◌, ◌≤◌, List, [], length, drop}
 use Rattle.observations.specs.Observations.{Observation, reads_of}
 use Rattle.script_text.specs.Lines.{first_line, line_cost}
+use Rattle.scp_script.specs.Actions.{texts_of}
 use Rattle.scp_script.specs.Session.{State, Session, step, after_step, course, ComesTo}
 
 -- a session does its next text, and then what the session behind that text does: the bound in the definition of a
@@ -19,9 +20,9 @@ abbrev pub lines_cost : ℕ → List ℕ → ℕ
 lines_cost zero input = 0
 lines_cost (suc count) input = line_cost (length (first_line input)) + lines_cost count (drop (length (first_line input) + 1) input)
 
--- A session behind that many texts, of which so many were lines of the input and all others lines of scripts: those lines
--- were read, and nothing else; the budget has fallen by what is spent more, which is a unit for each text at least; and the
--- limit of a run and the prompt are as they were.
+-- A session behind that many texts, of which so many were lines of the input and all others actions or lines of scripts:
+-- those lines were read, and nothing else; the budget has fallen by what is spent more, which is a unit for each text at
+-- least; and the limit of a run and the prompt are as they were, and so is whether the input is read.
 pub record AreBehind (count : ℕ) (s : Session) (made : List (Observation State)) (t : Session) : Type 0 where
   pub lines : ℕ
   pub few : lines ≤ count
@@ -31,19 +32,20 @@ pub record AreBehind (count : ℕ) (s : Session) (made : List (Observation State
   pub paid : t.budget + count ≤ s.budget
   pub limit : t.limit ≡ s.limit
   pub prompt : t.prompt ≡ s.prompt
+  pub reading : t.reads ≡ s.reads
 
--- the same where no script was open: each text is a line of the input
+-- the same where no action waited and no script was open: each text is a line of the input
 pub record IsBehindLines (count : ℕ) (s : Session) (made : List (Observation State)) (t : Session) : Type 0 where
   pub rest : t.input ≡ drop (lines_size count s.input) s.input
   pub reads : reads_of made ≡ lines_size count s.input
   pub budget : s.budget ≡ t.budget + lines_cost count s.input
   pub spent : t.spent ≡ s.spent + lines_cost count s.input
 
--- no script is open before any of so many texts
-abbrev pub NoScripts : ℕ → Session → List (Observation State) → Session → Type 0
-NoScripts count s made t = (before : ℕ) (more : List (Observation State)) (mid : Session) → before < count → ComesTo before s more mid → mid.scripts ≡ []
+-- no action waits and no script is open before any of so many texts
+abbrev pub OnlyInput : ℕ → Session → List (Observation State) → Session → Type 0
+OnlyInput count s made t = (before : ℕ) (more : List (Observation State)) (mid : Session) → before < count → ComesTo before s more mid → mid.texts ≡ texts_of [] []
 
 -- after so many texts that only go on, what was consumed is those lines
 pub record LinesAreConsumed : Type 0 where
   pub texts : (count : ℕ) (s t : Session) (made : List (Observation State)) → ComesTo count s made t → AreBehind count s made t
-  pub lines : (count : ℕ) (s t : Session) (made : List (Observation State)) → ComesTo count s made t → NoScripts count s made t → IsBehindLines count s made t
+  pub lines : (count : ℕ) (s t : Session) (made : List (Observation State)) → ComesTo count s made t → OnlyInput count s made t → IsBehindLines count s made t

@@ -1,6 +1,7 @@
 pub mod Lines
 pub mod Reading
 pub mod Scripts
+pub mod Actions
 pub mod Session
 pub mod Loop
 pub mod Perform

@@ -30,9 +30,16 @@ use Rattle.scp_script.specs.declared.progress.Progress.{Progress}
 use Rattle.scp_script.specs.declared.progress.Progress.TheVariants.{GoesOn, IsOver}
 use Rattle.scp_script.specs.Lines.{reads_left}
 use Rattle.scp_script.specs.Reading.{AreRead}
-use Rattle.scp_script.specs.Scripts.{Script, most_scripts, settled, scripts_behind}
+use Rattle.scp_script.specs.Scripts.{Script, most_scripts, settled}
+use Rattle.expect_actions.specs.Watch.{WatchState}
+use Rattle.scp_script.specs.declared.texts.Texts.{Texts as HeldTexts}
+use Rattle.scp_script.specs.Actions.{Texts, texts_of, texts_behind}
 use Rattle.scp_script.specs.Session as ends
-use Rattle.scp_script.specs.Session.{State, Session, SessionEnd, ExitDone, InputEnded, BudgetSpent, Going, asking, with_complaint, text_reply, step, course, trace}
+use Rattle.scp_script.specs.Session.{State, Session, SessionEnd, ExitDone, AllDone, InputEnded, BudgetSpent, Going, asking, with_complaint, text_reply, step, course, trace}
+
+-- the texts that the loop holds
+abbrev pub coming : HeldTexts → Texts
+coming t = texts_of t.actions t.scripts
 
 -- the session that the loop stands in, to which these failing calls are still to come
 abbrev pub session_of : CommandState → List NamedBytes → CommandLoop → List ℕ → List Note → Session
@@ -42,7 +49,8 @@ session_of state files l input notes = record {
   spent = state.command;
   limit = state.limit;
   budget = l.budget;
-  scripts = l.scripts;
+  texts = coming l.texts;
+  reads = l.reads;
   prompt = l.prompt;
   input = input;
   open_ = l.reader.open_;
@@ -54,26 +62,26 @@ exit_of (Ok (ExitNext status)) = Some status
 exit_of answer = None
 
 -- What a text comes to on the console: it was done and what it prints was printed, or a byte of that was refused. Where
--- the session goes on, these scripts are open, which are those behind its answer. Where memory ran out, another clause says
+-- the session goes on, these texts are still to come, which are those behind it. Where memory ran out, another clause says
 -- what stands.
-abbrev pub IsAnswer : Reply → (Answer → List Script) → Progress → List Script → Standing → Bool → List ℕ → List ℕ → Type 0
-IsAnswer reply behind GoesOn scripts at tells before after =
-    (exit_of reply.answer ≡ None) × (scripts ≡ behind reply.answer) × IsSaid reply at tells before after
-IsAnswer reply behind (IsOver (Exit status)) scripts at tells before after = (exit_of reply.answer ≡ Some status) × IsSaid reply at tells before after
-IsAnswer reply behind (IsOver Console) scripts at tells before after = IsBrokenOff reply at tells before after
-IsAnswer reply behind (IsOver OutOfMemory) scripts at tells before after = Unit {0}
-IsAnswer reply behind (IsOver EndOfInput) scripts at tells before after = ⊥
-IsAnswer reply behind (IsOver FlushFailed) scripts at tells before after = ⊥
-IsAnswer reply behind (IsOver Commands) scripts at tells before after = ⊥
-IsAnswer reply behind (IsOver Input) scripts at tells before after = ⊥
+abbrev pub IsAnswer : Reply → (Answer → WatchState → Texts) → Progress → Texts → Standing → Bool → List ℕ → List ℕ → Type 0
+IsAnswer reply behind GoesOn texts at tells before after =
+    (exit_of reply.answer ≡ None) × (texts ≡ behind reply.answer reply.after.live.watch) × IsSaid reply at tells before after
+IsAnswer reply behind (IsOver (Exit status)) texts at tells before after = (exit_of reply.answer ≡ Some status) × IsSaid reply at tells before after
+IsAnswer reply behind (IsOver Console) texts at tells before after = IsBrokenOff reply at tells before after
+IsAnswer reply behind (IsOver OutOfMemory) texts at tells before after = Unit {0}
+IsAnswer reply behind (IsOver EndOfInput) texts at tells before after = ⊥
+IsAnswer reply behind (IsOver FlushFailed) texts at tells before after = ⊥
+IsAnswer reply behind (IsOver Commands) texts at tells before after = ⊥
+IsAnswer reply behind (IsOver Input) texts at tells before after = ⊥
 
--- A text was answered where these scripts were open, with the notes that were kept in it: it has used all of them and no
+-- A text was answered where these were still to come, with the notes that were kept in it: it has used all of them and no
 -- others, whatever comes behind.
-pub record Answers (limit : ℕ) (old : Live) (scripts : List Script) (what : Asked) (number : ℕ) (result : Progress) (new : Live) (scripts' : List Script) (tells : Bool) (before after : List ℕ) (notes notes' : List Note) : Type 0 where
+pub record Answers (limit : ℕ) (old : Live) (texts : Texts) (what : Asked) (number : ℕ) (result : Progress) (new : Live) (texts' : Texts) (tells : Bool) (before after : List ℕ) (notes notes' : List Note) : Type 0 where
   pub own : List CommandNote
   pub kept : notes' ≡ notes ++ numbered number own
   pub answers : (behind : List CommandNote) → ComeBehind new behind
-      → IsAnswer (text_reply limit scripts (own ++ behind) old what) (scripts_behind scripts what) result scripts' (record { live = new; used = length own }) tells before after
+      → IsAnswer (text_reply limit texts (own ++ behind) old what) (texts_behind texts what) result texts' (record { live = new; used = length own }) tells before after
 
 -- there is room for the script of a DO
 abbrev pub FitsIn : List Script → Request → Type 0
@@ -84,11 +92,12 @@ abbrev pub HasRoom : List Script → Next → Type 0
 HasRoom scripts (next.Do file) = length scripts < most_scripts
 HasRoom scripts other = Unit {0}
 
--- what comes to be of a command that was done and has that to say, where its bytes are written
-abbrev pub Follows : Next → Request → Progress → List Script → List Script → Bool → List ℕ → List ℕ → Type 0
-Follows next request result scripts scripts' tells written after =
-    (reply : Reply) (at : Standing) (before : List ℕ) → HasRoom scripts next → Does reply (Ok next) at tells before written
-    → IsAnswer (with_complaint (settled scripts (Ok request) reply)) (scripts_behind scripts (Ok request)) result scripts' at tells before after
+-- what comes to be of a command that was done, has left the watch tables so, and has that to say, where its bytes are
+-- written
+abbrev pub Follows : WatchState → Next → Request → Progress → Texts → Texts → Bool → List ℕ → List ℕ → Type 0
+Follows watch next request result texts texts' tells written after =
+    (reply : Reply) (at : Standing) (before : List ℕ) → at.live.watch ≡ watch → HasRoom texts.scripts next → Does reply (Ok next) at tells before written
+    → IsAnswer (with_complaint texts.actions (settled texts.scripts (Ok request) reply)) (texts_behind texts (Ok request)) result texts' at tells before after
 
 -- the text of a fault was printed, or a byte of it was refused
 abbrev pub Complains : Bool → List ℕ → List ℕ → Progress → List ℕ → Type 0
@@ -132,6 +141,7 @@ status_of OutOfMemory = 103
 -- the finish of a session in which nothing failed
 abbrev pub finish_of : SessionEnd → Finish
 finish_of (ExitDone status) = Exit status
+finish_of AllDone = Exit 0
 finish_of InputEnded = EndOfInput
 finish_of ends.FlushFailed = FlushFailed
 finish_of BudgetSpent = Commands

@@ -8,19 +8,21 @@ use Rattle.scp_script.specs.declared.progress.Finish.{Finish}
 use Rattle.scp_script.specs.declared.progress.Finish.TheVariants.{OutOfMemory}
 use Rattle.scp_script.specs.Lines.{reads_left}
 use Rattle.scp_script.specs.Scripts.{Script, first_script}
+use Rattle.scp_script.specs.Actions.{texts_of}
 use Rattle.scp_script.specs.Session.{State, Session, asking, course, trace, ComesTo}
 use Rattle.scp_script.specs.Loop.{EndsAs, LetsThrough, NamesEnd, status_of, StopsShort, MayFollow}
 use Rattle.observations.specs.Observations.{Observation, text_of, reads_of}
 
--- a session before its first text, with those scripts, in which these calls on files fail
-unfoldable pub beginning_with : CommandState → List NamedBytes → Bool → ℕ → List Script → List ℕ → List Note → Session
-beginning_with state files prompt budget scripts input notes = record {
+-- a session before its first text, with those scripts and no action, in which these calls on files fail
+unfoldable pub beginning_with : CommandState → List NamedBytes → Bool → Bool → ℕ → List Script → List ℕ → List Note → Session
+beginning_with state files reads prompt budget scripts input notes = record {
   live = live_in state files;
   notes = notes;
   spent = state.command;
   limit = state.limit;
   budget = budget;
-  scripts = scripts;
+  texts = texts_of [] scripts;
+  reads = reads;
   prompt = prompt;
   input = input;
   open_ = true;
@@ -28,7 +30,7 @@ beginning_with state files prompt budget scripts input notes = record {
 
 -- the same of an opening
 unfoldable pub beginning : CommandState → List NamedBytes → Opening → List ℕ → List Note → Session
-beginning state files opening input notes = beginning_with state files opening.prompt opening.budget (first_script opening.script opening.arguments.items) input notes
+beginning state files opening input notes = beginning_with state files opening.reads opening.prompt opening.budget (first_script opening.script opening.arguments.items) input notes
 
 -- The whole session, which took the first bytes of the input and left the others. It has used every note.
 pub record IsSession (start : Session) (finish : Finish) (live : Live) (left before after : List ℕ) : Type 0 where

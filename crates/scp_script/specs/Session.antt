@@ -2,7 +2,7 @@
 use Rattle.std.specs.Prelude.{◌≡◌, ℕ, zero, suc, ◌+◌, ◌-◌, nat_le, Bool, List, [], ◌∷◌, ◌++◌, length, drop, codes, Option, Some, None, Ok, Err, if◌then◌else◌}
 use Rattle.observations.specs.Observations.{Observation, Prints, Reads, Trace, after_made, map_made}
 use Rattle.fault_notes.specs.Notes.{CommandNote, Note, handed}
-use Rattle.scp_commands.specs.declared.next.Next.TheVariants.{Exit}
+use Rattle.scp_commands.specs.declared.next.Next.TheVariants.{Exit, Ran}
 use Rattle.scp_commands.specs.Live.{Live, Standing}
 use Rattle.scp_commands.specs.Reply.{Answer, Reply}
 use Rattle.scp_commands.specs.FaultText.{fault_text}
@@ -10,7 +10,8 @@ use Rattle.unit_trait.specs.declared.kind.UnitName.{UnitName}
 use Rattle.file_commands.specs.AllUnits.{Emptied}
 use Rattle.scp_commands.specs.FileEffects.{emptied_all, emptied_live}
 use Rattle.scp_commands.specs.Effect.{Asked, does, asked}
-use Rattle.scp_script.specs.Scripts.{Script, still_open, cost_of_line, text_of_line, echo_text, past_line, checked, settled, scripts_behind}
+use Rattle.scp_script.specs.Scripts.{Script, still_open, cost_of_line, text_of_line, echo_text, past_line, checked, settled}
+use Rattle.scp_script.specs.Actions.{Texts, texts_of, text_of_stop, overflow_text, texts_behind}
 use Rattle.script_text.specs.Lines.{first_line, line_cost, has_lf}
 use Rattle.scp_script.specs.Lines.{Arrival, InputEnds, Unpaid, LineComes, arrival, line_reads}
 
@@ -20,17 +21,18 @@ pub record State : Type 0 where
   pub notes : List Note
 
 -- What the future of a session depends on: what commands work on, how many instructions a run may execute, the units of
--- budget left, the scripts that are open, whether the prompt is printed, the rest of the input, and whether its end is
--- still to be read. Beside that it
--- is handed the failing calls that are still to come, each with the number of its command, which is how many units of the
--- budget are spent, those of the command included.
+-- budget left, the actions that wait and the scripts that are open, whether the input is read behind these, whether the
+-- prompt is printed, the rest of the input, and whether its end is still to be read. Beside that it is handed the failing
+-- calls that are still to come, each with the number of its command, which is how many units of the budget are spent, those
+-- of the command included.
 pub record Session : Type 0 where
   pub live : Live
   pub notes : List Note
   pub spent : ℕ
   pub limit : ℕ
   pub budget : ℕ
-  pub scripts : List Script
+  pub texts : Texts
+  pub reads : Bool
   pub prompt : Bool
   pub input : List ℕ
   pub open_ : Bool
@@ -49,19 +51,24 @@ prompt_text on = if on then codes "sim> " else []
 abbrev pub asking_input : Session → List (Observation State)
 asking_input s = Prints (prompt_text s.prompt) (state_of s) ∷ Reads (line_reads s.budget s.open_ s.input) (state_of s) ∷ []
 
--- what is made before the next text is done: that, where no script is open; and else the text of the script's line, where
--- it is to be printed, and the line is paid
+-- what is made before the next line is done: that, where no script is open and the input is read; and else the text of the
+-- script's line, where it is to be printed, and the line is paid
 abbrev pub asking_in : Session → List Script → List (Observation State)
-asking_in s [] = asking_input s
+asking_in s [] = if s.reads then asking_input s else []
 asking_in s (script ∷ outer) = if nat_le (cost_of_line script) s.budget then Prints (echo_text script) (state_of s) ∷ [] else []
 
+-- before an action nothing is
+abbrev pub asking_at : Session → List (List ℕ) → List (Observation State)
+asking_at s [] = asking_in s (still_open s.texts.scripts)
+asking_at s (action ∷ others) = []
+
 unfoldable pub asking : Session → List (Observation State)
-asking s = asking_in s (still_open s.scripts)
+asking s = asking_at s s.texts.actions
 
 -- the session behind its next line of the input, which was read and paid: no script is open then
 unfoldable pub behind_line : Session → Session
 behind_line s = record s {
-  scripts = [];
+  texts = texts_of [] [];
   spent = s.spent + line_cost (length (first_line s.input));
   budget = s.budget - line_cost (length (first_line s.input));
   input = drop (length (first_line s.input) + 1) s.input;
@@ -73,14 +80,23 @@ unfoldable pub behind_script_line : Session → Script → List Script → Sessi
 behind_script_line s script outer = record s {
   spent = s.spent + cost_of_line script;
   budget = s.budget - cost_of_line script;
-  scripts = past_line script ∷ outer;
+  texts = texts_of [] (past_line script ∷ outer);
 }
 
--- By what a session is over where neither console nor input fails: EXIT with that status was done, the input has ended,
--- it has and a unit has kept its file since that could not be written back, or a line was due for which no unit of the
--- budget was left.
+-- the session behind its next action, which costs a unit
+unfoldable pub behind_action : Session → List (List ℕ) → Session
+behind_action s others = record s {
+  spent = s.spent + 1;
+  budget = s.budget - 1;
+  texts = texts_of others s.texts.scripts;
+}
+
+-- By what a session is over where neither console nor input fails: EXIT with that status was done, all was done where the
+-- input is not read, the input has ended, it has and a unit has kept its file since that could not be written back, or a
+-- text was due for which no unit of the budget was left.
 pub data SessionEnd : Type 0 where
   ExitDone : ℕ → SessionEnd
+  AllDone : SessionEnd
   InputEnded : SessionEnd
   FlushFailed : SessionEnd
   BudgetSpent : SessionEnd
@@ -88,6 +104,7 @@ pub data SessionEnd : Type 0 where
 -- its status
 abbrev pub end_status : SessionEnd → ℕ
 end_status (ExitDone status) = status
+end_status AllDone = 0
 end_status InputEnded = 0
 end_status FlushFailed = 107
 end_status BudgetSpent = 104
@@ -110,26 +127,33 @@ upcoming_of s InputEnds = Ends (input_end (emptied_in s).kept)
 upcoming_of s Unpaid = Ends BudgetSpent
 upcoming_of s (LineComes line) = Comes line (behind_line s)
 
--- the next text is the next line of the innermost script that is open, or else a line of the input
+-- the next line is the next one of the innermost script that is open, or else one of the input, where that is read
 abbrev pub upcoming_in : Session → List Script → Upcoming
-upcoming_in s [] = upcoming_of s (arrival s.budget s.open_ s.input)
+upcoming_in s [] = if s.reads then upcoming_of s (arrival s.budget s.open_ s.input) else Ends AllDone
 upcoming_in s (script ∷ outer) =
     if nat_le (cost_of_line script) s.budget then Comes (text_of_line script) (behind_script_line s script outer) else Ends BudgetSpent
 
+-- the next text is the first action that waits; then come lines
+abbrev pub upcoming_at : Session → List (List ℕ) → Upcoming
+upcoming_at s [] = upcoming_in s (still_open s.texts.scripts)
+upcoming_at s (action ∷ others) = if nat_le 1 s.budget then Comes action (behind_action s others) else Ends BudgetSpent
+
 unfoldable pub upcoming : Session → Upcoming
-upcoming s = upcoming_in s (still_open s.scripts)
+upcoming s = upcoming_at s s.texts.actions
 
--- the text of a fault is printed behind what its command has made
-abbrev pub complaint : Answer → Standing → List (Observation Standing)
-complaint (Ok next) at = []
-complaint (Err fault) at = Prints (fault_text fault) at ∷ []
+-- the text of a fault is printed behind what its command has made, and so it is where the actions of a stop do not fit
+-- in front of those that wait
+abbrev pub complaint : List (List ℕ) → Answer → Standing → List (Observation Standing)
+complaint waiting (Ok (Ran stop)) at = Prints (overflow_text (text_of_stop stop at.live.watch) waiting) at ∷ []
+complaint waiting (Ok next) at = []
+complaint waiting (Err fault) at = Prints (fault_text fault) at ∷ []
 
-abbrev pub with_complaint : Reply → Reply
-with_complaint reply = record reply { made = reply.made ++ complaint reply.answer reply.after }
+abbrev pub with_complaint : List (List ℕ) → Reply → Reply
+with_complaint waiting reply = record reply { made = reply.made ++ complaint waiting reply.answer reply.after }
 
--- what a text does where these scripts are open, and these calls on files fail
-unfoldable pub text_reply : ℕ → List Script → List CommandNote → Live → Asked → Reply
-text_reply limit scripts notes live what = with_complaint (settled scripts what (does limit notes live (checked scripts what)))
+-- what a text does where these are still to come, and these calls on files fail
+unfoldable pub text_reply : ℕ → Texts → List CommandNote → Live → Asked → Reply
+text_reply limit t notes live what = with_complaint t.actions (settled t.scripts what (does limit notes live (checked t.scripts what)))
 
 -- what comes behind a text: the session goes on, or is over by that, in that state
 pub data Following : Type 0 where
@@ -148,12 +172,12 @@ pub record Step : Type 0 where
 -- a text is done in the session behind it: it is handed the leading notes that have its number, and leaves those that it
 -- has not used
 unfoldable pub text_step : List (Observation State) → Session → Asked → Step
-text_step asked_first behind what = let reply = text_reply behind.limit behind.scripts (handed behind.spent behind.notes) behind.live what in record {
+text_step asked_first behind what = let reply = text_reply behind.limit behind.texts (handed behind.spent behind.notes) behind.live what in record {
   made = asked_first ++ map_made (state_at behind.notes) reply.made;
   next = following reply.answer (record behind {
     live = reply.after.live;
     notes = drop reply.after.used behind.notes;
-    scripts = scripts_behind behind.scripts what reply.answer;
+    texts = texts_behind behind.texts what reply.answer reply.after.live.watch;
   });
 }
 

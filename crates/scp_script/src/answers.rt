@@ -1,4 +1,4 @@
-ghost use Rattle.std.specs.Prelude.{◌≡◌, ◌≢◌, List, IsTrue, true, false, Ok, Err, IfOk};
+ghost use Rattle.std.specs.Prelude.{◌≡◌, ◌≢◌, ◌≤◌, List, length, IsTrue, true, false, Ok, Err, IfOk};
 ghost use Rattle.host_files.specs.Lists.{NamedBytes};
 ghost use Rattle.host_files.specs.State.{Opened};
 ghost use Rattle.unit_files.specs.Open.{AllOpen, Around};
@@ -11,15 +11,19 @@ ghost use Rattle.scp_commands.specs.declared.fault.CommandFault.TheVariants.{Too
 ghost use Rattle.scp_script.specs.declared.progress.Progress.TheVariants.{IsOver};
 ghost use Rattle.scp_script.specs.declared.progress.Finish.TheVariants.{OutOfMemory};
 ghost use Rattle.scp_script.specs.Scripts.{checked, arguments_of, label_of, behind_failure, is_assertion};
-ghost use Rattle.scp_script.specs.Scripts.{scripts_behind};
+ghost use Rattle.scp_script.specs.Actions.{texts_of, texts_behind, behind_refusal};
+ghost use Rattle.scp_script.specs.Actions.{text_of_stop, put_first, overflow_text};
 ghost use Rattle.scp_script.specs.Session.{text_reply};
 ghost use Rattle.scp_script.specs.Loop.{IsAnswer, Answers, AnswerCounts, HasExitStatus, AreKept, IsShort};
-ghost use Rattle.scp_script.specs.Loop.{Complains, Denies, Follows, FitsIn};
+ghost use Rattle.scp_script.specs.Loop.{coming, Complains, Denies, Follows, FitsIn};
 
 use crate::open_script::OpenScript;
 use crate::progress::{Finish, Progress};
 use crate::script_stack::ScriptStack;
+use crate::texts::Texts;
+use expect_actions::{Full, Watch};
 use host_files::{Failed, Files, Sink};
+use nova_machine::Stop;
 use scp_commands::{CommandFault, Next, Session, execute, is_built};
 use scp_parser::{Command, Verb, read_command};
 use script_text::Arguments;
@@ -31,14 +35,14 @@ pub fn answer<U: Unit, F: Files, S: Sink>(
     alloc: Global,
     session: &mut Session<U>,
     line: &[u8],
-    scripts: &mut ScriptStack,
+    texts: &mut Texts,
     files: &mut F,
     out: &mut S,
 ) -> Progress
     requires open { AllOpen session.old.machine.slots (F.state files.old).opened }
     ensures told { IsTrue F.tells → Answers session.old.limit (live_in session.old (F.state files.old).files)
-        scripts.old (asked line.now) session.old.command result (live_in session.new (F.state files.new).files)
-        scripts.new S.tells (S.written out.old) (S.written out.new) (notes_said session.old.notes)
+        (coming texts.old) (asked line.now) session.old.command result (live_in session.new (F.state files.new).files)
+        (coming texts.new) S.tells (S.written out.old) (S.written out.new) (notes_said session.old.notes)
         (notes_said session.new.notes) }
     ensures short { IsTrue F.tells → IsShort result (live_in session.old (F.state files.old).files)
         (live_in session.new (F.state files.new).files) session.old.notes session.new.notes (S.written out.old)
@@ -54,12 +58,12 @@ pub fn answer<U: Unit, F: Files, S: Sink>(
         → Around session.new.machine.slots base (F.state files.new).opened }
 {
     if !is_built(line) {
-        return deny_line(session, CommandFault::NotBuilt, scripts, out);
+        return deny_line(session, CommandFault::NotBuilt, texts, out);
     }
     let mut command = Command::new();
     match read_command(line, &mut command) {
-        Ok(()) => obey(alloc, session, &command, scripts, files, out),
-        Err(fault) => deny_line(session, CommandFault::of_line(fault), scripts, out),
+        Ok(()) => obey(alloc, session, &command, texts, files, out),
+        Err(fault) => deny_line(session, CommandFault::of_line(fault), texts, out),
     }
 }
 
@@ -70,14 +74,14 @@ fn obey<U: Unit, F: Files, S: Sink>(
     alloc: Global,
     session: &mut Session<U>,
     command: &Command,
-    scripts: &mut ScriptStack,
+    texts: &mut Texts,
     files: &mut F,
     out: &mut S,
 ) -> Progress
     requires open { AllOpen session.old.machine.slots (F.state files.old).opened }
     ensures told { IsTrue F.tells → Answers session.old.limit (live_in session.old (F.state files.old).files)
-        scripts.old (Ok command.now) session.old.command result (live_in session.new (F.state files.new).files)
-        scripts.new S.tells (S.written out.old) (S.written out.new) (notes_said session.old.notes)
+        (coming texts.old) (Ok command.now) session.old.command result (live_in session.new (F.state files.new).files)
+        (coming texts.new) S.tells (S.written out.old) (S.written out.new) (notes_said session.old.notes)
         (notes_said session.new.notes) }
     ensures short { IsTrue F.tells → IsShort result (live_in session.old (F.state files.old).files)
         (live_in session.new (F.state files.new).files) session.old.notes session.new.notes (S.written out.old)
@@ -92,16 +96,17 @@ fn obey<U: Unit, F: Files, S: Sink>(
     ensures around { (base : List Opened) → Around session.old.machine.slots base (F.state files.old).opened
         → Around session.new.machine.slots base (F.state files.new).opened }
 {
-    if is_too_deep(command, scripts) {
-        return deny_line(session, CommandFault::TooDeep, scripts, out);
+    if is_too_deep(command, &texts.scripts) {
+        return deny_line(session, CommandFault::TooDeep, texts, out);
     }
     let Ok(arguments) = script_arguments(alloc, command) else {
         return Progress::IsOver(Finish::OutOfMemory);
     };
-    match execute(alloc, session, command, files, out) {
-        Ok(next) => follow(next, command, arguments, scripts, out),
-        Err(fault) => refuse(fault, scripts, out),
-    }
+    let next = match execute(alloc, session, command, files, out) {
+        Ok(next) => next,
+        Err(fault) => return refuse(fault, texts, out),
+    };
+    follow(next, command, arguments, &session.watch, texts, out)
 }
 
 /// Whether a command is a DO where no more scripts can be open.
@@ -138,17 +143,18 @@ fn label_of(command: &Command) -> &[u8]
     }
 }
 
-/// Goes on behind a command that was done: in its script, at its label, or not at all.
+/// Goes on behind a command that was done: with the actions of its stop, in its script, at its label, or not at all.
 fn follow<S: Sink>(
     next: Next,
     command: &Command,
     arguments: Arguments,
-    scripts: &mut ScriptStack,
+    watch: &Watch,
+    texts: &mut Texts,
     out: &mut S,
 ) -> Progress
     requires arguments { arguments ≡ arguments_of (Ok command.now) }
     requires exit { IsExitAnswer (Ok next) }
-    ensures told { Follows next command.now result scripts.old scripts.new S.tells (S.written out.old)
+    ensures told { Follows watch.now next command.now result (coming texts.old) (coming texts.new) S.tells (S.written out.old)
         (S.written out.new) }
     ensures counts { AnswerCounts result (S.fault_count out.old) (S.fault_count out.new) }
     ensures exit { HasExitStatus result }
@@ -156,29 +162,59 @@ fn follow<S: Sink>(
 {
     match next {
         Next::Go => Progress::GoesOn,
-        Next::Ran(_) => Progress::GoesOn,
+        Next::Ran(stop) => act_on(stop, watch, texts, out),
         Next::Do(file) => {
-            if !scripts.is_full() {
-                scripts.push(OpenScript::begin(file, arguments));
+            if !texts.scripts.is_full() {
+                texts.scripts.push(OpenScript::begin(file, arguments));
             }
             Progress::GoesOn
         }
-        Next::Goto => match scripts.go_to(label_of(command)) {
+        Next::Goto => match texts.scripts.go_to(label_of(command)) {
             Ok(()) => Progress::GoesOn,
-            Err(fault) => refuse(fault, scripts, out),
+            Err(fault) => refuse(fault, texts, out),
         },
         Next::Exit(status) => Progress::IsOver(Finish::Exit(status)),
     }
 }
 
+/// Puts the actions of a stop in front of those that wait. Where they do not fit, that is printed, and none of them is
+/// taken; no command has failed then.
+fn act_on<S: Sink>(stop: Stop, watch: &Watch, texts: &mut Texts, out: &mut S) -> Progress
+    ensures told { Complains S.tells (S.written out.old)
+        (overflow_text (text_of_stop stop watch.now) texts.old.actions) result (S.written out.new) }
+    ensures texts { coming texts.new ≡ texts_of (put_first (text_of_stop stop watch.now) texts.old.actions) texts.old.scripts }
+    ensures counts { AnswerCounts result (S.fault_count out.old) (S.fault_count out.new) }
+    ensures exit { HasExitStatus result }
+    ensures memory { result ≢ IsOver OutOfMemory }
+{
+    match texts.actions.put_first(actions_of(stop, watch)) {
+        Ok(()) => Progress::GoesOn,
+        Err(Full) => complain(CommandFault::Full, out),
+    }
+}
+
+/// The text of the actions of a stop: of the break or of the text that was waited for at which it came, and else none.
+fn actions_of(stop: Stop, watch: &Watch) -> &[u8]
+    ensures text { result.now ≡ text_of_stop stop watch.now }
+    ensures short { length result.now ≤ 512 }
+{
+    match stop {
+        Stop::Break(_) => watch.breaks.actions_of(),
+        Stop::Expect(_) => watch.expects.actions_of(),
+        _ => b"",
+    }
+}
+
 /// Answers the fault of a command, and ends the scripts that it ends.
-fn refuse<S: Sink>(fault: CommandFault, scripts: &mut ScriptStack, out: &mut S) -> Progress
+fn refuse<S: Sink>(fault: CommandFault, texts: &mut Texts, out: &mut S) -> Progress
     ensures told { Denies fault S.tells result (S.written out.old) (S.written out.new) (S.fault_count out.old)
         (S.fault_count out.new) }
-    ensures scripts { scripts.new ≡ behind_failure (is_assertion fault) scripts.old }
+    ensures texts { coming texts.new ≡ texts_of
+        (behind_refusal texts.old.scripts (behind_failure (is_assertion fault) texts.old.scripts) texts.old.actions)
+        (behind_failure (is_assertion fault) texts.old.scripts) }
 {
     let progress = deny(fault, out);
-    scripts.fail(is_assertion(fault));
+    texts.fail(is_assertion(fault));
     progress
 }
 
@@ -208,20 +244,20 @@ fn deny<S: Sink>(fault: CommandFault, out: &mut S) -> Progress
 pub fn deny_line<U: Unit, S: Sink>(
     session: &Session<U>,
     fault: CommandFault,
-    scripts: &mut ScriptStack,
+    texts: &mut Texts,
     out: &mut S,
 ) -> Progress
     ensures told { (files : List NamedBytes) (notes : List CommandNote) (what : Asked)
-        → checked scripts.old what ≡ Err fault
-        → IsAnswer (text_reply session.now.limit scripts.old notes (live_in session.now files) what)
-        (scripts_behind scripts.old what) result scripts.new (standing 0 (live_in session.now files)) S.tells
+        → checked texts.old.scripts what ≡ Err fault
+        → IsAnswer (text_reply session.now.limit (coming texts.old) notes (live_in session.now files) what)
+        (texts_behind (coming texts.old) what) result (coming texts.new) (standing 0 (live_in session.now files)) S.tells
         (S.written out.old) (S.written out.new) }
     ensures memory { result ≢ IsOver OutOfMemory }
     ensures counts { AnswerCounts result (S.fault_count out.old) (S.fault_count out.new) }
     ensures exit { HasExitStatus result }
 {
     let progress = complain(fault, out);
-    scripts.fail(is_assertion(fault));
+    texts.fail(is_assertion(fault));
     progress
 }
 

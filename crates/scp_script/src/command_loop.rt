@@ -22,8 +22,8 @@ use unit_trait::Unit;
 /// A text of more than 512 bytes.
 const TOO_LONG: CommandFault = CommandFault::Parse(ParseFault::TooLong);
 
-/// Does the next text of a session: the next line of the innermost script that has one, or else of the input. First it
-/// takes memory for the notes of a command.
+/// Does the next text of a session: the action that waits first, or else the next line of the innermost script that has
+/// one, or else one of the input, where that is read. First it takes memory for the notes of a command.
 pub fn next_line<U: Unit, C: Source, F: Files, S: Sink>(
     alloc: Global,
     session: &mut Session<U>,
@@ -45,6 +45,8 @@ pub fn next_line<U: Unit, C: Source, F: Files, S: Sink>(
     ensures command { session.new.command + lines.new.budget ≡ session.old.command + lines.old.budget }
     ensures keeps { AreKept session.old.notes session.new.notes (F.state files.old) (F.state files.new) }
     ensures kept { KeptInLine result session.new.machine.slots session.new.notes (F.state files.old) (F.state files.new) }
+    ensures unread { lines.old.reads ≡ false → input.new ≡ input.old }
+    ensures reads { lines.new.reads ≡ lines.old.reads }
     ensures keys { session.new.keys ≡ session.old.keys }
     ensures limit { session.new.limit ≡ session.old.limit }
     ensures open { AllOpen session.new.machine.slots (F.state files.new).opened }
@@ -54,9 +56,58 @@ pub fn next_line<U: Unit, C: Source, F: Files, S: Sink>(
     if session.take_room().is_err() {
         return Progress::IsOver(Finish::OutOfMemory);
     }
-    match lines.scripts.pop_open() {
+    if !lines.texts.actions.is_empty() {
+        return action(alloc, session, lines, files, out);
+    }
+    match lines.texts.scripts.pop_open() {
         Some(script) => script_line(alloc, session, lines, script, files, out),
-        None => input_line(alloc, session, lines, input, files, out),
+        None if lines.reads => input_line(alloc, session, lines, input, files, out),
+        None => Progress::IsOver(Finish::Exit(0)),
+    }
+}
+
+/// Does the action that waits first: it costs a unit, and nothing is printed before it.
+fn action<U: Unit, F: Files, S: Sink>(
+    alloc: Global,
+    session: &mut Session<U>,
+    lines: &mut CommandLoop,
+    files: &mut F,
+    out: &mut S,
+) -> Progress
+    requires some { lines.old.texts.actions ≢ [] }
+    requires budget { lines.old.budget ≤ 2 ^ 32 }
+    requires command { session.old.command + lines.old.budget ≤ 2 ^ 33 }
+    requires open { AllOpen session.old.machine.slots (F.state files.old).opened }
+    ensures told { IsTrue F.tells → IsTrue S.tells → (input : List ℕ)
+        → Stepped (session_of session.old (F.state files.old).files lines.old input) result
+        (session_of session.new (F.state files.new).files lines.new input) (S.written out.old) (S.written out.new)
+        (notes_said session.old.notes) (notes_said session.new.notes) }
+    ensures cause { (source : ℕ) → ProgressCause result (S.fault_count out.old) (S.fault_count out.new) source source }
+    ensures pays { PaysFor lines.old.budget result lines.new.budget }
+    ensures command { session.new.command + lines.new.budget ≡ session.old.command + lines.old.budget }
+    ensures keeps { AreKept session.old.notes session.new.notes (F.state files.old) (F.state files.new) }
+    ensures kept { KeptInLine result session.new.machine.slots session.new.notes (F.state files.old) (F.state files.new) }
+    ensures reads { lines.new.reads ≡ lines.old.reads }
+    ensures keys { session.new.keys ≡ session.old.keys }
+    ensures limit { session.new.limit ≡ session.old.limit }
+    ensures open { AllOpen session.new.machine.slots (F.state files.new).opened }
+    ensures around { (base : List Opened) → Around session.old.machine.slots base (F.state files.old).opened
+        → Around session.new.machine.slots base (F.state files.new).opened }
+{
+    if !pay(session, lines, 1) {
+        return Progress::IsOver(Finish::Commands);
+    }
+    let mut text = [0u8; 512];
+    match lines.texts.actions.take(&mut text) {
+        Some(length) => answer(
+            alloc,
+            session,
+            &text[..length],
+            &mut lines.texts,
+            files,
+            out,
+        ),
+        None => Progress::GoesOn,
     }
 }
 
@@ -70,7 +121,9 @@ fn input_line<U: Unit, C: Source, F: Files, S: Sink>(
     files: &mut F,
     out: &mut S,
 ) -> Progress
-    requires scripts { lines.old.scripts ≡ [] }
+    requires actions { lines.old.texts.actions ≡ [] }
+    requires scripts { lines.old.texts.scripts ≡ [] }
+    requires reads { lines.old.reads ≡ true }
     requires room { 16 ≤ session.old.spare }
     requires budget { lines.old.budget ≤ 2 ^ 32 }
     requires command { session.old.command + lines.old.budget ≤ 2 ^ 33 }
@@ -85,6 +138,7 @@ fn input_line<U: Unit, C: Source, F: Files, S: Sink>(
     ensures command { session.new.command + lines.new.budget ≡ session.old.command + lines.old.budget }
     ensures keeps { AreKept session.old.notes session.new.notes (F.state files.old) (F.state files.new) }
     ensures kept { KeptInLine result session.new.machine.slots session.new.notes (F.state files.old) (F.state files.new) }
+    ensures reads { lines.new.reads ≡ lines.old.reads }
     ensures keys { session.new.keys ≡ session.old.keys }
     ensures limit { session.new.limit ≡ session.old.limit }
     ensures open { AllOpen session.new.machine.slots (F.state files.new).opened }
@@ -100,11 +154,11 @@ fn input_line<U: Unit, C: Source, F: Files, S: Sink>(
             alloc,
             session,
             lines.reader.line(),
-            &mut lines.scripts,
+            &mut lines.texts,
             files,
             out,
         ),
-        Reading::TooLong => deny_line(session, TOO_LONG, &mut lines.scripts, out),
+        Reading::TooLong => deny_line(session, TOO_LONG, &mut lines.texts, out),
         Reading::End => {
             match session.detach_files(files) {
                 Ok(()) => Progress::IsOver(Finish::EndOfInput),
@@ -127,13 +181,14 @@ fn script_line<U: Unit, F: Files, S: Sink>(
     out: &mut S,
 ) -> Progress
     requires line { script.place < length script.text }
-    requires scripts { length lines.old.scripts < 10 }
+    requires actions { lines.old.texts.actions ≡ [] }
+    requires scripts { length lines.old.texts.scripts < 10 }
     requires budget { lines.old.budget ≤ 2 ^ 32 }
     requires command { session.old.command + lines.old.budget ≤ 2 ^ 33 }
     requires open { AllOpen session.old.machine.slots (F.state files.old).opened }
     ensures told { IsTrue F.tells → IsTrue S.tells → (input : List ℕ)
         → Stepped (session_of session.old (F.state files.old).files
-        (record lines.old { scripts = script ∷ lines.old.scripts }) input) result
+        (record lines.old { texts = record lines.old.texts { scripts = script ∷ lines.old.texts.scripts } }) input) result
         (session_of session.new (F.state files.new).files lines.new input) (S.written out.old) (S.written out.new)
         (notes_said session.old.notes) (notes_said session.new.notes) }
     ensures cause { (source : ℕ) → ProgressCause result (S.fault_count out.old) (S.fault_count out.new) source source }
@@ -141,6 +196,7 @@ fn script_line<U: Unit, F: Files, S: Sink>(
     ensures command { session.new.command + lines.new.budget ≡ session.old.command + lines.old.budget }
     ensures keeps { AreKept session.old.notes session.new.notes (F.state files.old) (F.state files.new) }
     ensures kept { KeptInLine result session.new.machine.slots session.new.notes (F.state files.old) (F.state files.new) }
+    ensures reads { lines.new.reads ≡ lines.old.reads }
     ensures keys { session.new.keys ≡ session.old.keys }
     ensures limit { session.new.limit ≡ session.old.limit }
     ensures open { AllOpen session.new.machine.slots (F.state files.new).opened }
@@ -155,21 +211,21 @@ fn script_line<U: Unit, F: Files, S: Sink>(
         Err(_) => return Progress::IsOver(Finish::Console),
     }
     let text = script.take_line();
-    lines.scripts.push(script);
+    lines.texts.scripts.push(script);
     match text {
         Some(text) => answer(
             alloc,
             session,
             text.as_slice(),
-            &mut lines.scripts,
+            &mut lines.texts,
             files,
             out,
         ),
-        None => deny_line(session, TOO_LONG, &mut lines.scripts, out),
+        None => deny_line(session, TOO_LONG, &mut lines.texts, out),
     }
 }
 
-/// Pays for a line of a script, where enough units are left, and counts them as spent. Answers whether it is paid.
+/// Pays for an action or a line of a script, where enough units are left, and counts them as spent. Answers whether it is paid.
 fn pay<U: Unit>(session: &mut Session<U>, lines: &mut CommandLoop, cost: u64) -> bool
     requires { session.old.command + lines.old.budget ≤ 2 ^ 33 }
     ensures paid { result ≡ true → (cost ≤ lines.old.budget) × (lines.new.budget ≡ lines.old.budget - cost) }
@@ -201,7 +257,8 @@ fn read_paid<U: Unit, C: Source>(
     ensures cause { result ≡ Reading.Failed → C.fault_count input.new ≡ raised (C.fault_count input.old) }
     ensures quiet { result ≢ Reading.Failed → C.fault_count input.new ≡ C.fault_count input.old }
     ensures prompt { lines.new.prompt ≡ lines.old.prompt }
-    ensures scripts { lines.new.scripts ≡ lines.old.scripts }
+    ensures reading { lines.new.reads ≡ lines.old.reads }
+    ensures texts { lines.new.texts ≡ lines.old.texts }
     ensures command { session.new.command + lines.new.budget ≡ session.old.command + lines.old.budget }
     ensures rest { session.new ≡ record session.old { command = session.new.command } }
 {

@@ -10,6 +10,7 @@ mod open_script;
 pub mod perform_session;
 pub mod progress;
 mod script_stack;
+mod texts;
 
 pub use laws::{lines_are_consumed, session_goes_line_by_line};
 pub use perform_session::{Opening, perform};

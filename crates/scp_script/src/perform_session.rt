@@ -1,4 +1,4 @@
-ghost use Rattle.std.specs.Prelude.{◌≡◌, ◌≤◌, ◌^◌, [], true, List, map, take, string_bytes, IsTrue, IfOk};
+ghost use Rattle.std.specs.Prelude.{◌≡◌, ◌≤◌, ◌^◌, [], true, false, List, map, take, string_bytes, IsTrue, IfOk};
 ghost use Rattle.host_files.specs.State.{Opened};
 ghost use Rattle.unit_files.specs.Open.{AllOpen, Around};
 ghost use Rattle.fault_notes.specs.Notes.{notes_said};
@@ -11,7 +11,7 @@ use crate::command_loop::next_line;
 use crate::line_reader::LineReader;
 use crate::open_script::OpenScript;
 use crate::progress::{CommandLoop, Finish, Progress};
-use crate::script_stack::ScriptStack;
+use crate::texts::Texts;
 use host_files::{Files, Sink, Source};
 use scp_commands::{DoFile, ScriptText, Session};
 use script_text::Arguments;
@@ -25,15 +25,19 @@ pub struct Opening {
     pub script: Option<DoFile>,
     /// The script's name, and then its arguments. The first ten of these words count.
     pub arguments: Vec<String>,
+    /// Whether the input is read behind the script. Else the session is over there, as by EXIT with status 0, but no unit
+    /// loses its file.
+    pub reads: bool,
     /// Whether the prompt is printed before each line of the input.
     pub prompt: bool,
-    /// The units to pay for lines, at most 2^32: a line costs one, and one more for each whole 512 bytes past its first
-    /// 512.
+    /// The units to pay for lines and actions, at most 2^32: each costs one, and a line one more for each whole 512 bytes
+    /// past its first 512.
     pub budget: u64,
 }
 
-/// Does all lines of the script and of the input, until the session is over. Where the input ends, all units lose their
-/// files, or all keep them where what the disk holds can't be written back.
+/// Does all lines of the script and of the input, until the session is over, and behind each the actions of the stop to
+/// which it came. Where the input ends, all units lose their files, or all keep them where what the disk holds can't be
+/// written back.
 ///
 /// The notes that it keeps are those of the calls on files that failed in it, one for each, but for the closing that a
 /// refused ATTACH makes. Memory is taken for those of a command before its line is read.
@@ -57,6 +61,7 @@ pub fn perform<U: Unit, C: Source, F: Files, S: Sink>(
         (C.fault_count input.new) }
     ensures keeps { AreKept session.old.notes session.new.notes (F.state files.old) (F.state files.new) }
     ensures kept { KeptCause result session.new.machine.slots session.new.notes (F.state files.old) (F.state files.new) }
+    ensures unread { opening.now.reads ≡ false → input.new ≡ input.old }
     ensures keys { session.new.keys ≡ session.old.keys }
     ensures limit { session.new.limit ≡ session.old.limit }
     ensures open { AllOpen session.new.machine.slots (F.state files.new).opened }
@@ -78,23 +83,25 @@ pub fn perform<U: Unit, C: Source, F: Files, S: Sink>(
 /// others.
 fn begin(alloc: Global, opening: &Opening) -> Result<CommandLoop, AllocError>
     ensures { IfOk result (λ lines. lines ≡ record {
-      scripts = first_script opening.now.script opening.now.arguments.items;
+      texts = record { actions = []; scripts = first_script opening.now.script opening.now.arguments.items };
+      reads = opening.now.reads;
       reader = record { line = []; open_ = true };
       budget = opening.now.budget;
       prompt = opening.now.prompt;
     }) }
 {
-    let mut scripts = ScriptStack::new(alloc)?;
+    let mut texts = Texts::new(alloc)?;
     match &opening.script {
         None => (),
         Some(file) => {
             let arguments = arguments_of(alloc, &opening.arguments)?;
             let copy = copy_of(alloc, file)?;
-            scripts.push(OpenScript::begin(copy, arguments));
+            texts.scripts.push(OpenScript::begin(copy, arguments));
         }
     }
     Ok(CommandLoop {
-        scripts,
+        texts,
+        reads: opening.reads,
         reader: LineReader::new(),
         budget: opening.budget,
         prompt: opening.prompt,

@@ -1,16 +1,16 @@
 use crate::line_reader::LineReader;
-use crate::script_stack::ScriptStack;
+use crate::texts::Texts;
 
 /// How a session ended.
 #[derive(Clone, Copy, Debug, PartialEq, Eq)]
 pub enum Finish {
-    /// EXIT, with its status, from 0 to 99.
+    /// EXIT, with its status, from 0 to 99; or with 0 the end of all that was to be done, where the input is not read.
     Exit(u8),
     /// The input ended.
     EndOfInput,
     /// The input ended, and what the disk holds could not be written back: no unit has lost its file.
     FlushFailed,
-    /// A line was to be paid for, and the budget was spent.
+    /// A line or an action was to be paid for, and the budget was spent.
     Commands,
     /// The console failed.
     Console,
@@ -47,11 +47,12 @@ pub enum Progress {
     IsOver(Finish),
 }
 
-/// The texts of a session: the scripts that are open, the reader of the lines of its input, the units left to pay for
-/// texts, and whether a prompt asks for each line of the input.
+/// The texts of a session: the actions that wait and the scripts that are open, whether the input is read behind these,
+/// the reader of its lines, the units left to pay for texts, and whether a prompt asks for each line of the input.
 #[derive(Drop)]
 pub struct CommandLoop {
-    pub scripts: ScriptStack,
+    pub texts: Texts,
+    pub reads: bool,
     pub reader: LineReader,
     pub budget: u64,
     pub prompt: bool,

@@ -48,6 +48,13 @@ impl ScriptStack {
         self.scripts.len() == MOST
     }
 
+    /// How many scripts are open.
+    pub fn len(&self) -> usize
+        ensures { result ≡ length self.now }
+    {
+        self.scripts.len()
+    }
+
     /// Opens a script as the innermost.
     pub fn push(&mut self, script: OpenScript)
         requires { length self.old < 10 }

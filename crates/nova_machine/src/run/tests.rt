@@ -9,6 +9,7 @@ use unit_trait::Kind::{Clk, Tti, Tto};
 mod bursts;
 mod files;
 mod tapes;
+mod watches;
 
 /// A run of that many instructions that is called no step.
 fn limit(count: u64) -> RunLimit {

@@ -1,5 +1,6 @@
-use super::{Burst, Step};
+use super::{Burst, BurstEnd};
 use crate::processor::Processor;
+use crate::stops::{Nowhere, Stops};
 use nova_memory::ChainLimit;
 use nova_word::{Addr, Word};
 use std::alloc::{AllocError, Global};
@@ -28,12 +29,12 @@ fn ends(
     alloc: Global,
     words: &[u16],
     budget: u64,
-    burst: (u64, Step),
+    burst: (u64, BurstEnd),
     left: (u16, u16),
 ) -> Result<(), Fail> {
     let mut processor = with_words(alloc, words)?;
     let (done, end) = burst;
-    assert_eq!(rt; processor.burst(budget), Burst { done, end });
+    assert_eq!(rt; processor.burst(budget, &Nowhere), Burst { done, end });
     let (ac0, pc) = left;
     assert_eq!(rt; processor.accumulator(0), ac0);
     assert_eq!(rt; processor.cpu.pc, at(pc));
@@ -45,28 +46,71 @@ fn a_burst_ends_at_its_budget_or_before_what_is_not_its_own(rt: HostRuntime) -> 
     let alloc = rt.alloc();
     // INC 0,0 three times
     let counts = [0o101400, 0o101400, 0o101400];
-    ends(&rt, alloc, &counts, 0, (0, Step::Executed), (0, 0o100))?;
-    ends(&rt, alloc, &counts, 2, (2, Step::Executed), (2, 0o102))?;
+    ends(&rt, alloc, &counts, 0, (0, BurstEnd::Spent), (0, 0o100))?;
+    ends(&rt, alloc, &counts, 2, (2, BurstEnd::Spent), (2, 0o102))?;
     // INC 0,0 before HALT, before NIOS to the printer, and before a word to a device that is not there
     let halt = [0o101400, 0o063077];
-    ends(&rt, alloc, &halt, 9, (1, Step::Transfer), (1, 0o101))?;
-    ends(&rt, alloc, &halt, 1, (1, Step::Executed), (1, 0o101))?;
+    ends(&rt, alloc, &halt, 9, (1, BurstEnd::Transfer), (1, 0o101))?;
+    ends(&rt, alloc, &halt, 1, (1, BurstEnd::Spent), (1, 0o101))?;
     let start = [0o101400, 0o060111];
-    ends(&rt, alloc, &start, 9, (1, Step::Transfer), (1, 0o101))?;
+    ends(&rt, alloc, &start, 9, (1, BurstEnd::Transfer), (1, 0o101))?;
     let absent = [0o101400, 0o060122];
-    ends(&rt, alloc, &absent, 9, (1, Step::Transfer), (1, 0o101))?;
+    ends(&rt, alloc, &absent, 9, (1, BurstEnd::Transfer), (1, 0o101))?;
     // INC 0,0,SKP over a HALT
     let over = [0o101401, 0o063077, 0o101400];
-    ends(&rt, alloc, &over, 2, (2, Step::Executed), (2, 0o103))?;
+    ends(&rt, alloc, &over, 2, (2, BurstEnd::Spent), (2, 0o103))?;
     // JMP @102, which names itself
     let endless = [0o101400, 0o002102, 0o100102];
-    ends(&rt, alloc, &endless, 9, (1, Step::ChainLimit), (1, 0o101))?;
+    ends(
+        &rt,
+        alloc,
+        &endless,
+        9,
+        (1, BurstEnd::ChainLimit),
+        (1, 0o101),
+    )?;
     // MUL, which is 0 times 0 plus AC0, and DIV by 0
     let multiply = [0o101400, 0o073301, 0o073101];
-    ends(&rt, alloc, &multiply, 3, (3, Step::Executed), (0, 0o103))?;
+    ends(&rt, alloc, &multiply, 3, (3, BurstEnd::Spent), (0, 0o103))?;
     // LDA 0,104, STA 0,107, ISZ 107 and JSR 107
     let refer = [0o020104, 0o040107, 0o010107, 0o004107, 5];
-    ends(&rt, alloc, &refer, 4, (4, Step::Executed), (5, 0o107))
+    ends(&rt, alloc, &refer, 4, (4, BurstEnd::Spent), (5, 0o107))
+}
+
+/// A stop at one address.
+#[derive(Drop)]
+struct Stop(Addr);
+
+impl Stops for Stop {
+    ghost use Rattle.std.specs.Prelude.{◌==◌};
+
+    ghost stops = { λ s a. a == s.0 };
+
+    fn is_at(&self, address: Addr) -> bool {
+        address == self.0
+    }
+}
+
+#[test]
+fn a_burst_ends_before_a_stop(rt: HostRuntime) -> Result<(), Fail> {
+    // INC 0,0, INC 0,0,SKP, a HALT that is passed over, and JMP 100
+    let words = [0o101400, 0o101401, 0o063077, 0o000100];
+    let cases = [
+        (0o100, 9, 0, BurstEnd::AtStop, 0o100),
+        (0o101, 9, 1, BurstEnd::AtStop, 0o101),
+        (0o102, 5, 5, BurstEnd::Spent, 0o103),
+        (0o103, 9, 2, BurstEnd::AtStop, 0o103),
+        (0o103, 2, 2, BurstEnd::Spent, 0o103),
+    ];
+    for (stop, budget, done, end, pc) in cases {
+        let mut processor = with_words(rt.alloc(), &words)?;
+        assert_eq!(rt;
+            processor.burst(budget, &Stop(at(stop))),
+            Burst { done, end }
+        );
+        assert_eq!(rt; processor.cpu.pc, at(pc));
+    }
+    Ok(())
 }
 
 #[test]

@@ -106,7 +106,7 @@ fn sessions_print_and_end_as_the_tables_say(rt: HostRuntime) -> Result<(), Fail>
         // memory of a size, conditions and texts; a line of a command that is not built is not read
         (
             b"SET CPU 4K\nSHOW CPU\nD 10000 1\nASSERT SIZE=10000\nAS PC>0\nECHO  a b \nRESTORE\nSAVE 8 9\nB ;\nSET TTI1 DISCONNECT\nSHOW VERSION\n",
-            b"CPU, 4K\nValue out of range\nAssertion failed\n a b \nNot built\nNot built\nNot built\nNot built\nNova simulator, project version 1\n",
+            b"CPU, 4K\nValue out of range\nAssertion failed\n a b \nNot built\nNot built\nInvalid number at 2\nNot built\nNova simulator, project version 1\n",
             0,
         ),
         (FIRST_RUN, FIRST_RUN_PRINTS, 0),
@@ -123,7 +123,7 @@ fn sessions_print_and_end_as_the_tables_say(rt: HostRuntime) -> Result<(), Fail>
         (b"EXIT\nEXAMINE AC0\n", b"", 0),
         (
             b"FOO\nexamine ac0\nE\tAC0 \nSTEP -1\nATTACH\nE DSK BUSY\nE PTR\nSHOW BREAK\nSHOW FOO\n",
-            b"Unknown command\nAC0:\t000000\nAC0:\t000000\nInvalid number at 5\nToo few arguments\nBUSY:\t0\nToo few arguments\nNot built\nInvalid name at 5\n",
+            b"Unknown command\nAC0:\t000000\nAC0:\t000000\nInvalid number at 5\nToo few arguments\nBUSY:\t0\nToo few arguments\nInvalid name at 5\n",
             0,
         ),
         (
@@ -351,6 +351,32 @@ fn words_outside_the_grammar_print_the_usage(rt: HostRuntime) -> Result<(), Fail
     let seen = run(rt.alloc(), &none, b"", 6, None)?;
     assert_eq!(rt; seen.status, 102, "a console fault prevails");
     assert_eq!(rt; seen.console.as_slice(), b"usage:".as_slice());
+    Ok(())
+}
+
+#[test]
+fn a_workload_is_done_in_place_of_a_session(rt: HostRuntime) -> Result<(), Fail> {
+    // worked out apart from the program
+    let text =
+        b"\nInstruction limit, PC: 01001 (167237)\nAC0:\t000000\nAC1:\t000000\nAC2:\t000000\nAC3:\t000000\nC:\t0\nTime: 1\n";
+    let words: [(&[&str], u8, usize, bool); 6] = [
+        (&["-g", "1", "-l", "1"], 0, 0, true),
+        // each of its three commands costs a unit
+        (&["-m", "3", "-l", "1", "-g", "1"], 0, 0, true),
+        (&["-m", "2", "-l", "1", "-g", "1"], 104, 8, true),
+        (&["-g", "0"], 100, 0, false),
+        (&["-g", "65536"], 100, 0, false),
+        (&["-g", "1", "demo"], 100, 0, false),
+    ];
+    for (word, status, missing, done) in words {
+        let seen = run(rt.alloc(), word, FIRST_RUN, 4096, None)?;
+        assert_eq!(rt; seen.status, status, "at {word:?}");
+        assert!(rt; seen.machine == done);
+        if done {
+            assert_eq!(rt; seen.console.as_slice(), &text[..text.len() - missing]);
+        }
+        assert_eq!(rt; seen.left.as_slice(), FIRST_RUN, "nothing was read");
+    }
     Ok(())
 }
 

@@ -7,16 +7,19 @@ ghost use Rattle.unit_files.specs.Open.{AllOpen};
 use super::*;
 use clock_unit::Clk;
 use disk_unit::Dsk;
-use expect_actions::Keys;
+use expect_actions::{Keys, Watch};
 use fault_notes::Subject;
 use host_files::{ByteSink, FileCall, MemFiles};
 use nova_machine::Stop;
+use nova_word::{Addr, Word};
 use paper_tape::{Lpt, Ptp, Ptr};
 use scp_parser::read_command;
 use std::process::Abort;
 use std::test::Fail;
 use tape_unit::Mta;
 use tty_units::{Tti, Tto};
+
+mod watches;
 
 /// What a line is to answer.
 #[derive(Clone, Copy)]
@@ -87,11 +90,30 @@ fn left<U: Unit, F: Files>(
     }
 }
 
-/// Plays the lines in a new session with these units, and compares the notes that it keeps.
+/// Fills the watch tables, where that is wanted: breaks from 0 up, as many as there can be; texts that are waited for, as
+/// many as there can be; and bytes for the keyboard, one fewer than can wait.
+fn fill(watch: &mut Watch, full: bool) -> Result<(), Fail> {
+    if full {
+        for k in 0..256u16 {
+            let _ = watch.breaks.add(Addr::of_word(Word(k)), 1, b"");
+        }
+        for _ in 0..64 {
+            let _ = watch.expects.add(1, b"x", b"");
+        }
+        for _ in 0..63 {
+            let _ = watch.sends.add(0, 0, 0, &[b'k'; 65]);
+        }
+    }
+    Ok(())
+}
+
+/// Plays the lines in a new session with these units, where the watch tables may be full, and compares the notes that it
+/// keeps.
 fn plays<U: Unit, F: Files>(
     rt: &impl Abort,
     alloc: Global,
     units: Vec<U>,
+    full: bool,
     files: &mut F,
     cases: &[Case],
     notes: &[Note],
@@ -101,6 +123,7 @@ fn plays<U: Unit, F: Files>(
 {
     let mut session = Session::new(alloc, units, Keys::none(alloc), 1 << 48)?;
     session.command = 7;
+    fill(&mut session.watch, full)?;
     assert_eq!(rt; left(alloc, &mut session, files, cases)?, 0);
     assert_eq!(rt; session.notes.len(), notes.len());
     for (kept, note) in session.notes.iter().zip(notes) {
@@ -111,9 +134,10 @@ fn plays<U: Unit, F: Files>(
 }
 
 /// The same with the standard units, in boxes.
-fn session_of(
+fn standard_session(
     rt: &impl Abort,
     alloc: Global,
+    full: bool,
     files: &mut MemFiles,
     cases: &[Case],
     notes: &[Note],
@@ -127,7 +151,18 @@ fn session_of(
     units.push(Box::new(alloc, Clk::new())?)?;
     units.push(Box::new(alloc, Tti::new())?)?;
     units.push(Box::new(alloc, Tto::new())?)?;
-    plays(rt, alloc, units, files, cases, notes)
+    plays(rt, alloc, units, full, files, cases, notes)
+}
+
+/// The same where nothing is watched.
+fn session_of(
+    rt: &impl Abort,
+    alloc: Global,
+    files: &mut MemFiles,
+    cases: &[Case],
+    notes: &[Note],
+) -> Result<(), Fail> {
+    standard_session(rt, alloc, false, files, cases, notes)
 }
 
 #[test]
@@ -157,7 +192,7 @@ fn commands_answer_and_print(rt: HostRuntime) -> Result<(), Fail> {
         (b"GO 100000", 100, refuses(CommandFault::OutOfRange), b""),
         (b"SHOW TIME", 7, refuses(CommandFault::Console), b"Time: 2"),
         (b"SHOW TIME", 8, GOES, b"Time: 2\n"),
-        (b"SHOW BREAK", 100, refuses(CommandFault::NotBuilt), b""),
+        (b"SHOW BREAK", 100, GOES, b""),
         (b"EXIT 100", 100, refuses(CommandFault::OutOfRange), b""),
         (b"EXIT 99", 0, Wanted::Exits(99), b""),
     ];

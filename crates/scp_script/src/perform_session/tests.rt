@@ -27,6 +27,7 @@ fn sessions_finish_by_their_input_console_and_budget(rt: HostRuntime) -> Result<
         let opening = Opening {
             script: None,
             arguments: Vec::new(alloc),
+            reads: true,
             prompt: true,
             budget,
         };
@@ -55,6 +56,7 @@ fn a_failed_read_finishes_a_session(rt: HostRuntime) -> Result<(), Fail> {
     let opening = Opening {
         script: None,
         arguments: Vec::new(alloc),
+        reads: true,
         prompt: false,
         budget: 9,
     };
@@ -76,14 +78,15 @@ fn a_failed_read_finishes_a_session(rt: HostRuntime) -> Result<(), Fail> {
 }
 
 /// A session that is done in the files of a test: the bytes of the script that it begins with, whether its lines are
-/// printed and its first failed command ends it; the words of its name and its arguments; the lines of the input; the
-/// budget; and how it is to finish, and what to print.
+/// printed and its first failed command ends it; the words of its name and its arguments; whether the input is read
+/// behind it, and the input's lines; the budget; and how it is to finish, and what to print.
 #[derive(Clone, Copy)]
 struct Case {
     script: &'static [u8],
     echo: bool,
     strict: bool,
     words: &'static str,
+    reads: bool,
     input: &'static [u8],
     budget: u64,
     finish: Finish,
@@ -95,6 +98,7 @@ const PLAIN: Case = Case {
     echo: false,
     strict: false,
     words: "main",
+    reads: true,
     input: b"",
     budget: 99,
     finish: Finish::EndOfInput,
@@ -130,6 +134,7 @@ fn does(
             strict: case.strict,
         }),
         arguments: words_of(alloc, case.words)?,
+        reads: case.reads,
         prompt: true,
         budget: case.budget.min(1 << 32),
     };
@@ -268,6 +273,77 @@ fn a_script_may_begin_others(rt: HostRuntime) -> Result<(), Fail> {
         Case {
             script: b"DO asserts\nECHO a\nDO missing\nECHO b\n",
             text: b"Assertion failed\na\nFile not found\nb\nsim> ",
+            ..PLAIN
+        },
+    ];
+    for case in cases {
+        assert!(rt; does(&rt, case, &scripts)?);
+    }
+    Ok(())
+}
+
+#[test]
+fn the_actions_of_a_stop_come_before_the_next_line(rt: HostRuntime) -> Result<(), Fail> {
+    // Memory is 0, so that GO runs one instruction, JMP 0, and then stops at a break at 0.
+    let scripts: [(&'static str, &'static [u8]); 1] = [("inner", b"ECHO inner\n")];
+    let cases = [
+        // actions that end the break and run on; they cost a unit each
+        Case {
+            script: b"D 100 101400\nD 101 100\nBREAK 100[2]; E AC0; NOBREAK ALL; STEP 2\nGO 100\n",
+            budget: 7,
+            text: b"\nBreakpoint, PC: 00100 (101400)\nAC0:\t000002\n\nStep expired, PC: 00100 (101400)\nsim> ",
+            ..PLAIN
+        },
+        // an empty one too
+        Case {
+            script: b"BREAK 0;;ECHO a\nGO\n",
+            budget: 3,
+            finish: Finish::Commands,
+            text: b"\nBreakpoint, PC: 00000 (000000)\n",
+            ..PLAIN
+        },
+        // a failed one ends its script, also behind the last line, and with it those that wait
+        Case {
+            script: b"BREAK 0; FOO; ECHO no\nGO",
+            strict: true,
+            input: b"ECHO typed\n",
+            text: b"\nBreakpoint, PC: 00000 (000000)\nUnknown command\nsim> typed\nsim> ",
+            ..PLAIN
+        },
+        // a failed ASSERT ends none where none is open
+        Case {
+            input: b"BREAK 0; ASSERT PC=1; ECHO stays\nGO\n",
+            text: b"sim> sim> \nBreakpoint, PC: 00000 (000000)\nAssertion failed\nstays\nsim> ",
+            ..PLAIN
+        },
+        // 32 wait, and 33 more do not fit, which is no failed command
+        Case {
+            script: b"BREAK 0;CONT;;;;;;;;;;;;;;;;;;;;;;;;;;;;;;;;\nGO\nECHO goes on\n",
+            strict: true,
+            text: b"\nBreakpoint, PC: 00000 (000000)\n\nBreakpoint, PC: 00000 (000000)\nTable full\ngoes on\nsim> ",
+            ..PLAIN
+        },
+        // behind a DO they come before its first line, and are its commands
+        Case {
+            script: b"BREAK 0; DO inner; ECHO rest\nGO\nECHO end\nBREAK 0; DO -E inner; FOO; ECHO no\nGO\nECHO end\n",
+            text: b"\nBreakpoint, PC: 00000 (000000)\nrest\ninner\nend\n\nBreakpoint, PC: 00000 (000000)\nUnknown command\nend\nsim> ",
+            ..PLAIN
+        },
+        // their text is not printed as a script's lines are
+        Case {
+            script: b"BREAK 0; ECHO a\nGO\n",
+            echo: true,
+            text: b"do> BREAK 0; ECHO a\ndo> GO\n\nBreakpoint, PC: 00000 (000000)\na\nsim> ",
+            ..PLAIN
+        },
+        // behind them the session is over where the input is not read
+        Case {
+            script: b"BREAK 0; ECHO a\nGO",
+            reads: false,
+            input: b"ECHO typed\n",
+            budget: 3,
+            finish: Finish::Exit(0),
+            text: b"\nBreakpoint, PC: 00000 (000000)\na\n",
             ..PLAIN
         },
     ];

@@ -1,13 +1,10 @@
-use Rattle.std.proofs.Common.{◌≡◌, Result, Ok, Err, ap, sym, ◌∙◌, subst}
-use Rattle.host_files.specs.declared.files.OpenMode.TheVariants.{Read}
+use Rattle.std.proofs.Common.{◌≡◌, Result, Ok, Err, refl, ap, sym, ◌∙◌, subst}
 use Rattle.unit_files.specs.Attachments.{attachments_of, attachment_at}
-use Rattle.unit_files.specs.View.{HoldsFile}
 use Rattle.unit_files.proofs.Opened.{file-of}
 use Rattle.unit_trait.specs.declared.calls.Got.{Got}
 use Rattle.nova_machine.specs.declared.tape.TapeStop.{TapeStop}
 use Rattle.nova_machine.specs.declared.tape.TapeStop.TheVariants.{Image, Call}
-use Rattle.nova_machine.specs.Tapes.{writes_tape}
-use Rattle.nova_machine.proofs.Operating.{Done, may-write, on-file, no-key-comes}
+use Rattle.nova_machine.proofs.Operating.{Done, may-write, on-file}
 use Rattle.nova_machine.proofs.drive.operate_drive.Goals as goal
 
 pub operate_file-requires-clause-open : goal.operate_file-requires-clause-open
@@ -27,12 +24,12 @@ returns-in-Ok-clause-memory g c = λ told.
     c.requires.«open» c.in-Some.ensures.holds (sym c.is_refused.ensures ∙ c.if-is_refused.false) e.said e.memory e.files told).memory_is
 
 pub returns-in-Ok-clause-said : goal.returns-in-Ok-clause-said
-returns-in-Ok-clause-said g c = λ told key.
+returns-in-Ok-clause-said g c = λ told key expects.
     let e = c.in-Ok.ensures in (
       sym (on-file (Ok c.in-Ok.got) g.F.Files.tells c.args.attached.now.slots c.args.unit c.in-Some.field-0 (g.F.Files.state c.args.files.now).opened c.args.order
           (g.F.Files.state c.args.files.now).files (g.F.Files.state c.operate_file.new.files).files c.args.memory.now c.operate_file.new.memory
           c.requires.«open» c.in-Some.ensures.holds (sym c.is_refused.ensures ∙ c.if-is_refused.false) e.said e.memory e.files told).said,
-      no-key-comes key c.args.order,
+      refl,
     )
 
 pub returns-in-Ok-clause-files : goal.returns-in-Ok-clause-files
@@ -52,7 +49,7 @@ returns-in-Err-Image-clause-memory g c = λ told.
     c.requires.«open» c.in-Some.ensures.holds (sym c.is_refused.ensures ∙ c.if-is_refused.false) e.said e.memory e.files told)).memory_is
 
 pub returns-in-Err-Image-clause-said : goal.returns-in-Err-Image-clause-said
-returns-in-Err-Image-clause-said g c = λ told key.
+returns-in-Err-Image-clause-said g c = λ told key expects.
     let e = c.operate_file.ensures in
     let is : c.operate_file.result ≡ Err (Image c.in-Err-Image.place) = c.in-Err-Image.is ∙ ap (λ (stop : TapeStop). Err stop) c.in-Err-Image.field-0-is in
     sym (subst (λ (r : Result Got TapeStop). Done r (attachment_at (attachments_of c.args.attached.now.slots) c.args.unit) (g.F.Files.state c.args.files.now).files (g.F.Files.state c.operate_file.new.files).files c.args.order c.args.memory.now c.operate_file.new.memory) is

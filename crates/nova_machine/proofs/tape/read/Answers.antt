@@ -1,4 +1,4 @@
-use Rattle.std.proofs.Common.{Result, Ok, subst, replicate, ◌≡◌, ◌≤◌, ◌+◌, ◌/◌, ℕ, List, min, take, drop, ap, sym, ◌∙◌, arith}
+use Rattle.std.proofs.Common.{Result, Ok, subst, replicate, ◌≡◌, ◌≤◌, ◌+◌, ◌/◌, ℕ, min, take, drop, ap, ◌∙◌, arith}
 use Rattle.host_files.specs.OneList.{shown}
 use Rattle.simh_tape.specs.declared.items.Item.{Item}
 use Rattle.simh_tape.specs.declared.items.Item.TheVariants.{Block}

@@ -8,7 +8,7 @@ use super::limit;
 use crate::machine::{Machine, RunLimit, Stop};
 use crate::scenario::Place::{Cpu, Device};
 use crate::scenario::{BUF, BUSY, DONE, Values, held, step};
-use expect_actions::Keys;
+use expect_actions::{Keys, Watch};
 use host_files::{ByteSink, FileCall, FileId, MemFiles};
 use nova_word::{Addr, Word};
 use paper_tape::{Lpt, Ptp, Ptr};
@@ -113,6 +113,7 @@ fn play<U: Unit>(rt: &impl Abort, alloc: Global, units: Vec<U>, row: Row) -> Res
 {
     let mut machine = Machine::new(alloc, units)?;
     ready(&mut machine, row)?;
+    let mut watch = Watch::new(alloc)?;
     let Ok(keys) = Keys::read_keys(alloc, row.keys) else {
         assert!(rt; false);
         return Ok(());
@@ -137,7 +138,7 @@ fn play<U: Unit>(rt: &impl Abort, alloc: Global, units: Vec<U>, row: Row) -> Res
     assert_eq!(rt; read, Ok(length));
     let mut console = ByteSink::with_room(alloc, 0)?;
     assert_eq!(rt;
-        machine.run(row.limit, &keys, &mut files, &mut console),
+        machine.run(row.limit, &mut watch, &keys, &mut files, &mut console),
         row.stop
     );
     assert_eq!(rt; machine.time(), row.time);
@@ -360,6 +361,7 @@ fn detach<U: Unit>(rt: &impl Abort, alloc: Global, units: Vec<U>) -> Result<(), 
             ..WAITS
         },
     )?;
+    let mut watch = Watch::new(alloc)?;
     let keys = Keys::none(alloc);
     let mut files = MemFiles::with_room(alloc, 16)?;
     assert_eq!(rt; files.add_file("tape", b"x"), Ok(()));
@@ -369,13 +371,13 @@ fn detach<U: Unit>(rt: &impl Abort, alloc: Global, units: Vec<U>) -> Result<(), 
     assert_eq!(rt; read, Ok(1));
     let mut console = ByteSink::with_room(alloc, 0)?;
     assert_eq!(rt;
-        machine.run(limit(400), &keys, &mut files, &mut console),
+        machine.run(limit(400), &mut watch, &keys, &mut files, &mut console),
         Stop::Limit
     );
     assert_eq!(rt; machine.unit_reg(Kind::Ptr, BYTE), Some(0o170));
     assert_eq!(rt; machine.attached_mut().detach(READER, &mut files), Ok(None));
     machine.set_cpu_reg(Pc, 0o100)?;
-    let stop = machine.run(limit(999), &keys, &mut files, &mut console);
+    let stop = machine.run(limit(999), &mut watch, &keys, &mut files, &mut console);
     assert_eq!(rt; stop, Stop::UnitNone(READER));
     assert_eq!(rt; machine.time(), 700);
     assert_eq!(rt; machine.pc().number(), 0o101);

@@ -7,7 +7,7 @@ use super::files::{failed, has, load};
 use super::limit;
 use crate::machine::{Machine, Stop};
 use crate::scenario::{BUSY, DONE};
-use expect_actions::Keys;
+use expect_actions::{Keys, Watch};
 use host_files::{ByteSink, FileCall, FileId, MemFiles};
 use nova_word::{Addr, Word};
 use std::alloc::Global;
@@ -137,10 +137,11 @@ fn play<U: Unit>(rt: &impl Abort, alloc: Global, units: Vec<U>, row: Row) -> Res
         .attached_mut()
         .attach(alloc, DRIVE_3, "other", Any, &mut files);
     assert_eq!(rt; second, Ok(10));
+    let mut watch = Watch::new(alloc)?;
     let keys = Keys::none(alloc);
     let mut console = ByteSink::with_room(alloc, 0)?;
     assert_eq!(rt;
-        machine.run(limit(9999), &keys, &mut files, &mut console),
+        machine.run(limit(9999), &mut watch, &keys, &mut files, &mut console),
         row.stop
     );
     stands(rt, &machine, row);

@@ -10,6 +10,7 @@ use Rattle.nova_top.proofs.program.lines.Goals as goal
 pub returns-clause-ended : goal.returns-clause-ended
 returns-clause-ended g c = (
   c.perform-finish.result,
+  c.session.inside.watch,
   c.session.inside.machine,
   c.status.ensures,
   refl,
@@ -34,3 +35,6 @@ returns-clause-files g c = λ base around.
       subst (λ (slots : List (Option Held)). AllOpen slots (g.F.Files.state c.perform-finish.new.files).opened) same c.perform-finish.ensures.open,
       subst (λ (slots : List (Option Held)). Around slots base (g.F.Files.state c.perform-finish.new.files).opened) same (c.perform-finish.ensures.around base around),
     )
+
+pub returns-clause-unread : goal.returns-clause-unread
+returns-clause-unread g c = λ off. c.perform-finish.ensures.unread off

@@ -4,8 +4,8 @@ use Rattle.fault_notes.specs.Notes.{notes_said}
 use Rattle.fault_notes.specs.Counts.{AreCounted}
 use Rattle.fault_notes.proofs.Adding.{counted-none}
 use Rattle.nova_top.specs.Words.{texts_of}
-use Rattle.nova_top.proofs.ProgramLemmas.{Begun, Made, begun-files}
-use Rattle.nova_top.proofs.ProgramLemmas.{usage-answer, files-answer, files-status, files-cause, session-answer, memory-answer, session-cause, session-status, refused-status, kept-counted, refused-counted, complete-answer, never-unwritten, denied-unwritten, unwritten-whole}
+use Rattle.nova_top.proofs.ProgramLemmas.{Begun, Made, begun-files, workload-given}
+use Rattle.nova_top.proofs.ProgramLemmas.{usage-answer, files-answer, files-memory, files-status, files-cause, session-answer, memory-answer, session-cause, session-status, refused-status, kept-counted, refused-counted, complete-answer, never-unwritten, denied-unwritten, unwritten-whole}
 use Rattle.nova_top.proofs.program.simulate.Given.{Over}
 use Rattle.nova_top.proofs.program.simulate.Goals as goal
 use Rattle.nova_top.proofs.program.simulate.Goals.{After-lines-arg-in-Ok-begin-2-1}
@@ -42,6 +42,12 @@ returns-in-Err-clause-complete g c = λ source files sink other quiet fed none.
     c.refuse_files.result.status c.refuse_files.result.machine c.refuse_files.result.faults.items old new status
     (refused-counted [] c.begin.new.notes.items c.refuse_files.result.faults.items old new refl c.refuse_files.ensures.notes c.begin.ensures.keeps) none (returns-in-Err-clause-outcome g c source files sink other)
 
+pub returns-in-Err-clause-memory : goal.returns-in-Err-clause-memory
+returns-in-Err-clause-memory g c = λ source files sink memory.
+    files-memory (texts_of c.args.words.now) c.in-Some.options (g.C.Source.left c.args.input.now) (g.S.Sink.written c.args.output.now) (g.S.Sink.written c.refuse_files.new.output)
+    (g.F.Files.state c.args.files.now).files (g.F.Files.state c.begin.new.files).files c.in-Err.refusal c.refuse_files.result.status c.refuse_files.result.machine
+    (notes_said c.refuse_files.result.faults.items) (sym c.options_of.ensures.options ∙ c.in-Some.is) c.refuse_files.ensures.machine (c.begin.ensures.files files) memory (c.refuse_files.ensures.told sink)
+
 pub returns-in-Err-clause-cause : goal.returns-in-Err-clause-cause
 returns-in-Err-clause-cause g c =
     files-cause (texts_of c.args.words.now) c.in-Some.options c.in-Err.refusal c.refuse_files.result.status (g.S.Sink.fault_count c.args.output.now) (g.S.Sink.fault_count c.refuse_files.new.output)
@@ -53,6 +59,7 @@ made : (g : Over) (c : goal.After-lines-arg-in-Ok-begin-2-1 g) → Made (map g.U
 made g c = record {
   standard = c.requires;
   machine = c.in-Ok.ensures.machine;
+  watch = c.in-Ok.ensures.watch;
   limit = c.in-Ok.ensures.limit;
   notes = c.in-Ok.ensures.notes;
   command = c.in-Ok.ensures.command;
@@ -62,27 +69,27 @@ made g c = record {
 
 begun : (g : Over) (c : goal.After-lines-arg-in-Ok-begin-2-1 g)
     → Begun g.F.Files.tells (texts_of c.args.words.now) c.in-Some.options
-    (record { machine = c.session.inside.machine; keys = c.in-Ok-begin.field-0.keys; limit = c.session.inside.limit; notes = c.begin.new.notes.items; command = c.session.inside.command; spare = vec_capacity c.begin.new.notes - vec_len c.begin.new.notes })
+    (record { machine = c.set_up.new.machine; watch = c.session.inside.watch; keys = c.in-Ok-begin.field-0.keys; limit = c.session.inside.limit; notes = c.begin.new.notes.items; command = c.session.inside.command; spare = vec_capacity c.begin.new.notes - vec_len c.begin.new.notes })
     c.in-Ok-begin.field-0.opening (g.F.Files.state c.args.files.now) (g.F.Files.state c.begin.new.files)
 begun g c =
     let words = texts_of c.args.words.now in
     let old = g.F.Files.state c.args.files.now in
     let new = g.F.Files.state c.begin.new.files in
-    begun-files g.F.Files.tells words c.in-Some.options (map g.U.Unit.unit_state c.args.units.items) _ c.in-Ok.session c.in-Ok-begin.field-0.keys c.in-Ok-begin.field-0.opening c.begin.new.notes.items _ old new (made g c) c.session.view_is
+    begun-files g.F.Files.tells words c.in-Some.options (map g.U.Unit.unit_state c.args.units.items) _ c.in-Ok.session c.set_up.new.machine c.in-Ok-begin.field-0.keys c.in-Ok-begin.field-0.opening c.begin.new.notes.items _ old new (made g c) c.session.view_is c.set_up.ensures.machine
     c.in-Ok-begin.ensures.told c.in-Ok-begin.ensures.opens c.begin.ensures.files c.begin.ensures.opened c.begin.ensures.keeps
 
 pub returns-in-Ok-begin-clause-outcome : goal.returns-in-Ok-begin-clause-outcome
 returns-in-Ok-begin-clause-outcome g c = λ source files sink other.
-    let (finish, now, status, machine, told, cause) = c.lines.ensures.ended in
+    let (finish, watch, now, status, machine, told, cause) = c.lines.ensures.ended in
     session-answer g.F.Files.tells (texts_of c.args.words.now) c.in-Some.options _ c.in-Ok-begin.field-0.opening (g.F.Files.state c.args.files.now) (g.F.Files.state c.begin.new.files) (g.F.Files.state c.lines.new.files).files
-    (g.C.Source.left c.args.input.now) (g.C.Source.left c.lines.new.input) (g.S.Sink.written c.args.output.now) (g.S.Sink.written c.lines.new.output) finish now c.lines.result.status c.lines.result.machine
+    (g.C.Source.left c.args.input.now) (g.C.Source.left c.lines.new.input) (g.S.Sink.written c.args.output.now) (g.S.Sink.written c.lines.new.output) finish watch now c.lines.result.status c.lines.result.machine
     (notes_said c.lines.result.faults.items) (sym c.options_of.ensures.options ∙ c.in-Some.is) (begun g (goal.at.returns-in-Ok-begin-clause-outcome g c).After-lines-arg-in-Ok-begin-2-1) files cause.exit status machine other (told source files sink)
 
 pub returns-in-Ok-begin-clause-memory : goal.returns-in-Ok-begin-clause-memory
 returns-in-Ok-begin-clause-memory g c = λ source files sink memory.
-    let (finish, now, status, machine, told, cause) = c.lines.ensures.ended in
+    let (finish, watch, now, status, machine, told, cause) = c.lines.ensures.ended in
     memory-answer g.F.Files.tells (texts_of c.args.words.now) c.in-Some.options _ c.in-Ok-begin.field-0.opening (g.F.Files.state c.args.files.now) (g.F.Files.state c.begin.new.files) (g.F.Files.state c.lines.new.files).files
-    (g.C.Source.left c.args.input.now) (g.C.Source.left c.lines.new.input) (g.S.Sink.written c.args.output.now) (g.S.Sink.written c.lines.new.output) finish now c.lines.result.status c.lines.result.machine
+    (g.C.Source.left c.args.input.now) (g.C.Source.left c.lines.new.input) (g.S.Sink.written c.args.output.now) (g.S.Sink.written c.lines.new.output) finish watch now c.lines.result.status c.lines.result.machine
     (notes_said c.lines.result.faults.items) (sym c.options_of.ensures.options ∙ c.in-Some.is) (begun g (goal.at.returns-in-Ok-begin-clause-memory g c).After-lines-arg-in-Ok-begin-2-1) files cause.exit status machine memory (told source files sink)
 
 pub returns-in-Ok-begin-clause-notes : goal.returns-in-Ok-begin-clause-notes
@@ -91,7 +98,7 @@ returns-in-Ok-begin-clause-notes g c =
 
 pub returns-in-Ok-begin-clause-complete : goal.returns-in-Ok-begin-clause-complete
 returns-in-Ok-begin-clause-complete g c = λ source files sink other quiet fed none.
-    let (finish, now, status, machine, told, cause) = c.lines.ensures.ended in
+    let (finish, watch, now, status, machine, told, cause) = c.lines.ensures.ended in
     let old = g.F.Files.state c.args.files.now in
     let new = g.F.Files.state c.lines.new.files in
     let named = session-cause (texts_of c.args.words.now) c.in-Some.options finish c.lines.result.status (g.S.Sink.fault_count c.args.output.now) (g.S.Sink.fault_count c.lines.new.output)
@@ -116,3 +123,12 @@ pub returns-in-Ok-begin-clause-unwritten : goal.returns-in-Ok-begin-clause-unwri
 returns-in-Ok-begin-clause-unwritten g c = λ is.
     unwritten-whole c.lines.result.machine c.lines.result.faults.items _ _ (g.F.Files.state c.args.files.now) (g.F.Files.state c.begin.new.files) (g.F.Files.state c.lines.new.files) c.begin.ensures.keeps
     (c.lines.ensures.unwritten is)
+
+-- ---- a workload, which leaves the input unread
+
+pub returns-in_default-clause-workload : goal.returns-in_default-clause-workload
+returns-in_default-clause-workload g c = λ given. refl
+
+pub returns-in-Ok-begin-clause-workload : goal.returns-in-Ok-begin-clause-workload
+returns-in-Ok-begin-clause-workload g c = λ given.
+    c.lines.ensures.unread (c.in-Ok-begin.ensures.opens.reads ∙ workload-given (texts_of c.args.words.now) c.in-Some.options (sym c.options_of.ensures.options ∙ c.in-Some.is) given)

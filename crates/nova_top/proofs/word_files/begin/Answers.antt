@@ -4,6 +4,7 @@ use Rattle.fault_notes.specs.Notes.{notes_said}
 use Rattle.fault_notes.specs.declared.note.Subject.TheVariants as subject
 use Rattle.nova_top.specs.Words.{texts_of, script_name}
 use Rattle.nova_top.specs.Outside.{taken_script}
+use Rattle.nova_top.specs.Workload.{first_text}
 use Rattle.nova_top.specs.Program.{Takes}
 use Rattle.nova_top.proofs.WordFileLemmas.{script-denied, denied-along, both-begin, text-begins}
 use Rattle.nova_top.proofs.ReadingLemmas.{kept-both}
@@ -31,7 +32,7 @@ returns-in-Ok-clause-told g c = λ told.
     let files = (g.F.Files.state c.args.files.now).files in
     let script = subst (λ (f : List NamedBytes). Takes subject.Script words (taken_script (script_name words c.args.options) f) c.take_keys.new.notes.items c.take_script.new.notes.items (Ok c.in_ok-script.script)) (c.take_keys.ensures.files told)
     (c.in_ok-script.ensures.told told) in
-    text-begins words c.args.options files c.in_ok-keys.keys c.in_ok-script.script (notes_said c.take_script.new.notes.items) c.open_with.result c.open_with.ensures.script
+    text-begins words c.args.options files c.in_ok-keys.keys (first_text c.args.options.workload c.in_ok-script.script) (notes_said c.take_script.new.notes.items) c.in-Ok.opening c.in-Ok.ensures.script
     (both-begin words c.args.options files c.in_ok-keys.keys c.in_ok-script.script c.args.notes.now.items c.take_keys.new.notes.items c.take_script.new.notes.items c.requires.none (c.in_ok-keys.ensures.told told) script)
 
 pub returns-in-Ok-clause-keeps : goal.returns-in-Ok-clause-keeps

@@ -18,8 +18,8 @@ returns-clause-told g c = λ tells text told.
     let after = g.F.Files.state c.read_file-whole.new.files in
     let stamped = c.stamp_of-stamp.ensures ∙ ap stamp_in (sym c.session.view_is) in
     rw (← c.session.view_is)
-    (do-did s.command (seen s.keys before.files s.machine) (seen s.keys after.files s.machine) c.args.echo c.args.strict c.args.name.now c.read_file-whole.result c.script_answer.result tells text
-    s.notes.items c.note_reading.new.notes.items c.script_answer.ensures (ap (λ (l : List NamedBytes). seen s.keys l s.machine) (c.read_file-whole.ensures.files told)) (c.read_file-whole.ensures.said told)
+    (do-did s.command (seen s.watch s.keys before.files s.machine) (seen s.watch s.keys after.files s.machine) c.args.echo c.args.strict c.args.name.now c.read_file-whole.result c.script_answer.result tells text
+    s.notes.items c.note_reading.new.notes.items c.script_answer.ensures (ap (λ (l : List NamedBytes). seen s.watch s.keys l s.machine) (c.read_file-whole.ensures.files told)) (c.read_file-whole.ensures.said told)
     (c.note_reading.ensures.notes ∙ ap (λ (t : Stamp). s.notes.items ++ read_notes subject.Script t c.read_file-whole.result) stamped))
 
 pub returns-clause-keeps : goal.returns-clause-keeps
@@ -39,7 +39,7 @@ returns-clause-undone g c = λ text is.
     let none = none-read subject.Script c.stamp_of-stamp.result (script_of c.args.echo c.args.strict) c.read_file-whole.result (λ bytes. tt) (sym c.script_answer.ensures ∙ is) in
     let kept : c.note_reading.new.notes.items ≡ s.notes.items = c.note_reading.ensures.notes ∙ ap (λ (l : List FaultNote). s.notes.items ++ l) none ∙ append-nil s.notes.items in
     rw (← c.session.view_is)
-    (record { machine = refl; notes = kept; written = refl; files_are = λ told. c.read_file-whole.ensures.files told })
+    (record { machine = refl; watch = refl; notes = kept; written = refl; files_are = λ told. c.read_file-whole.ensures.files told })
 
 pub returns-clause-own : goal.returns-clause-own
 returns-clause-own g c =

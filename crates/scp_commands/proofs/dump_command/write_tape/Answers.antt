@@ -16,10 +16,10 @@ returns-clause-told g c = λ tells text told.
     let after = g.F.Files.state c.write_file-written.new.files in
     let w = c.write_file-written.result in
     let write = c.write_file-written.ensures in
-    let live = seen s.keys before.files s.machine in
+    let live = seen s.watch s.keys before.files s.machine in
     let stamped = c.stamp_of-stamp.ensures ∙ ap stamp_in (sym c.session.view_is) in
     rw (← c.session.view_is)
-    (write-did subject.Dump (λ (l : List NamedBytes). record live { files = l }) s.command s.machine.time (seen s.keys after.files s.machine)
+    (write-did subject.Dump (λ (l : List NamedBytes). record live { files = l }) s.command s.machine.time (seen s.watch s.keys after.files s.machine)
     c.args.name.now c.args.tape.now before.files after.files w c.written_answer.result tells text s.notes.items c.note_writing.new.notes.items
     dump-is c.written_answer.ensures refl (write.made told) write.shape.fits (write.said told)
     (c.note_writing.ensures.notes ∙ ap (λ (t : Stamp). s.notes.items ++ write_notes subject.Dump t w) stamped))
@@ -45,7 +45,7 @@ returns-clause-undone g c = λ text is.
     let kept : c.note_writing.new.notes.items ≡ s.notes.items =
     c.note_writing.ensures.notes ∙ ap (λ (l : List FaultNote). s.notes.items ++ l) none.0 ∙ append-nil s.notes.items in
     rw (← c.session.view_is)
-    (record { machine = refl; notes = kept; written = refl; files_are = λ _. write.unmade none.1 })
+    (record { machine = refl; watch = refl; notes = kept; written = refl; files_are = λ _. write.unmade none.1 })
 
 pub returns-clause-own : goal.returns-clause-own
 returns-clause-own g c = (write-own subject.Dump c.write_file-written.result.answer c.written_answer.result c.written_answer.ensures).0

@@ -13,17 +13,18 @@ returns-in-Ok-clause-told g c =
     let after = g.S.Sink.written c.examine.new.out in
     let there = sym c.lacks_device.ensures ∙ c.if-lacks_device.false in
     rw (← c.session.view_is) (λ files.
-    examine-does c.session.inside.machine c.session.inside.keys files c.args.listing.now (Ok c.in-Ok.field-0) g.S.Sink.tells before after there c.in-Ok.ensures.faults c.in-Ok.ensures.told)
+    examine-does c.session.inside.machine c.session.inside.watch c.session.inside.keys files c.args.listing.now (Ok c.in-Ok.field-0) g.S.Sink.tells before after there c.in-Ok.ensures.faults c.in-Ok.ensures.told)
 
 pub returns-in-Err-clause-told : goal.returns-in-Err-clause-told
 returns-in-Err-clause-told g c =
     let before = g.S.Sink.written c.args.out.now in
     let after = g.S.Sink.written c.examine.new.out in
     let there = sym c.lacks_device.ensures ∙ c.if-lacks_device.false in
+    let watch = c.session.inside.watch in
     let keys = c.session.inside.keys in
     let m = c.session.inside.machine in
     let l = c.args.listing.now in
     λ files.
     subst (λ (s : CommandState). Does (examine_reply (live_in s files) l) (Err c.of_list.result) (standing 0 (live_in s files)) g.S.Sink.tells before after) c.session.view_is
-    (subst (λ (fault : CommandFault). Does (examine_reply (seen keys files m) l) (Err fault) (standing 0 (seen keys files m)) g.S.Sink.tells before after) (sym c.of_list.ensures)
-    (examine-does {T = Unit {0}} m keys files l (Err c.in-Err.fault) g.S.Sink.tells before after there c.in-Err.ensures.faults c.in-Err.ensures.told))
+    (subst (λ (fault : CommandFault). Does (examine_reply (seen watch keys files m) l) (Err fault) (standing 0 (seen watch keys files m)) g.S.Sink.tells before after) (sym c.of_list.ensures)
+    (examine-does {T = Unit {0}} m watch keys files l (Err c.in-Err.fault) g.S.Sink.tells before after there c.in-Err.ensures.faults c.in-Err.ensures.told))

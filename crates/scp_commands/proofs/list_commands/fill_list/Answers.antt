@@ -18,7 +18,7 @@ returns-clause-answer g c =
       | in-Ok w ↦ w.result-is ∙ sym (ap list_answer w.in-Ok.is)
       | in-Err w ↦ w.result-is ∙ ap Err w.of_list.ensures ∙ sym (ap list_answer w.in-Err.is)
     ] in
-    rw (← c.session.view_is) (λ files. answer_is ∙ (deposit-silent m new c.session.inside.keys files l c.args.value r there done).answer_is)
+    rw (← c.session.view_is) (λ files. answer_is ∙ (deposit-silent m new c.session.inside.watch c.session.inside.keys files l c.args.value r there done).answer_is)
 
 pub returns-clause-after : goal.returns-clause-after
 returns-clause-after g c =
@@ -29,7 +29,7 @@ returns-clause-after g c =
     let deposits : Deposits m l c.handed.result r new = deposits-of m new l c.handed.result r c.deposit.ensures.done c.deposit.ensures.refused in
     let there = sym c.lacks_device.ensures ∙ c.if-lacks_device.false in
     let done : Deposits m l (handed c.args.value) r new = subst (λ (v : ℕ). Deposits m l v r new) c.handed.ensures deposits in
-    rw (← c.session.view_is) (λ files. (deposit-silent m new c.session.inside.keys files l c.args.value r there done).after_is)
+    rw (← c.session.view_is) (λ files. (deposit-silent m new c.session.inside.watch c.session.inside.keys files l c.args.value r there done).after_is)
 
 pub returns-clause-slots : goal.returns-clause-slots
 returns-clause-slots g c =

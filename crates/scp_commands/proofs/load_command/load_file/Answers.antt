@@ -21,7 +21,7 @@ returns-clause-told g c = λ tells text told.
     let whole = c.read_file-whole.result in
     let stamped = c.stamp_of-stamp.ensures ∙ ap stamp_in (sym c.session.view_is) in
     rw (← c.session.view_is)
-    (load-did s.command s.keys s.machine c.load_bytes.new.machine before.files after.files c.args.name.now whole c.load_bytes.result tells text
+    (load-did s.command s.watch s.keys s.machine c.load_bytes.new.machine before.files after.files c.args.name.now whole c.load_bytes.result tells text
     s.notes.items c.note_reading.new.notes.items c.load_bytes.ensures.answer c.load_bytes.ensures.machine (c.read_file-whole.ensures.files told)
     (c.read_file-whole.ensures.said told)
     (c.note_reading.ensures.notes ∙ ap (λ (t : Stamp). s.notes.items ++ read_notes subject.Load t whole) stamped))
@@ -55,6 +55,7 @@ returns-clause-undone g c = λ text is.
     rw (← c.session.view_is)
     (record {
       machine = c.load_bytes.ensures.machine ∙ read-none whole.bytes s.machine want;
+      watch = refl;
       notes = kept;
       written = refl;
       files_are = λ told. c.read_file-whole.ensures.files told;

@@ -10,4 +10,4 @@ returns-then-not-is_size-clause-told g c = λ files tells text.
 pub returns-clause-told : goal.returns-clause-told
 returns-clause-told g c =
     rw (← c.session.view_is) (λ files tells text.
-    size-does c.session.inside.keys files c.session.inside.machine c.resize.new.machine c.args.k tells text (sym c.is_size.ensures.test ∙ c.if-not-is_size.false) c.resize.ensures)
+    size-does c.session.inside.watch c.session.inside.keys files c.session.inside.machine c.resize.new.machine c.args.k tells text (sym c.is_size.ensures.test ∙ c.if-not-is_size.false) c.resize.ensures)

@@ -5,19 +5,19 @@ use Rattle.scp_commands.specs.Live.{live_in}
 use Rattle.scp_commands.specs.Effect.{Asked, asked}
 use Rattle.scp_commands.proofs.AskedLemmas.{built-asked, unbuilt-asked}
 use Rattle.scp_script.specs.Scripts.{checked}
-use Rattle.scp_script.specs.Loop.{Answers}
+use Rattle.scp_script.specs.Loop.{Answers, coming}
 use Rattle.scp_script.proofs.TextLemmas.{answers-none}
 use Rattle.scp_script.proofs.answers.answer.Goals as goal
 
 pub returns-then-not-is_built-clause-told : goal.returns-then-not-is_built-clause-told
 returns-then-not-is_built-clause-told g c = λ told.
     let session = c.args.session.now in
-    let scripts = c.args.scripts.now in
+    let texts = coming c.args.texts.now in
     let files = (g.F.Files.state c.args.files.now).files in
     let is = unbuilt-asked c.args.line.now (sym c.is_built.ensures ∙ c.if-not-is_built.true) in
-    answers-none session.limit (live_in session files) scripts (asked c.args.line.now) session.command c.deny_line.result c.deny_line.new.scripts g.S.Sink.tells
+    answers-none session.limit (live_in session files) texts (asked c.args.line.now) session.command c.deny_line.result (coming c.deny_line.new.texts) g.S.Sink.tells
     (g.S.Sink.written c.args.out.now) (g.S.Sink.written c.deny_line.new.out) (notes_said session.notes)
-    (λ behind. c.deny_line.ensures.told files behind (asked c.args.line.now) (ap (checked scripts) is))
+    (λ behind. c.deny_line.ensures.told files behind (asked c.args.line.now) (ap (checked texts.scripts) is))
 
 pub returns-in-Ok-clause-told : goal.returns-in-Ok-clause-told
 returns-in-Ok-clause-told g c = λ told.
@@ -25,16 +25,16 @@ returns-in-Ok-clause-told g c = λ told.
     let live = live_in session (g.F.Files.state c.args.files.now).files in
     let new = live_in c.obey.new.session (g.F.Files.state c.obey.new.files).files in
     let is = built-asked c.args.line.now (Ok c.read_command.new.into) (sym c.is_built.ensures ∙ c.if-not-is_built.false) c.in-Ok.ensures.exact in
-    subst (λ (a : Asked). Answers session.limit live c.args.scripts.now a session.command c.obey.result new c.obey.new.scripts g.S.Sink.tells
+    subst (λ (a : Asked). Answers session.limit live (coming c.args.texts.now) a session.command c.obey.result new (coming c.obey.new.texts) g.S.Sink.tells
     (g.S.Sink.written c.args.out.now) (g.S.Sink.written c.obey.new.out) (notes_said session.notes) (notes_said c.obey.new.session.notes))
     (sym is) (c.obey.ensures.told told)
 
 pub returns-in-Err-clause-told : goal.returns-in-Err-clause-told
 returns-in-Err-clause-told g c = λ told.
     let session = c.args.session.now in
-    let scripts = c.args.scripts.now in
+    let texts = coming c.args.texts.now in
     let files = (g.F.Files.state c.args.files.now).files in
     let is = built-asked c.args.line.now (Err c.in-Err.fault) (sym c.is_built.ensures ∙ c.if-not-is_built.false) (c.in-Err.ensures.faulty c.in-Err.fault refl) ∙ ap (λ (f : CommandFault). Err f) (sym c.of_line.ensures) in
-    answers-none session.limit (live_in session files) scripts (asked c.args.line.now) session.command c.deny_line-in-Err.result c.deny_line-in-Err.new.scripts g.S.Sink.tells
+    answers-none session.limit (live_in session files) texts (asked c.args.line.now) session.command c.deny_line-in-Err.result (coming c.deny_line-in-Err.new.texts) g.S.Sink.tells
     (g.S.Sink.written c.args.out.now) (g.S.Sink.written c.deny_line-in-Err.new.out) (notes_said session.notes)
-    (λ behind. c.deny_line-in-Err.ensures.told files behind (asked c.args.line.now) (ap (checked scripts) is))
+    (λ behind. c.deny_line-in-Err.ensures.told files behind (asked c.args.line.now) (ap (checked texts.scripts) is))

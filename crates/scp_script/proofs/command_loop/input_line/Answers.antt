@@ -1,4 +1,4 @@
-use Rattle.std.proofs.Common.{Some, None, ◌≡◌, ◌<◌, List, [], Err, refl, ap, sym, ◌∙◌, subst, arith}
+use Rattle.std.proofs.Common.{Some, None, ◌≡◌, ◌<◌, [], Err, refl, ap, sym, ◌∙◌, subst, arith}
 use Rattle.unit_files.specs.Open.{Around}
 use Rattle.fault_notes.specs.Notes.{notes_said}
 use Rattle.scp_parser.specs.declared.fault.ParseFault.TheVariants.{TooLong}
@@ -9,8 +9,9 @@ use Rattle.scp_commands.specs.Effect.{asked}
 use Rattle.scp_commands.proofs.AskedLemmas.{long-asked}
 use Rattle.scp_script.specs.declared.progress.Progress.TheVariants.{IsOver}
 use Rattle.scp_script.specs.declared.progress.Finish.TheVariants.{Commands, Console, Input}
-use Rattle.scp_script.specs.Scripts.{Script, checked}
-use Rattle.scp_script.specs.Loop.{IsShort, Answers, session_of}
+use Rattle.scp_script.specs.Scripts.{checked}
+use Rattle.scp_script.specs.Actions.{Texts, texts_of}
+use Rattle.scp_script.specs.Loop.{IsShort, Answers, coming, session_of}
 use Rattle.scp_script.proofs.TextLemmas.{answers-none}
 use Rattle.scp_script.proofs.LineLemmas.{none-read, prompt-refused, budget-spent, input-failed}
 use Rattle.scp_script.proofs.NoteLemmas.{line-stepped, over-alone, input-closed, left-at, never-short, spent-line, answer-kept}
@@ -24,7 +25,7 @@ returns-in-Err-clause-told g c = λ source files sink.
     let after = g.S.Sink.written c.ask.new.out in
     let old = session_of session (g.F.Files.state c.args.files.now).files c.args.lines.now input [] in
     over-alone old old Console before after (notes_said session.notes) (notes_said session.notes) refl
-    (prompt-refused old old before after c.requires.scripts refl (none-read c.args.lines.now.reader.open_ input) (c.in-Err.ensures.told sink))
+    (prompt-refused old old before after (λ i. texts_of (c.requires.actions i) (c.requires.scripts i)) c.requires.reads refl (none-read c.args.lines.now.reader.open_ input) (c.in-Err.ensures.told sink))
 
 pub returns-in-Line-clause-told : goal.returns-in-Line-clause-told
 returns-in-Line-clause-told g c = λ source files sink.
@@ -39,25 +40,25 @@ returns-in-Line-clause-told g c = λ source files sink.
     let mid = g.S.Sink.written c.ask.new.out in
     let after = g.S.Sink.written c.answer.new.out in
     let done = c.answer.new.session in
-    let last = record now { scripts = c.answer.new.scripts } in
+    let last = record now { texts = c.answer.new.texts } in
     let tells = g.S.Sink.tells in
     let result = c.answer.result in
     let what = asked c.line.result.now in
     let live = live_in done (g.F.Files.state c.answer.new.files).files in
     let is = c.read_paid.ensures.rest in
-    let none = c.read_paid.ensures.scripts ∙ c.requires.scripts in
+    let none = (λ i. coming (c.read_paid.ensures.texts i)) ∙ (λ i. texts_of (c.requires.actions i) (c.requires.scripts i)) in
     let reads = c.in-Line.ensures.reads source in
     let spent = spent-line session.command paid.command lines.budget now.budget lines.reader.open_ input now.reader.line reads.0 reads.1 c.read_paid.ensures.command in
     let less : session.command < done.command = omega (arith, c.read_paid.ensures.command, c.in-Line.ensures.pays, c.answer.ensures.command) in
-    let told = subst (λ (x : CommandState). Answers x.limit (live_in x named) [] what done.command result live c.answer.new.scripts tells mid after (notes_said x.notes) (notes_said done.notes)) is
-    (subst (λ (l : List Script). Answers paid.limit (live_in paid named) l what done.command result live c.answer.new.scripts tells mid after (notes_said paid.notes) (notes_said done.notes)) none
-    (subst (λ n. Answers paid.limit (live_in paid named) now.scripts what n result live c.answer.new.scripts tells mid after (notes_said paid.notes) (notes_said done.notes)) (sym c.answer.ensures.command)
+    let told = subst (λ (x : CommandState). Answers x.limit (live_in x named) (texts_of [] []) what done.command result live (coming c.answer.new.texts) tells mid after (notes_said x.notes) (notes_said done.notes)) is
+    (subst (λ (t : Texts). Answers paid.limit (live_in paid named) t what done.command result live (coming c.answer.new.texts) tells mid after (notes_said paid.notes) (notes_said done.notes)) none
+    (subst (λ n. Answers paid.limit (live_in paid named) (coming now.texts) what n result live (coming c.answer.new.texts) tells mid after (notes_said paid.notes) (notes_said done.notes)) (sym c.answer.ensures.command)
     (c.answer.ensures.told files))) in
     let short = subst (λ (x : CommandState). IsShort result (live_in x named) live x.notes done.notes mid after) is (c.answer.ensures.short files) in
     let limit = c.answer.ensures.limit ∙ ap (λ (x : CommandState). x.limit) is in
     line-stepped (session_of session named lines input []) (session_of done (g.F.Files.state c.answer.new.files).files last left []) now.reader.line what result tells before mid after
-    (notes_said session.notes) (notes_said done.notes) session.notes done.notes sink c.requires.scripts reads.0 (ap asked (sym c.line.ensures))
-    (record { spent = c.answer.ensures.command ∙ spent; limit = limit; budget = reads.1; open_ = reads.2; prompt = c.read_paid.ensures.prompt; reads = reads.3 }) less
+    (notes_said session.notes) (notes_said done.notes) session.notes done.notes sink (λ i. texts_of (c.requires.actions i) (c.requires.scripts i)) c.requires.reads reads.0 (ap asked (sym c.line.ensures))
+    (record { spent = c.answer.ensures.command ∙ spent; limit = limit; budget = reads.1; open_ = reads.2; reading = c.read_paid.ensures.reading; prompt = c.read_paid.ensures.prompt; reads = reads.3 }) less
     (c.in-Ok.ensures.told sink) told short
 
 pub returns-in-Line-clause-around : goal.returns-in-Line-clause-around
@@ -76,27 +77,27 @@ returns-in-TooLong-clause-told g c = λ source files sink.
     let before = g.S.Sink.written c.args.out.now in
     let mid = g.S.Sink.written c.ask.new.out in
     let after = g.S.Sink.written c.deny_line.new.out in
-    let last = record now { scripts = c.deny_line.new.scripts } in
+    let last = record now { texts = c.deny_line.new.texts } in
     let tells = g.S.Sink.tells in
     let result = c.deny_line.result in
     let live = live_in session named in
     let is = c.read_paid.ensures.rest in
     let now_state = record session { command = paid.command } in
-    let none = c.read_paid.ensures.scripts ∙ c.requires.scripts in
+    let none = (λ i. coming (c.read_paid.ensures.texts i)) ∙ (λ i. texts_of (c.requires.actions i) (c.requires.scripts i)) in
     let reads = c.in-TooLong.ensures.reads source in
     let what = asked reads.0 in
     let long : what ≡ Err (Parse TooLong) = long-asked reads.0 reads.2 in
     let spent = spent-line session.command paid.command lines.budget now.budget lines.reader.open_ input reads.0 reads.1 reads.3 c.read_paid.ensures.command in
     let less : session.command < paid.command = omega (arith, c.read_paid.ensures.command, c.in-TooLong.ensures.pays) in
-    let said = answers-none paid.limit (live_in paid named) now.scripts what paid.command result c.deny_line.new.scripts tells mid after (notes_said paid.notes)
-    (λ notes. c.deny_line.ensures.told named notes what (ap (checked now.scripts) long)) in
-    let told = subst (λ (x : CommandState). Answers x.limit (live_in x named) [] what paid.command result (live_in x named) c.deny_line.new.scripts tells mid after (notes_said x.notes) (notes_said x.notes)) is
-    (subst (λ (l : List Script). Answers paid.limit (live_in paid named) l what paid.command result (live_in paid named) c.deny_line.new.scripts tells mid after (notes_said paid.notes) (notes_said paid.notes)) none said) in
+    let said = answers-none paid.limit (live_in paid named) (coming now.texts) what paid.command result (coming c.deny_line.new.texts) tells mid after (notes_said paid.notes)
+    (λ notes. c.deny_line.ensures.told named notes what (ap (checked now.texts.scripts) long)) in
+    let told = subst (λ (x : CommandState). Answers x.limit (live_in x named) (texts_of [] []) what paid.command result (live_in x named) (coming c.deny_line.new.texts) tells mid after (notes_said x.notes) (notes_said x.notes)) is
+    (subst (λ (t : Texts). Answers paid.limit (live_in paid named) t what paid.command result (live_in paid named) (coming c.deny_line.new.texts) tells mid after (notes_said paid.notes) (notes_said paid.notes)) none said) in
     let short = never-short result live live session.notes session.notes mid after c.deny_line.ensures.memory in
     left-at session paid now_state named lines last input left result before after is
     (line-stepped (session_of session named lines input []) (session_of now_state named last left []) reads.0 what result tells before mid after
-    (notes_said session.notes) (notes_said session.notes) session.notes session.notes sink c.requires.scripts reads.1 refl
-    (record { spent = spent; limit = refl; budget = reads.3; open_ = reads.4; prompt = c.read_paid.ensures.prompt; reads = reads.5 }) less
+    (notes_said session.notes) (notes_said session.notes) session.notes session.notes sink (λ i. texts_of (c.requires.actions i) (c.requires.scripts i)) c.requires.reads reads.1 refl
+    (record { spent = spent; limit = refl; budget = reads.3; open_ = reads.4; reading = c.read_paid.ensures.reading; prompt = c.read_paid.ensures.prompt; reads = reads.5 }) less
     (c.in-Ok.ensures.told sink) told short)
 
 pub returns-in-Ok-detach_files-clause-told : goal.returns-in-Ok-detach_files-clause-told
@@ -118,7 +119,7 @@ returns-in-Ok-detach_files-clause-told g c = λ source files sink.
     let closes = subst (λ n. Closes n (live_in session named) now_live None (notes_said session.notes) (notes_said done.notes)) same
     (subst (λ (x : CommandState). Closes x.command (live_in x named) now_live None (notes_said x.notes) (notes_said done.notes)) is c.in-Ok-detach_files.ensures.closes) in
     input-closed (session_of session named lines input []) (session_of done (g.F.Files.state c.detach_files.new.files).files now left []) None before after
-    (notes_said session.notes) (notes_said done.notes) c.requires.scripts reads.0 closes reads.2 (c.in-Ok.ensures.told sink)
+    (notes_said session.notes) (notes_said done.notes) (λ i. texts_of (c.requires.actions i) (c.requires.scripts i)) c.requires.reads reads.0 closes reads.2 (c.in-Ok.ensures.told sink)
 
 pub returns-in-Err-detach_files-clause-told : goal.returns-in-Err-detach_files-clause-told
 returns-in-Err-detach_files-clause-told g c = λ source files sink.
@@ -139,7 +140,7 @@ returns-in-Err-detach_files-clause-told g c = λ source files sink.
     let closes = subst (λ n. Closes n (live_in session named) now_live (Some c.in-Err-detach_files._fault.unit) (notes_said session.notes) (notes_said done.notes)) same
     (subst (λ (x : CommandState). Closes x.command (live_in x named) now_live (Some c.in-Err-detach_files._fault.unit) (notes_said x.notes) (notes_said done.notes)) is c.in-Err-detach_files.ensures.closes) in
     input-closed (session_of session named lines input []) (session_of done (g.F.Files.state c.detach_files.new.files).files now left []) (Some c.in-Err-detach_files._fault.unit) before after
-    (notes_said session.notes) (notes_said done.notes) c.requires.scripts reads.0 closes reads.2 (c.in-Ok.ensures.told sink)
+    (notes_said session.notes) (notes_said done.notes) (λ i. texts_of (c.requires.actions i) (c.requires.scripts i)) c.requires.reads reads.0 closes reads.2 (c.in-Ok.ensures.told sink)
 
 pub returns-in-Unpaid-clause-told : goal.returns-in-Unpaid-clause-told
 returns-in-Unpaid-clause-told g c = λ source files sink.
@@ -159,7 +160,7 @@ returns-in-Unpaid-clause-told g c = λ source files sink.
     let new = session_of now_state named now left [] in
     left-at session paid now_state named lines now input left (IsOver Commands) before after is
     (over-alone old new Commands before after (notes_said session.notes) (notes_said session.notes) refl
-    (budget-spent old new before after c.requires.scripts reads.0 refl reads.1 (c.in-Ok.ensures.told sink)))
+    (budget-spent old new before after (λ i. texts_of (c.requires.actions i) (c.requires.scripts i)) c.requires.reads reads.0 refl reads.1 (c.in-Ok.ensures.told sink)))
 
 pub returns-in-Failed-clause-told : goal.returns-in-Failed-clause-told
 returns-in-Failed-clause-told g c = λ source files sink.
@@ -179,7 +180,7 @@ returns-in-Failed-clause-told g c = λ source files sink.
     let new = session_of now_state named now left [] in
     left-at session paid now_state named lines now input left (IsOver Input) before after is
     (over-alone old new Input before after (notes_said session.notes) (notes_said session.notes) refl
-    (input-failed old new before after reads.0 c.requires.scripts reads.1 refl reads.2 (c.in-Ok.ensures.told sink)))
+    (input-failed old new before after reads.0 (λ i. texts_of (c.requires.actions i) (c.requires.scripts i)) c.requires.reads reads.1 refl reads.2 (c.in-Ok.ensures.told sink)))
 
 pub returns-in-Line-clause-kept : goal.returns-in-Line-clause-kept
 returns-in-Line-clause-kept g c =

@@ -2,8 +2,10 @@ use Rattle.std.proofs.Common.{[], ◌∷◌, sym, ◌∙◌, refl, subst}
 use Rattle.fault_notes.specs.Notes.{notes_said}
 use Rattle.scp_commands.specs.Live.{CommandState}
 use Rattle.scp_script.specs.declared.progress.Progress.TheVariants.{IsOver}
-use Rattle.scp_script.specs.declared.progress.Finish.TheVariants.{OutOfMemory}
+use Rattle.scp_script.specs.declared.progress.Finish.TheVariants.{Exit, OutOfMemory}
+use Rattle.scp_script.specs.Actions.{texts_of}
 use Rattle.scp_script.specs.Loop.{session_of, Stepped}
+use Rattle.scp_script.proofs.LineLemmas.{none-read, all-done}
 use Rattle.scp_script.proofs.NoteLemmas.{over-alone, room-refused, left-at, closed-before}
 use Rattle.scp_script.proofs.command_loop.next_line.Goals as goal
 
@@ -29,8 +31,8 @@ returns-in-Some-clause-told g c = λ source files sink.
     let after = g.S.Sink.written c.script_line.new.out in
     let new = session_of c.script_line.new.session (g.F.Files.state c.script_line.new.files).files c.script_line.new.lines left in
     let scripts = c.in-Some.script ∷ c.pop_open.new.self in
-    closed-before (session_of session named lines left []) scripts c.script_line.result new before after (notes_said session.notes) (notes_said c.script_line.new.session.notes) c.in-Some.ensures.taken
-    (subst (λ (x : CommandState). Stepped (session_of x named (record lines { scripts = scripts }) left) c.script_line.result new before after (notes_said x.notes) (notes_said c.script_line.new.session.notes))
+    closed-before (session_of session named lines left []) scripts c.script_line.result new before after (notes_said session.notes) (notes_said c.script_line.new.session.notes) (c.is_empty.ensures.0 c.if-not-is_empty.false) c.in-Some.ensures.taken
+    (subst (λ (x : CommandState). Stepped (session_of x named (record lines { texts = record lines.texts { scripts = scripts } }) left) c.script_line.result new before after (notes_said x.notes) (notes_said c.script_line.new.session.notes))
     c.take_room.ensures.rest (c.script_line.ensures.told files sink left))
 
 pub returns-in-None-clause-told : goal.returns-in-None-clause-told
@@ -44,6 +46,33 @@ returns-in-None-clause-told g c = λ source files sink.
     let new = session_of c.input_line.new.session (g.F.Files.state c.input_line.new.files).files c.input_line.new.lines (g.C.Source.left c.input_line.new.input) in
     let scripts = c.pop_open.new.self in
     closed-before (session_of session named lines left []) scripts c.input_line.result new before after (notes_said session.notes) (notes_said c.input_line.new.session.notes)
-    (c.in-None.ensures.taken.0 ∙ sym c.in-None.ensures.taken.1)
-    (subst (λ (x : CommandState). Stepped (session_of x named (record lines { scripts = scripts }) left) c.input_line.result new before after (notes_said x.notes) (notes_said c.input_line.new.session.notes))
+    (c.is_empty.ensures.0 c.if-not-is_empty.false) (c.in-None.ensures.taken.0 ∙ sym c.in-None.ensures.taken.1)
+    (subst (λ (x : CommandState). Stepped (session_of x named (record lines { texts = record lines.texts { scripts = scripts } }) left) c.input_line.result new before after (notes_said x.notes) (notes_said c.input_line.new.session.notes))
     c.take_room.ensures.rest (c.input_line.ensures.told source files sink))
+
+pub returns-then-not-is_empty-clause-told : goal.returns-then-not-is_empty-clause-told
+returns-then-not-is_empty-clause-told g c = λ source files sink.
+    let named = (g.F.Files.state c.args.files.now).files in
+    let left = g.C.Source.left c.args.input.now in
+    let new = session_of c.action.new.session (g.F.Files.state c.action.new.files).files c.action.new.lines left in
+    subst (λ (x : CommandState). Stepped (session_of x named c.args.lines.now left) c.action.result new (g.S.Sink.written c.args.out.now) (g.S.Sink.written c.action.new.out) (notes_said x.notes) (notes_said c.action.new.session.notes))
+    c.take_room.ensures.rest (c.action.ensures.told files sink left)
+
+pub returns-in-None-2-clause-told : goal.returns-in-None-2-clause-told
+returns-in-None-2-clause-told g c = λ source files sink.
+    let session = c.args.session.now in
+    let taken = record session { spare = c.take_room.new.self.spare } in
+    let named = (g.F.Files.state c.args.files.now).files in
+    let lines = c.args.lines.now in
+    let scripts = c.pop_open.new.self in
+    let closed = record lines { texts = record lines.texts { scripts = scripts } } in
+    let left = g.C.Source.left c.args.input.now in
+    let before = g.S.Sink.written c.args.out.now in
+    let none = c.is_empty.ensures.0 c.if-not-is_empty.false in
+    let old = session_of session named closed left [] in
+    let new = session_of taken named closed left [] in
+    left-at session c.take_room.new.self taken named lines closed left left (IsOver (Exit 0)) before before c.take_room.ensures.rest
+    (closed-before (session_of session named lines left []) scripts (IsOver (Exit 0)) (session_of taken named closed left) before before (notes_said session.notes) (notes_said session.notes) none
+    (c.in-None.ensures.taken.0 ∙ sym c.in-None.ensures.taken.1)
+    (over-alone old new (Exit 0) before before (notes_said session.notes) (notes_said session.notes) refl
+    (all-done old new before (λ i. texts_of (none i) (c.in-None.ensures.taken.1 i)) c.if-lines.false refl (none-read lines.reader.open_ left))))

@@ -1,4 +1,4 @@
-use Rattle.std.proofs.Common.{◌≡◌, ◌<◌, ◌≤◌, ◌+◌, ◌-◌, List, [], ◌∷◌, Err, refl, ap, sym, ◌∙◌, subst, arith}
+use Rattle.std.proofs.Common.{◌≡◌, ◌<◌, ◌≤◌, ◌+◌, ◌-◌, ℕ, List, [], ◌∷◌, Err, refl, ap, sym, ◌∙◌, subst, arith}
 use Rattle.fault_notes.specs.Notes.{notes_said}
 use Rattle.scp_parser.specs.declared.fault.ParseFault.TheVariants.{TooLong}
 use Rattle.scp_commands.specs.declared.fault.CommandFault.TheVariants.{Parse}
@@ -8,11 +8,12 @@ use Rattle.scp_commands.proofs.AskedLemmas.{long-asked}
 use Rattle.scp_script.specs.declared.progress.CommandLoop.{CommandLoop}
 use Rattle.scp_script.specs.declared.progress.Progress.TheVariants.{IsOver}
 use Rattle.scp_script.specs.declared.progress.Finish.TheVariants.{Commands, Console}
+use Rattle.scp_script.specs.Actions.{Texts, texts_of}
 use Rattle.scp_script.specs.Scripts.{Script, cost_of_line, text_of_line, echo_text, past_line, checked}
-use Rattle.scp_script.specs.Loop.{IsShort, Answers, session_of}
+use Rattle.scp_script.specs.Loop.{IsShort, Answers, coming, session_of}
 use Rattle.scp_script.proofs.SessionLemmas.{upcoming-unpaid, asking-unpaid, asking-script}
 use Rattle.scp_script.proofs.TextLemmas.{answers-none}
-use Rattle.scp_script.proofs.LineLemmas.{asking-refused, script-unpaid, some-fits, none-fits}
+use Rattle.scp_script.proofs.LineLemmas.{asking-refused, text-unpaid, some-fits, none-fits}
 use Rattle.scp_script.proofs.NoteLemmas.{script-stepped, over-alone, left-at, never-short, same-read, answer-kept}
 use Rattle.scp_script.proofs.command_loop.script_line.Goals as goal
 
@@ -23,9 +24,10 @@ returns-then-not-pay-clause-told g c = λ files sink input.
     let now_state = record session { command = paid.command } in
     let named = (g.F.Files.state c.args.files.now).files in
     let script = c.args.script in
-    let outer = c.args.lines.now.scripts in
-    let lines = record c.args.lines.now { scripts = script ∷ outer } in
+    let outer = c.args.lines.now.texts.scripts in
+    let lines = record c.args.lines.now { texts = record c.args.lines.now.texts { scripts = script ∷ outer } } in
     let now = c.pay.new.lines in
+    let there : texts_of c.args.lines.now.texts.actions (script ∷ outer) ≡ texts_of [] (script ∷ outer) = ap (λ (a : List (List ℕ)). texts_of a (script ∷ outer)) c.requires.actions in
     let before = g.S.Sink.written c.args.out.now in
     let cost = c.line_cost.ensures in
     let reader = ap (λ (x : CommandLoop). x.reader.open_) c.pay.ensures.lines in
@@ -35,7 +37,7 @@ returns-then-not-pay-clause-told g c = λ files sink input.
     let new = session_of now_state named now input [] in
     left-at session paid now_state named lines now input input (IsOver Commands) before before c.pay.ensures.rest
     (over-alone old new Commands before before (notes_said session.notes) (notes_said session.notes) refl
-    (script-unpaid old new before before (upcoming-unpaid old script outer refl c.requires.line short) (asking-unpaid old script outer refl c.requires.line short) refl
+    (text-unpaid old new before before (upcoming-unpaid old script outer there c.requires.line short) (asking-unpaid old script outer there c.requires.line short) refl
     (same-read lines.reader.open_ now.reader.open_ input input reader refl) refl))
 
 pub returns-in-Err-clause-told : goal.returns-in-Err-clause-told
@@ -45,9 +47,10 @@ returns-in-Err-clause-told g c = λ files sink input.
     let now_state = record session { command = paid.command } in
     let named = (g.F.Files.state c.args.files.now).files in
     let script = c.args.script in
-    let outer = c.args.lines.now.scripts in
-    let lines = record c.args.lines.now { scripts = script ∷ outer } in
+    let outer = c.args.lines.now.texts.scripts in
+    let lines = record c.args.lines.now { texts = record c.args.lines.now.texts { scripts = script ∷ outer } } in
     let now = c.pay.new.lines in
+    let there : texts_of c.args.lines.now.texts.actions (script ∷ outer) ≡ texts_of [] (script ∷ outer) = ap (λ (a : List (List ℕ)). texts_of a (script ∷ outer)) c.requires.actions in
     let before = g.S.Sink.written c.args.out.now in
     let cost = c.line_cost.ensures in
     let reader = ap (λ (x : CommandLoop). x.reader.open_) c.pay.ensures.lines in
@@ -58,7 +61,7 @@ returns-in-Err-clause-told g c = λ files sink input.
     let new = session_of now_state named now input [] in
     left-at session paid now_state named lines now input input (IsOver Console) before after c.pay.ensures.rest
     (over-alone old new Console before after (notes_said session.notes) (notes_said session.notes) refl
-    (asking-refused old new (echo_text script) [] before after (asking-script old script outer refl c.requires.line fits) refl
+    (asking-refused old new (echo_text script) [] before after (asking-script old script outer there c.requires.line fits) refl
     (same-read lines.reader.open_ now.reader.open_ input input reader refl) (c.in-Err.ensures.told sink)))
 
 pub returns-in-Some-clause-told : goal.returns-in-Some-clause-told
@@ -68,9 +71,10 @@ returns-in-Some-clause-told g c = λ files sink input.
     let now_state = record session { command = paid.command } in
     let named = (g.F.Files.state c.args.files.now).files in
     let script = c.args.script in
-    let outer = c.args.lines.now.scripts in
-    let lines = record c.args.lines.now { scripts = script ∷ outer } in
+    let outer = c.args.lines.now.texts.scripts in
+    let lines = record c.args.lines.now { texts = record c.args.lines.now.texts { scripts = script ∷ outer } } in
     let now = c.pay.new.lines in
+    let there : texts_of c.args.lines.now.texts.actions (script ∷ outer) ≡ texts_of [] (script ∷ outer) = ap (λ (a : List (List ℕ)). texts_of a (script ∷ outer)) c.requires.actions in
     let before = g.S.Sink.written c.args.out.now in
     let cost = c.line_cost.ensures in
     let reader = ap (λ (x : CommandLoop). x.reader.open_) c.pay.ensures.lines in
@@ -80,26 +84,28 @@ returns-in-Some-clause-told g c = λ files sink input.
     let fits : cost_of_line script ≤ lines.budget = omega (arith, paid_for.0, cost) in
     let budget : now.budget ≡ lines.budget - cost_of_line script = omega (arith, paid_for.1, cost) in
     let done = c.answer.new.session in
-    let last = record now { scripts = c.answer.new.scripts } in
+    let last = record now { texts = c.answer.new.texts } in
     let tells = g.S.Sink.tells in
     let result = c.answer.result in
     let what = asked c.as_slice.result.now in
     let live = live_in done (g.F.Files.state c.answer.new.files).files in
     let is = c.pay.ensures.rest in
-    let stack : c.push.new.self ≡ past_line script ∷ outer =
-    c.push.ensures ∙ ap (λ (x : Script). x ∷ now.scripts) c.take_line-text.ensures.past ∙ ap (λ (x : CommandLoop). past_line script ∷ x.scripts) c.pay.ensures.lines in
+    let none : now.texts.actions ≡ [] = ap (λ (x : CommandLoop). x.texts.actions) c.pay.ensures.lines ∙ c.requires.actions in
+    let pushed : c.push.new.self ≡ past_line script ∷ outer =
+    c.push.ensures ∙ ap (λ (x : Script). x ∷ now.texts.scripts) c.take_line-text.ensures.past ∙ ap (λ (x : CommandLoop). past_line script ∷ x.texts.scripts) c.pay.ensures.lines in
+    let stack : texts_of now.texts.actions c.push.new.self ≡ texts_of [] (past_line script ∷ outer) = ap (λ (a : List (List ℕ)). texts_of a c.push.new.self) none ∙ ap (texts_of []) pushed in
     let line : c.as_slice.result.now ≡ text_of_line script = c.as_slice.ensures ∙ some-fits c.in-Some.text (text_of_line script) (sym c.in-Some.is ∙ c.take_line-text.ensures.text) in
     let spent : done.command ≡ session.command + cost_of_line script = omega (arith, c.pay.ensures.command, c.answer.ensures.command, fits, budget) in
     let less : session.command < done.command = omega (arith, spent) in
-    let told = subst (λ (x : CommandState). Answers x.limit (live_in x named) (past_line script ∷ outer) what done.command result live c.answer.new.scripts tells mid after (notes_said x.notes) (notes_said done.notes)) is
-    (subst (λ (l : List Script). Answers paid.limit (live_in paid named) l what done.command result live c.answer.new.scripts tells mid after (notes_said paid.notes) (notes_said done.notes)) stack
-    (subst (λ n. Answers paid.limit (live_in paid named) c.push.new.self what n result live c.answer.new.scripts tells mid after (notes_said paid.notes) (notes_said done.notes)) (sym c.answer.ensures.command)
+    let told = subst (λ (x : CommandState). Answers x.limit (live_in x named) (texts_of [] (past_line script ∷ outer)) what done.command result live (coming c.answer.new.texts) tells mid after (notes_said x.notes) (notes_said done.notes)) is
+    (subst (λ (t : Texts). Answers paid.limit (live_in paid named) t what done.command result live (coming c.answer.new.texts) tells mid after (notes_said paid.notes) (notes_said done.notes)) stack
+    (subst (λ n. Answers paid.limit (live_in paid named) (texts_of now.texts.actions c.push.new.self) what n result live (coming c.answer.new.texts) tells mid after (notes_said paid.notes) (notes_said done.notes)) (sym c.answer.ensures.command)
     (c.answer.ensures.told files))) in
     let short = subst (λ (x : CommandState). IsShort result (live_in x named) live x.notes done.notes mid after) is (c.answer.ensures.short files) in
     let limit = c.answer.ensures.limit ∙ ap (λ (x : CommandState). x.limit) is in
     script-stepped (session_of session named lines input []) (session_of done (g.F.Files.state c.answer.new.files).files last input []) script outer what result tells before mid after
-    (notes_said session.notes) (notes_said done.notes) session.notes done.notes sink refl c.requires.line fits (ap asked (sym line))
-    (record { spent = spent; limit = limit; budget = budget; prompt = ap (λ (x : CommandLoop). x.prompt) c.pay.ensures.lines; input = refl; open_ = reader }) less
+    (notes_said session.notes) (notes_said done.notes) session.notes done.notes sink there c.requires.line fits (ap asked (sym line))
+    (record { spent = spent; limit = limit; budget = budget; reading = ap (λ (x : CommandLoop). x.reads) c.pay.ensures.lines; prompt = ap (λ (x : CommandLoop). x.prompt) c.pay.ensures.lines; input = refl; open_ = reader }) less
     (c.in-Ok.ensures.told sink) told short
 
 pub returns-in-None-clause-told : goal.returns-in-None-clause-told
@@ -109,9 +115,10 @@ returns-in-None-clause-told g c = λ files sink input.
     let now_state = record session { command = paid.command } in
     let named = (g.F.Files.state c.args.files.now).files in
     let script = c.args.script in
-    let outer = c.args.lines.now.scripts in
-    let lines = record c.args.lines.now { scripts = script ∷ outer } in
+    let outer = c.args.lines.now.texts.scripts in
+    let lines = record c.args.lines.now { texts = record c.args.lines.now.texts { scripts = script ∷ outer } } in
     let now = c.pay.new.lines in
+    let there : texts_of c.args.lines.now.texts.actions (script ∷ outer) ≡ texts_of [] (script ∷ outer) = ap (λ (a : List (List ℕ)). texts_of a (script ∷ outer)) c.requires.actions in
     let before = g.S.Sink.written c.args.out.now in
     let cost = c.line_cost.ensures in
     let reader = ap (λ (x : CommandLoop). x.reader.open_) c.pay.ensures.lines in
@@ -120,26 +127,28 @@ returns-in-None-clause-told g c = λ files sink input.
     let paid_for = c.pay.ensures.paid c.if-not-pay.false in
     let fits : cost_of_line script ≤ lines.budget = omega (arith, paid_for.0, cost) in
     let budget : now.budget ≡ lines.budget - cost_of_line script = omega (arith, paid_for.1, cost) in
-    let last = record now { scripts = c.deny_line.new.scripts } in
+    let last = record now { texts = c.deny_line.new.texts } in
     let tells = g.S.Sink.tells in
     let result = c.deny_line.result in
     let what = asked (text_of_line script) in
     let live = live_in session named in
     let is = c.pay.ensures.rest in
-    let stack : c.push.new.self ≡ past_line script ∷ outer =
-    c.push.ensures ∙ ap (λ (x : Script). x ∷ now.scripts) c.take_line-text.ensures.past ∙ ap (λ (x : CommandLoop). past_line script ∷ x.scripts) c.pay.ensures.lines in
+    let none : now.texts.actions ≡ [] = ap (λ (x : CommandLoop). x.texts.actions) c.pay.ensures.lines ∙ c.requires.actions in
+    let pushed : c.push.new.self ≡ past_line script ∷ outer =
+    c.push.ensures ∙ ap (λ (x : Script). x ∷ now.texts.scripts) c.take_line-text.ensures.past ∙ ap (λ (x : CommandLoop). past_line script ∷ x.texts.scripts) c.pay.ensures.lines in
+    let stack : texts_of now.texts.actions c.push.new.self ≡ texts_of [] (past_line script ∷ outer) = ap (λ (a : List (List ℕ)). texts_of a c.push.new.self) none ∙ ap (texts_of []) pushed in
     let long : what ≡ Err (Parse TooLong) = long-asked (text_of_line script) (none-fits (text_of_line script) (sym c.in-None.is ∙ c.take_line-text.ensures.text)) in
     let spent : paid.command ≡ session.command + cost_of_line script = omega (arith, c.pay.ensures.command, fits, budget) in
     let less : session.command < paid.command = omega (arith, spent) in
-    let said = answers-none paid.limit (live_in paid named) c.push.new.self what paid.command result c.deny_line.new.scripts tells mid after (notes_said paid.notes)
+    let said = answers-none paid.limit (live_in paid named) (texts_of now.texts.actions c.push.new.self) what paid.command result (coming c.deny_line.new.texts) tells mid after (notes_said paid.notes)
     (λ notes. c.deny_line.ensures.told named notes what (ap (checked c.push.new.self) long)) in
-    let told = subst (λ (x : CommandState). Answers x.limit (live_in x named) (past_line script ∷ outer) what paid.command result (live_in x named) c.deny_line.new.scripts tells mid after (notes_said x.notes) (notes_said x.notes)) is
-    (subst (λ (l : List Script). Answers paid.limit (live_in paid named) l what paid.command result (live_in paid named) c.deny_line.new.scripts tells mid after (notes_said paid.notes) (notes_said paid.notes)) stack said) in
+    let told = subst (λ (x : CommandState). Answers x.limit (live_in x named) (texts_of [] (past_line script ∷ outer)) what paid.command result (live_in x named) (coming c.deny_line.new.texts) tells mid after (notes_said x.notes) (notes_said x.notes)) is
+    (subst (λ (t : Texts). Answers paid.limit (live_in paid named) t what paid.command result (live_in paid named) (coming c.deny_line.new.texts) tells mid after (notes_said paid.notes) (notes_said paid.notes)) stack said) in
     let never = never-short result live live session.notes session.notes mid after c.deny_line.ensures.memory in
     left-at session paid now_state named lines last input input result before after is
     (script-stepped (session_of session named lines input []) (session_of now_state named last input []) script outer what result tells before mid after
-    (notes_said session.notes) (notes_said session.notes) session.notes session.notes sink refl c.requires.line fits refl
-    (record { spent = spent; limit = refl; budget = budget; prompt = ap (λ (x : CommandLoop). x.prompt) c.pay.ensures.lines; input = refl; open_ = reader }) less
+    (notes_said session.notes) (notes_said session.notes) session.notes session.notes sink there c.requires.line fits refl
+    (record { spent = spent; limit = refl; budget = budget; reading = ap (λ (x : CommandLoop). x.reads) c.pay.ensures.lines; prompt = ap (λ (x : CommandLoop). x.prompt) c.pay.ensures.lines; input = refl; open_ = reader }) less
     (c.in-Ok.ensures.told sink) told never)
 
 pub returns-in-Some-clause-kept : goal.returns-in-Some-clause-kept

@@ -1,5 +1,6 @@
-use Rattle.std.proofs.Common.{◌≡◌, ap, ◌∙◌}
-use Rattle.scp_script.specs.Scripts.{first_script}
+use Rattle.std.proofs.Common.{◌≡◌, [], List, ap, ◌∙◌}
+use Rattle.scp_script.specs.declared.texts.Texts.{Texts}
+use Rattle.scp_script.specs.Scripts.{Script, first_script}
 use Rattle.scp_script.specs.Reading.{ReaderState}
 use Rattle.scp_script.proofs.WordLemmas.{none-first, some-first}
 use Rattle.scp_script.proofs.perform_session.begin.Goals as goal
@@ -8,11 +9,11 @@ use Rattle.scp_script.proofs.perform_session.begin.Goals.{in-None, in-Some+in_ok
 pub returns : goal.returns
 returns c =
     let opening = c.args.opening.now in
-    let scripts : c.match-opening.scripts ≡ first_script opening.script opening.arguments.items = elim c.match-opening.branch [
-      | in-None w ↦ none-first c.match-opening.scripts opening.script opening.arguments.items (w.scripts-is ∙ c.in_ok-scripts.ensures) w.in-None.is
-      | in-Some+in_ok-arguments-in-Some+in_ok-copy-in-Some w ↦ some-first c.match-opening.scripts c.in_ok-scripts.scripts w.begin.result opening.script w.in-Some.file w.in_ok-copy-in-Some.copy w.in_ok-arguments-in-Some.arguments
-          opening.arguments.items w.deref.result.now (w.scripts-is ∙ w.push.ensures) c.in_ok-scripts.ensures w.begin.ensures w.in_ok-arguments-in-Some.ensures w.deref.ensures.value
-          w.in_ok-copy-in-Some.ensures w.in-Some.is
+    let texts : c.match-opening.texts ≡ record { actions = []; scripts = first_script opening.script opening.arguments.items } = elim c.match-opening.branch [
+      | in-None w ↦ none-first c.match-opening.texts opening.script opening.arguments.items (w.texts-is ∙ c.in_ok-texts.ensures) w.in-None.is
+      | in-Some+in_ok-arguments-in-Some+in_ok-copy-in-Some w ↦ some-first c.match-opening.texts c.in_ok-texts.texts w.begin.result opening.script w.in-Some.file w.in_ok-copy-in-Some.copy w.in_ok-arguments-in-Some.arguments
+          opening.arguments.items w.deref.result.now (w.texts-is ∙ ap (λ (l : List Script). record c.in_ok-texts.texts { scripts = l }) w.push.ensures) c.in_ok-texts.ensures w.begin.ensures w.in_ok-arguments-in-Some.ensures
+          w.deref.ensures.value w.in_ok-copy-in-Some.ensures w.in-Some.is
     ] in
-    ap (λ l. record { scripts = l; reader = c.new-2.result; budget = opening.budget; prompt = opening.prompt }) scripts
-    ∙ ap (λ (r : ReaderState). record { scripts = first_script opening.script opening.arguments.items; reader = r; budget = opening.budget; prompt = opening.prompt }) c.new-2.ensures
+    ap (λ (t : Texts). record { texts = t; reads = opening.reads; reader = c.new-2.result; budget = opening.budget; prompt = opening.prompt }) texts
+    ∙ ap (λ (r : ReaderState). record { texts = record { actions = []; scripts = first_script opening.script opening.arguments.items }; reads = opening.reads; reader = r; budget = opening.budget; prompt = opening.prompt }) c.new-2.ensures

@@ -17,8 +17,10 @@ lines-init g c =
       command = omega (arith, c.requires.budget, c.requires.command, budget);
       limit = refl;
       keys = refl;
+      reads = ap (λ (x : CommandLoop). x.reads) started;
+      unread = λ off. refl;
       told = λ source files sink. rw started (begun (session_of c.args.session.now (g.F.Files.state c.args.files.now).files
-          (record { scripts = first_script c.args.opening.now.script c.args.opening.now.arguments.items; reader = record { line = []; open_ = true }; budget = c.args.opening.now.budget; prompt = c.args.opening.now.prompt })
+          (record { texts = record { actions = []; scripts = first_script c.args.opening.now.script c.args.opening.now.arguments.items }; reads = c.args.opening.now.reads; reader = record { line = []; open_ = true }; budget = c.args.opening.now.budget; prompt = c.args.opening.now.prompt })
           (g.C.Source.left c.args.input.now)) (g.S.Sink.written c.args.out.now) (notes_said c.args.session.now.notes));
       source = refl;
       sink = refl;
@@ -33,6 +35,8 @@ lines-preserved g c = record {
   command = omega (arith, c.lines.invariant.command, c.in-GoesOn.ensures.command);
   limit = c.in-GoesOn.ensures.limit ∙ c.lines.invariant.limit;
   keys = c.in-GoesOn.ensures.keys ∙ c.lines.invariant.keys;
+  reads = c.in-GoesOn.ensures.reads ∙ c.lines.invariant.reads;
+  unread = λ off. c.in-GoesOn.ensures.unread (c.lines.invariant.reads ∙ off) ∙ c.lines.invariant.unread off;
   told = λ source files sink. further (λ notes. beginning c.args.session.now (g.F.Files.state c.args.files.now).files c.args.opening.now (g.C.Source.left c.args.input.now) notes)
       (session_of c.lines.session (g.F.Files.state c.lines.files).files c.lines.lines (g.C.Source.left c.lines.input))
       (session_of c.next_line.new.session (g.F.Files.state c.next_line.new.files).files c.next_line.new.lines (g.C.Source.left c.next_line.new.input))
@@ -61,6 +65,9 @@ returns-in-IsOver-clause-cause g c =
     causes-behind c.in-IsOver.finish (g.S.Sink.fault_count c.args.out.now) (g.S.Sink.fault_count c.lines.out) (g.S.Sink.fault_count c.next_line.new.out)
     (g.C.Source.fault_count c.args.input.now) (g.C.Source.fault_count c.lines.input) (g.C.Source.fault_count c.next_line.new.input)
     c.lines.invariant.sink c.lines.invariant.source c.in-IsOver.ensures.cause
+
+pub returns-in-IsOver-clause-unread : goal.returns-in-IsOver-clause-unread
+returns-in-IsOver-clause-unread g c = λ off. c.in-IsOver.ensures.unread (c.lines.invariant.reads ∙ off) ∙ c.lines.invariant.unread off
 
 pub returns-in-IsOver-clause-keeps : goal.returns-in-IsOver-clause-keeps
 returns-in-IsOver-clause-keeps g c =

@@ -1,4 +1,4 @@
-use Rattle.std.proofs.Common.{◌≡◌, ◌≤◌, ◌+◌, List, IsTrue}
+use Rattle.std.proofs.Common.{◌≡◌, ◌≤◌, ◌+◌, List, IsTrue, false}
 use Rattle.host_files.specs.State.{Opened}
 use Rattle.unit_files.specs.Open.{AllOpen, Around}
 use Rattle.fault_notes.specs.Notes.{notes_said}
@@ -13,6 +13,8 @@ invariant-lines g l = record {
   command : l.session.command + l.lines.budget ≤ 8589934592;
   limit : l.session.limit ≡ l.fn.session.limit;
   keys : l.session.keys ≡ l.fn.session.keys;
+  reads : l.lines.reads ≡ l.fn.opening.reads;
+  unread : l.fn.opening.reads ≡ false → l.input ≡ l.fn.input;
   told : IsTrue g.C.Source.tells → IsTrue g.F.Files.tells → IsTrue g.S.Sink.tells → ComesSoFar
       (λ notes. beginning l.fn.session (g.F.Files.state l.fn.files).files l.fn.opening (g.C.Source.left l.fn.input) notes)
       (session_of l.session (g.F.Files.state l.files).files l.lines (g.C.Source.left l.input))

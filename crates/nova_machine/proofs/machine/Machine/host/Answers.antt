@@ -1,13 +1,15 @@
 use Rattle.std.proofs.Common.{◌≡◌, sym, subst, IsTrue, List, Option, ap}
 use Rattle.unit_trait.specs.declared.calls.Want.{Want}
 use Rattle.unit_files.specs.Attachments.{Held, attachments_of, attachment_at}
-use Rattle.unit_files.specs.Acts.{read_act, write_act}
+use Rattle.unit_files.specs.Acts.{read_act}
 use Rattle.unit_files.specs.Answers.{said_of_byte, failure_of_byte}
 use Rattle.unit_files.specs.Shapes.{MayRead}
 use Rattle.nova_machine.specs.declared.service.Hosted.{Hosted}
 use Rattle.nova_machine.specs.Machine.{MachineState}
 use Rattle.nova_machine.specs.Hosting.{IsHosted, HasRoom, hosted_of}
 use Rattle.expect_actions.specs.KeysFile.{due_key}
+use Rattle.expect_actions.specs.Sends.{due_send}
+use Rattle.nova_machine.specs.Wants.{first_key}
 use Rattle.nova_machine.proofs.Hosting.{read-hosted, read-room, write-room}
 use Rattle.nova_machine.proofs.machine.Machine.host.Goals as goal
 
@@ -17,15 +19,16 @@ returns-in-ReadByte-clause-said g c = λ told.
     let same : c.self.inside.attached.slots ≡ slots = ap (λ (m : MachineState). m.slots) c.self.view_is in
     let a = attachment_at (attachments_of slots) c.args.unit in
     let files = (g.F.Files.state c.args.files.now).files in
-    let key = due_key c.args.keys.now c.args.self.now.taken c.args.self.now.time in
+    let key = first_key (due_send c.args.self.now.time c.args.watch.now.sends) (due_key c.args.keys.now c.args.self.now.taken c.args.self.now.time) in
+    let expects = c.args.watch.now.expects in
     let answer = c.read_byte.result in
     let place = c.in-ReadByte.place in
     let S : List (Option Held) → Type 0 =
     λ x. IsTrue g.F.Files.tells → said_of_byte answer ≡ read_act (failure_of_byte answer) (attachment_at (attachments_of x) c.args.unit) place files in
     let M : List (Option Held) → Type 0 = λ x. MayRead answer (attachment_at (attachments_of x) c.args.unit) place in
-    subst (λ (o : Hosted). IsHosted c.args.want a files key o) (sym c.made_of.ensures)
-    (subst (λ (w : Want). IsHosted w a files key (hosted_of answer)) (sym c.in-ReadByte.is)
-    (read-hosted g.F.Files.tells slots c.args.unit answer place files key told (subst S same c.read_byte.ensures.said) (subst M same c.read_byte.ensures.may)))
+    subst (λ (o : Hosted). IsHosted c.args.want a files key expects o) (sym c.made_of.ensures)
+    (subst (λ (w : Want). IsHosted w a files key expects (hosted_of answer)) (sym c.in-ReadByte.is)
+    (read-hosted g.F.Files.tells slots c.args.unit answer place files key expects told (subst S same c.read_byte.ensures.said) (subst M same c.read_byte.ensures.may)))
 
 pub returns-in-ReadByte-clause-room : goal.returns-in-ReadByte-clause-room
 returns-in-ReadByte-clause-room g c =
@@ -44,8 +47,9 @@ pub returns-in-Tape-clause-said : goal.returns-in-Tape-clause-said
 returns-in-Tape-clause-said g c = λ told.
     let slots = c.args.self.now.slots in
     let files = (g.F.Files.state c.args.files.now).files in
-    let key = due_key c.args.keys.now c.args.self.now.taken c.args.self.now.time in
-    subst (λ (w : Want). IsHosted w (attachment_at (attachments_of slots) c.args.unit) files key c.move_tape.result) (sym c.in-Tape.is) (c.move_tape.ensures.said told key)
+    let key = first_key (due_send c.args.self.now.time c.args.watch.now.sends) (due_key c.args.keys.now c.args.self.now.taken c.args.self.now.time) in
+    let expects = c.args.watch.now.expects in
+    subst (λ (w : Want). IsHosted w (attachment_at (attachments_of slots) c.args.unit) files key expects c.move_tape.result) (sym c.in-Tape.is) (c.move_tape.ensures.said told key expects)
 
 pub returns-in-Tape-clause-counts : goal.returns-in-Tape-clause-counts
 returns-in-Tape-clause-counts g c = c.move_tape.ensures.console (g.S.Sink.fault_count c.args.out.now)

@@ -1,7 +1,11 @@
-use Rattle.std.proofs.Common.{None}
-use Rattle.nova_machine.proofs.Plain.{plain-whole}
+use Rattle.std.proofs.Common.{Some}
+use Rattle.nova_machine.specs.Notes.{unit_note}
+use Rattle.nova_machine.specs.Seen.{seen}
+use Rattle.nova_machine.proofs.Turning.{attended-stops}
 use Rattle.nova_machine.proofs.machine.Machine.prepare.Goals as goal
 
-pub returns-then-is_plain-clause-told : goal.returns-then-is_plain-clause-told
-returns-then-is_plain-clause-told g c = λ told.
-    plain-whole None c.args.keys.now (g.F.Files.state c.args.files.now).files c.args.self.now g.S.Sink.tells (g.S.Sink.written c.args.out.now) (c.is_plain.ensures c.if-is_plain.true)
+pub returns-in-Some-clause-told : goal.returns-in-Some-clause-told
+returns-in-Some-clause-told g c = λ told.
+    attended-stops (unit_note (Some c.in-Some.stop)) c.args.first (seen c.args.watch.now c.args.keys.now (g.F.Files.state c.args.files.now).files c.args.self.now)
+    (seen c.come_to.new.watch c.args.keys.now (g.F.Files.state c.come_to.new.files).files c.come_to.new.self) c.in-Some.stop
+    g.S.Sink.tells (g.S.Sink.written c.args.out.now) (g.S.Sink.written c.come_to.new.out) (c.in-Some.ensures.told told)

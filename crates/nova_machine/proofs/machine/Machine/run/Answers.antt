@@ -1,18 +1,18 @@
-use Rattle.std.proofs.Common.{◌≡◌, ◌≢◌, ℕ, ◌-◌, ◌+◌, ◌<◌, ◌≤◌, suc, false, None, Some, Option, IfSome, ap, sym, subst, ◌∙◌, arith, rules}
-use Rattle.nova_processor.specs.declared.burst.Step.TheVariants as step_end
+use Rattle.std.proofs.Common.{◌≡◌, ◌≢◌, ℕ, ◌-◌, ◌+◌, ◌<◌, ◌≤◌, suc, false, None, Some, Option, ap, sym, subst, ◌∙◌, arith, rules}
+use Rattle.nova_processor.specs.declared.burst.BurstEnd.TheVariants as burst_end
 use Rattle.nova_machine.specs.declared.machine.Stop.TheVariants.{Limit, ChainLimit}
 use Rattle.nova_machine.specs.Notes.{UnitNote, RunNote, at_time, unit_note, run_note}
 use Rattle.nova_machine.specs.Seen.{seen}
 use Rattle.nova_machine.specs.Comes.{AreTold, Comes}
 use Rattle.nova_machine.specs.Turn.{turn}
 use Rattle.nova_machine.specs.Run.{last_time, turns, run}
-use Rattle.nova_machine.proofs.Quiet.{told-same, quiet-then, quiet-none, cause-behind}
+use Rattle.nova_machine.proofs.Quiet.{told-same, quiet-then, cause-behind}
 use Rattle.nova_machine.proofs.Runs.{last-of, ended-of, expired-of, burst-of, chain-of, burst-goes, burst-ends, note-here, note-coming, note-own, not-now, still-later}
 use Rattle.nova_machine.proofs.machine.Machine.run.Goals as goal
 
 pub returns-then-self-eq-LAST_TIME-clause-told : goal.returns-then-self-eq-LAST_TIME-clause-told
 returns-then-self-eq-LAST_TIME-clause-told g c = λ told.
-    let s = seen c.args.keys.now (g.F.Files.state c.turns.files).files c.turns.self in
+    let s = seen c.turns.watch c.args.keys.now (g.F.Files.state c.turns.files).files c.turns.self in
     c.turns.invariant.told told None (Some Limit) s (g.S.Sink.written c.turns.out) tt
     (ended-of None c.args.limit.step c.turns.first c.turns.left s g.S.Sink.tells (g.S.Sink.written c.turns.out) (search rules) (search rules))
 
@@ -20,8 +20,8 @@ pub returns-in-Stopped-clause-told : goal.returns-in-Stopped-clause-told
 returns-in-Stopped-clause-told g c = λ told.
     let early : c.turns.self.time < last_time = search rules in
     let now : AreTold g.F.Files.tells c.turns.self.slots = told-same g.F.Files.tells _ _ (search rules) told in
-    let s = seen c.args.keys.now (g.F.Files.state c.turns.files).files c.turns.self in
-    let last = seen c.args.keys.now (g.F.Files.state c.turn.new.files).files c.turn.new.self in
+    let s = seen c.turns.watch c.args.keys.now (g.F.Files.state c.turns.files).files c.turns.self in
+    let last = seen c.turn.new.watch c.args.keys.now (g.F.Files.state c.turn.new.files).files c.turn.new.self in
     let stop = c.in-Stopped.stop in
     let note = run_note c.turn.new.self.time (Some stop) in
     let here : at_time c.turns.self.time note ≡ unit_note (Some stop) = note-here stop c.turns.self.time c.turn.new.self.time c.in-Stopped.ensures.fault in
@@ -35,17 +35,17 @@ pub returns-in-ChainLimit-clause-told : goal.returns-in-ChainLimit-clause-told
 returns-in-ChainLimit-clause-told g c = λ told.
     let early : c.turns.self.time < last_time = search rules in
     let one : c.turns.left ≡ suc (c.turns.left - 1) = search rules in
-    let ends : c.burst-burst.result.end ≡ step_end.ChainLimit = search rules in
+    let ends : c.burst-burst.result.end ≡ burst_end.ChainLimit = search rules in
     let now : AreTold g.F.Files.tells c.turns.self.slots = told-same g.F.Files.tells _ _ (search rules) told in
     let keys = c.args.keys.now in
     let files = (g.F.Files.state c.turn.new.files).files in
-    let s = seen keys (g.F.Files.state c.turns.files).files c.turns.self in
-    let mid = seen keys files c.turn.new.self in
-    let last = seen keys files c.burst-burst.new.self in
+    let s = seen c.turns.watch keys (g.F.Files.state c.turns.files).files c.turns.self in
+    let mid = seen c.turn.new.watch keys files c.turn.new.self in
+    let last = seen c.turn.new.watch keys files c.burst-burst.new.self in
     c.turns.invariant.told told None (Some ChainLimit) last (g.S.Sink.written c.turn.new.out) tt
     (chain-of None c.args.limit.step c.turns.first c.turns.left (c.turns.left - 1) s mid last g.S.Sink.tells
     (g.S.Sink.written c.turns.out) (g.S.Sink.written c.turn.new.out) early one (c.in-Executed.ensures.told now)
-    (burst-ends None (c.turns.left - 1) c.burst-burst.result.done c.burst-burst.result.end c.turn.new.self c.burst-burst.new.self c.args.limit.step keys files ends
+    (burst-ends c.turn.new.watch None (c.turns.left - 1) c.burst-burst.result.done c.burst-burst.result.end c.turn.new.self c.burst-burst.new.self c.args.limit.step keys files ends
     c.burst-burst.ensures.told))
 
 pub returns-in-ChainLimit-clause-file_cause : goal.returns-in-ChainLimit-clause-file_cause
@@ -60,12 +60,12 @@ pub turns-preserved : goal.turns-preserved
 turns-preserved g c =
     let early : c.turns.self.time < last_time = search rules in
     let one : c.turns.left ≡ suc (c.turns.left - 1) = search rules in
-    let other : c.burst-burst.result.end ≢ step_end.ChainLimit = search rules in
+    let other : c.burst-burst.result.end ≢ burst_end.ChainLimit = search rules in
     let keys = c.args.keys.now in
     let files = (g.F.Files.state c.turn.new.files).files in
-    let s = seen keys (g.F.Files.state c.turns.files).files c.turns.self in
-    let mid = seen keys files c.turn.new.self in
-    let next = seen keys files c.burst-burst.new.self in
+    let s = seen c.turns.watch keys (g.F.Files.state c.turns.files).files c.turns.self in
+    let mid = seen c.turn.new.watch keys files c.turn.new.self in
+    let next = seen c.turn.new.watch keys files c.burst-burst.new.self in
     let step = c.args.limit.step in
     let rest : c.turns.left - 1 - c.burst-burst.result.done ≡ c.turns.left - (1 + c.burst-burst.result.done) = omega arith in
     let time : c.turn.new.self.time ≡ c.turns.self.time + 1 = search rules in
@@ -77,7 +77,7 @@ turns-preserved g c =
           let before : c.turns.self.time ≤ c.burst-burst.new.self.time = omega (arith, time, grows) in
           let none : at_time c.turns.self.time note ≡ None = not-now note c.turns.self.time c.burst-burst.new.self.time later still in
           let P : Option UnitNote → Type 0 = λ x. Comes (turn x c.turns.first s) None mid g.S.Sink.tells (g.S.Sink.written c.turns.out) (g.S.Sink.written c.turn.new.out) in
-          let goes = burst-goes note (c.turns.left - 1) c.burst-burst.result.done c.burst-burst.result.end c.turn.new.self c.burst-burst.new.self step keys files other
+          let goes = burst-goes c.turn.new.watch note (c.turns.left - 1) c.burst-burst.result.done c.burst-burst.result.end c.turn.new.self c.burst-burst.new.self step keys files other
           c.burst-burst.ensures.told in
           c.turns.invariant.told told note r last after (still-later note c.turns.self.time c.burst-burst.new.self.time before still)
           (burst-of note step c.turns.first c.turns.left (c.turns.left - 1) (c.turns.left - (1 + c.burst-burst.result.done)) s mid next r last
@@ -92,10 +92,10 @@ turns-preserved g c =
 
 pub returns-clause-told : goal.returns-clause-told
 returns-clause-told g c = λ told.
-    let s = seen c.args.keys.now (g.F.Files.state c.turns.files).files c.turns.self in
+    let s = seen c.turns.watch c.args.keys.now (g.F.Files.state c.turns.files).files c.turns.self in
     let stop = c.expired.result in
     let none : run_note c.turns.self.time (Some stop) ≡ None = note-own stop c.turns.self.time c.expired.ensures.other in
-    let start = seen c.args.keys.now (g.F.Files.state c.args.files.now).files c.args.self.now in
+    let start = seen c.args.watch.now c.args.keys.now (g.F.Files.state c.args.files.now).files c.args.self.now in
     let P : Option RunNote → Type 0 = λ x. Comes (run x c.args.limit.step c.args.limit.count start) (Some stop) s g.S.Sink.tells
     (g.S.Sink.written c.args.out.now) (g.S.Sink.written c.turns.out) in
     subst P (sym none) (c.turns.invariant.told told None (Some stop) s (g.S.Sink.written c.turns.out) tt

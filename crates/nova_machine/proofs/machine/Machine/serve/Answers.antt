@@ -1,5 +1,4 @@
-use Rattle.std.proofs.Common.{◌≡◌, sym, subst, ◌∙◌, None, Some, List, Option, rules}
-use Rattle.unit_files.specs.Attachments.{Held}
+use Rattle.std.proofs.Common.{◌≡◌, sym, ◌∙◌, None, Some, rules}
 use Rattle.event_queue.specs.EventList.{due}
 use Rattle.nova_machine.specs.Notes.{unit_note, failure_of_stop}
 use Rattle.nova_machine.specs.Seen.{seen}
@@ -14,12 +13,12 @@ returns-in-Some-serve_unit-clause-told g c = λ told.
     let stop = c.in-Some-serve_unit.stop in
     let keys = c.args.keys.now in
     let files = (g.F.Files.state c.events.files).files in
-    let last = seen keys (g.F.Files.state c.serve_unit.new.files).files c.serve_unit.new.self in
+    let last = seen c.serve_unit.new.watch keys (g.F.Files.state c.serve_unit.new.files).files c.serve_unit.new.self in
     let first : due c.events.self.events ≡ Some c.in-Some.unit = sym c.in-Some.ensures.unit in
     let note = note-first stop c.in-Some.unit c.events.self first c.in-Some-serve_unit.ensures.own in
     let now : AreTold g.F.Files.tells c.take_due.new.self.slots = told-same g.F.Files.tells _ _ (search rules) told in
     c.events.invariant.told told (unit_note (Some stop)) (Some stop) last (g.S.Sink.written c.serve_unit.new.out) note.0
-    (stop-at (unit_note (Some stop)) keys files c.events.self c.take_due.new.self c.in-Some.unit (failure_of_stop (Some stop)) stop last g.S.Sink.tells
+    (stop-at (unit_note (Some stop)) c.events.watch keys files c.events.self c.take_due.new.self c.in-Some.unit (failure_of_stop (Some stop)) stop last g.S.Sink.tells
     (g.S.Sink.written c.events.out) (g.S.Sink.written c.serve_unit.new.out) first c.take_due.ensures.taken note.1 (c.in-Some-serve_unit.ensures.told now))
 
 pub events-preserved : goal.events-preserved
@@ -27,14 +26,14 @@ events-preserved g c =
     let goes : c.serve_unit.result ≡ None = search rules in
     let keys = c.args.keys.now in
     let files = (g.F.Files.state c.events.files).files in
-    let next = seen keys (g.F.Files.state c.serve_unit.new.files).files c.serve_unit.new.self in
+    let next = seen c.serve_unit.new.watch keys (g.F.Files.state c.serve_unit.new.files).files c.serve_unit.new.self in
     let first : due c.events.self.events ≡ Some c.in-Some.unit = sym c.in-Some.ensures.unit in
     record {
       told = λ told note r s after still rest.
           let now : AreTold g.F.Files.tells c.take_due.new.self.slots = told-same g.F.Files.tells _ _ (search rules) told in
           let later = note-later note c.in-Some.unit c.events.self _ first (search rules) (search rules) still in
           c.events.invariant.told told note r s after later.0
-          (more-at note keys files c.events.self c.take_due.new.self next c.in-Some.unit c.serve_unit.result r s g.S.Sink.tells
+          (more-at note c.events.watch keys files c.events.self c.take_due.new.self next c.in-Some.unit c.serve_unit.result r s g.S.Sink.tells
           (g.S.Sink.written c.events.out) (g.S.Sink.written c.serve_unit.new.out) after
           first c.take_due.ensures.taken later.1 goes (search rules) (c.serve_unit.ensures.dues goes) rest);
       time = search rules;
@@ -50,8 +49,8 @@ returns-clause-told g c = λ told.
     let none : due c.events.self.events ≡ None = search rules in
     let keys = c.args.keys.now in
     let files = (g.F.Files.state c.events.files).files in
-    c.events.invariant.told told None None (seen keys files c.take_due.new.self) (g.S.Sink.written c.events.out) tt
-    (none-at None keys files c.events.self c.take_due.new.self g.S.Sink.tells (g.S.Sink.written c.events.out) none c.take_due.ensures.taken)
+    c.events.invariant.told told None None (seen c.events.watch keys files c.take_due.new.self) (g.S.Sink.written c.events.out) tt
+    (none-at None c.events.watch keys files c.events.self c.take_due.new.self g.S.Sink.tells (g.S.Sink.written c.events.out) none c.take_due.ensures.taken)
 
 pub returns-in-Some-serve_unit-clause-file_cause : goal.returns-in-Some-serve_unit-clause-file_cause
 returns-in-Some-serve_unit-clause-file_cause g c =

@@ -4,7 +4,7 @@ use Rattle.nova_machine.specs.Run.{last_time}
 use Rattle.nova_machine.specs.Bursts.{IsCalm, passed_by}
 use Rattle.nova_machine.specs.Waits.{IsWaiting}
 use Rattle.nova_machine.proofs.Bursts.{calm-less, passed-slots, passed-time}
-use Rattle.nova_machine.proofs.Waits.{waits-told}
+use Rattle.nova_machine.proofs.Waits.{AreUnbroken, waits-told}
 use Rattle.nova_machine.proofs.machine.Machine.wait.Goals as goal
 
 pub returns-clause-told : goal.returns-clause-told
@@ -16,10 +16,11 @@ returns-clause-told g c =
     let calm : IsCalm budget old = calm-less budget c.calm.result old within c.calm.ensures.calm in
     let last : old.time + budget ≤ last_time = search rules in
     let few : budget ≤ c.args.most = search rules in
+    let unbroken : AreUnbroken c.args.watch.now old = record { test = search rules; back = search rules } in
     let waiting : IsWaiting old = search rules in
     let half : rounds * 2 ≤ budget = omega arith in
     let is : c.pass_time.new.self ≡ passed_by (rounds * 2) old = search rules in
-    waits-told c.args.most rounds budget old c.pass_time.new.self waiting calm last few half is
+    waits-told c.args.watch.now c.args.most rounds budget old c.pass_time.new.self unbroken waiting calm last few half is
 
 pub returns-clause-slots : goal.returns-clause-slots
 returns-clause-slots g c =

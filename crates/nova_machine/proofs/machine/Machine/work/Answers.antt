@@ -1,7 +1,10 @@
-use Rattle.std.proofs.Common.{◌≡◌, ◌+◌, ◌≤◌, ap, ◌∙◌, arith, rules}
+use Rattle.std.proofs.Common.{◌≡◌, ◌+◌, ◌≤◌, List, ap, refl, subst, ◌∙◌, arith, rules}
+use Rattle.expect_actions.specs.declared.breaks.Break.{Break}
+use Rattle.expect_actions.specs.Watch.{WatchState}
 use Rattle.nova_machine.specs.Machine.{MachineState}
 use Rattle.nova_machine.specs.Run.{last_time}
 use Rattle.nova_processor.specs.Burst.{IsBurst}
+use Rattle.expect_actions.specs.Breaks.{has_break}
 use Rattle.nova_machine.specs.Bursts.{IsCalm, passed_by}
 use Rattle.nova_machine.proofs.Bursts.{burst-told, calm-less, passed-slots, passed-time}
 use Rattle.nova_machine.proofs.machine.Machine.work.Goals as goal
@@ -14,20 +17,23 @@ returns-clause-told g c =
     let calm : IsCalm budget old = calm-less budget c.calm.result old within c.calm.ensures.calm in
     let last : old.time + budget ≤ last_time = search rules in
     let few : budget ≤ c.args.most = search rules in
-    let burst : IsBurst old.processor budget c.burst-burst.result.done c.burst-burst.result.end c.burst-burst.new.self = search rules in
-    let is : c.pass_time.new.self ≡ passed_by c.burst-burst.result.done (record old { processor = c.burst-burst.new.self }) = search rules in
-    burst-told c.args.most c.burst-burst.result.done budget c.burst-burst.result.end old c.pass_time.new.self c.burst-burst.new.self calm last few burst is
+    let list : c.watch.inside.breaks.list ≡ c.args.watch.now.breaks.list = ap (λ (w : WatchState). w.breaks.list) c.watch.view_is in
+    let P : List Break → Type 0 =
+    λ breaks. IsBurst (λ address. has_break address breaks) old.processor budget c.step_to_break-burst.result.done c.step_to_break-burst.result.end c.step_to_break-burst.new.self.processor in
+    let burst : P c.args.watch.now.breaks.list = subst P list c.step_to_break-burst.ensures.told in
+    let is : c.pass_time.new.self ≡ passed_by c.step_to_break-burst.result.done (record old { processor = c.step_to_break-burst.new.self.processor }) = search rules in
+    burst-told (λ address. has_break address c.args.watch.now.breaks.list) c.args.watch.now c.args.most c.step_to_break-burst.result.done budget c.step_to_break-burst.result.end old c.pass_time.new.self c.step_to_break-burst.new.self.processor (λ address. refl) calm last few burst is
 
 pub returns-clause-slots : goal.returns-clause-slots
 returns-clause-slots g c =
     let old = c.args.self.now in
-    let is : c.pass_time.new.self ≡ passed_by c.burst-burst.result.done (record old { processor = c.burst-burst.new.self }) = search rules in
-    ap (λ (m : MachineState). m.slots) is ∙ passed-slots c.burst-burst.result.done (record old { processor = c.burst-burst.new.self })
+    let is : c.pass_time.new.self ≡ passed_by c.step_to_break-burst.result.done (record old { processor = c.step_to_break-burst.new.self.processor }) = search rules in
+    ap (λ (m : MachineState). m.slots) is ∙ passed-slots c.step_to_break-burst.result.done (record old { processor = c.step_to_break-burst.new.self.processor })
 
 pub returns-clause-later : goal.returns-clause-later
 returns-clause-later g c =
     let old = c.args.self.now in
-    let is : c.pass_time.new.self ≡ passed_by c.burst-burst.result.done (record old { processor = c.burst-burst.new.self }) = search rules in
-    let time : c.pass_time.new.self.time ≡ old.time + c.burst-burst.result.done =
-    ap (λ (m : MachineState). m.time) is ∙ passed-time c.burst-burst.result.done (record old { processor = c.burst-burst.new.self }) in
+    let is : c.pass_time.new.self ≡ passed_by c.step_to_break-burst.result.done (record old { processor = c.step_to_break-burst.new.self.processor }) = search rules in
+    let time : c.pass_time.new.self.time ≡ old.time + c.step_to_break-burst.result.done =
+    ap (λ (m : MachineState). m.time) is ∙ passed-time c.step_to_break-burst.result.done (record old { processor = c.step_to_break-burst.new.self.processor }) in
     omega (arith, time)

@@ -1,0 +1,86 @@
+use Rattle.std.proofs.Common.{◌≡◌, ◌<◌, ◌+◌, ◌-◌, ℕ, List, [], ◌∷◌, refl, ap, sym, ◌∙◌, subst, arith, drop, take}
+use Rattle.fault_notes.specs.Notes.{notes_said}
+use Rattle.scp_commands.specs.Live.{CommandState, live_in}
+use Rattle.scp_commands.specs.Effect.{asked}
+use Rattle.scp_script.specs.declared.progress.CommandLoop.{CommandLoop}
+use Rattle.scp_script.specs.declared.progress.Progress.TheVariants.{IsOver}
+use Rattle.scp_script.specs.declared.progress.Finish.TheVariants.{Commands}
+use Rattle.scp_script.specs.Actions.{Texts, texts_of}
+use Rattle.scp_script.specs.Loop.{IsShort, Answers, coming, session_of}
+use Rattle.scp_script.proofs.SessionLemmas.{action-unpaid, asking-action}
+use Rattle.scp_script.proofs.LineLemmas.{text-unpaid}
+use Rattle.scp_script.proofs.NoteLemmas.{has-first, action-text, action-there, action-stepped, over-alone, left-at, same-read, answer-kept}
+use Rattle.scp_script.proofs.command_loop.action.Goals as goal
+
+pub returns-then-not-pay-clause-told : goal.returns-then-not-pay-clause-told
+returns-then-not-pay-clause-told g c = λ files sink input.
+    let session = c.args.session.now in
+    let paid = c.pay.new.session in
+    let now_state = record session { command = paid.command } in
+    let named = (g.F.Files.state c.args.files.now).files in
+    let lines = c.args.lines.now in
+    let now = c.pay.new.lines in
+    let before = g.S.Sink.written c.args.out.now in
+    let reader = ap (λ (x : CommandLoop). x.reader.open_) c.pay.ensures.lines in
+    let unpaid = c.pay.ensures.unpaid c.if-not-pay.true in
+    let first = has-first lines.texts.actions c.requires.some in
+    let old = session_of session named lines input [] in
+    let new = session_of now_state named now input [] in
+    left-at session paid now_state named lines now input input (IsOver Commands) before before c.pay.ensures.rest
+    (over-alone old new Commands before before (notes_said session.notes) (notes_said session.notes) refl
+    (text-unpaid old new before before (action-unpaid old first.action first.others first.is unpaid.0) (asking-action old first.action first.others first.is) refl
+    (same-read lines.reader.open_ now.reader.open_ input input reader refl) refl))
+
+pub returns-in-Some-clause-told : goal.returns-in-Some-clause-told
+returns-in-Some-clause-told g c = λ files sink input.
+    let session = c.args.session.now in
+    let paid = c.pay.new.session in
+    let named = (g.F.Files.state c.args.files.now).files in
+    let lines = c.args.lines.now in
+    let now = c.pay.new.lines in
+    let before = g.S.Sink.written c.args.out.now in
+    let after = g.S.Sink.written c.answer.new.out in
+    let paid_for = c.pay.ensures.paid c.if-not-pay.false in
+    let budget : now.budget ≡ lines.budget - 1 = paid_for.1 in
+    let done = c.answer.new.session in
+    let last = record now { texts = c.answer.new.texts } in
+    let tells = g.S.Sink.tells in
+    let result = c.answer.result in
+    let live = live_in done (g.F.Files.state c.answer.new.files).files in
+    let is = c.pay.ensures.rest in
+    let first = has-first lines.texts.actions c.requires.some in
+    let there : now.texts.actions ≡ first.action ∷ first.others = ap (λ (x : CommandLoop). x.texts.actions) c.pay.ensures.lines ∙ first.is in
+    let text : take c.in-Some.length c.take.new.out ≡ first.action =
+    action-text now.texts.actions first.action first.others _ c.take.new.out c.in-Some.length there (sym c.in-Some.is ∙ c.take.ensures.count) c.take.ensures.text in
+    let what = asked (take c.in-Some.length c.take.new.out) in
+    let left : texts_of c.take.new.self now.texts.scripts ≡ texts_of first.others lines.texts.scripts =
+    ap (λ (a : List (List ℕ)). texts_of a now.texts.scripts) (c.take.ensures.rest ∙ ap (drop 1) there) ∙ ap (λ (x : CommandLoop). texts_of first.others x.texts.scripts) c.pay.ensures.lines in
+    let spent : done.command ≡ session.command + 1 = omega (arith, c.pay.ensures.command, c.answer.ensures.command, paid_for.0, budget) in
+    let less : session.command < done.command = omega (arith, spent) in
+    let told = subst (λ (x : CommandState). Answers x.limit (live_in x named) (texts_of first.others lines.texts.scripts) what done.command result live (coming c.answer.new.texts) tells before after (notes_said x.notes) (notes_said done.notes)) is
+    (subst (λ (t : Texts). Answers paid.limit (live_in paid named) t what done.command result live (coming c.answer.new.texts) tells before after (notes_said paid.notes) (notes_said done.notes)) left
+    (subst (λ n. Answers paid.limit (live_in paid named) (texts_of c.take.new.self now.texts.scripts) what n result live (coming c.answer.new.texts) tells before after (notes_said paid.notes) (notes_said done.notes)) (sym c.answer.ensures.command)
+    (c.answer.ensures.told files))) in
+    let short = subst (λ (x : CommandState). IsShort result (live_in x named) live x.notes done.notes before after) is (c.answer.ensures.short files) in
+    let limit = c.answer.ensures.limit ∙ ap (λ (x : CommandState). x.limit) is in
+    action-stepped (session_of session named lines input []) (session_of done (g.F.Files.state c.answer.new.files).files last input []) first.action first.others what result tells before after
+    (notes_said session.notes) (notes_said done.notes) session.notes done.notes sink first.is paid_for.0 (ap asked (sym text))
+    (record {
+      spent = spent;
+      limit = limit;
+      budget = budget;
+      reading = ap (λ (x : CommandLoop). x.reads) c.pay.ensures.lines;
+      prompt = ap (λ (x : CommandLoop). x.prompt) c.pay.ensures.lines;
+      input = refl;
+      open_ = ap (λ (x : CommandLoop). x.reader.open_) c.pay.ensures.lines;
+    }) less told short
+
+pub returns-in-Some-clause-kept : goal.returns-in-Some-clause-kept
+returns-in-Some-clause-kept g c =
+    answer-kept c.answer.result _ _ c.answer.new.session.machine.slots c.answer.new.session.notes (g.F.Files.state c.args.files.now) (g.F.Files.state c.answer.new.files) c.answer.ensures.counts
+
+-- an action is there
+pub returns-in-None-clause-told : goal.returns-in-None-clause-told
+returns-in-None-clause-told g c = λ files sink input.
+    let first = has-first c.args.lines.now.texts.actions c.requires.some in
+    absurd (action-there c.pay.new.lines.texts.actions first.action first.others (ap (λ (x : CommandLoop). x.texts.actions) c.pay.ensures.lines ∙ first.is) (sym c.in-None.is ∙ c.take.ensures.count))
