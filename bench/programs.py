@@ -21,8 +21,9 @@ def add_arguments(parser):
     parser.add_argument("--dgnova", default="dgnova", help="SIMH's program (default: %(default)s)")
 
 
-def must_exist(arguments):
-    for program in (arguments.nova, arguments.dgnova):
+def must_exist(arguments, alone=False):
+    """Ends the script where our program, or dgnova beside which it runs, is missing."""
+    for program in (arguments.nova,) if alone else (arguments.nova, arguments.dgnova):
         if shutil.which(program) is None:
             hint = " (apt-get install simh)" if program == arguments.dgnova else " (make it with ./nova)"
             sys.exit(f"{program}: not found{hint}")
