@@ -17,13 +17,21 @@ use std::rt::Files as System;
 /// The files of a system, by their paths. Their bytes are not told. Each call that fails raises the count of its file,
 /// and each opening that fails the count of openings, an opening that finds no file among them.
 ///
-/// A call that a signal cuts short is made again, up to 64 times in a row. A folder is not opened. What the system
-/// meets where it closes a file is not told: closing does not fail.
+/// A call that a signal cuts short is made again, up to 64 times in a row. A folder is not opened. A pipe, a terminal or
+/// another device that was opened to be read only has no length, since the system says 0 of what has bytes: `length`
+/// fails. What the system meets where it closes a file is not told: closing does not fail.
 #[derive(Drop)]
 pub struct RealFiles<R: System + Drop> {
     system: R,
-    table: OpenTable<R::File>,
+    table: OpenTable<Opened<R::File>>,
     open_faults: u64,
+}
+
+/// An open file, and whether what the system says of its length can be believed.
+#[derive(Drop)]
+struct Opened<F: Drop> {
+    handle: F,
+    has_length: bool,
 }
 
 impl<R: System + Drop> Model for RealFiles<R> {
@@ -111,9 +119,9 @@ where
     }
 
     fn length(&mut self, file: FileId) -> Result<u64, Failed> {
-        match self.table.handle(file).unwrap().metadata() {
-            Ok(metadata) => Ok(metadata.len()),
-            Err(_) => {
+        match length_of(self.table.handle(file).unwrap()) {
+            Some(length) => Ok(length),
+            None => {
                 self.table.raise(file);
                 Err(Failed)
             }
@@ -121,7 +129,7 @@ where
     }
 
     fn read_at(&mut self, file: FileId, place: u64, buf: &mut [u8]) -> Result<usize, Failed> {
-        match read_whole(&self.table.handle(file).unwrap(), place, buf) {
+        match read_whole(&&self.table.handle(file).unwrap().handle, place, buf) {
             Ok(count) => Ok(count),
             Err(_) => {
                 self.table.raise(file);
@@ -131,7 +139,7 @@ where
     }
 
     fn write_at(&mut self, file: FileId, place: u64, bytes: &[u8]) -> Result<(), WriteFault> {
-        let mut handle = self.table.handle(file).unwrap();
+        let mut handle = &self.table.handle(file).unwrap().handle;
         match write_whole(&mut handle, place, bytes) {
             Ok(()) => Ok(()),
             Err(fault) => {
@@ -142,7 +150,7 @@ where
     }
 
     fn set_length(&mut self, file: FileId, length: u64) -> Result<(), Failed> {
-        match self.table.handle(file).unwrap().set_len(length) {
+        match self.table.handle(file).unwrap().handle.set_len(length) {
             Ok(()) => Ok(()),
             Err(_) => {
                 self.table.raise(file);
@@ -165,18 +173,48 @@ where
     }
 }
 
-/// Opens a path. A folder, which the system opens to be read, is refused here.
-fn open_path<R: System>(system: &R, name: &str, mode: OpenMode) -> Result<R::File, OpenFault>
+/// Opens a path. A folder, which the system opens to be read, is refused here, and so is what does not say what it is.
+fn open_path<R: System>(
+    system: &R,
+    name: &str,
+    mode: OpenMode,
+) -> Result<Opened<R::File>, OpenFault>
+where
+    R::File: Drop,
     ensures { IfErr result (λ fault. fault ≢ no_memory) }
 {
-    match options_for(mode).open(system, name) {
-        Ok(file) => {
-            if mode == OpenMode::Read && is_folder(&file) {
+    let handle = match options_for(mode).open(system, name) {
+        Ok(handle) => handle,
+        Err(error) => return Err(opening_fault(error.kind())),
+    };
+    if mode != OpenMode::Read {
+        return Ok(Opened {
+            handle,
+            has_length: true,
+        });
+    }
+    match handle.metadata() {
+        Ok(metadata) => {
+            if metadata.is_dir() {
                 return Err(OpenFault::Failed);
             }
-            Ok(file)
+            Ok(Opened {
+                handle,
+                has_length: metadata.is_file(),
+            })
         }
-        Err(error) => Err(opening_fault(error.kind())),
+        Err(_) => Err(OpenFault::Failed),
+    }
+}
+
+/// The length of an open file in bytes, where the system says one that can be believed.
+fn length_of<F: OpenFile + Drop>(file: &Opened<F>) -> Option<u64> {
+    if !file.has_length {
+        return None;
+    }
+    match file.handle.metadata() {
+        Ok(metadata) => Some(metadata.len()),
+        Err(_) => None,
     }
 }
 
@@ -209,14 +247,6 @@ fn opening_fault(kind: ErrorKind) -> OpenFault
         OpenFault::NoFile
     } else {
         OpenFault::Failed
-    }
-}
-
-/// Whether an open file is a folder, or does not say what it is.
-fn is_folder<F: OpenFile>(file: &F) -> bool {
-    match file.metadata() {
-        Ok(metadata) => metadata.is_dir(),
-        Err(_) => true,
     }
 }
 

@@ -96,6 +96,23 @@ fn a_folder_is_not_opened(rt: HostRuntime) -> Result<(), Fail> {
     Ok(())
 }
 
+/// What the length of a path of the system is that is opened so, and the file's faults then.
+fn length_opened(rt: &HostRuntime, path: &str, mode: OpenMode) -> (Result<u64, Failed>, u64) {
+    let mut files = RealFiles::new(rt.alloc(), rt);
+    match files.open_file(rt.alloc(), path, mode) {
+        Ok(file) => (files.length(file), files.faults(file)),
+        Err(_) => (Ok(9), 9),
+    }
+}
+
+#[test]
+fn a_device_that_is_only_read_has_no_length(rt: HostRuntime) {
+    for path in ["/dev/null", "/dev/zero"] {
+        assert!(rt; length_opened(&rt, path, OpenMode::Read) == (Err(Failed), 1), "{path}");
+        assert!(rt; length_opened(&rt, path, OpenMode::Update) == (Ok(0), 0), "{path}");
+    }
+}
+
 const END: Step = Step::End;
 
 /// A system whose file of 5 bytes takes and gives nothing.
