@@ -1,4 +1,4 @@
-ghost use Rattle.std.specs.Prelude.{◌≡◌, ◌≢◌, ◌↔◌, [], IfErr, false};
+ghost use Rattle.std.specs.Prelude.{◌≡◌, ◌≢◌, ◌↔◌, ◌<◌, [], length, string_bytes, IfErr, false};
 ghost use Rattle.host_files.specs.declared.files.OpenFault.TheVariants.{NoFile, OutOfMemory as no_memory};
 ghost use Rattle.fault_counts.specs.Faults.{raised};
 ghost use Rattle.host_files.specs.FileCalls.{Opens};
@@ -69,16 +69,25 @@ impl<R: System + Drop> RealFiles<R> {
         if self.table.is_full() {
             return Err(OpenFault::Failed);
         }
-        let text = match String::from_str(alloc, name) {
-            Ok(text) => text,
-            Err(OutOfMemory) => return Err(OpenFault::OutOfMemory),
-        };
+        match String::from_str(alloc, name) {
+            Ok(text) => self.open_named(text, mode),
+            Err(OutOfMemory) => Err(OpenFault::OutOfMemory),
+        }
+    }
+
+    /// The same of a name whose memory was taken, where an id is left.
+    fn open_named(&mut self, name: String, mode: OpenMode) -> Result<FileId, OpenFault>
+        requires { length self.old.table.counts < 4294967296 }
+        ensures opens { Opens false (untold_state self.old) (untold_state self.new) (string_bytes name) mode result }
+        ensures counts { (untold_state self.new).faults ≡ (untold_state self.old).faults }
+        ensures openings { self.new.open_faults ≡ self.old.open_faults }
+    {
         match self.table.reserve() {
             Ok(()) => {}
             Err(OutOfMemory) => return Err(OpenFault::OutOfMemory),
         }
-        let handle = open_path(&self.system, name, mode)?;
-        match self.table.add(text, mode, handle) {
+        let opened = open_path(&self.system, name.as_str(), mode)?;
+        match self.table.add(name, mode, opened) {
             Ok(file) => Ok(file),
             Err(OutOfMemory) => Err(OpenFault::OutOfMemory),
         }

@@ -108,8 +108,14 @@ fn length_opened(rt: &HostRuntime, path: &str, mode: OpenMode) -> (Result<u64, F
 #[test]
 fn a_device_that_is_only_read_has_no_length(rt: HostRuntime) {
     for path in ["/dev/null", "/dev/zero"] {
-        assert!(rt; length_opened(&rt, path, OpenMode::Read) == (Err(Failed), 1), "{path}");
-        assert!(rt; length_opened(&rt, path, OpenMode::Update) == (Ok(0), 0), "{path}");
+        assert!(rt;
+            length_opened(&rt, path, OpenMode::Read) == (Err(Failed), 1),
+            "{path}"
+        );
+        assert!(rt;
+            length_opened(&rt, path, OpenMode::Update) == (Ok(0), 0),
+            "{path}"
+        );
     }
 }
 
