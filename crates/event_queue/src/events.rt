@@ -166,6 +166,3 @@ impl Events {
         self.entries.sound();
     }
 }
-
-#[cfg(test)]
-mod tests;

@@ -147,6 +147,3 @@ impl<F: Files> Files for PagedFiles<F> {
         self.files.open_faults()
     }
 }
-
-#[cfg(test)]
-mod tests;

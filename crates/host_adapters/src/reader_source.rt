@@ -101,6 +101,3 @@ fn read_retrying<R: Read>(reader: &mut R, buf: &mut [u8]) -> io::Result<usize>
     }
     reader.read(buf)
 }
-
-#[cfg(test)]
-mod tests;

@@ -258,6 +258,3 @@ fn opening_fault(kind: ErrorKind) -> OpenFault
         OpenFault::Failed
     }
 }
-
-#[cfg(test)]
-mod tests;

@@ -89,6 +89,3 @@ fn write_retrying<W: Write>(writer: &mut W, bytes: &[u8]) -> io::Result<usize>
     }
     writer.write(bytes)
 }
-
-#[cfg(test)]
-mod tests;

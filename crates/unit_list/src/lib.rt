@@ -13,6 +13,3 @@ pub use laws::calls_reach_one_unit;
 pub use registers::{all_fit, reg_at, set_reg_at};
 pub use reset::reset_all;
 pub use service::{due_at, got_at};
-
-#[cfg(test)]
-mod tests;

@@ -112,6 +112,3 @@ pub enum RegFault {
     /// The value is above the largest of the register, or the register is `Size`.
     OutOfRange,
 }
-
-#[cfg(test)]
-mod tests;

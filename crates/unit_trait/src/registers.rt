@@ -84,6 +84,3 @@ fn name_text(register: Register) -> Text<8>
     text.push_all(register.name.as_bytes());
     text
 }
-
-#[cfg(test)]
-mod tests;

@@ -1,7 +1,10 @@
+// Files of the system, over real files and over a system that does what a test writes down.
 mod scripted;
 
-use super::*;
+use host_adapters::RealFiles;
+use host_files::{Failed, FileId, Files, OpenFault, OpenMode, WriteFault};
 use scripted::{Scripted, Step};
+use std::io::ErrorKind;
 use std::path::PathBuf;
 use std::test::Fail;
 use std::{env, fs, process};

@@ -1,6 +1,8 @@
-use super::*;
-use host_files::next_byte;
-use std::io::ErrorKind;
+// A source over a reader that does what a test writes down.
+use host_adapters::ReaderSource;
+use host_files::{Failed, Source, next_byte};
+use std::io;
+use std::io::{ErrorKind, Read};
 use std::test::Fail;
 
 /// What a reader does in one call, or in so many calls in a row.

@@ -1,8 +1,11 @@
+// Files that are read by pages, over files in memory.
 ghost use Rattle.std.specs.Prelude.{◌≡◌};
 ghost use Rattle.host_files.specs.State.{IsOpen};
 
-use super::*;
-use host_files::MemFiles;
+use host_adapters::PagedFiles;
+use host_files::{Failed, FileId, Files, MemFiles, OpenMode};
+use std::alloc::Global;
+use std::process::Abort;
 use std::test::Fail;
 
 /// Files of 5000 bytes at most, with these in one of them. The call with that number fails.
@@ -23,6 +26,17 @@ fn byte_at<F: Files>(files: &mut F, file: FileId, place: u64) -> Result<Option<u
     Ok(if count == 0 { None } else { Some(buf[0]) })
 }
 
+/// These bytes are read one by one, from the beginning of an open file.
+fn are_read<F: Files>(rt: &impl Abort, files: &mut F, file: FileId, bytes: &[u8])
+    requires { IsOpen (F.state files.old) file.0 }
+    ensures { (F.state files.new).opened ≡ (F.state files.old).opened }
+{
+    for (place, byte) in bytes.iter().enumerate() {
+        let read = byte_at(files, file, place as u64);
+        assert_eq!(rt; read, Ok(Some(*byte)), "{place}");
+    }
+}
+
 #[test]
 fn bytes_are_read_in_two_calls_and_the_third_fails(rt: HostRuntime) -> Result<(), Fail> {
     let alloc = rt.alloc();
@@ -32,10 +46,7 @@ fn bytes_are_read_in_two_calls_and_the_third_fails(rt: HostRuntime) -> Result<()
     }
     let mut files = paged(alloc, bytes.as_slice(), 3)?;
     if let Ok(tape) = files.open_file(alloc, "tape", OpenMode::Read) {
-        for (place, byte) in bytes.iter().enumerate() {
-            let read = byte_at(&mut files, tape, place as u64);
-            assert_eq!(rt; read, Ok(Some(*byte)), "{place}");
-        }
+        are_read(&rt, &mut files, tape, bytes.as_slice());
         assert_eq!(rt; byte_at(&mut files, tape, 5000), Err(Failed));
         assert_eq!(rt; files.faults(tape), 1);
         assert_eq!(rt; byte_at(&mut files, tape, 5000), Ok(None));

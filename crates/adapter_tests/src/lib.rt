@@ -1,0 +1,11 @@
+//! Tests of the adapters over readers, writers and files of the system.
+#![tactic(auto)]
+
+#[cfg(test)]
+mod paged_files;
+#[cfg(test)]
+mod reader_source;
+#[cfg(test)]
+mod real_files;
+#[cfg(test)]
+mod writer_sink;

@@ -1,0 +1,11 @@
+//! Tests of what a device is, of the events that wait and of a list of units.
+#![tactic(auto)]
+
+#[cfg(test)]
+mod events;
+#[cfg(test)]
+mod processor;
+#[cfg(test)]
+mod registers;
+#[cfg(test)]
+mod units;

@@ -1,0 +1,168 @@
+// A list of units: each is found by its code, asked and set.
+mod keys;
+
+use event_queue::Events;
+use keys::Keys;
+use std::alloc::{AllocError, Global};
+use std::test::Fail;
+use unit_list::{
+    all_fit, calls_reach_one_unit, due_at, flags_at, got_at, has_unit, io_at, reg_at, reset_all,
+    set_reg_at,
+};
+use unit_trait::{Got, IoOp, Kind, Pulse, Queue, UnitName, UnitStop, Want, units_of};
+
+const CONSOLE: UnitName = UnitName {
+    kind: Kind::Tti,
+    unit: 0,
+};
+
+const SECOND: UnitName = UnitName {
+    kind: Kind::Tti1,
+    unit: 0,
+};
+
+const CLOCK: UnitName = UnitName {
+    kind: Kind::Clk,
+    unit: 0,
+};
+
+/// A machine's units: the keyboard of the second terminal in front of the console's, and no clock.
+fn keyboards() -> [Keys; 2] {
+    [Keys::new(true), Keys::new(false)]
+}
+
+/// Whether the registers of a unit hold these values, and it has no fifth one.
+fn hold(units: &[Keys], kind: Kind, values: [u32; 4]) -> bool {
+    reg_at(units, kind, 0) == Some(values[0])
+        && reg_at(units, kind, 1) == Some(values[1])
+        && reg_at(units, kind, 2) == Some(values[2])
+        && reg_at(units, kind, 3) == Some(values[3])
+        && reg_at(units, kind, 4).is_none()
+}
+
+/// Whether the unit with that code has these flags.
+fn has_flags(units: &[Keys], code: u8, busy: bool, done: bool) -> bool {
+    match flags_at(units, code) {
+        Some(flags) => flags.busy == busy && flags.done == done,
+        None => false,
+    }
+}
+
+/// Whether a unit is found by that code, exactly where one is there.
+fn is_found(units: &[Keys], code: u8, there: bool) -> bool {
+    has_unit(units, code) == there && flags_at(units, code).is_some() == there
+}
+
+/// Whether a DIA with that pulse to that code is answered by that kind with that word.
+fn answers(units: &mut [Keys], code: u8, pulse: Pulse, kind: Kind, word: u16) -> bool {
+    match io_at(units, code, IoOp::Dia, pulse, 0) {
+        Some(said) => said.kind == kind && said.answer.word == word,
+        None => false,
+    }
+}
+
+/// Whether each device is asked by its own code, and no other one changes.
+fn are_asked_by_code(units: &mut [Keys]) -> bool {
+    let first = answers(units, 0o10, Pulse::Start, Kind::Tti, 0o101);
+    let flags = has_flags(units, 0o10, true, false) && has_flags(units, 0o50, false, true);
+    let second = answers(units, 0o50, Pulse::None, Kind::Tti1, 0o102);
+    let none = io_at(units, 0o14, IoOp::Dia, Pulse::Clear, 0).is_none();
+    first && flags && second && none && has_flags(units, 0o10, true, false)
+}
+
+#[test]
+fn a_word_goes_to_the_device_with_its_code(rt: HostRuntime) {
+    let mut units = keyboards();
+    let set = is_set(&mut units, &(Kind::Tti, 3, 0o101, true))
+        && is_set(&mut units, &(Kind::Tti1, 3, 0o102, true))
+        && is_set(&mut units, &(Kind::Tti1, 1, 1, true));
+    let found = is_found(&units, 0o10, true)
+        && is_found(&units, 0o50, true)
+        && is_found(&units, 0o14, false)
+        && is_found(&units, 0, false);
+    assert!(rt; set && found && are_asked_by_code(&mut units));
+}
+
+fn wants(units: &mut [Keys], unit: UnitName, wanted: Want) -> bool {
+    unit.unit < units_of(unit.kind) && due_at(units, unit) == wanted
+}
+
+/// Whether a key is handed to the keyboard that its name says, which asks for its event again.
+fn takes_key(units: &mut [Keys]) -> bool {
+    let after = got_at(units, CONSOLE, Got::Key(0o301));
+    let none = got_at(units, CLOCK, Got::Done);
+    after.queue == Queue::After(100) && after.stop == UnitStop::Go && none.queue == Queue::Keep
+}
+
+#[test]
+fn a_unit_is_served_by_its_name(rt: HostRuntime) {
+    let mut units = keyboards();
+    let wants = wants(&mut units, CONSOLE, Want::Key)
+        && wants(&mut units, SECOND, Want::LineKey(0))
+        && wants(&mut units, CLOCK, Want::Nothing);
+    let taken = takes_key(&mut units);
+    let held = hold(&units, Kind::Tti, [0, 1, 100, 0o301])
+        && hold(&units, Kind::Tti1, [0, 0, 100, 0]);
+    assert!(rt; wants && taken && held);
+}
+
+/// A register, a value, and whether it is taken.
+const VALUES: [(Kind, u8, u32, bool); 8] = [
+    (Kind::Tti, 2, 1, true),
+    (Kind::Tti, 2, 0, false),
+    (Kind::Tti1, 2, 65535, true),
+    (Kind::Tti1, 2, 65536, false),
+    (Kind::Tti1, 0, 1, true),
+    (Kind::Tti, 4, 0, false),
+    (Kind::Clk, 0, 0, false),
+    (Kind::Tti, 3, 0o377, true),
+];
+
+/// Whether the value is taken exactly where it should be.
+fn is_set(units: &mut [Keys], row: &(Kind, u8, u32, bool)) -> bool {
+    match set_reg_at(units, row.0, row.1, row.2) {
+        Ok(()) => row.3,
+        Err(_) => !row.3,
+    }
+}
+
+#[test]
+fn a_register_is_set_within_its_limits(rt: HostRuntime) {
+    let mut units = keyboards();
+    for row in VALUES.iter() {
+        assert!(rt; is_set(&mut units, row), "{:?} {} {}", row.0, row.1, row.2);
+    }
+    all_fit(&units);
+    let held = hold(&units, Kind::Tti, [0, 0, 1, 0o377])
+        && hold(&units, Kind::Tti1, [1, 0, 65535, 0])
+        && reg_at(&units, Kind::Clk, 0).is_none();
+    assert!(rt; held);
+}
+
+/// Whether the event with that number is that unit's, in 100 instructions.
+fn waits_at(events: &Events, place: usize, name: UnitName) -> bool {
+    match events.in_order(place) {
+        Some((unit, left)) => unit.is(name) && left == 100,
+        None => false,
+    }
+}
+
+/// The events behind a reset of these units.
+fn events_of_reset(alloc: Global, units: &mut [Keys]) -> Result<Events, AllocError> {
+    let mut events = Events::new(alloc)?;
+    reset_all(units, &mut events);
+    Ok(events)
+}
+
+#[test]
+fn a_reset_wishes_in_bus_order(rt: HostRuntime) -> Result<(), Fail> {
+    let mut units = keyboards();
+    let set = is_set(&mut units, &(Kind::Tti, 1, 1, true));
+    let events = events_of_reset(rt.alloc(), &mut units)?;
+    calls_reach_one_unit();
+    let waits = waits_at(&events, 0, SECOND)
+        && waits_at(&events, 1, CONSOLE)
+        && events.in_order(2).is_none();
+    assert!(rt; set && waits && has_flags(&units, 0o10, false, false));
+    Ok(())
+}
