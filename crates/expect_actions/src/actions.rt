@@ -124,6 +124,3 @@ fn put_all(list: &mut VecDeque<Text<512>>, text: &[u8], count: usize)
         rest = others;
     }
 }
-
-#[cfg(test)]
-mod tests;

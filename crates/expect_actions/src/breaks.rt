@@ -281,6 +281,3 @@ fn copy_of(text: &Text<512>) -> Text<512>
     let _length = text.len();
     text_of(text.as_slice())
 }
-
-#[cfg(test)]
-mod tests;

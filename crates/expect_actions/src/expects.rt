@@ -200,6 +200,3 @@ fn take_out(list: &mut Vec<Expect>, place: usize) -> Text<512>
 {
     list.remove(place).actions
 }
-
-#[cfg(test)]
-mod tests;

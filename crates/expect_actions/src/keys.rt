@@ -91,6 +91,3 @@ pub fn keys_files_have_one_answer()
     ensures one { KeysHaveOneAnswer }
     ensures computed { KeysAreComputed }
 {}
-
-#[cfg(test)]
-mod tests;

@@ -154,6 +154,3 @@ fn is_due(list: &VecDeque<(u64, u8)>, now: u64) -> bool
         None => false,
     }
 }
-
-#[cfg(test)]
-mod tests;

@@ -36,6 +36,3 @@ impl Watch {
         })
     }
 }
-
-#[cfg(test)]
-mod tests;

@@ -1,23 +1,30 @@
-use super::*;
-use std::alloc::AllocError;
+// Keys files.
+use expect_actions::{Keys, KeysFault};
+use std::alloc::{AllocError, Global};
+use std::process::Abort;
 use std::test::Fail;
 
-// Whether the keys of a file are these: each is due at its time and not before, and there are no more.
-fn gives(alloc: Global, bytes: &[u8], wanted: &[(u64, u8)]) -> bool {
+/// The keys of a file are these.
+fn give(rt: &impl Abort, alloc: Global, bytes: &[u8], wanted: &[(u64, u8)]) {
     match Keys::read_keys(alloc, bytes) {
-        Err(_) => false,
-        Ok(keys) => {
-            let mut all = keys.due(wanted.len() as u64, u64::MAX).is_none();
-            for (number, key) in wanted.iter().enumerate() {
-                all &= keys.due(number as u64, key.0) == Some(key.1);
-                all &= key.0 == 0 || keys.due(number as u64, key.0 - 1).is_none();
-            }
-            all
-        }
+        Err(_) => assert!(rt; false, "at {bytes:?}"),
+        Ok(keys) => come(rt, &keys, wanted),
     }
 }
 
-// The place of the first faulty line.
+/// The keys are these: each is due at its time and not before, and there are no more.
+fn come(rt: &impl Abort, keys: &Keys, wanted: &[(u64, u8)]) {
+    for (number, key) in wanted.iter().enumerate() {
+        let (time, byte) = *key;
+        assert_eq!(rt; keys.due(number as u64, time), Some(byte));
+        if time > 0 {
+            assert_eq!(rt; keys.due(number as u64, time - 1), None);
+        }
+    }
+    assert_eq!(rt; keys.due(wanted.len() as u64, u64::MAX), None);
+}
+
+/// The place of the first faulty line.
 fn faulty_at(alloc: Global, bytes: &[u8]) -> Option<usize> {
     match Keys::read_keys(alloc, bytes) {
         Err(KeysFault::Bad(place)) => Some(place),
@@ -40,8 +47,8 @@ fn files_give_their_keys(rt: HostRuntime) {
         ),
         (b"1 \"1 \\\"\\n\"\n", &[(1, 49), (1, 32), (1, 34), (1, 10)]),
     ];
-    for (number, (bytes, wanted)) in cases.iter().enumerate() {
-        assert!(rt; gives(rt.alloc(), *bytes, *wanted), "at {number}");
+    for (bytes, wanted) in cases {
+        give(&rt, rt.alloc(), bytes, wanted);
     }
 }
 
@@ -69,7 +76,7 @@ fn the_first_faulty_line_is_told(rt: HostRuntime) {
     }
 }
 
-// A line at time 0 with so many keys, and one behind it at time 1 with one key more.
+/// A line at time 0 with so many keys, and one behind it at time 1 with one key more.
 fn two_lines(alloc: Global, count: usize) -> Result<Vec<u8>, AllocError> {
     let mut bytes = Vec::new(alloc);
     bytes.extend_from_slice(b"0 \"")?;
@@ -82,17 +89,28 @@ fn two_lines(alloc: Global, count: usize) -> Result<Vec<u8>, AllocError> {
 
 #[test]
 fn a_file_has_at_most_65536_keys(rt: HostRuntime) -> Result<(), Fail> {
-    let fits = two_lines(rt.alloc(), 65535)?;
-    let keys = match Keys::read_keys(rt.alloc(), fits.as_slice()) {
-        Ok(keys) => keys,
-        Err(_) => Keys::none(rt.alloc()),
-    };
+    just_fit(&rt, rt.alloc())?;
+    are_too_many(&rt, rt.alloc(), 65536, 65541)?;
+    are_too_many(&rt, rt.alloc(), 65537, 0)
+}
+
+fn just_fit(rt: &impl Abort, alloc: Global) -> Result<(), Fail> {
+    let bytes = two_lines(alloc, 65535)?;
+    match Keys::read_keys(alloc, bytes.as_slice()) {
+        Err(_) => assert!(rt; false),
+        Ok(keys) => end_with_b(rt, &keys),
+    }
+    Ok(())
+}
+
+fn end_with_b(rt: &impl Abort, keys: &Keys) {
     assert_eq!(rt; keys.due(65535, 1), Some(b'b'));
     assert_eq!(rt; keys.due(65536, 1), None);
-    let over = two_lines(rt.alloc(), 65536)?;
-    assert_eq!(rt; faulty_at(rt.alloc(), over.as_slice()), Some(65541));
-    let far_over = two_lines(rt.alloc(), 65537)?;
-    assert_eq!(rt; faulty_at(rt.alloc(), far_over.as_slice()), Some(0));
+}
+
+fn are_too_many(rt: &impl Abort, alloc: Global, count: usize, place: usize) -> Result<(), Fail> {
+    let bytes = two_lines(alloc, count)?;
+    assert_eq!(rt; faulty_at(alloc, bytes.as_slice()), Some(place));
     Ok(())
 }
 
