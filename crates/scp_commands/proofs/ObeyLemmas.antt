@@ -36,6 +36,7 @@ use Rattle.scp_commands.specs.ShowEffects.{show_reply}
 use Rattle.scp_commands.specs.SetEffects.{set_size_reply}
 use Rattle.scp_commands.specs.ScriptEffects.{test_answer, echo_reply, assert_reply, goto_reply}
 use Rattle.scp_commands.specs.Effect.{effect}
+use Rattle.scp_commands.specs.Parts.{IsPastRuns, IsPastSettings, IsPastWatches}
 use Rattle.scp_commands.specs.Doing.{Does, Did, FileCause, Keeps, MayWant}
 use Rattle.scp_commands.proofs.DidLemmas.{did-of}
 
@@ -250,60 +251,114 @@ may-want spare (Load name) few = tt
 may-want spare (Dump from to name) few = tt
 may-want spare request few = few
 
--- ---- what is not built
+-- ---- the parts in which commands are told apart
 
-pub record IsOther (v : Verb) : Type 0 where
-  pub nothing : v ≡ verb.Nothing → ⊥
+pub record IsNoRun (v : Verb) : Type 0 where
   pub examine : (l : Listing) → v ≡ verb.Examine l → ⊥
   pub deposit : (l : Listing) (value : ℕ) → v ≡ verb.Deposit l value → ⊥
   pub run : (address : Option ℕ) → v ≡ verb.Run address → ⊥
   pub go : (address : Option ℕ) → v ≡ verb.Go address → ⊥
   pub cont : v ≡ verb.Cont → ⊥
   pub step : (count : Option ℕ) → v ≡ verb.Step count → ⊥
+
+pub past-runs : (line : List ℕ) (v : Verb) → IsNoRun v → IsPastRuns (request_of line v)
+past-runs line (verb.Examine l) o = absurd (o.examine l refl)
+past-runs line (verb.Deposit l value) o = absurd (o.deposit l value refl)
+past-runs line (verb.Run address) o = absurd (o.run address refl)
+past-runs line (verb.Go address) o = absurd (o.go address refl)
+past-runs line verb.Cont o = absurd (o.cont refl)
+past-runs line (verb.Step count) o = absurd (o.step count refl)
+past-runs line v o = tt
+
+pub record IsNoSetting (v : Verb) : Type 0 where
+  pub nothing : v ≡ verb.Nothing → ⊥
   pub reset : v ≡ verb.Reset → ⊥
+  pub set_size : (k : ℕ) → v ≡ verb.SetSize k → ⊥
+  pub show : (subject : Shown) → v ≡ verb.Show subject → ⊥
+  pub goto : (label : Piece) → v ≡ verb.Goto label → ⊥
+  pub assert : (test : Test) → v ≡ verb.Assert test → ⊥
+  pub echo : (text : Piece) → v ≡ verb.Echo text → ⊥
+
+pub past-settings : (line : List ℕ) (v : Verb) → IsPastRuns (request_of line v) → IsNoSetting v → IsPastSettings (request_of line v)
+past-settings line (verb.Examine l) past o = absurd past
+past-settings line (verb.Deposit l value) past o = absurd past
+past-settings line (verb.Run address) past o = absurd past
+past-settings line (verb.Go address) past o = absurd past
+past-settings line verb.Cont past o = absurd past
+past-settings line (verb.Step count) past o = absurd past
+past-settings line verb.Nothing past o = absurd (o.nothing refl)
+past-settings line verb.Reset past o = absurd (o.reset refl)
+past-settings line (verb.SetSize k) past o = absurd (o.set_size k refl)
+past-settings line (verb.Show subject) past o = absurd (o.show subject refl)
+past-settings line (verb.Goto label) past o = absurd (o.goto label refl)
+past-settings line (verb.Assert test) past o = absurd (o.assert test refl)
+past-settings line (verb.Echo text) past o = absurd (o.echo text refl)
+past-settings line v past o = tt
+
+pub record IsNoWatch (v : Verb) : Type 0 where
   pub break_ : (at count : ℕ) (actions : Piece) → v ≡ verb.Break at count actions → ⊥
   pub no_break : (at : Option ℕ) → v ≡ verb.NoBreak at → ⊥
   pub expect : (count : ℕ) (text actions : Piece) → v ≡ verb.Expect count text actions → ⊥
   pub no_expect : v ≡ verb.NoExpect → ⊥
   pub send : (after delay : ℕ) (text : Piece) → v ≡ verb.Send after delay text → ⊥
   pub no_send : v ≡ verb.NoSend → ⊥
+
+pub past-watches : (line : List ℕ) (v : Verb) → IsPastSettings (request_of line v) → IsNoWatch v → IsPastWatches (request_of line v)
+past-watches line (verb.Examine l) past o = absurd past
+past-watches line (verb.Deposit l value) past o = absurd past
+past-watches line (verb.Run address) past o = absurd past
+past-watches line (verb.Go address) past o = absurd past
+past-watches line verb.Cont past o = absurd past
+past-watches line (verb.Step count) past o = absurd past
+past-watches line verb.Nothing past o = absurd past
+past-watches line verb.Reset past o = absurd past
+past-watches line (verb.SetSize k) past o = absurd past
+past-watches line (verb.Show subject) past o = absurd past
+past-watches line (verb.Goto label) past o = absurd past
+past-watches line (verb.Assert test) past o = absurd past
+past-watches line (verb.Echo text) past o = absurd past
+past-watches line (verb.Break at count actions) past o = absurd (o.break_ at count actions refl)
+past-watches line (verb.NoBreak at) past o = absurd (o.no_break at refl)
+past-watches line (verb.Expect count text actions) past o = absurd (o.expect count text actions refl)
+past-watches line verb.NoExpect past o = absurd (o.no_expect refl)
+past-watches line (verb.Send after delay text) past o = absurd (o.send after delay text refl)
+past-watches line verb.NoSend past o = absurd (o.no_send refl)
+past-watches line v past o = tt
+
+pub record IsNoFile (v : Verb) : Type 0 where
   pub attach : (option : ℕ) (unit : UnitName) (name : Piece) → v ≡ verb.Attach option unit name → ⊥
   pub detach : (unit : Option UnitName) → v ≡ verb.Detach unit → ⊥
-  pub set_size : (k : ℕ) → v ≡ verb.SetSize k → ⊥
-  pub show : (subject : Shown) → v ≡ verb.Show subject → ⊥
   pub do_ : (echo strict : Bool) (name arguments : Piece) → v ≡ verb.Do echo strict name arguments → ⊥
-  pub goto : (label : Piece) → v ≡ verb.Goto label → ⊥
-  pub assert : (test : Test) → v ≡ verb.Assert test → ⊥
-  pub echo : (text : Piece) → v ≡ verb.Echo text → ⊥
   pub exit : (status : Option ℕ) → v ≡ verb.Exit status → ⊥
   pub load : (name : Piece) → v ≡ verb.Load name → ⊥
   pub dump : (from to : ℕ) (name : Piece) → v ≡ verb.Dump from to name → ⊥
 
-pub other-is : (limit : ℕ) (own : List CommandNote) (live : Live) (line : List ℕ) (v : Verb) → IsOther v → effect limit own live (request_of line v) ≡ refused NotBuilt live
+-- what is not built
+pub other-is : (limit : ℕ) (own : List CommandNote) (live : Live) (line : List ℕ) (v : Verb) → IsPastWatches (request_of line v) → IsNoFile v → effect limit own live (request_of line v) ≡ refused NotBuilt live
 unfolding effect
-other-is limit own live line verb.Nothing o = absurd (o.nothing refl)
-other-is limit own live line (verb.Examine l) o = absurd (o.examine l refl)
-other-is limit own live line (verb.Deposit l value) o = absurd (o.deposit l value refl)
-other-is limit own live line (verb.Run address) o = absurd (o.run address refl)
-other-is limit own live line (verb.Go address) o = absurd (o.go address refl)
-other-is limit own live line verb.Cont o = absurd (o.cont refl)
-other-is limit own live line (verb.Step count) o = absurd (o.step count refl)
-other-is limit own live line verb.Reset o = absurd (o.reset refl)
-other-is limit own live line (verb.Break at count actions) o = absurd (o.break_ at count actions refl)
-other-is limit own live line (verb.NoBreak at) o = absurd (o.no_break at refl)
-other-is limit own live line (verb.Expect count text actions) o = absurd (o.expect count text actions refl)
-other-is limit own live line verb.NoExpect o = absurd (o.no_expect refl)
-other-is limit own live line (verb.Send after delay text) o = absurd (o.send after delay text refl)
-other-is limit own live line verb.NoSend o = absurd (o.no_send refl)
-other-is limit own live line (verb.Attach option unit name) o = absurd (o.attach option unit name refl)
-other-is limit own live line (verb.Detach unit) o = absurd (o.detach unit refl)
-other-is limit own live line (verb.SetSize k) o = absurd (o.set_size k refl)
-other-is limit own live line (verb.Show subject) o = absurd (o.show subject refl)
-other-is limit own live line (verb.Do echo strict name arguments) o = absurd (o.do_ echo strict name arguments refl)
-other-is limit own live line (verb.Goto label) o = absurd (o.goto label refl)
-other-is limit own live line (verb.Assert test) o = absurd (o.assert test refl)
-other-is limit own live line (verb.Echo text) o = absurd (o.echo text refl)
-other-is limit own live line (verb.Exit status) o = absurd (o.exit status refl)
-other-is limit own live line (verb.Load name) o = absurd (o.load name refl)
-other-is limit own live line (verb.Dump from to name) o = absurd (o.dump from to name refl)
-other-is limit own live line v o = refl
+other-is limit own live line (verb.Examine l) past o = absurd past
+other-is limit own live line (verb.Deposit l value) past o = absurd past
+other-is limit own live line (verb.Run address) past o = absurd past
+other-is limit own live line (verb.Go address) past o = absurd past
+other-is limit own live line verb.Cont past o = absurd past
+other-is limit own live line (verb.Step count) past o = absurd past
+other-is limit own live line verb.Nothing past o = absurd past
+other-is limit own live line verb.Reset past o = absurd past
+other-is limit own live line (verb.SetSize k) past o = absurd past
+other-is limit own live line (verb.Show subject) past o = absurd past
+other-is limit own live line (verb.Goto label) past o = absurd past
+other-is limit own live line (verb.Assert test) past o = absurd past
+other-is limit own live line (verb.Echo text) past o = absurd past
+other-is limit own live line (verb.Break at count actions) past o = absurd past
+other-is limit own live line (verb.NoBreak at) past o = absurd past
+other-is limit own live line (verb.Expect count text actions) past o = absurd past
+other-is limit own live line verb.NoExpect past o = absurd past
+other-is limit own live line (verb.Send after delay text) past o = absurd past
+other-is limit own live line verb.NoSend past o = absurd past
+other-is limit own live line (verb.Attach option unit name) past o = absurd (o.attach option unit name refl)
+other-is limit own live line (verb.Detach unit) past o = absurd (o.detach unit refl)
+other-is limit own live line (verb.Do echo strict name arguments) past o = absurd (o.do_ echo strict name arguments refl)
+other-is limit own live line (verb.Exit status) past o = absurd (o.exit status refl)
+other-is limit own live line (verb.Load name) past o = absurd (o.load name refl)
+other-is limit own live line (verb.Dump from to name) past o = absurd (o.dump from to name refl)
+other-is limit own live line v past o = refl

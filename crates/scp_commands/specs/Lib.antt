@@ -16,4 +16,5 @@ pub mod SetEffects
 pub mod Unbuilt
 pub mod Effect
 pub mod Doing
+pub mod Parts
 pub mod Laws

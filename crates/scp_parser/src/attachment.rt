@@ -151,6 +151,3 @@ pub fn detach(text: &[u8]) -> Result<Verb, ParseFault>
     let (unit, rest) = needed_detached(text)?;
     ended(Verb::Detach(unit), rest)
 }
-
-#[cfg(test)]
-mod tests;

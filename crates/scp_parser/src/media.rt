@@ -75,6 +75,3 @@ pub fn restore(bytes: usize, text: &[u8]) -> Result<Verb, ParseFault>
     let name = name_piece(bytes, rest)?;
     Ok(Verb::Restore { force, name })
 }
-
-#[cfg(test)]
-mod tests;

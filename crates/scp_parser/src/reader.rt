@@ -217,6 +217,3 @@ pub fn each_line_has_a_command_or_a_fault()
         → Parses line c → Faults line fault → ⊥ }
     ensures one_fault { (line : List ℕ) (one other : ParseFault) → Faults line one → Faults line other → one ≡ other }
 {}
-
-#[cfg(test)]
-mod tests;

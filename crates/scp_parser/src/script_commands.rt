@@ -135,6 +135,3 @@ pub fn echo(bytes: usize, text: &[u8]) -> Verb
     };
     Verb::Echo(piece_before(bytes, text, b""))
 }
-
-#[cfg(test)]
-mod tests;

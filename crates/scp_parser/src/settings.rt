@@ -96,6 +96,3 @@ pub fn set(text: &[u8]) -> Result<Verb, ParseFault>
         Name::Device(_) => disconnect(rest),
     }
 }
-
-#[cfg(test)]
-mod tests;

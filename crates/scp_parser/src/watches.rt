@@ -257,6 +257,3 @@ pub fn send(bytes: usize, text: &[u8]) -> Result<Verb, ParseFault>
     };
     ended(verb, rest)
 }
-
-#[cfg(test)]
-mod tests;
