@@ -1,6 +1,7 @@
 // A source over a reader that does what a test writes down.
 use host_adapters::ReaderSource;
-use host_files::{Failed, Source, next_byte};
+use host_files::{Source, next_byte};
+use std::alloc::Global;
 use std::io;
 use std::io::{ErrorKind, Read};
 use std::test::Fail;
@@ -51,51 +52,73 @@ impl Read for Scripted {
     }
 }
 
-// Each byte that is wanted is that of one call; `!` is one that failed, and `.` one at the end. The reader gives away
-// bytes that don't fit its caller's buffer, so they come only where they were read ahead.
-#[test]
-fn bytes_ends_and_errors_come_in_the_readers_order(rt: HostRuntime) -> Result<(), Fail> {
-    const INTERRUPTED: ErrorKind = ErrorKind::Interrupted;
-    const BROKEN: ErrorKind = ErrorKind::Other;
-    let cases: [(&'static [Step], &'static [u8], u64); 8] = [
-        (&[], b"..", 0),
-        (&[Step::Give(b"abc"), Step::Give(b"d")], b"abcd..", 0),
-        (
-            &[Step::Give(b"ab"), Step::End, Step::Give(b"c")],
-            b"ab.c.",
-            0,
-        ),
-        (
-            &[Step::Give(b"ab"), Step::Fail(BROKEN, 1), Step::Give(b"c")],
-            b"ab!c.",
-            1,
-        ),
-        (&[Step::Fail(BROKEN, 2), Step::Give(b"a")], b"!!a.", 2),
-        (&[Step::Fail(INTERRUPTED, 3), Step::Give(b"a")], b"a.", 0),
-        (&[Step::Fail(INTERRUPTED, 64), Step::Give(b"a")], b"a.", 0),
-        (&[Step::Fail(INTERRUPTED, 65), Step::Give(b"a")], b"!a.", 1),
-    ];
-    for (steps, wanted, faults) in cases {
-        let mut source = ReaderSource::new(rt.alloc(), Scripted::new(steps))?;
-        for want in wanted {
-            let answer = match *want {
-                b'!' => Err(Failed),
-                b'.' => Ok(None),
-                byte => Ok(Some(byte)),
-            };
-            assert_eq!(rt; next_byte(&mut source), answer, "{wanted:?}");
-        }
-        assert_eq!(rt; source.faults(), faults, "{wanted:?}");
+const INTERRUPTED: ErrorKind = ErrorKind::Interrupted;
+
+const BROKEN: ErrorKind = ErrorKind::Other;
+
+/// What a reader does; what each call of its source gives, where `!` is one that failed, and `.` one at the end; and the
+/// source's faults then. The reader gives away bytes that don't fit its caller's buffer, so they come only where they
+/// were read ahead.
+const CASES: [(&[Step], &[u8], u64); 8] = [
+    (&[], b"..", 0),
+    (&[Step::Give(b"abc"), Step::Give(b"d")], b"abcd..", 0),
+    (
+        &[Step::Give(b"ab"), Step::End, Step::Give(b"c")],
+        b"ab.c.",
+        0,
+    ),
+    (
+        &[Step::Give(b"ab"), Step::Fail(BROKEN, 1), Step::Give(b"c")],
+        b"ab!c.",
+        1,
+    ),
+    (&[Step::Fail(BROKEN, 2), Step::Give(b"a")], b"!!a.", 2),
+    (&[Step::Fail(INTERRUPTED, 3), Step::Give(b"a")], b"a.", 0),
+    (&[Step::Fail(INTERRUPTED, 64), Step::Give(b"a")], b"a.", 0),
+    (&[Step::Fail(INTERRUPTED, 65), Step::Give(b"a")], b"!a.", 1),
+];
+
+/// What one call gives, in that writing.
+fn given<S: Source>(source: &mut S) -> u8 {
+    match next_byte(source) {
+        Ok(Some(byte)) => byte,
+        Ok(None) => b'.',
+        Err(_) => b'!',
     }
-    Ok(())
+}
+
+/// Whether calls one by one give that, and fail so often.
+fn gives<S: Source>(source: &mut S, wanted: &[u8], faults: u64) -> bool {
+    for byte in wanted.iter() {
+        if given(source) != *byte {
+            return false;
+        }
+    }
+    source.faults() == faults
+}
+
+/// Whether a source over a reader that does these steps gives that; memory is ample.
+fn comes(alloc: Global, steps: &'static [Step], wanted: &[u8], faults: u64) -> bool {
+    match ReaderSource::new(alloc, Scripted::new(steps)) {
+        Ok(source) => {
+            let mut source = source;
+            gives(&mut source, wanted, faults)
+        }
+        Err(_) => false,
+    }
+}
+
+#[test]
+fn bytes_ends_and_errors_come_in_the_readers_order(rt: HostRuntime) {
+    for row in CASES.iter() {
+        assert!(rt; comes(rt.alloc(), row.0, row.1, row.2), "{:?}", row.1);
+    }
 }
 
 #[test]
 fn an_empty_buffer_asks_for_nothing(rt: HostRuntime) -> Result<(), Fail> {
-    let reader = Scripted::new(&[Step::Fail(ErrorKind::Other, 1), Step::Give(b"a")]);
+    let reader = Scripted::new(&[Step::Fail(BROKEN, 1), Step::Give(b"a")]);
     let mut source = ReaderSource::new(rt.alloc(), reader)?;
-    assert_eq!(rt; source.read(&mut []), Ok(0));
-    assert_eq!(rt; next_byte(&mut source), Err(Failed));
-    assert_eq!(rt; next_byte(&mut source), Ok(Some(b'a')));
+    assert!(rt; source.read(&mut []) == Ok(0) && gives(&mut source, b"!a", 1));
     Ok(())
 }
