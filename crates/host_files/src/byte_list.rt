@@ -191,6 +191,3 @@ impl Bytes for ByteList {
         self.faults
     }
 }
-
-#[cfg(test)]
-mod tests;

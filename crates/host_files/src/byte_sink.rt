@@ -92,6 +92,3 @@ impl Sink for ByteSink {
         self.calls.faults()
     }
 }
-
-#[cfg(test)]
-mod tests;

@@ -80,6 +80,3 @@ impl Source for ByteSource {
         self.calls.faults()
     }
 }
-
-#[cfg(test)]
-mod tests;

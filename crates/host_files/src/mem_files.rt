@@ -360,6 +360,3 @@ impl Files for MemFiles {
         self.open_faults
     }
 }
-
-#[cfg(test)]
-mod tests;

@@ -58,6 +58,3 @@ impl<'a, F: Files> Bytes for OneFile<'a, F> {
         self.files.faults(self.file)
     }
 }
-
-#[cfg(test)]
-mod tests;

@@ -88,6 +88,3 @@ pub fn next_byte<C: Source>(input: &mut C) -> Result<Option<u8>, Failed>
     let count = input.read(&mut buf)?;
     Ok(if count == 0 { None } else { Some(buf[0]) })
 }
-
-#[cfg(test)]
-mod tests;

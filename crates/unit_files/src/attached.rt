@@ -369,6 +369,3 @@ fn close_one<F: Files>(unit: UnitName, file: FileId, files: &mut F) -> Option<Un
         }),
     }
 }
-
-#[cfg(test)]
-mod tests;

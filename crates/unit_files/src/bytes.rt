@@ -125,6 +125,3 @@ fn write_one<F: Files>(
         }),
     }
 }
-
-#[cfg(test)]
-mod tests;

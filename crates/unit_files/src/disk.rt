@@ -127,6 +127,3 @@ fn grow_to(bytes: &mut Vec<u8>, length: usize)
         bytes.resize(length, 0).unwrap();
     }
 }
-
-#[cfg(test)]
-mod tests;

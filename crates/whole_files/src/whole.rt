@@ -154,6 +154,3 @@ pub(crate) fn failed_opening(fault: OpenFault) -> Option<FailedCall>
         OpenFault::NoFile | OpenFault::OutOfMemory => None,
     }
 }
-
-#[cfg(test)]
-mod tests;

@@ -90,6 +90,3 @@ fn not_made(fault: OpenFault) -> Written
         closing: None,
     }
 }
-
-#[cfg(test)]
-mod tests;

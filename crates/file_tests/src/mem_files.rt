@@ -1,0 +1,153 @@
+// Files in memory: what is called on them, and what they have then.
+ghost use Rattle.host_files.specs.State.{IsOpen, IsWritable};
+
+use crate::images::{left, with_file};
+use crate::texts::{equal, holds};
+use host_files::{AddFault, Failed, FileId, Files, MemFiles, OpenFault, OpenMode, WriteFault};
+use std::alloc::Global;
+use std::process::Abort;
+use std::test::Fail;
+
+/// Files of 16 bytes, one of which is there and was put in twice.
+fn with_tape(alloc: Global, fails: &str) -> Result<MemFiles, Fail> {
+    let mut files = with_file(alloc, 16, "tape", b"old", fails)?;
+    files.add_file("tape", b"hello")?;
+    Ok(files)
+}
+
+fn reads<F: Files>(rt: &impl Abort, files: &mut F, tape: FileId)
+    requires { IsOpen (F.state files.old) tape.0 }
+{
+    let mut buf = [0; 4];
+    equal(rt, &files.length(tape), &Ok(5), "the length");
+    equal(rt, &files.read_at(tape, 4, &mut buf), &Ok(1), "at 4");
+    equal(rt, &files.read_at(tape, 1, &mut buf), &Ok(4), "at 1");
+    holds(rt, buf == *b"ello", "the bytes from 1 on");
+}
+
+fn opens_and_reads<F: Files>(rt: &impl Abort, alloc: Global, files: &mut F) {
+    match files.open_file(alloc, "tape", OpenMode::Read) {
+        Ok(tape) => reads(rt, files, tape),
+        Err(_) => holds(rt, false, "the opening"),
+    }
+    let missing = files.open_file(alloc, "none", OpenMode::Update);
+    equal(
+        rt,
+        &missing,
+        &Err(OpenFault::NoFile),
+        "a file that is not there",
+    );
+}
+
+#[test]
+fn a_file_is_read(rt: HostRuntime) -> Result<(), Fail> {
+    let mut files = with_tape(rt.alloc(), "none")?;
+    let refused = files.add_file("tape", b"more than the room");
+    equal(&rt, &refused, &Err(AddFault::TooLong), "more than the room");
+    opens_and_reads(&rt, rt.alloc(), &mut files);
+    left(&rt, &files, "none", "none", "no file is made");
+    Ok(())
+}
+
+/// Writes behind a gap, and cuts the file where that is said.
+fn changes<F: Files>(rt: &impl Abort, files: &mut F, tape: FileId, cut: bool)
+    requires open { IsOpen (F.state files.old) tape.0 }
+    requires writable { IsWritable (F.state files.old) tape.0 }
+{
+    equal(rt, &files.write_at(tape, 7, b"!"), &Ok(()), "the write");
+    if cut {
+        equal(rt, &files.set_length(tape, 2), &Ok(()), "the cut");
+    }
+}
+
+fn opens_and_changes<F: Files>(rt: &impl Abort, alloc: Global, files: &mut F, cut: bool) {
+    match files.open_file(alloc, "tape", OpenMode::Update) {
+        Ok(tape) => changes(rt, files, tape, cut),
+        Err(_) => holds(rt, false, "the opening"),
+    }
+}
+
+#[test]
+fn a_file_is_written_and_cut(rt: HostRuntime) -> Result<(), Fail> {
+    let mut files = with_tape(rt.alloc(), "none")?;
+    opens_and_changes(&rt, rt.alloc(), &mut files, false);
+    left(&rt, &files, "tape", "hello..!", "behind the write");
+    opens_and_changes(&rt, rt.alloc(), &mut files, true);
+    left(&rt, &files, "tape", "he", "behind the cut");
+    Ok(())
+}
+
+fn makes_and_closes<F: Files>(rt: &impl Abort, alloc: Global, files: &mut F) {
+    let emptied = files.open_file(alloc, "tape", OpenMode::Create);
+    equal(rt, &emptied, &Ok(FileId(0)), "the first opening");
+    match files.open_file(alloc, "new", OpenMode::Create) {
+        Ok(file) => {
+            equal(rt, &file, &FileId(1), "the second opening");
+            equal(rt, &files.close_file(file), &Ok(()), "the closing");
+        }
+        Err(_) => holds(rt, false, "the second opening"),
+    }
+    equal(
+        rt,
+        &files.faults(FileId(7)),
+        &0,
+        "an id that was never given",
+    );
+}
+
+#[test]
+fn a_file_is_made_or_emptied_and_closed(rt: HostRuntime) -> Result<(), Fail> {
+    let mut files = with_tape(rt.alloc(), "none")?;
+    makes_and_closes(&rt, rt.alloc(), &mut files);
+    left(&rt, &files, "tape", "", "the file that was emptied");
+    left(&rt, &files, "new", "", "the file that was made");
+    Ok(())
+}
+
+/// A write that fails as it was named, and one that finds no room.
+fn writes_fail<F: Files>(rt: &impl Abort, files: &mut F, tape: FileId)
+    requires open { IsOpen (F.state files.old) tape.0 }
+    requires writable { IsWritable (F.state files.old) tape.0 }
+{
+    let named = files.write_at(tape, 0, b"abc");
+    equal(rt, &named, &Err(WriteFault { done: 2 }), "the named write");
+    let long = files.write_at(tape, 15, b"??");
+    equal(rt, &long, &Err(WriteFault { done: 0 }), "past the room");
+    equal(rt, &files.faults(tape), &2, "the faults");
+}
+
+fn opens_and_fails<F: Files>(rt: &impl Abort, alloc: Global, files: &mut F) {
+    match files.open_file(alloc, "tape", OpenMode::Update) {
+        Ok(tape) => writes_fail(rt, files, tape),
+        Err(_) => holds(rt, false, "the opening"),
+    }
+}
+
+#[test]
+fn a_named_write_fails_behind_its_first_bytes(rt: HostRuntime) -> Result<(), Fail> {
+    let mut files = with_tape(rt.alloc(), "1:2")?;
+    opens_and_fails(&rt, rt.alloc(), &mut files);
+    left(&rt, &files, "tape", "abllo", "the bytes then");
+    Ok(())
+}
+
+fn opens_and_fails_to_close<F: Files>(rt: &impl Abort, alloc: Global, files: &mut F) {
+    match files.open_file(alloc, "tape", OpenMode::Read) {
+        Ok(tape) => {
+            equal(rt, &files.close_file(tape), &Err(Failed), "the closing");
+            equal(rt, &files.faults(tape), &1, "the faults");
+        }
+        Err(_) => holds(rt, false, "the second opening"),
+    }
+}
+
+#[test]
+fn a_named_opening_and_a_named_closing_fail(rt: HostRuntime) -> Result<(), Fail> {
+    let mut files = with_tape(rt.alloc(), "0:0 2:0")?;
+    let refused = files.open_file(rt.alloc(), "tape", OpenMode::Create);
+    equal(&rt, &refused, &Err(OpenFault::Failed), "the opening");
+    left(&rt, &files, "tape", "hello", "the file stays");
+    equal(&rt, &files.open_faults(), &1, "the faults of openings");
+    opens_and_fails_to_close(&rt, rt.alloc(), &mut files);
+    Ok(())
+}
