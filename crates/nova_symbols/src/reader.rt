@@ -201,6 +201,3 @@ pub fn each_text_has_a_word_or_a_fault()
     ensures one { (text : List ℕ) (e fault : SymbolFault) → Faults text e → Faults text fault → e ≡ fault }
     ensures apart { (text : List ℕ) (w : ℕ) (fault : SymbolFault) → Reads text w → Faults text fault → ⊥ }
 {}
-
-#[cfg(test)]
-mod tests;

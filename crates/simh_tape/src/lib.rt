@@ -14,6 +14,3 @@ pub use laws::{blocks_are_read_back, items_read_the_same, marks_lead_back, spaci
 pub use reading::{read_next, read_previous};
 pub use spacing::{Spaced, space};
 pub use writing::{PutFault, erase_rest, write_block, write_mark};
-
-#[cfg(test)]
-mod test_tape;

@@ -153,6 +153,3 @@ fn block_before<B: Bytes>(
         Ok(Word::Is(_) | Word::Nothing | Word::Cut) => Err(TapeFault::BadImage(end - 4)),
     }
 }
-
-#[cfg(test)]
-mod tests;

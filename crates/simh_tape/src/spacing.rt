@@ -90,6 +90,3 @@ fn read_item<B: Bytes>(tape: &mut B, place: u64, forward: bool) -> Result<Item, 
         read_previous(tape, place, &mut nothing)
     }
 }
-
-#[cfg(test)]
-mod tests;

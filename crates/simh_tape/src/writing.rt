@@ -138,6 +138,3 @@ fn write_piece<B: Bytes>(tape: &mut B, place: u64, piece: &[u8]) -> Result<(), W
     }
     tape.write_at(place, piece)
 }
-
-#[cfg(test)]
-mod tests;

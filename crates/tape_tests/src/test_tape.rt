@@ -1,5 +1,6 @@
 ghost use Rattle.std.specs.Prelude.{◌≡◌};
 
+use crate::texts::number;
 use fault_counts::raised_count;
 use host_files::{Bytes, Failed, WriteFault};
 use std::alloc::{AllocError, Global};
@@ -27,6 +28,15 @@ impl TestTape {
             done: 0,
             most,
         })
+    }
+
+    /// Of the bytes of a text.
+    pub fn of_text(alloc: Global, text: &str, most: usize) -> Result<TestTape, AllocError> {
+        let mut tape = TestTape::new(alloc, &[], most)?;
+        for digits in text.split_whitespace() {
+            tape.bytes.push((number(digits).unwrap_or(0) % 256) as u8)?;
+        }
+        Ok(tape)
     }
 
     /// One of whose calls fails.
