@@ -49,36 +49,36 @@ fn fault_of(text: &str) -> WholeFault {
     }
 }
 
-fn reading_of(text: &str) -> Option<Row> {
+fn reading_of(text: &str) -> Row {
     let mut words = text.split_whitespace();
-    Some(Row {
-        name: words.next()?,
+    Row {
+        name: words.next().unwrap_or(""),
         piece: "",
-        answer: words.next()?,
-        failed: call_of(words.next()?),
-        closing: call_of(words.next()?),
+        answer: words.next().unwrap_or(""),
+        failed: call_of(words.next().unwrap_or("")),
+        closing: call_of(words.next().unwrap_or("")),
         done: 0,
-    })
+    }
 }
 
-fn writing_of(text: &str) -> Option<Row> {
+fn writing_of(text: &str) -> Row {
     let mut words = text.split_whitespace();
-    Some(Row {
-        name: words.next()?,
-        piece: words.next()?.strip_prefix('=')?,
-        answer: words.next()?,
-        failed: call_of(words.next()?),
-        done: number(words.next()?)?,
-        closing: call_of(words.next()?),
-    })
+    let name = words.next().unwrap_or("");
+    let piece = words.next().unwrap_or("");
+    Row {
+        name,
+        piece: piece.strip_prefix('=').unwrap_or(piece),
+        answer: words.next().unwrap_or(""),
+        failed: call_of(words.next().unwrap_or("")),
+        done: number(words.next().unwrap_or("")).unwrap_or(u64::MAX),
+        closing: call_of(words.next().unwrap_or("")),
+    }
 }
 
 /// Reads a file, which comes to what a text says.
 fn reads<F: Files>(rt: &impl Abort, alloc: Global, files: &mut F, text: &str) {
-    match reading_of(text) {
-        Some(row) => has_read(rt, &read_file(alloc, row.name, files), row, text),
-        None => holds(rt, false, text),
-    }
+    let row = reading_of(text);
+    has_read(rt, &read_file(alloc, row.name, files), row, text);
 }
 
 fn has_read(rt: &impl Abort, whole: &Whole, row: Row, text: &str) {
@@ -94,13 +94,9 @@ fn has_read(rt: &impl Abort, whole: &Whole, row: Row, text: &str) {
 
 /// Writes a file, which comes to what a text says.
 fn writes<F: Files>(rt: &impl Abort, alloc: Global, files: &mut F, text: &str) {
-    match writing_of(text) {
-        Some(row) => {
-            let written = write_file(alloc, row.name, row.piece.as_bytes(), files);
-            equal(rt, &written, &written_of(row), text);
-        }
-        None => holds(rt, false, text),
-    }
+    let row = writing_of(text);
+    let written = write_file(alloc, row.name, row.piece.as_bytes(), files);
+    equal(rt, &written, &written_of(row), text);
 }
 
 fn written_of(row: Row) -> Written {

@@ -1,10 +1,18 @@
 use super::*;
+use std::alloc::{AllocError, Global};
+use std::fmt::Debug;
+use std::process::Abort;
 use std::test::Fail;
 use unit_trait::Got::{Byte, Done, Key, LineFull, NoKey};
 use unit_trait::IoOp::{Dia, Dib, Dic, Doa, Dob, Nio};
 use unit_trait::Pulse::{Clear as C, None as N, Pulse as P, Start as S};
 use unit_trait::Queue::{After, Cancel, Keep};
 use unit_trait::{Got, IoOp, Kind, Pulse, Queue, Unit, UnitStop, Want, units_of};
+
+/// This was found, and that was wanted.
+fn equal<T: PartialEq + Debug>(rt: &impl Abort, found: &T, wanted: &T) {
+    assert_eq!(rt; found, wanted);
+}
 
 /// Sets BUSY, DONE, TIME and BUF.
 fn set<U: Unit>(unit: &mut U, values: [u32; 4]) -> Result<(), Fail> {
@@ -37,9 +45,8 @@ fn the_pulses_of_a_keyboard_change_its_flags_alone(rt: HostRuntime) -> Result<()
         let mut tti = Tti::new();
         set(&mut tti, before)?;
         let answer = tti.io(op, pulse, 0o123456);
-        assert_eq!(rt; answer.word, word, "{op:?} {pulse:?}");
-        assert_eq!(rt; answer.queue, Keep, "{op:?} {pulse:?}");
-        assert_eq!(rt; registers(&tti), after, "{op:?} {pulse:?}");
+        let found = (op, pulse, registers(&tti), answer.word, answer.queue);
+        equal(&rt, &found, &(op, pulse, after, word, Keep));
     }
     Ok(())
 }
@@ -59,12 +66,11 @@ fn a_keyboard_looks_again_after_time(rt: HostRuntime) -> Result<(), Fail> {
     for (got, before, after, queue) in rows {
         let mut tti = Tti::new();
         set(&mut tti, before)?;
-        assert_eq!(rt; tti.due(0), Want::Key);
-        assert_eq!(rt; registers(&tti), before, "due at {before:?}");
+        let want = tti.due(0);
+        equal(&rt, &(want, registers(&tti)), &(Want::Key, before));
         let said = tti.got(0, got);
-        assert_eq!(rt; said.queue, queue, "{got:?} at {before:?}");
-        assert_eq!(rt; said.stop, UnitStop::Go);
-        assert_eq!(rt; registers(&tti), after, "{got:?} at {before:?}");
+        let found = (got, registers(&tti), said.queue, said.stop);
+        equal(&rt, &found, &(got, after, queue, UnitStop::Go));
     }
     Ok(())
 }
@@ -87,9 +93,8 @@ fn a_printer_keeps_eight_bits_and_then_takes_its_pulse(rt: HostRuntime) -> Resul
         let mut tto = Tto::new();
         set(&mut tto, before)?;
         let answer = tto.io(op, pulse, word);
-        assert_eq!(rt; answer.queue, queue, "{op:?} {pulse:?} {word:o}");
-        assert_eq!(rt; answer.word, 0, "{op:?} {pulse:?} {word:o}");
-        assert_eq!(rt; registers(&tto), after, "{op:?} {pulse:?} {word:o}");
+        let found = (op, pulse, registers(&tto), answer.word, answer.queue);
+        equal(&rt, &found, &(op, pulse, after, 0, queue));
     }
     Ok(())
 }
@@ -109,12 +114,15 @@ fn a_printer_prints_seven_bits_and_waits_while_the_console_is_full(
     for (got, before, after, printed, queue) in rows {
         let mut tto = Tto::new();
         set(&mut tto, before)?;
-        assert_eq!(rt; tto.due(0), Want::Console(printed));
-        assert_eq!(rt; registers(&tto), before, "due at {before:?}");
+        let want = tto.due(0);
+        equal(
+            &rt,
+            &(want, registers(&tto)),
+            &(Want::Console(printed), before),
+        );
         let said = tto.got(0, got);
-        assert_eq!(rt; said.queue, queue, "{got:?} at {before:?}");
-        assert_eq!(rt; said.stop, UnitStop::Go);
-        assert_eq!(rt; registers(&tto), after, "{got:?} at {before:?}");
+        let found = (got, registers(&tto), said.queue, said.stop);
+        equal(&rt, &found, &(got, after, queue, UnitStop::Go));
     }
     Ok(())
 }
@@ -132,8 +140,8 @@ fn a_reset_clears_the_flags_and_starts_the_keyboard_alone(rt: HostRuntime) -> Re
         let after = [0, 0, time, buf];
         let keyboard = reset(Tti::new(), [1, 1, time, buf])?;
         let printer = reset(Tto::new(), [1, 1, time, buf])?;
-        assert!(rt; keyboard == (after, After(time)), "TTI at {time}");
-        assert!(rt; printer == (after, Keep), "TTO at {time}");
+        equal(&rt, &keyboard, &(after, After(time)));
+        equal(&rt, &printer, &(after, Keep));
     }
     Ok(())
 }
@@ -167,14 +175,9 @@ fn a_register_takes_its_limits_and_nothing_past_them(rt: HostRuntime) {
         (255, 0, false, 0),
     ];
     for (i, value, taken, held) in rows {
-        assert!(rt;
-            set_one(Tti::new(), i, value) == (taken, held),
-            "TTI, {value} at {i}"
-        );
-        assert!(rt;
-            set_one(Tto::new(), i, value) == (taken, held),
-            "TTO, {value} at {i}"
-        );
+        let wanted = (i, value, (taken, held));
+        equal(&rt, &(i, value, set_one(Tti::new(), i, value)), &wanted);
+        equal(&rt, &(i, value, set_one(Tto::new(), i, value)), &wanted);
     }
 }
 
@@ -197,17 +200,22 @@ fn serve<U: Unit>(units: &mut [U], told: &mut Vec<(Kind, Want, u32, u32)>) -> Re
     Ok(())
 }
 
+fn boxes(alloc: Global) -> Result<Vec<Box<dyn Unit>>, AllocError> {
+    let mut units: Vec<Box<dyn Unit>> = Vec::new(alloc);
+    units.push(Box::new(alloc, Tti::new())?)?;
+    units.push(Box::new(alloc, Tto::new())?)?;
+    Ok(units)
+}
+
 #[test]
 fn a_teletype_in_boxes_types_and_prints(rt: HostRuntime) -> Result<(), Fail> {
-    let mut units: Vec<Box<dyn Unit>> = Vec::new(rt.alloc());
+    let mut units = boxes(rt.alloc())?;
     let mut told = Vec::new(rt.alloc());
-    units.push(Box::new(rt.alloc(), Tti::new())?)?;
-    units.push(Box::new(rt.alloc(), Tto::new())?)?;
     serve(&mut units, &mut told)?;
     let wanted = [
         (Kind::Tti, Want::Key, 1, u32::from(b'K')),
         (Kind::Tto, Want::Console(b'A'), 1, 0o301),
     ];
-    assert!(rt; told.as_slice() == wanted.as_slice());
+    equal(&rt, &told.as_slice(), &wanted.as_slice());
     Ok(())
 }

@@ -1,9 +1,16 @@
 use super::*;
+use std::fmt::Debug;
+use std::process::Abort;
 use std::test::Fail;
 use unit_trait::IoOp::{Dia, Doa, Dob, Doc, Nio};
 use unit_trait::Pulse::{Clear as C, None as N, Pulse as P, Start as S};
 use unit_trait::Queue::{After, Cancel, Keep};
 use unit_trait::units_of;
+
+/// This was found, and that was wanted.
+fn equal<T: PartialEq + Debug>(rt: &impl Abort, found: &T, wanted: &T) {
+    assert_eq!(rt; found, wanted);
+}
 
 /// A clock whose registers hold that.
 fn clock(values: [u32; 3]) -> Result<Clk, RegFault> {
@@ -40,9 +47,9 @@ fn the_function_comes_before_the_pulse(rt: HostRuntime) -> Result<(), Fail> {
     for (op, pulse, word, before, after, queue) in rows {
         let mut clock = clock(before)?;
         let answer = clock.io(op, pulse, word);
-        assert_eq!(rt; answer.queue, queue, "{op:?} {pulse:?} {word:o}");
-        assert!(rt; answer.word == 0 && answer.unit == 0);
-        assert_eq!(rt; registers(&clock), after, "{op:?} {pulse:?} {word:o}");
+        let said = (answer.word, answer.queue, answer.unit);
+        let found = (op, pulse, registers(&clock), said);
+        equal(&rt, &found, &(op, pulse, after, (0, queue, 0)));
     }
     Ok(())
 }
@@ -58,13 +65,13 @@ fn a_tick_is_done_and_a_reset_clears_all(rt: HostRuntime) -> Result<(), Fail> {
     ];
     for (got, before, after) in rows {
         let mut clock = clock(before)?;
-        assert_eq!(rt; clock.due(0), Want::Nothing);
-        assert_eq!(rt; registers(&clock), before, "due at {before:?}");
+        let want = clock.due(0);
+        equal(&rt, &(want, registers(&clock)), &(Want::Nothing, before));
         let said = clock.got(0, got);
-        assert!(rt; said.queue == Keep && said.stop == UnitStop::Go, "{got:?}");
-        assert_eq!(rt; registers(&clock), after, "{got:?} at {before:?}");
-        assert_eq!(rt; clock.reset(), Keep);
-        assert_eq!(rt; registers(&clock), [0, 0, 0], "a reset at {after:?}");
+        let found = (got, registers(&clock), said.queue, said.stop);
+        equal(&rt, &found, &(got, after, Keep, UnitStop::Go));
+        let queue = clock.reset();
+        equal(&rt, &(registers(&clock), queue), &([0, 0, 0], Keep));
     }
     Ok(())
 }
@@ -89,11 +96,11 @@ fn a_register_takes_its_limits_and_nothing_past_them(rt: HostRuntime) {
     ];
     for (i, value, taken) in cases {
         let mut clock = Clk::new();
-        assert_eq!(rt; clock.set_reg(i, value).is_ok(), taken, "{value} at {i}");
-        assert_eq!(rt;
-            clock.reg(i),
-            if taken { value } else { 0 },
-            "{value} at {i}"
+        let found = (i, value, clock.set_reg(i, value).is_ok(), clock.reg(i));
+        equal(
+            &rt,
+            &found,
+            &(i, value, taken, if taken { value } else { 0 }),
         );
     }
 }
