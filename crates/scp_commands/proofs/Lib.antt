@@ -8,7 +8,6 @@ pub mod EffectLemmas
 pub mod OwnLemmas
 pub mod QueueLemmas
 pub mod ResetLemmas
-pub mod BoxLemmas
 pub mod SeenLemmas
 pub mod CloseLemmas
 pub mod DidLemmas

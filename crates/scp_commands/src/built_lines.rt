@@ -45,6 +45,3 @@ fn is_unbuilt(name: CommandName) -> bool
 {
     matches!(name, CommandName::Save | CommandName::Restore)
 }
-
-#[cfg(test)]
-mod tests;

@@ -246,6 +246,3 @@ fn obey_file<U: Unit, F: Files, S: Sink>(
         _ => Err(CommandFault::NotBuilt),
     }
 }
-
-#[cfg(test)]
-mod tests;

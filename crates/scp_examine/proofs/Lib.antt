@@ -7,4 +7,3 @@ pub mod FillLemmas
 pub mod LawLemmas
 pub mod RegisterLemmas
 pub mod DepositLemmas
-pub mod BoxLemmas

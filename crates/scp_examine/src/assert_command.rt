@@ -118,6 +118,3 @@ fn compare(value: u32, largest: u32, condition: Condition) -> Result<bool, Exami
         Err(ExamineFault::OutOfRange)
     }
 }
-
-#[cfg(test)]
-mod tests;

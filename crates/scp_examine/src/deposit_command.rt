@@ -34,6 +34,3 @@ pub fn deposit<U: Unit>(
         }
     }
 }
-
-#[cfg(test)]
-mod tests;

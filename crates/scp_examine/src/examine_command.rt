@@ -76,6 +76,3 @@ fn show_listing<U: Unit, S: Sink>(
         Err(Failed) => Err(ExamineFault::Console),
     }
 }
-
-#[cfg(test)]
-mod tests;

@@ -12,8 +12,6 @@ pub mod laws;
 mod place;
 mod registers;
 mod show;
-#[cfg(test)]
-mod test_lists;
 
 pub use assert_command::holds;
 pub use deposit_command::deposit;

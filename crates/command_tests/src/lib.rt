@@ -1,0 +1,23 @@
+//! Tests of the commands.
+#![tactic(auto)]
+
+#[cfg(test)]
+mod answers;
+#[cfg(test)]
+mod built_lines;
+#[cfg(test)]
+mod checked;
+#[cfg(test)]
+mod consoles;
+#[cfg(test)]
+mod failed_calls;
+#[cfg(test)]
+mod lists;
+#[cfg(test)]
+mod media;
+#[cfg(test)]
+mod rows;
+#[cfg(test)]
+mod sessions;
+#[cfg(test)]
+mod tables;

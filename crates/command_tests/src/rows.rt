@@ -1,0 +1,100 @@
+// Rows of tables: a command line, the room of the console that it is done on and its answer, and what it prints, with bars
+// between them. A $ stands for a newline.
+ghost use Rattle.unit_files.specs.Open.{AllOpen};
+
+use crate::answers::is_wanted;
+use crate::checked::check;
+use host_files::{ByteSink, Files};
+use nova_word::read_decimal;
+use scp_commands::{CommandFault, Next, Session, execute};
+use scp_parser::{Command, read_command};
+use std::alloc::Global;
+use std::process::Abort;
+use std::test::Fail;
+use unit_trait::Unit;
+
+/// What a command is to come to.
+#[derive(Clone, Copy)]
+struct Row<'a> {
+    line: &'a str,
+    room: usize,
+    answer: &'a str,
+    text: &'a str,
+}
+
+/// Does the line of each row in one session, one behind another.
+pub fn all<U: Unit, F: Files>(
+    rt: &impl Abort,
+    alloc: Global,
+    session: &mut Session<U>,
+    files: &mut F,
+    table: &str,
+) -> Result<(), Fail>
+    requires open { AllOpen session.old.machine.slots (F.state files.old).opened }
+{
+    for row in table.lines() {
+        does(rt, alloc, session, files, read(row))?;
+    }
+    Ok(())
+}
+
+fn read(row: &str) -> Row<'_> {
+    let (line, others) = row.split_once('|').unwrap_or((row, ""));
+    let (answer, text) = others.split_once('|').unwrap_or((others, ""));
+    let (room, answer) = answer.split_once(' ').unwrap_or(("", answer));
+    Row {
+        line,
+        room: (read_decimal(room.as_bytes()).unwrap_or(0) % 65536) as usize,
+        answer,
+        text,
+    }
+}
+
+fn does<U: Unit, F: Files>(
+    rt: &impl Abort,
+    alloc: Global,
+    session: &mut Session<U>,
+    files: &mut F,
+    row: Row,
+) -> Result<(), Fail>
+    requires open { AllOpen session.old.machine.slots (F.state files.old).opened }
+    ensures open { AllOpen session.new.machine.slots (F.state files.new).opened }
+{
+    let mut command = Command::new();
+    reads(rt, &mut command, row.line);
+    answers(rt, alloc, session, &command, files, row)
+}
+
+fn reads(rt: &impl Abort, command: &mut Command, line: &str) {
+    check(rt, read_command(line.as_bytes(), command).is_ok(), line);
+}
+
+fn answers<U: Unit, F: Files>(
+    rt: &impl Abort,
+    alloc: Global,
+    session: &mut Session<U>,
+    command: &Command,
+    files: &mut F,
+    row: Row,
+) -> Result<(), Fail>
+    requires open { AllOpen session.old.machine.slots (F.state files.old).opened }
+    ensures open { AllOpen session.new.machine.slots (F.state files.new).opened }
+{
+    let mut out = ByteSink::with_room(alloc, row.room)?;
+    let answer = execute(alloc, session, command, files, &mut out);
+    answered(rt, &answer, row);
+    printed(rt, &out, row);
+    Ok(())
+}
+
+fn answered(rt: &impl Abort, answer: &Result<Next, CommandFault>, row: Row) {
+    check(rt, is_wanted(answer, row.answer), row.line);
+}
+
+fn printed(rt: &impl Abort, out: &ByteSink, row: Row) {
+    check(rt, out.bytes().len() == row.text.len(), row.line);
+    for (byte, wanted) in out.bytes().iter().zip(row.text.as_bytes().iter()) {
+        let wanted = if *wanted == b'$' { b'\n' } else { *wanted };
+        check(rt, *byte == wanted, row.line);
+    }
+}

@@ -1,6 +1,0 @@
-use Rattle.std.proofs.Common.{map}
-use Rattle.scp_examine.proofs.BoxLemmas.{clock-and-teletype}
-use Rattle.scp_examine.proofs.examine_command.tests.show_devices.Goals as goal
-
-pub new-requires : goal.new-requires
-new-requires g c = clock-and-teletype (map g.U.Unit.unit_state c.args.units.items) c.requires
