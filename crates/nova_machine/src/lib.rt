@@ -9,8 +9,6 @@ mod lending;
 pub mod machine;
 mod registers;
 mod run;
-#[cfg(test)]
-mod scenario;
 mod sector;
 mod service;
 mod tape;

@@ -261,6 +261,3 @@ fn restart<U: Unit>(units: &mut [U], events: &mut Events)
     events.clear();
     reset_all(units, events);
 }
-
-#[cfg(test)]
-mod tests;

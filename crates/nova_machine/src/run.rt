@@ -77,6 +77,3 @@ impl<U: Unit> Machine<U> {
         limit.expired()
     }
 }
-
-#[cfg(test)]
-mod tests;

@@ -328,6 +328,3 @@ impl<U: Unit> Machine<U> {
         }
     }
 }
-
-#[cfg(test)]
-mod tests;

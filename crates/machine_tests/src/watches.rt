@@ -3,18 +3,22 @@ ghost use Rattle.std.specs.Prelude.{◌≡◌, ◌∷◌, [], map};
 ghost use Rattle.unit_trait.specs.declared.kind.Kind.TheVariants.{Clk as clock, Tti as keyboard, Tto as printer};
 ghost use Rattle.unit_trait.specs.Row.{initial_unit};
 
-use super::files::load;
-use super::limit;
-use crate::machine::{Machine, Stop};
+use crate::files::load;
+use crate::scenario::limit;
 use clock_unit::Clk;
 use expect_actions::{Keys, Watch};
 use host_files::{ByteSink, MemFiles};
+use nova_machine::{Machine, Stop};
 use nova_word::{Addr, Word};
-use std::alloc::Global;
+use std::alloc::{AllocError, Global};
 use std::process::Abort;
 use std::test::Fail;
 use tty_units::{Tti, Tto};
+use unit_files::Attached;
 use unit_trait::{CpuReg, RegFault, Unit};
+
+/// The stop of a run, with PC, AC0 and the time then.
+type End = (Stop, u32, u32, u64);
 
 /// What is watched, and what runs come to.
 #[derive(Clone, Copy)]
@@ -29,8 +33,8 @@ struct Row<'a> {
     sends: &'a [(u32, u32, &'a [u8])],
     /// A keys file.
     keys: &'a [u8],
-    /// The stop of each run, with PC, AC0 and the time then.
-    runs: &'a [(Stop, u32, u32, u64)],
+    /// The ends of the runs.
+    runs: &'a [End],
     printed: &'a [u8],
     /// The counts of the breaks then, of the expects, and how many bytes wait.
     counts: &'a [u32],
@@ -75,27 +79,14 @@ fn play<U: Unit>(rt: &impl Abort, alloc: Global, units: Vec<U>, row: Row) -> Res
     let mut machine = Machine::new(alloc, units)?;
     ready(&mut machine, row)?;
     let mut watch = watched(rt, alloc, row)?;
-    let Ok(keys) = Keys::read_keys(alloc, row.keys) else {
-        assert!(rt; false);
-        return Ok(());
-    };
-    let mut files = MemFiles::with_room(alloc, 0)?;
-    let mut console = ByteSink::with_room(alloc, 100)?;
-    for (stop, pc, ac0, time) in row.runs {
-        let stopped = machine.run(limit(9999), &mut watch, &keys, &mut files, &mut console);
-        assert_eq!(rt; stopped, *stop);
-        assert_eq!(rt; machine.cpu_reg(CpuReg::Pc), *pc);
-        assert_eq!(rt; machine.cpu_reg(CpuReg::Ac0), *ac0);
-        assert_eq!(rt; machine.time(), *time);
-    }
-    assert_eq!(rt; console.bytes(), row.printed);
-    left(rt, &watch, row);
+    goes(rt, alloc, &mut machine, &mut watch, row)?;
+    breaks_stand(rt, &watch, row);
+    expects_stand(rt, &watch, row);
+    assert_eq!(rt; watch.sends.len(), row.waiting);
     Ok(())
 }
 
-fn ready<U: Unit>(machine: &mut Machine<U>, row: Row) -> Result<(), RegFault>
-    ensures { machine.new.slots ≡ machine.old.slots }
-{
+fn ready<U: Unit>(machine: &mut Machine<U>, row: Row) -> Result<(), RegFault> {
     load(machine, row.words);
     machine.set_cpu_reg(CpuReg::Pc, 0o100)?;
     machine.set_cpu_reg(CpuReg::Ac0, row.acs[0])?;
@@ -105,28 +96,84 @@ fn ready<U: Unit>(machine: &mut Machine<U>, row: Row) -> Result<(), RegFault>
 /// What the row watches.
 fn watched(rt: &impl Abort, alloc: Global, row: Row) -> Result<Watch, Fail> {
     let mut watch = Watch::new(alloc)?;
+    watch_breaks(rt, &mut watch, row);
+    watch_expects(rt, &mut watch, row);
+    send(rt, &mut watch, row);
+    Ok(watch)
+}
+
+fn watch_breaks(rt: &impl Abort, watch: &mut Watch, row: Row) {
     for (at, count) in row.breaks {
         let at = Addr::of_word(Word(*at));
         assert_eq!(rt; watch.breaks.add(at, *count, b""), Ok(()));
     }
+}
+
+fn watch_expects(rt: &impl Abort, watch: &mut Watch, row: Row) {
     for (count, text) in row.expects {
         assert!(rt; *count >= 1 && !text.is_empty() && text.len() <= 64);
         assert_eq!(rt; watch.expects.add(*count, text, b""), Ok(()));
     }
+}
+
+fn send(rt: &impl Abort, watch: &mut Watch, row: Row) {
     for (after, delay, text) in row.sends {
         assert_eq!(rt; watch.sends.add(0, *after, *delay, text), Ok(()));
     }
-    Ok(watch)
 }
 
-/// The tables are as the row says.
-fn left(rt: &impl Abort, watch: &Watch, row: Row) {
+/// The runs end as the row says.
+fn goes<U: Unit>(
+    rt: &impl Abort,
+    alloc: Global,
+    machine: &mut Machine<U>,
+    watch: &mut Watch,
+    row: Row,
+) -> Result<(), Fail> {
+    let Ok(keys) = Keys::read_keys(alloc, row.keys) else {
+        assert!(rt; false);
+        return Ok(());
+    };
+    let mut console = ByteSink::with_room(alloc, 100)?;
+    for end in row.runs {
+        let stop = runs(alloc, machine, watch, &keys, &mut console)?;
+        ended(rt, machine, stop, *end);
+    }
+    assert_eq!(rt; console.bytes(), row.printed);
+    Ok(())
+}
+
+/// A run, with no file attached.
+fn runs<U: Unit>(
+    alloc: Global,
+    machine: &mut Machine<U>,
+    watch: &mut Watch,
+    keys: &Keys,
+    console: &mut ByteSink,
+) -> Result<Stop, AllocError> {
+    *machine.attached_mut() = Attached::new(alloc)?;
+    let mut files = MemFiles::with_room(alloc, 0)?;
+    Ok(machine.run(limit(9999), watch, keys, &mut files, console))
+}
+
+fn ended<U: Unit>(rt: &impl Abort, machine: &Machine<U>, stop: Stop, end: End) {
+    let (wanted, pc, ac0, time) = end;
+    assert_eq!(rt; stop, wanted);
+    assert_eq!(rt; machine.cpu_reg(CpuReg::Pc), pc);
+    assert_eq!(rt; machine.cpu_reg(CpuReg::Ac0), ac0);
+    assert_eq!(rt; machine.time(), time);
+}
+
+fn breaks_stand(rt: &impl Abort, watch: &Watch, row: Row) {
     for (place, count) in row.counts.iter().enumerate() {
         match watch.breaks.in_order(place) {
             Some((_, held, _)) => assert_eq!(rt; held, *count),
             None => assert!(rt; false),
         }
     }
+}
+
+fn expects_stand(rt: &impl Abort, watch: &Watch, row: Row) {
     for (place, count) in row.matches.iter().enumerate() {
         match watch.expects.in_order(place) {
             Some((held, _, _)) => assert_eq!(rt; held, *count),
@@ -134,7 +181,6 @@ fn left(rt: &impl Abort, watch: &Watch, row: Row) {
         }
     }
     assert!(rt; watch.expects.in_order(row.matches.len()).is_none());
-    assert_eq!(rt; watch.sends.len(), row.waiting);
 }
 
 #[test]

@@ -5,10 +5,10 @@ ghost use Rattle.nova_machine.specs.Run.{last_time};
 ghost use Rattle.unit_trait.specs.declared.kind.Kind.TheVariants.{Clk as clock, Tti as keyboard, Tto as printer};
 ghost use Rattle.unit_trait.specs.Row.{initial_unit};
 
-use crate::machine::{Machine, RunLimit, Stop, Turn};
 use clock_unit::Clk;
 use expect_actions::{Keys, Watch};
 use host_files::{ByteSink, MemFiles, Sink};
+use nova_machine::{Machine, RunLimit, Stop, Turn};
 use nova_word::{Addr, Word};
 use std::alloc::{AllocError, Global};
 use std::process::Abort;
@@ -62,9 +62,6 @@ pub const REGISTERS: [Place; 22] = [
     Place::Device(Kind::Tto, BUF),
 ];
 
-/// Values of places.
-pub type Values<'a> = &'a [(Place, u32)];
-
 /// What is done with a machine, and how it is to end.
 #[derive(Clone, Copy)]
 pub enum Act {
@@ -72,113 +69,69 @@ pub enum Act {
     Run(RunLimit, Stop),
     Reset,
     Put(Place, u32),
-    /// It is that time.
-    Time(u64),
 }
 
 /// What a machine is to come to. What is not named behind it is to be as it was before: each register, and each word of
 /// memory that is named before.
-#[derive(Clone, Copy)]
-pub struct Case<'a> {
+#[derive(Drop)]
+pub struct Case {
     /// The program, from 100 on, where PC is unless it is named.
-    pub words: &'a [u16],
-    pub before: Values<'a>,
-    pub acts: &'a [Act],
-    pub after: Values<'a>,
+    pub words: Vec<u16>,
+    pub before: Vec<(Place, u32)>,
+    pub acts: Vec<Act>,
+    pub after: Vec<(Place, u32)>,
     pub time: u64,
     /// The events that then wait.
-    pub events: &'a [(Kind, u64)],
+    pub events: Vec<(Kind, u64)>,
     /// How many bytes the console takes, what it then has, and how often it has refused one.
     pub room: usize,
-    pub printed: &'a [u8],
+    pub printed: String,
     pub faults: u64,
 }
 
-/// A case in which nothing is asked.
-pub const NOTHING: Case = Case {
-    words: &[],
-    before: &[],
-    acts: &[],
-    after: &[],
-    time: 0,
-    events: &[],
-    room: 0,
-    printed: b"",
-    faults: 0,
-};
+/// A turn, with no file attached, and for which no key is typed.
+pub fn turn_alone<U: Unit, S: Sink>(
+    machine: &mut Machine<U>,
+    alloc: Global,
+    first: bool,
+    out: &mut S,
+) -> Result<Turn, AllocError>
+    requires { machine.old.time < last_time }
+{
+    *machine.attached_mut() = Attached::new(alloc)?;
+    let mut files = MemFiles::with_room(alloc, 0)?;
+    let mut watch = Watch::new(alloc)?;
+    Ok(machine.turn(first, &mut watch, &Keys::none(alloc), &mut files, out))
+}
+
+/// A run, with no file attached, and for which no key is typed.
+pub fn run_free<U: Unit, S: Sink>(
+    machine: &mut Machine<U>,
+    alloc: Global,
+    limit: RunLimit,
+    out: &mut S,
+) -> Result<Stop, AllocError> {
+    *machine.attached_mut() = Attached::new(alloc)?;
+    let mut files = MemFiles::with_room(alloc, 0)?;
+    let mut watch = Watch::new(alloc)?;
+    Ok(machine.run(limit, &mut watch, &Keys::none(alloc), &mut files, out))
+}
+
+/// Values of places.
+pub type Values<'a> = &'a [(Place, u32)];
 
 /// A run of that many instructions that is called a step.
 pub fn step(count: u64) -> RunLimit {
     RunLimit { count, step: true }
 }
 
-impl<U: Unit> Machine<U> {
-    /// A turn, with no file attached, and for which no key is typed.
-    pub fn turn_alone<S: Sink>(
-        &mut self,
-        alloc: Global,
-        first: bool,
-        out: &mut S,
-    ) -> Result<Turn, AllocError>
-        requires { self.old.time < last_time }
-    {
-        self.attached = Attached::new(alloc)?;
-        let mut files = MemFiles::with_room(alloc, 0)?;
-        let mut watch = Watch::new(alloc)?;
-        Ok(self.turn(first, &mut watch, &Keys::none(alloc), &mut files, out))
-    }
-
-    /// A run, with no file attached, and for which no key is typed.
-    pub fn run_free<S: Sink>(
-        &mut self,
-        alloc: Global,
-        limit: RunLimit,
-        out: &mut S,
-    ) -> Result<Stop, AllocError> {
-        self.attached = Attached::new(alloc)?;
-        let mut files = MemFiles::with_room(alloc, 0)?;
-        let mut watch = Watch::new(alloc)?;
-        Ok(self.run(limit, &mut watch, &Keys::none(alloc), &mut files, out))
-    }
-}
-
-/// Plays a case on a new machine in which no event is due: the keyboard's is the only one, and it comes at time 100.
-pub fn goes<'a>(
-    rt: &impl Abort,
-    alloc: Global,
-    words: &'a [u16],
-    before: Values<'a>,
-    acts: &'a [Act],
-    after: Values<'a>,
-    time: u64,
-) -> Result<(), Fail> {
-    let events = [(Kind::Tti, 100u64.saturating_sub(time))];
-    let case = silent(words, before, acts, after, time, &events);
-    holds(rt, alloc, case)
-}
-
-/// A case in which nothing is printed.
-fn silent<'a>(
-    words: &'a [u16],
-    before: Values<'a>,
-    acts: &'a [Act],
-    after: Values<'a>,
-    time: u64,
-    events: &'a [(Kind, u64)],
-) -> Case<'a> {
-    Case {
-        words,
-        before,
-        acts,
-        after,
-        time,
-        events,
-        ..NOTHING
-    }
+/// A run of that many instructions that is called no step.
+pub fn limit(count: u64) -> RunLimit {
+    RunLimit { count, step: false }
 }
 
 /// Plays a case on a new machine.
-pub fn holds(rt: &impl Abort, alloc: Global, case: Case) -> Result<(), Fail> {
+pub fn holds(rt: &impl Abort, alloc: Global, case: &Case) -> Result<(), Fail> {
     let mut units: Vec<Box<dyn Unit>> = Vec::new(alloc);
     units.push(Box::new(alloc, Clk::new())?)?;
     units.push(Box::new(alloc, Tti::new())?)?;
@@ -186,48 +139,99 @@ pub fn holds(rt: &impl Abort, alloc: Global, case: Case) -> Result<(), Fail> {
     play(rt, alloc, units, case)
 }
 
-fn play<U: Unit>(rt: &impl Abort, alloc: Global, units: Vec<U>, case: Case) -> Result<(), Fail>
+fn play<U: Unit>(rt: &impl Abort, alloc: Global, units: Vec<U>, case: &Case) -> Result<(), Fail>
     requires { map U.unit_state units.items ≡ map initial_unit (clock ∷ keyboard ∷ printer ∷ []) }
 {
     let mut machine = Machine::new(alloc, units)?;
-    set(&mut machine, case)?;
-    let mut stood = [None; 22];
-    for (value, place) in stood.iter_mut().zip(REGISTERS.iter()) {
-        *value = held(&machine, *place);
-    }
+    goes(rt, alloc, &mut machine, case)
+}
+
+/// Sets the machine, does what is to be done, and compares.
+fn goes<U: Unit>(
+    rt: &impl Abort,
+    alloc: Global,
+    machine: &mut Machine<U>,
+    case: &Case,
+) -> Result<(), Fail> {
+    set(machine, case)?;
+    let stood = registers(machine);
     let mut console = ByteSink::with_room(alloc, case.room)?;
-    for act in case.acts {
-        does(rt, alloc, &mut machine, *act, &mut console)?;
-    }
-    let word = case.words.first().copied().unwrap_or(0);
-    assert_eq!(rt; machine.time(), case.time, "{word:o}");
-    assert_eq!(rt; console.bytes(), case.printed, "{word:o}");
-    assert_eq!(rt; console.faults(), case.faults, "{word:o}");
-    for (place, value) in REGISTERS.iter().zip(stood.iter()) {
-        let wanted = named(case.after, *place).or(*value);
-        assert_eq!(rt; held(&machine, *place), wanted, "{word:o} {place:?}");
-    }
-    for (place, value) in case.before.iter() {
-        let wanted = named(case.after, *place).unwrap_or(*value);
-        assert_eq!(rt; held(&machine, *place), Some(wanted), "{word:o} {place:?}");
-    }
-    for (place, value) in case.after.iter() {
-        assert_eq!(rt; held(&machine, *place), Some(*value), "{word:o} {place:?}");
-    }
-    events_wait(rt, &machine, case.events);
-    machine.core();
+    acts(rt, alloc, machine, case, &mut console)?;
+    prints(rt, &console, case);
+    stands(rt, machine, case, &stood);
     Ok(())
 }
 
+fn registers<U: Unit>(machine: &Machine<U>) -> [Option<u32>; 22] {
+    let mut stood = [None; 22];
+    for (value, place) in stood.iter_mut().zip(REGISTERS.iter()) {
+        *value = held(machine, *place);
+    }
+    stood
+}
+
+fn acts<U: Unit>(
+    rt: &impl Abort,
+    alloc: Global,
+    machine: &mut Machine<U>,
+    case: &Case,
+    console: &mut ByteSink,
+) -> Result<(), Fail> {
+    for act in case.acts.iter() {
+        does(rt, alloc, machine, *act, console)?;
+    }
+    Ok(())
+}
+
+fn prints(rt: &impl Abort, console: &ByteSink, case: &Case) {
+    assert_eq!(rt; console.bytes(), case.printed.as_bytes());
+    assert_eq!(rt; console.faults(), case.faults);
+}
+
+fn stands<U: Unit>(rt: &impl Abort, machine: &Machine<U>, case: &Case, stood: &[Option<u32>; 22]) {
+    assert_eq!(rt; machine.time(), case.time);
+    registers_stand(rt, machine, case, stood);
+    words_stand(rt, machine, case);
+    named_stand(rt, machine, case);
+    events_wait(rt, machine, case.events.as_slice());
+    machine.core();
+}
+
+fn registers_stand<U: Unit>(
+    rt: &impl Abort,
+    machine: &Machine<U>,
+    case: &Case,
+    stood: &[Option<u32>; 22],
+) {
+    for (place, value) in REGISTERS.iter().zip(stood.iter()) {
+        let wanted = named(case.after.as_slice(), *place).or(*value);
+        assert_eq!(rt; held(machine, *place), wanted, "{place:?}");
+    }
+}
+
+/// What was put is there still, unless it is named behind.
+fn words_stand<U: Unit>(rt: &impl Abort, machine: &Machine<U>, case: &Case) {
+    for (place, value) in case.before.iter() {
+        let wanted = named(case.after.as_slice(), *place).unwrap_or(*value);
+        assert_eq!(rt; held(machine, *place), Some(wanted), "{place:?}");
+    }
+}
+
+fn named_stand<U: Unit>(rt: &impl Abort, machine: &Machine<U>, case: &Case) {
+    for (place, value) in case.after.iter() {
+        assert_eq!(rt; held(machine, *place), Some(*value), "{place:?}");
+    }
+}
+
 /// Puts the program in, and what the case names before it.
-fn set<U: Unit>(machine: &mut Machine<U>, case: Case) -> Result<(), RegFault> {
+fn set<U: Unit>(machine: &mut Machine<U>, case: &Case) -> Result<(), RegFault> {
     let mut at = Addr::of_word(Word(0o100));
-    for word in case.words {
+    for word in case.words.iter() {
         machine.memory_mut().write(at, Word(*word));
         at = at.plus(1);
     }
     machine.set_cpu_reg(CpuReg::Pc, 0o100)?;
-    for (place, value) in case.before {
+    for (place, value) in case.before.iter() {
         put(machine, *place, *value)?;
     }
     Ok(())
@@ -256,7 +260,7 @@ pub fn held<U: Unit>(machine: &Machine<U>, place: Place) -> Option<u32> {
     }
 }
 
-fn named(values: Values, wanted: Place) -> Option<u32> {
+fn named(values: &[(Place, u32)], wanted: Place) -> Option<u32> {
     for (place, value) in values {
         if *place == wanted {
             return Some(*value);
@@ -275,15 +279,11 @@ fn does<U: Unit>(
     match act {
         Act::Turn(turn) => {
             assert!(rt; machine.time() < 1 << 60);
-            assert_eq!(rt; machine.turn_alone(alloc, true, console)?, turn);
+            assert_eq!(rt; turn_alone(machine, alloc, true, console)?, turn);
         }
-        Act::Run(limit, stop) => assert_eq!(rt; machine.run_free(alloc, limit, console)?, stop),
+        Act::Run(limit, stop) => assert_eq!(rt; run_free(machine, alloc, limit, console)?, stop),
         Act::Reset => machine.reset(),
         Act::Put(place, value) => put(machine, place, value)?,
-        Act::Time(time) => {
-            assert!(rt; time <= 1 << 60);
-            machine.time = time;
-        }
     }
     Ok(())
 }

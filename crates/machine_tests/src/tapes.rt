@@ -2,13 +2,13 @@
 ghost use Rattle.std.specs.Prelude.{◌≡◌, [], ◌∷◌, map};
 ghost use Rattle.unit_trait.specs.declared.kind.Kind.TheVariants.{Mta as drives};
 ghost use Rattle.unit_trait.specs.Row.{initial_unit};
+ghost use Rattle.unit_files.specs.Open.{AllOpen};
 
-use super::files::{failed, has, load};
-use super::limit;
-use crate::machine::{Machine, Stop};
-use crate::scenario::{BUSY, DONE};
+use crate::files::{failed, has, load};
+use crate::scenario::{BUSY, DONE, limit};
 use expect_actions::{Keys, Watch};
-use host_files::{ByteSink, FileCall, FileId, MemFiles};
+use host_files::{ByteSink, FileCall, FileId, Files, MemFiles};
+use nova_machine::{Machine, Stop};
 use nova_word::{Addr, Word};
 use std::alloc::Global;
 use std::process::Abort;
@@ -122,31 +122,61 @@ fn play<U: Unit>(rt: &impl Abort, alloc: Global, units: Vec<U>, row: Row) -> Res
 {
     let mut machine = Machine::new(alloc, units)?;
     ready(&mut machine, row)?;
+    let mut files = images(rt, alloc, row)?;
+    attach(rt, alloc, &mut machine, &mut files, row);
+    goes(rt, alloc, &mut machine, &mut files, row)?;
+    stands(rt, &machine, row);
+    has(rt, &files, "tape", row.left);
+    has(rt, &files, "other", row.other);
+    Ok(())
+}
+
+/// The files of the two drives.
+fn images(rt: &impl Abort, alloc: Global, row: Row) -> Result<MemFiles, Fail> {
     let mut files = MemFiles::with_room(alloc, 64)?;
     assert_eq!(rt; files.add_file("tape", row.image), Ok(()));
     assert_eq!(rt; files.add_file("other", XY), Ok(()));
     if let Some((number, done)) = row.fails {
         files.fail_call(number.saturating_add(ATTACHING), done)?;
     }
+    Ok(files)
+}
+
+fn attach<U: Unit, F: Files>(
+    rt: &impl Abort,
+    alloc: Global,
+    machine: &mut Machine<U>,
+    files: &mut F,
+    row: Row,
+)
+    requires { AllOpen machine.old.slots (F.state files.old).opened }
+    ensures { AllOpen machine.new.slots (F.state files.new).opened }
+{
     let length = row.image.len() as u64;
     let first = machine
         .attached_mut()
-        .attach(alloc, DRIVE_0, "tape", row.mode, &mut files);
+        .attach(alloc, DRIVE_0, "tape", row.mode, files);
     assert_eq!(rt; first, Ok(length));
     let second = machine
         .attached_mut()
-        .attach(alloc, DRIVE_3, "other", Any, &mut files);
+        .attach(alloc, DRIVE_3, "other", Any, files);
     assert_eq!(rt; second, Ok(10));
+}
+
+fn goes<U: Unit, F: Files>(
+    rt: &impl Abort,
+    alloc: Global,
+    machine: &mut Machine<U>,
+    files: &mut F,
+    row: Row,
+) -> Result<(), Fail>
+    requires { AllOpen machine.old.slots (F.state files.old).opened }
+{
     let mut watch = Watch::new(alloc)?;
     let keys = Keys::none(alloc);
     let mut console = ByteSink::with_room(alloc, 0)?;
-    assert_eq!(rt;
-        machine.run(limit(9999), &mut watch, &keys, &mut files, &mut console),
-        row.stop
-    );
-    stands(rt, &machine, row);
-    has(rt, &files, "tape", row.left);
-    has(rt, &files, "other", row.other);
+    let stop = machine.run(limit(9999), &mut watch, &keys, files, &mut console);
+    assert_eq!(rt; stop, row.stop);
     Ok(())
 }
 

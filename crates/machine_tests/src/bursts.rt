@@ -4,18 +4,18 @@ ghost use Rattle.std.specs.Prelude.{◌≡◌, ◌<◌, ◌∷◌, [], map};
 ghost use Rattle.unit_trait.specs.declared.kind.Kind.TheVariants.{Clk as clock, Tti as keyboard, Tto as printer};
 ghost use Rattle.unit_trait.specs.Row.{initial_unit};
 
-use crate::machine::{Machine, RunLimit, Stop, Turn};
-use crate::scenario::{REGISTERS, held};
+use crate::scenario::{REGISTERS, held, run_free, step, turn_alone};
 use clock_unit::Clk;
 use event_queue::Events;
 use host_files::ByteSink;
+use nova_machine::{Machine, Stop, Turn};
 use nova_memory::Memory;
 use nova_word::{Addr, Word};
 use std::alloc::{AllocError, Global};
 use std::process::Abort;
 use std::test::Fail;
 use tty_units::{Tti, Tto};
-use unit_trait::{CpuReg, Unit};
+use unit_trait::{CpuReg, RegFault, Unit};
 
 const MACHINES: u32 = 300;
 
@@ -59,34 +59,57 @@ impl Chance {
 #[test]
 fn a_run_is_its_turns(rt: HostRuntime) -> Result<(), Fail> {
     for seed in 0..MACHINES {
-        let alloc = rt.alloc();
-        let mut units: Vec<Box<dyn Unit>> = Vec::new(alloc);
-        units.push(Box::new(alloc, Clk::new())?)?;
-        units.push(Box::new(alloc, Tti::new())?)?;
-        units.push(Box::new(alloc, Tto::new())?)?;
-        let mut others: Vec<Box<dyn Unit>> = Vec::new(alloc);
-        others.push(Box::new(alloc, Clk::new())?)?;
-        others.push(Box::new(alloc, Tti::new())?)?;
-        others.push(Box::new(alloc, Tto::new())?)?;
-        agree(&rt, alloc, units, others, seed)?;
+        agree(&rt, rt.alloc(), seed)?;
     }
     Ok(())
 }
 
-fn agree<U: Unit>(
+/// A run and turns come to the same, on two machines with a program by that chance.
+fn agree(rt: &impl Abort, alloc: Global, seed: u32) -> Result<(), Fail>
+    requires { seed < 300 }
+{
+    let mut units: Vec<Box<dyn Unit>> = Vec::new(alloc);
+    units.push(Box::new(alloc, Clk::new())?)?;
+    units.push(Box::new(alloc, Tti::new())?)?;
+    units.push(Box::new(alloc, Tto::new())?)?;
+    with_run(rt, alloc, units, seed)
+}
+
+fn with_run<U: Unit>(rt: &impl Abort, alloc: Global, units: Vec<U>, seed: u32) -> Result<(), Fail>
+    requires seed { seed < 300 }
+    requires units { map U.unit_state units.items ≡ map initial_unit (clock ∷ keyboard ∷ printer ∷ []) }
+{
+    let mut run = begun(alloc, units, seed)?;
+    with_other(rt, alloc, &mut run, seed)
+}
+
+fn with_other<U: Unit>(
     rt: &impl Abort,
     alloc: Global,
-    units: Vec<U>,
-    others: Vec<U>,
+    run: &mut Machine<U>,
+    seed: u32,
+) -> Result<(), Fail>
+    requires { seed < 300 }
+{
+    let mut units: Vec<Box<dyn Unit>> = Vec::new(alloc);
+    units.push(Box::new(alloc, Clk::new())?)?;
+    units.push(Box::new(alloc, Tti::new())?)?;
+    units.push(Box::new(alloc, Tto::new())?)?;
+    with_turns(rt, alloc, run, units, seed)
+}
+
+fn with_turns<U: Unit, V: Unit>(
+    rt: &impl Abort,
+    alloc: Global,
+    run: &mut Machine<U>,
+    units: Vec<V>,
     seed: u32,
 ) -> Result<(), Fail>
     requires seed { seed < 300 }
-    requires units { map U.unit_state units.items ≡ map initial_unit (clock ∷ keyboard ∷ printer ∷ []) }
-    requires others { map U.unit_state others.items ≡ map initial_unit (clock ∷ keyboard ∷ printer ∷ []) }
+    requires units { map V.unit_state units.items ≡ map initial_unit (clock ∷ keyboard ∷ printer ∷ []) }
 {
-    let mut run = begun(alloc, units, seed)?;
-    let mut turned = begun(alloc, others, seed)?;
-    go_on(rt, alloc, &mut run, &mut turned, seed)
+    let mut turned = begun(alloc, units, seed)?;
+    go_on(rt, alloc, run, &mut turned, seed)
 }
 
 /// A machine with a program by that chance.
@@ -98,38 +121,42 @@ fn begun<U: Unit>(alloc: Global, units: Vec<U>, seed: u32) -> Result<Machine<U>,
     Ok(machine)
 }
 
-fn go_on<U: Unit>(
+fn go_on<U: Unit, V: Unit>(
     rt: &impl Abort,
     alloc: Global,
     run: &mut Machine<U>,
-    turned: &mut Machine<U>,
+    turned: &mut Machine<V>,
     seed: u32,
 ) -> Result<(), Fail>
     requires { seed < 300 }
 {
     let count = u64::from(seed * 3);
     let mut run_console = ByteSink::with_room(alloc, 20)?;
+    let stop = run_free(run, alloc, step(count), &mut run_console)?;
     let mut turned_console = ByteSink::with_room(alloc, 20)?;
-    let stop = ran(alloc, run, count, &mut run_console)?;
     let turns_stop = turns(alloc, turned, count, &mut turned_console)?;
-    assert_eq!(rt; stop, turns_stop, "{seed}");
-    assert_eq!(rt; run_console.bytes(), turned_console.bytes(), "{seed}");
+    same_ends(rt, stop, turns_stop, seed);
+    same_bytes(rt, &run_console, &turned_console, seed);
     same_registers(rt, run, turned, seed);
     same_words(rt, run.memory(), turned.memory(), seed);
     same_events(rt, run.events(), turned.events(), seed);
     Ok(())
 }
 
-fn ran<U: Unit>(
-    alloc: Global,
-    machine: &mut Machine<U>,
-    count: u64,
-    console: &mut ByteSink,
-) -> Result<Stop, AllocError> {
-    machine.run_free(alloc, RunLimit { count, step: true }, console)
+fn same_ends(rt: &impl Abort, run: Stop, turned: Stop, seed: u32) {
+    assert_eq!(rt; run, turned, "{seed}");
 }
 
-fn same_registers<U: Unit>(rt: &impl Abort, run: &Machine<U>, turned: &Machine<U>, seed: u32) {
+fn same_bytes(rt: &impl Abort, run: &ByteSink, turned: &ByteSink, seed: u32) {
+    assert_eq!(rt; run.bytes(), turned.bytes(), "{seed}");
+}
+
+fn same_registers<U: Unit, V: Unit>(
+    rt: &impl Abort,
+    run: &Machine<U>,
+    turned: &Machine<V>,
+    seed: u32,
+) {
     assert_eq!(rt; run.time(), turned.time(), "{seed}");
     for place in REGISTERS.iter() {
         assert_eq!(rt; held(run, *place), held(turned, *place), "{seed} {place:?}");
@@ -162,7 +189,7 @@ fn turns<U: Unit>(
         if machine.time() >= 1 << 60 {
             return Ok(Stop::Limit);
         }
-        match machine.turn_alone(alloc, done == 0, console)? {
+        match turn_alone(machine, alloc, done == 0, console)? {
             Turn::Executed => (),
             Turn::Stopped(stop) => return Ok(stop),
         }
@@ -170,7 +197,13 @@ fn turns<U: Unit>(
     Ok(Stop::Stepped)
 }
 
-fn set<U: Unit>(machine: &mut Machine<U>, mut chance: Chance) -> Result<(), Fail> {
+/// A program and registers by chance.
+fn set<U: Unit>(machine: &mut Machine<U>, mut chance: Chance) -> Result<(), RegFault> {
+    set_words(machine, &mut chance);
+    set_registers(machine, &mut chance)
+}
+
+fn set_words<U: Unit>(machine: &mut Machine<U>, chance: &mut Chance) {
     let mut at = Addr::of_word(Word(0));
     for _ in 0..0o400u16 {
         let word = chance.word();
@@ -187,12 +220,14 @@ fn set<U: Unit>(machine: &mut Machine<U>, mut chance: Chance) -> Result<(), Fail
         machine.memory_mut().write(at, Word(word));
         at = at.plus(1);
     }
+}
+
+fn set_registers<U: Unit>(machine: &mut Machine<U>, chance: &mut Chance) -> Result<(), RegFault> {
     let registers = [CpuReg::Ac0, CpuReg::Ac1, CpuReg::Ac2, CpuReg::Ac3];
     for register in registers {
         machine.set_cpu_reg(register, u32::from(chance.next() % 0o400))?;
     }
     machine.set_cpu_reg(CpuReg::Pc, 0o100)?;
     machine.set_cpu_reg(CpuReg::Ion, u32::from(chance.next() % 2))?;
-    machine.set_cpu_reg(CpuReg::StopDev, u32::from(chance.next() % 4 / 3))?;
-    Ok(())
+    machine.set_cpu_reg(CpuReg::StopDev, u32::from(chance.next() % 4 / 3))
 }

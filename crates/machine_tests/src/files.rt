@@ -3,13 +3,13 @@ ghost use Rattle.std.specs.Prelude.{◌≡◌, [], ◌∷◌, map};
 ghost use Rattle.unit_trait.specs.declared.kind.Kind.TheVariants.{Lpt as printer, Ptr as reader, Ptp as punch};
 ghost use Rattle.unit_trait.specs.declared.kind.Kind.TheVariants.{Tti as keyboard};
 ghost use Rattle.unit_trait.specs.Row.{initial_unit};
+ghost use Rattle.unit_files.specs.Open.{AllOpen};
 
-use super::limit;
-use crate::machine::{Machine, RunLimit, Stop};
 use crate::scenario::Place::{Cpu, Device};
-use crate::scenario::{BUF, BUSY, DONE, Values, held, step};
+use crate::scenario::{BUF, BUSY, DONE, Values, held, limit, step};
 use expect_actions::{Keys, Watch};
-use host_files::{ByteSink, FileCall, FileId, MemFiles};
+use host_files::{ByteSink, FileCall, FileId, Files, MemFiles};
+use nova_machine::{Machine, RunLimit, Stop};
 use nova_word::{Addr, Word};
 use paper_tape::{Lpt, Ptp, Ptr};
 use std::alloc::Global;
@@ -113,41 +113,75 @@ fn play<U: Unit>(rt: &impl Abort, alloc: Global, units: Vec<U>, row: Row) -> Res
 {
     let mut machine = Machine::new(alloc, units)?;
     ready(&mut machine, row)?;
-    let mut watch = Watch::new(alloc)?;
-    let Ok(keys) = Keys::read_keys(alloc, row.keys) else {
-        assert!(rt; false);
-        return Ok(());
-    };
-    let mut files = MemFiles::with_room(alloc, 16)?;
-    assert_eq!(rt; files.add_file("tape", row.tape), Ok(()));
-    if let Some((number, done)) = row.fails {
-        files.fail_call(number.saturating_add(ATTACHING), done)?;
-    }
-    let length = row.tape.len() as u64;
-    let punched = machine
-        .attached_mut()
-        .attach(alloc, PUNCH, "punched", New, &mut files);
-    assert_eq!(rt; punched, Ok(0));
-    let printed = machine
-        .attached_mut()
-        .attach(alloc, PRINTER, "printed", New, &mut files);
-    assert_eq!(rt; printed, Ok(0));
-    let read = machine
-        .attached_mut()
-        .attach(alloc, READER, "tape", ReadOnly, &mut files);
-    assert_eq!(rt; read, Ok(length));
-    let mut console = ByteSink::with_room(alloc, 0)?;
-    assert_eq!(rt;
-        machine.run(row.limit, &mut watch, &keys, &mut files, &mut console),
-        row.stop
-    );
-    assert_eq!(rt; machine.time(), row.time);
-    assert_eq!(rt; machine.keys_taken(), row.taken);
+    let mut files = tapes(rt, alloc, row)?;
+    attach(rt, alloc, &mut machine, &mut files, row);
+    goes(rt, alloc, &mut machine, &mut files, row)?;
     stands(rt, &machine, row.after);
     has(rt, &files, "punched", row.punched);
     has(rt, &files, "printed", row.printed);
     has(rt, &files, "tape", row.tape);
     Ok(())
+}
+
+/// The files, one of which is there.
+fn tapes(rt: &impl Abort, alloc: Global, row: Row) -> Result<MemFiles, Fail> {
+    let mut files = MemFiles::with_room(alloc, 16)?;
+    assert_eq!(rt; files.add_file("tape", row.tape), Ok(()));
+    if let Some((number, done)) = row.fails {
+        files.fail_call(number.saturating_add(ATTACHING), done)?;
+    }
+    Ok(files)
+}
+
+fn attach<U: Unit, F: Files>(
+    rt: &impl Abort,
+    alloc: Global,
+    machine: &mut Machine<U>,
+    files: &mut F,
+    row: Row,
+)
+    requires { AllOpen machine.old.slots (F.state files.old).opened }
+    ensures { AllOpen machine.new.slots (F.state files.new).opened }
+{
+    let punched = machine
+        .attached_mut()
+        .attach(alloc, PUNCH, "punched", New, files);
+    assert_eq!(rt; punched, Ok(0));
+    let printed = machine
+        .attached_mut()
+        .attach(alloc, PRINTER, "printed", New, files);
+    assert_eq!(rt; printed, Ok(0));
+    let read = machine
+        .attached_mut()
+        .attach(alloc, READER, "tape", ReadOnly, files);
+    assert_eq!(rt; read, Ok(row.tape.len() as u64));
+}
+
+fn goes<U: Unit, F: Files>(
+    rt: &impl Abort,
+    alloc: Global,
+    machine: &mut Machine<U>,
+    files: &mut F,
+    row: Row,
+) -> Result<(), Fail>
+    requires { AllOpen machine.old.slots (F.state files.old).opened }
+    ensures { AllOpen machine.new.slots (F.state files.new).opened }
+{
+    let Ok(keys) = Keys::read_keys(alloc, row.keys) else {
+        assert!(rt; false);
+        return Ok(());
+    };
+    let mut watch = Watch::new(alloc)?;
+    let mut console = ByteSink::with_room(alloc, 0)?;
+    let stop = machine.run(row.limit, &mut watch, &keys, files, &mut console);
+    ran(rt, machine, stop, row);
+    Ok(())
+}
+
+fn ran<U: Unit>(rt: &impl Abort, machine: &Machine<U>, stop: Stop, row: Row) {
+    assert_eq!(rt; stop, row.stop);
+    assert_eq!(rt; machine.time(), row.time);
+    assert_eq!(rt; machine.keys_taken(), row.taken);
 }
 
 /// Puts the program in, and sets AC0, PC, and the reader's STOP_IOE.
@@ -339,6 +373,18 @@ fn keys_come_at_their_times_and_control_e_stops(rt: HostRuntime) -> Result<(), F
     Ok(())
 }
 
+/// A reader at work with the tape x, which stops at its end, and where there is none.
+const TAKEN: Row = Row {
+    stop_ioe: 1,
+    tape: b"x",
+    limit: RunLimit {
+        count: 400,
+        step: false,
+    },
+    time: 400,
+    ..WAITS
+};
+
 #[test]
 fn a_reader_whose_tape_is_taken_away_has_none(rt: HostRuntime) -> Result<(), Fail> {
     let alloc = rt.alloc();
@@ -354,33 +400,43 @@ fn detach<U: Unit>(rt: &impl Abort, alloc: Global, units: Vec<U>) -> Result<(), 
     requires { map U.unit_state units.items ≡ map initial_unit (printer ∷ reader ∷ punch ∷ keyboard ∷ []) }
 {
     let mut machine = Machine::new(alloc, units)?;
-    ready(
-        &mut machine,
-        Row {
-            stop_ioe: 1,
-            ..WAITS
-        },
-    )?;
-    let mut watch = Watch::new(alloc)?;
-    let keys = Keys::none(alloc);
-    let mut files = MemFiles::with_room(alloc, 16)?;
-    assert_eq!(rt; files.add_file("tape", b"x"), Ok(()));
+    ready(&mut machine, TAKEN)?;
+    let mut files = tapes(rt, alloc, TAKEN)?;
+    mount(rt, alloc, &mut machine, &mut files);
+    goes(rt, alloc, &mut machine, &mut files, TAKEN)?;
+    stands(rt, &machine, &[(Device(Kind::Ptr, BYTE), 0o170)]);
+    take_away(rt, &mut machine, &mut files);
+    machine.set_cpu_reg(Pc, 0o100)?;
+    let none = Row {
+        limit: limit(999),
+        stop: Stop::UnitNone(READER),
+        time: 700,
+        ..TAKEN
+    };
+    goes(rt, alloc, &mut machine, &mut files, none)?;
+    stands(
+        rt,
+        &machine,
+        &[(Cpu(Pc), 0o101), (Device(Kind::Ptr, POS), 1)],
+    );
+    Ok(())
+}
+
+/// The tape goes into the reader.
+fn mount<U: Unit, F: Files>(rt: &impl Abort, alloc: Global, machine: &mut Machine<U>, files: &mut F)
+    requires { AllOpen machine.old.slots (F.state files.old).opened }
+    ensures { AllOpen machine.new.slots (F.state files.new).opened }
+{
     let read = machine
         .attached_mut()
-        .attach(alloc, READER, "tape", ReadOnly, &mut files);
+        .attach(alloc, READER, "tape", ReadOnly, files);
     assert_eq!(rt; read, Ok(1));
-    let mut console = ByteSink::with_room(alloc, 0)?;
-    assert_eq!(rt;
-        machine.run(limit(400), &mut watch, &keys, &mut files, &mut console),
-        Stop::Limit
-    );
-    assert_eq!(rt; machine.unit_reg(Kind::Ptr, BYTE), Some(0o170));
-    assert_eq!(rt; machine.attached_mut().detach(READER, &mut files), Ok(None));
-    machine.set_cpu_reg(Pc, 0o100)?;
-    let stop = machine.run(limit(999), &mut watch, &keys, &mut files, &mut console);
-    assert_eq!(rt; stop, Stop::UnitNone(READER));
-    assert_eq!(rt; machine.time(), 700);
-    assert_eq!(rt; machine.pc().number(), 0o101);
-    assert_eq!(rt; machine.unit_reg(Kind::Ptr, POS), Some(1));
-    Ok(())
+}
+
+/// The tape is taken out of the reader.
+fn take_away<U: Unit, F: Files>(rt: &impl Abort, machine: &mut Machine<U>, files: &mut F)
+    requires { AllOpen machine.old.slots (F.state files.old).opened }
+    ensures { AllOpen machine.new.slots (F.state files.new).opened }
+{
+    assert_eq!(rt; machine.attached_mut().detach(READER, files), Ok(None));
 }

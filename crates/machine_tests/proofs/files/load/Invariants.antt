@@ -1,5 +1,5 @@
 use Rattle.std.proofs.Common.{◌≡◌}
-use Rattle.nova_machine.proofs.run.tests.files.load.Given as goal
+use Rattle.machine_tests.proofs.files.load.Given as goal
 
 abbrev pub invariant-loop-word : goal.invariant-loop-word
 invariant-loop-word g l = l.machine.slots ≡ l.fn.machine.slots
