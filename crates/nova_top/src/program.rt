@@ -15,6 +15,7 @@ ghost use Rattle.nova_top.specs.Ends.{IsOutcome, IsCutShort, StatusCause, Machin
 ghost use Rattle.nova_top.specs.Ends.{NoneFailed, HasWorkload};
 ghost use Rattle.nova_top.specs.Program.{IsRefused, RefusedCause, RefusalCause, SessionEnds};
 ghost use Rattle.nova_top.specs.Program.{denial_of, IsDenied, DeniedCause, status_printed};
+ghost use Rattle.nova_top.specs.Workload.{with_workload};
 
 use crate::options::Options;
 use crate::word_files::{Beginning, Refusal, begin};
@@ -95,13 +96,34 @@ pub fn simulate<U: Unit, C: Source, S: Sink, F: Files>(
         };
     };
     match begin(alloc, words, options, files, &mut session.notes) {
-        Ok(Beginning { keys, opening }) => {
-            session.keys = keys;
-            set_up(&mut session.machine, options.workload);
-            lines(alloc, session, &opening, input, output, files)
-        }
-        Err(refusal) => refuse_files(words, refusal, session.notes, output),
+        Ok(Beginning { keys, opening }) => lines(
+            alloc,
+            ready(session, keys, options.workload),
+            &opening,
+            input,
+            output,
+            files,
+        ),
+        Err(refusal) => refuse_files(words, refusal, notes_of(session), output),
     }
+}
+
+/// A session with those keys, and with the workload of that number in its memory, if there is one.
+fn ready<U: Unit>(session: Session<U>, keys: Keys, workload: Option<u16>) -> Session<U>
+    ensures { result ≡ record session { keys = keys; machine = with_workload workload session.machine } }
+{
+    let mut session = session;
+    session.keys = keys;
+    set_up(&mut session.machine, workload);
+    session
+}
+
+/// The notes of a session that is let go.
+fn notes_of<U: Unit>(session: Session<U>) -> Vec<FaultNote>
+    ensures { result.items ≡ session.notes }
+{
+    let Session { notes, .. } = session;
+    notes
 }
 
 /// Answers words outside their grammar.
@@ -223,6 +245,3 @@ fn lines<U: Unit, C: Source, S: Sink, F: Files>(
         faults: notes,
     }
 }
-
-#[cfg(test)]
-mod tests;

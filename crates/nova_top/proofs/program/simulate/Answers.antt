@@ -1,9 +1,12 @@
-use Rattle.std.proofs.Common.{◌-◌, List, [], map, refl, sym, ◌∙◌, subst, vec_len, vec_capacity, arith}
+use Rattle.std.proofs.Common.{List, [], map, refl, sym, ◌∙◌, subst, arith}
 use Rattle.fault_notes.specs.declared.note.FaultNote.{FaultNote}
 use Rattle.fault_notes.specs.Notes.{notes_said}
 use Rattle.fault_notes.specs.Counts.{AreCounted}
 use Rattle.fault_notes.proofs.Adding.{counted-none}
+use Rattle.scp_commands.specs.Live.{CommandState}
+use Rattle.scp_script.specs.Loop.{AreKept}
 use Rattle.nova_top.specs.Words.{texts_of}
+use Rattle.nova_top.specs.Workload.{with_workload}
 use Rattle.nova_top.proofs.ProgramLemmas.{Begun, Made, begun-files, workload-given}
 use Rattle.nova_top.proofs.ProgramLemmas.{usage-answer, files-answer, files-memory, files-status, files-cause, session-answer, memory-answer, session-cause, session-status, refused-status, kept-counted, refused-counted, complete-answer, never-unwritten, denied-unwritten, unwritten-whole}
 use Rattle.nova_top.proofs.program.simulate.Given.{Over}
@@ -31,7 +34,7 @@ pub returns-in-Err-clause-outcome : goal.returns-in-Err-clause-outcome
 returns-in-Err-clause-outcome g c = λ source files sink other.
     files-answer (texts_of c.args.words.now) c.in-Some.options (g.C.Source.left c.args.input.now) (g.S.Sink.written c.args.output.now) (g.S.Sink.written c.refuse_files.new.output)
     (g.F.Files.state c.args.files.now).files (g.F.Files.state c.begin.new.files).files c.in-Err.refusal c.refuse_files.result.status c.refuse_files.result.machine c.begin.new.notes.items c.refuse_files.result.faults.items
-    (sym c.options_of.ensures.options ∙ c.in-Some.is) (c.in-Err.ensures.told files) c.refuse_files.ensures.machine (c.begin.ensures.files files) other (c.refuse_files.ensures.told sink) c.refuse_files.ensures.notes
+    (sym c.options_of.ensures.options ∙ c.in-Some.is) (c.in-Err.ensures.told files) c.refuse_files.ensures.machine (c.begin.ensures.files files) other (c.refuse_files.ensures.told sink) (c.refuse_files.ensures.notes ∙ c.notes_of.ensures)
 
 pub returns-in-Err-clause-complete : goal.returns-in-Err-clause-complete
 returns-in-Err-clause-complete g c = λ source files sink other quiet fed none.
@@ -40,7 +43,7 @@ returns-in-Err-clause-complete g c = λ source files sink other quiet fed none.
     let status = files-status (texts_of c.args.words.now) c.in-Err.refusal c.refuse_files.result.status (g.S.Sink.fault_count c.args.output.now) (g.S.Sink.fault_count c.refuse_files.new.output) c.refuse_files.ensures.cause quiet in
     complete-answer (texts_of c.args.words.now) (g.C.Source.left c.args.input.now) (g.C.Source.left c.args.input.now) (g.S.Sink.written c.args.output.now) (g.S.Sink.written c.refuse_files.new.output) old.files new.files
     c.refuse_files.result.status c.refuse_files.result.machine c.refuse_files.result.faults.items old new status
-    (refused-counted [] c.begin.new.notes.items c.refuse_files.result.faults.items old new refl c.refuse_files.ensures.notes c.begin.ensures.keeps) none (returns-in-Err-clause-outcome g c source files sink other)
+    (refused-counted [] c.begin.new.notes.items c.refuse_files.result.faults.items old new refl (c.refuse_files.ensures.notes ∙ c.notes_of.ensures) c.begin.ensures.keeps) none (returns-in-Err-clause-outcome g c source files sink other)
 
 pub returns-in-Err-clause-memory : goal.returns-in-Err-clause-memory
 returns-in-Err-clause-memory g c = λ source files sink memory.
@@ -68,15 +71,28 @@ made g c = record {
 }
 
 begun : (g : Over) (c : goal.After-lines-arg-in-Ok-begin-2-1 g)
-    → Begun g.F.Files.tells (texts_of c.args.words.now) c.in-Some.options
-    (record { machine = c.set_up.new.machine; watch = c.session.inside.watch; keys = c.in-Ok-begin.field-0.keys; limit = c.session.inside.limit; notes = c.begin.new.notes.items; command = c.session.inside.command; spare = vec_capacity c.begin.new.notes - vec_len c.begin.new.notes })
-    c.in-Ok-begin.field-0.opening (g.F.Files.state c.args.files.now) (g.F.Files.state c.begin.new.files)
+    → Begun g.F.Files.tells (texts_of c.args.words.now) c.in-Some.options c.ready.result c.in-Ok-begin.field-0.opening (g.F.Files.state c.args.files.now) (g.F.Files.state c.begin.new.files)
 begun g c =
     let words = texts_of c.args.words.now in
     let old = g.F.Files.state c.args.files.now in
     let new = g.F.Files.state c.begin.new.files in
-    begun-files g.F.Files.tells words c.in-Some.options (map g.U.Unit.unit_state c.args.units.items) _ c.in-Ok.session c.set_up.new.machine c.in-Ok-begin.field-0.keys c.in-Ok-begin.field-0.opening c.begin.new.notes.items _ old new (made g c) c.session.view_is c.set_up.ensures.machine
-    c.in-Ok-begin.ensures.told c.in-Ok-begin.ensures.opens c.begin.ensures.files c.begin.ensures.opened c.begin.ensures.keeps
+    let is_begun : CommandState → Type 0 = λ s. Begun g.F.Files.tells words c.in-Some.options s c.in-Ok-begin.field-0.opening old new in
+    subst is_begun (sym c.ready.ensures)
+    (begun-files g.F.Files.tells words c.in-Some.options (map g.U.Unit.unit_state c.args.units.items) _ c.in-Ok.session (with_workload c.in-Some.options.workload c.session.inside.machine) c.in-Ok-begin.field-0.keys c.in-Ok-begin.field-0.opening c.begin.new.notes.items _ old new (made g c) c.session.view_is refl
+    c.in-Ok-begin.ensures.told c.in-Ok-begin.ensures.opens c.begin.ensures.files c.begin.ensures.opened c.begin.ensures.keeps)
+
+pub lines-requires-clause-open : goal.lines-requires-clause-open
+lines-requires-clause-open g c = (begun g (goal.at.lines-requires-clause-open g c).After-lines-arg-in-Ok-begin-2-1).open_
+
+pub returns-in-Ok-begin-clause-files : goal.returns-in-Ok-begin-clause-files
+returns-in-Ok-begin-clause-files g c =
+    c.lines.ensures.files (g.F.Files.state c.args.files.now).opened (begun g (goal.at.returns-in-Ok-begin-clause-files g c).After-lines-arg-in-Ok-begin-2-1).around
+
+pub returns-in-Ok-begin-clause-cause : goal.returns-in-Ok-begin-clause-cause
+returns-in-Ok-begin-clause-cause g c =
+    let (finish, watch, now, status, machine, told, cause) = c.lines.ensures.ended in
+    session-cause (texts_of c.args.words.now) c.in-Some.options finish c.lines.result.status (g.S.Sink.fault_count c.args.output.now) (g.S.Sink.fault_count c.lines.new.output)
+    (g.C.Source.fault_count c.args.input.now) (g.C.Source.fault_count c.lines.new.input) (sym c.options_of.ensures.options ∙ c.in-Some.is) status cause
 
 pub returns-in-Ok-begin-clause-outcome : goal.returns-in-Ok-begin-clause-outcome
 returns-in-Ok-begin-clause-outcome g c = λ source files sink other.
@@ -94,7 +110,8 @@ returns-in-Ok-begin-clause-memory g c = λ source files sink memory.
 
 pub returns-in-Ok-begin-clause-notes : goal.returns-in-Ok-begin-clause-notes
 returns-in-Ok-begin-clause-notes g c =
-    kept-counted c.begin.new.notes.items c.lines.result.faults.items (g.F.Files.state c.args.files.now) (g.F.Files.state c.begin.new.files) (g.F.Files.state c.lines.new.files) c.begin.ensures.keeps c.lines.ensures.keeps
+    kept-counted c.begin.new.notes.items c.lines.result.faults.items (g.F.Files.state c.args.files.now) (g.F.Files.state c.begin.new.files) (g.F.Files.state c.lines.new.files) c.begin.ensures.keeps
+    (subst (λ (s : CommandState). AreKept s.notes c.lines.result.faults.items (g.F.Files.state c.begin.new.files) (g.F.Files.state c.lines.new.files)) c.ready.ensures c.lines.ensures.keeps)
 
 pub returns-in-Ok-begin-clause-complete : goal.returns-in-Ok-begin-clause-complete
 returns-in-Ok-begin-clause-complete g c = λ source files sink other quiet fed none.
