@@ -1,7 +1,7 @@
 // That the machine calls the units that it is handed: each call is counted by a wrapper round the unit.
 ghost use Rattle.std.specs.Prelude.{◌≡◌};
 
-use crate::play::play;
+use crate::play::{agree, play};
 use crate::row::{Row, decimal, text};
 use clock_unit::Clk;
 use disk_unit::Dsk;
@@ -136,7 +136,7 @@ fn play_counted(
 fn are_called(rt: &impl Abort, calls: &Calls, wanted: &str) {
     let mut words = wanted.split_whitespace();
     for count in calls.all() {
-        assert_eq!(rt; count, decimal(words.next().unwrap_or("")), "{wanted}");
+        agree(rt, count, decimal(words.next().unwrap_or("")), wanted);
     }
 }
 

@@ -100,9 +100,46 @@ fn with_input<U: Unit, F: Files, S: Sink, C: Source>(
     requires { IsStandard (map U.unit_state units.items) }
 {
     let words = words_of(alloc, row)?;
-    let ending = simulate(alloc, words.as_slice(), units, input, console, files);
-    ends(rt, &ending, row);
+    with_words(
+        rt,
+        alloc,
+        words.as_slice(),
+        units,
+        files,
+        console,
+        input,
+        row,
+    );
     Ok(())
+}
+
+fn with_words<U: Unit, F: Files, S: Sink, C: Source>(
+    rt: &impl Abort,
+    alloc: Global,
+    words: &[String],
+    units: Vec<U>,
+    files: &mut F,
+    console: &mut S,
+    input: &mut C,
+    row: Row<'_>,
+)
+    requires { IsStandard (map U.unit_state units.items) }
+{
+    let ending = simulate(alloc, words, units, input, console, files);
+    ends(rt, &ending, row);
+}
+
+/// Two numbers are the same.
+pub fn agree(rt: &impl Abort, found: u64, wanted: u64, line: &str) {
+    assert_eq!(rt; found, wanted, "{line}");
+}
+
+fn holds(rt: &impl Abort, found: bool, line: &str) {
+    assert!(rt; found, "{line}");
+}
+
+fn bytes_agree(rt: &impl Abort, found: &[u8], wanted: &[u8], line: &str) {
+    assert_eq!(rt; found, wanted, "{line}");
 }
 
 /// The words of a row, of which each blank parts two. A ␣ is a blank in a word, and a ∅ a word without letters.
@@ -140,23 +177,39 @@ fn input_of(alloc: Global, row: Row<'_>) -> Result<ByteSource, AllocError> {
 /// The files that are there before. Those of a row stand between &, each as its name, a colon and its bytes.
 fn files_of(rt: &impl Abort, alloc: Global, row: Row<'_>) -> Result<MemFiles, Fail> {
     let mut files = MemFiles::with_room(alloc, 2048)?;
+    put_all(rt, alloc, &mut files, row)?;
+    fail(&mut files, row)?;
+    Ok(files)
+}
+
+fn put_all(
+    rt: &impl Abort,
+    alloc: Global,
+    files: &mut MemFiles,
+    row: Row<'_>,
+) -> Result<(), AllocError> {
     if let Some(text) = text(row, "before") {
         for file in text.split(" & ") {
-            put(rt, alloc, &mut files, file)?;
+            put(rt, alloc, files, file)?;
         }
     }
+    Ok(())
+}
+
+fn fail(files: &mut MemFiles, row: Row<'_>) -> Result<(), AllocError> {
     if let Some(text) = text(row, "fails") {
         let (call, done) = text.split_once(' ').unwrap_or((text, "0"));
         files.fail_call(decimal(call), (decimal(done) % 65536) as usize)?;
     }
-    Ok(files)
+    Ok(())
 }
 
-fn put(rt: &impl Abort, alloc: Global, files: &mut MemFiles, file: &str) -> Result<(), Fail> {
+fn put(rt: &impl Abort, alloc: Global, files: &mut MemFiles, file: &str) -> Result<(), AllocError> {
     let (name, text) = file.split_once(':').unwrap_or((file, ""));
     let mut bytes = Vec::new(alloc);
     add(&mut bytes, text)?;
-    assert_eq!(rt; files.add_file(name, bytes.as_slice()), Ok(()));
+    let added = files.add_file(name, bytes.as_slice());
+    holds(rt, added.is_ok(), file);
     Ok(())
 }
 
@@ -166,7 +219,7 @@ fn files_stand(rt: &impl Abort, alloc: Global, files: &MemFiles, row: Row<'_>) -
         for file in text.split(" & ") {
             match file.split_once(':') {
                 Some((name, text)) => has(rt, alloc, files, name, text, row)?,
-                None => assert!(rt; files.file_bytes(file).is_none(), "{}", row.line),
+                None => holds(rt, files.file_bytes(file).is_none(), row.line),
             }
         }
     }
@@ -183,12 +236,10 @@ fn has(
 ) -> Result<(), Fail> {
     let mut bytes = Vec::new(alloc);
     add(&mut bytes, text)?;
-    assert_eq!(rt;
-        files.file_bytes(name),
-        Some(bytes.as_slice()),
-        "{}",
-        row.line
-    );
+    match files.file_bytes(name) {
+        Some(found) => bytes_agree(rt, found, bytes.as_slice(), row.line),
+        None => holds(rt, false, row.line),
+    }
     Ok(())
 }
 
@@ -200,7 +251,7 @@ fn room(row: Row<'_>) -> usize {
 fn prints(rt: &impl Abort, alloc: Global, console: &ByteSink, row: Row<'_>) -> Result<(), Fail> {
     let mut wanted = bytes(alloc, row, "prints", "then")?;
     wanted.truncate(room(row));
-    assert_eq!(rt; console.bytes(), wanted.as_slice(), "{}", row.line);
+    bytes_agree(rt, console.bytes(), wanted.as_slice(), row.line);
     Ok(())
 }
 
@@ -220,7 +271,7 @@ fn is_left(
     };
     let mut rest = [0; 4096];
     let count = input.read(&mut rest).unwrap_or(0).min(4096);
-    assert_eq!(rt; &rest[..count], wanted.as_slice(), "{}", row.line);
+    bytes_agree(rt, &rest[..count], wanted.as_slice(), row.line);
     Ok(())
 }
 
@@ -230,36 +281,18 @@ fn is_refused(row: Row<'_>) -> bool {
 }
 
 fn ends<U: Unit>(rt: &impl Abort, ending: &Ending<U>, row: Row<'_>) {
-    assert_eq!(rt;
+    agree(
+        rt,
         u64::from(ending.status),
         number(row, "status", 0),
-        "{}",
-        row.line
+        row.line,
     );
-    match &ending.machine {
-        Some(machine) => {
-            assert!(rt;
-                !is_refused(row) && text(row, "machine").is_none(),
-                "{}",
-                row.line
-            );
-            cells_stand(rt, machine, row);
-        }
-        None => assert!(rt;
-            is_refused(row) || text(row, "machine").is_some(),
-            "{}",
-            row.line
-        ),
+    let is_none = is_refused(row) || text(row, "machine").is_some();
+    holds(rt, ending.machine.is_none() == is_none, row.line);
+    if let Some(machine) = &ending.machine {
+        cells_stand(rt, machine, row);
     }
-    match text(row, "note") {
-        Some(text) => {
-            assert_eq!(rt; ending.faults.len(), 1, "{}", row.line);
-            for fault in ending.faults.iter() {
-                is_noted(rt, fault, text);
-            }
-        }
-        None => assert_eq!(rt; ending.faults.len(), 0, "{}", row.line),
-    }
+    are_noted(rt, ending.faults.as_slice(), row);
 }
 
 /// Words of memory, each with its address, a colon and its value in octal.
@@ -267,7 +300,7 @@ fn cells_stand<U: Unit>(rt: &impl Abort, machine: &Machine<U>, row: Row<'_>) {
     for cell in text(row, "cells").unwrap_or("").split_whitespace() {
         let (at, value) = cell.split_once(':').unwrap_or((cell, ""));
         let word = machine.memory().read(Addr::of_word(Word(octal(at))));
-        assert_eq!(rt; word, Word(octal(value)), "{cell}");
+        agree(rt, u64::from(word.0), u64::from(octal(value)), cell);
     }
 }
 
@@ -275,23 +308,29 @@ fn octal(digits: &str) -> u16 {
     (read_octal(digits.as_bytes()).unwrap_or(0) % 65536) as u16
 }
 
+/// The notes are that of the row, or none.
+fn are_noted(rt: &impl Abort, faults: &[FaultNote], row: Row<'_>) {
+    match text(row, "note") {
+        Some(text) => {
+            agree(rt, faults.len() as u64, 1, row.line);
+            for fault in faults {
+                is_noted(rt, *fault, text);
+            }
+        }
+        None => agree(rt, faults.len() as u64, 0, row.line),
+    }
+}
+
 /// A note is this one: its command, its time, its call, how many bytes that wrote, and perhaps for whom it was made.
-fn is_noted(rt: &impl Abort, fault: &FaultNote, text: &str) {
+fn is_noted(rt: &impl Abort, fault: FaultNote, text: &str) {
     let mut words = text.split_whitespace();
-    assert_eq!(rt;
-        fault.command,
-        decimal(words.next().unwrap_or("")),
-        "{text}"
-    );
-    assert_eq!(rt; fault.time, decimal(words.next().unwrap_or("")), "{text}");
-    assert_eq!(rt;
-        Some(fault.call),
-        call_of(words.next().unwrap_or("")),
-        "{text}"
-    );
-    assert_eq!(rt; fault.done, decimal(words.next().unwrap_or("")), "{text}");
+    agree(rt, fault.command, decimal(words.next().unwrap_or("")), text);
+    agree(rt, fault.time, decimal(words.next().unwrap_or("")), text);
+    let call = call_of(words.next().unwrap_or(""));
+    holds(rt, call == Some(fault.call), text);
+    agree(rt, fault.done, decimal(words.next().unwrap_or("")), text);
     if let Some(word) = words.next() {
-        assert_eq!(rt; Some(fault.subject), subject_of(word), "{text}");
+        holds(rt, subject_of(word) == Some(fault.subject), text);
     }
 }
 
