@@ -1,5 +1,9 @@
 // That the machine calls the units that it is handed: each call is counted by a wrapper round the unit.
 ghost use Rattle.std.specs.Prelude.{◌≡◌};
+ghost use Rattle.unit_trait.specs.declared.kind.Kind.TheVariants.{Dsk as disks, Mta as tapes, Lpt as printers, Ptr as readers};
+ghost use Rattle.unit_trait.specs.declared.kind.Kind.TheVariants.{Ptp as punches, Clk as clocks, Tti as keyboards};
+ghost use Rattle.unit_trait.specs.declared.kind.Kind.TheVariants.{Tto as teleprinters};
+ghost use Rattle.unit_trait.specs.Row.{initial_unit};
 
 use crate::play::{agree, play};
 use crate::row::{Row, decimal, text};
@@ -121,15 +125,64 @@ fn play_counted(
     printer: &Rc<Calls>,
     row: Row<'_>,
 ) -> Result<(), Fail> {
-    let mut units: Vec<Box<dyn Unit>> = Vec::new(alloc);
-    units.push(Box::new(alloc, Dsk::new())?)?;
-    units.push(Box::new(alloc, Mta::new())?)?;
-    units.push(Box::new(alloc, Lpt::new())?)?;
-    units.push(Box::new(alloc, Ptr::new())?)?;
-    units.push(Box::new(alloc, Ptp::new())?)?;
-    units.push(Box::new(alloc, Counted::new(Clk::new(), clock.clone()?))?)?;
-    units.push(Box::new(alloc, Tti::new())?)?;
-    units.push(Box::new(alloc, Counted::new(Tto::new(), printer.clone()?))?)?;
+    let disk: Box<dyn Unit> = Box::new(alloc, Dsk::new())?;
+    let tape: Box<dyn Unit> = Box::new(alloc, Mta::new())?;
+    let line_printer: Box<dyn Unit> = Box::new(alloc, Lpt::new())?;
+    let reader: Box<dyn Unit> = Box::new(alloc, Ptr::new())?;
+    let punch: Box<dyn Unit> = Box::new(alloc, Ptp::new())?;
+    let counted_clock: Box<dyn Unit> = Box::new(alloc, Counted::new(Clk::new(), clock.clone()?))?;
+    let keyboard: Box<dyn Unit> = Box::new(alloc, Tti::new())?;
+    let counted_printer: Box<dyn Unit> = Box::new(
+        alloc,
+        Counted::new(Tto::new(), printer.clone()?),
+    )?;
+    play_with(
+        rt,
+        alloc,
+        disk,
+        tape,
+        line_printer,
+        reader,
+        punch,
+        counted_clock,
+        keyboard,
+        counted_printer,
+        row,
+    )
+}
+
+/// Plays a row with these units, in bus order.
+fn play_with<U: Unit>(
+    rt: &impl Abort,
+    alloc: Global,
+    disk: U,
+    tape: U,
+    printer: U,
+    reader: U,
+    punch: U,
+    clock: U,
+    keyboard: U,
+    teleprinter: U,
+    row: Row<'_>,
+) -> Result<(), Fail>
+    requires disk { U.unit_state disk ≡ initial_unit disks }
+    requires tape { U.unit_state tape ≡ initial_unit tapes }
+    requires printer { U.unit_state printer ≡ initial_unit printers }
+    requires reader { U.unit_state reader ≡ initial_unit readers }
+    requires punch { U.unit_state punch ≡ initial_unit punches }
+    requires clock { U.unit_state clock ≡ initial_unit clocks }
+    requires keyboard { U.unit_state keyboard ≡ initial_unit keyboards }
+    requires teleprinter { U.unit_state teleprinter ≡ initial_unit teleprinters }
+{
+    let mut units = Vec::new(alloc);
+    units.push(disk)?;
+    units.push(tape)?;
+    units.push(printer)?;
+    units.push(reader)?;
+    units.push(punch)?;
+    units.push(clock)?;
+    units.push(keyboard)?;
+    units.push(teleprinter)?;
     play(rt, alloc, units, row)
 }
 
