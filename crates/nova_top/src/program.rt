@@ -245,6 +245,3 @@ fn lines<U: Unit, C: Source, S: Sink, F: Files>(
         faults: notes,
     }
 }
-
-#[cfg(test)]
-mod tests;

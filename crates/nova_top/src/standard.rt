@@ -63,6 +63,3 @@ fn holds_initial<U: Unit>(unit: &U) -> bool
     }
     true
 }
-
-#[cfg(test)]
-mod tests;

@@ -84,6 +84,3 @@ fn put(memory: &mut Memory, at: u16, word: u16)
 {
     memory.write(Addr::of_word(Word(at)), Word(word));
 }
-
-#[cfg(test)]
-mod tests;

@@ -131,6 +131,3 @@ fn arguments_of(alloc: Global, words: &[String]) -> Result<Arguments, AllocError
     }
     Ok(arguments)
 }
-
-#[cfg(test)]
-mod tests;

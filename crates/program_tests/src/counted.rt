@@ -1,18 +1,18 @@
 // That the machine calls the units that it is handed: each call is counted by a wrapper round the unit.
-ghost use Rattle.std.specs.Prelude.{◌≡◌, map};
+ghost use Rattle.std.specs.Prelude.{◌≡◌};
 ghost use Rattle.unit_trait.specs.declared.kind.Kind.TheVariants.{Dsk as disks, Mta as tapes, Lpt as printers, Ptr as readers};
 ghost use Rattle.unit_trait.specs.declared.kind.Kind.TheVariants.{Ptp as punches, Clk as clocks, Tti as keyboards};
 ghost use Rattle.unit_trait.specs.declared.kind.Kind.TheVariants.{Tto as teleprinters};
 ghost use Rattle.unit_trait.specs.Row.{initial_unit};
-ghost use Rattle.nova_top.specs.Standard.{IsStandard};
 
-use crate::simulate;
+use crate::play::{agree, play};
+use crate::row::{Row, decimal, text};
 use clock_unit::Clk;
 use disk_unit::Dsk;
-use host_files::{ByteSink, ByteSource, MemFiles};
 use paper_tape::{Lpt, Ptp, Ptr};
-use std::alloc::{AllocError, Global};
+use std::alloc::Global;
 use std::cell::Cell;
+use std::process::Abort;
 use std::rc::Rc;
 use std::test::Fail;
 use tape_unit::Mta;
@@ -108,10 +108,23 @@ impl<U: Unit> Unit for Counted<U> {
     }
 }
 
-/// Runs these lines with a counted clock and a counted printer, and answers what was printed and the calls of both.
-fn counted_run(alloc: Global, lines: &[u8]) -> Result<(Vec<u8>, [u64; 5], [u64; 5]), AllocError> {
+/// Plays a row with a counted clock and a counted printer, whose calls are those of its fields `clock` and `printer`.
+fn counts(rt: &impl Abort, alloc: Global, row: Row<'_>) -> Result<(), Fail> {
     let clock = Rc::new(alloc, Calls::new())?;
     let printer = Rc::new(alloc, Calls::new())?;
+    play_counted(rt, alloc, &clock, &printer, row)?;
+    are_called(rt, &clock, text(row, "clock").unwrap_or(""));
+    are_called(rt, &printer, text(row, "printer").unwrap_or(""));
+    Ok(())
+}
+
+fn play_counted(
+    rt: &impl Abort,
+    alloc: Global,
+    clock: &Rc<Calls>,
+    printer: &Rc<Calls>,
+    row: Row<'_>,
+) -> Result<(), Fail> {
     let disk: Box<dyn Unit> = Box::new(alloc, Dsk::new())?;
     let tape: Box<dyn Unit> = Box::new(alloc, Mta::new())?;
     let line_printer: Box<dyn Unit> = Box::new(alloc, Lpt::new())?;
@@ -123,7 +136,8 @@ fn counted_run(alloc: Global, lines: &[u8]) -> Result<(Vec<u8>, [u64; 5], [u64; 
         alloc,
         Counted::new(Tto::new(), printer.clone()?),
     )?;
-    let printed = printed_with(
+    play_with(
+        rt,
         alloc,
         disk,
         tape,
@@ -133,13 +147,13 @@ fn counted_run(alloc: Global, lines: &[u8]) -> Result<(Vec<u8>, [u64; 5], [u64; 
         counted_clock,
         keyboard,
         counted_printer,
-        lines,
-    )?;
-    Ok((printed, clock.all(), printer.all()))
+        row,
+    )
 }
 
-/// What is printed with these units, in bus order.
-fn printed_with<U: Unit>(
+/// Plays a row with these units, in bus order.
+fn play_with<U: Unit>(
+    rt: &impl Abort,
     alloc: Global,
     disk: U,
     tape: U,
@@ -149,8 +163,8 @@ fn printed_with<U: Unit>(
     clock: U,
     keyboard: U,
     teleprinter: U,
-    lines: &[u8],
-) -> Result<Vec<u8>, AllocError>
+    row: Row<'_>,
+) -> Result<(), Fail>
     requires disk { U.unit_state disk ≡ initial_unit disks }
     requires tape { U.unit_state tape ≡ initial_unit tapes }
     requires printer { U.unit_state printer ≡ initial_unit printers }
@@ -169,56 +183,30 @@ fn printed_with<U: Unit>(
     units.push(clock)?;
     units.push(keyboard)?;
     units.push(teleprinter)?;
-    printed_by(alloc, units, lines)
+    play(rt, alloc, units, row)
 }
 
-fn printed_by<U: Unit>(alloc: Global, units: Vec<U>, lines: &[u8]) -> Result<Vec<u8>, AllocError>
-    requires { IsStandard (map U.unit_state units.items) }
-{
-    let mut words = Vec::new(alloc);
-    words.push(String::from_str(alloc, "-q")?)?;
-    let mut input = ByteSource::new(alloc, lines)?;
-    let mut output = ByteSink::with_room(alloc, 4096)?;
-    let mut files = MemFiles::with_room(alloc, 0)?;
-    let _ending = simulate(
-        alloc,
-        words.as_slice(),
-        units,
-        &mut input,
-        &mut output,
-        &mut files,
-    );
-    Vec::from_slice(alloc, output.bytes())
+fn are_called(rt: &impl Abort, calls: &Calls, wanted: &str) {
+    let mut words = wanted.split_whitespace();
+    for count in calls.all() {
+        agree(rt, count, decimal(words.next().unwrap_or("")), wanted);
+    }
 }
+
+/// A tick of the clock, a printed A, and resets: by RESET, by RUN, and by IORST. A new machine is reset once.
+const CALLS: &str =
+    "clock=1 1 1 0 1 | printer=0 0 0 0 1 | lines=D AC0 3~D 100 61114~D 101 63614~D 102 777~D 103 63077~GO 100~SHOW TIME~ | prints=~HALT instruction, PC: 00104 (000000)~Time: 1003~
+clock=0 0 0 0 1 | printer=1 1 1 0 1 | lines=D AC0 101~D 100 61111~D 101 63611~D 102 777~D 103 63077~GO 100~SHOW TIME~ | prints=A~HALT instruction, PC: 00104 (000000)~Time: 103~
+clock=0 0 0 0 4 | printer=0 0 0 1 4 | lines=RESET~D 100 62677~D 101 63077~RUN 100~D TTO BUF 1~ | prints=~HALT instruction, PC: 00102 (000000)~";
 
 #[test]
 fn the_units_that_are_handed_in_are_called(rt: HostRuntime) -> Result<(), Fail> {
-    // A tick of the clock, a printed A, and resets: by RESET, by RUN, and by IORST. A new machine is reset once.
-    let cases: [(&[u8], &[u8], [u64; 5], [u64; 5]); 3] = [
-        (
-            b"D AC0 3\nD 100 61114\nD 101 63614\nD 102 777\nD 103 63077\nGO 100\nSHOW TIME\n",
-            b"\nHALT instruction, PC: 00104 (000000)\nTime: 1003\n",
-            [1, 1, 1, 0, 1],
-            [0, 0, 0, 0, 1],
-        ),
-        (
-            b"D AC0 101\nD 100 61111\nD 101 63611\nD 102 777\nD 103 63077\nGO 100\nSHOW TIME\n",
-            b"A\nHALT instruction, PC: 00104 (000000)\nTime: 103\n",
-            [0, 0, 0, 0, 1],
-            [1, 1, 1, 0, 1],
-        ),
-        (
-            b"RESET\nD 100 62677\nD 101 63077\nRUN 100\nD TTO BUF 1\n",
-            b"\nHALT instruction, PC: 00102 (000000)\n",
-            [0, 0, 0, 0, 4],
-            [0, 0, 0, 1, 4],
-        ),
-    ];
-    for (lines, wanted, clock, printer) in cases {
-        let (printed, of_clock, of_printer) = counted_run(rt.alloc(), lines)?;
-        assert_eq!(rt; printed.as_slice(), wanted);
-        assert_eq!(rt; of_clock, clock);
-        assert_eq!(rt; of_printer, printer);
+    for line in CALLS.lines() {
+        let row = Row {
+            base: "words=-q",
+            line,
+        };
+        counts(&rt, rt.alloc(), row)?;
     }
     Ok(())
 }

@@ -1,10 +1,11 @@
-use super::*;
 use clock_unit::Clk;
 use disk_unit::Dsk;
+use nova_top::is_standard;
 use paper_tape::{Lpt, Ptp, Ptr};
 use std::test::Fail;
 use tape_unit::Mta;
 use tty_units::{Tti, Tto};
+use unit_trait::Unit;
 
 /// Sets register 2 of the first unit to 1. Answers whether the units are standard ones then.
 fn stay_standard<U: Unit>(units: &mut [U]) -> bool {

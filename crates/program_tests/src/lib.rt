@@ -1,0 +1,21 @@
+//! Tests of the whole program, from its words, input, console and files to its status, notes and machine.
+#![tactic(auto)]
+
+#[cfg(test)]
+mod counted;
+#[cfg(test)]
+mod disk;
+#[cfg(test)]
+mod files;
+#[cfg(test)]
+mod play;
+#[cfg(test)]
+mod row;
+#[cfg(test)]
+mod sessions;
+#[cfg(test)]
+mod standard;
+#[cfg(test)]
+mod tapes;
+#[cfg(test)]
+mod words;
