@@ -55,12 +55,7 @@ fn put_all(
     Ok(())
 }
 
-fn put(
-    rt: &impl Abort,
-    alloc: Global,
-    files: &mut MemFiles,
-    file: &str,
-) -> Result<(), AllocError> {
+fn put(rt: &impl Abort, alloc: Global, files: &mut MemFiles, file: &str) -> Result<(), AllocError> {
     let (name, text) = file.split_once(':').unwrap_or((file, ""));
     let bytes = bytes(alloc, text)?;
     let added = files.add_file(name, bytes.as_slice());
