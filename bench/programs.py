@@ -1,6 +1,7 @@
 """The two programs that bench/speed and bench/agree run: ours, and the `dgnova`
 of SIMH (Debian package `simh`, version 3.8-1)."""
 
+import glob
 import os
 import shutil
 import subprocess
@@ -8,7 +9,8 @@ import sys
 import tempfile
 
 ROOT = os.path.dirname(os.path.dirname(os.path.abspath(__file__)))
-NOVA = os.path.join(ROOT, "crates", "nova", "out", "nova")
+# What ./nova keeps, under the sum of its sources; there is one at the most.
+NOVA = next(iter(glob.glob(os.path.join(ROOT, "out", "nova-*"))), os.path.join(ROOT, "out", "nova"))
 ANY_NUMBER = 1 << 48  # the largest count of instructions that -l takes
 
 # A plain Nova: no stack and no byte instructions, multiply and divide present,
