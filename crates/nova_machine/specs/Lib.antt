@@ -23,3 +23,4 @@ pub mod Laws
 pub mod StopLaws
 pub mod ServiceLaws
 pub mod Core
+pub mod SameRun

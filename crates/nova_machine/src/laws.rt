@@ -1,4 +1,5 @@
 ghost use Rattle.nova_machine.specs.Laws.{RunSplits, RunTakesTime};
+ghost use Rattle.nova_machine.specs.SameRun.{SameStateSameRun};
 ghost use Rattle.nova_machine.specs.ServiceLaws.{ServesWhileDue};
 ghost use Rattle.nova_machine.specs.StopLaws.{TurnStops};
 
@@ -23,4 +24,10 @@ pub fn turns_stop()
 /// that is due in the same turn.
 pub fn units_are_served_while_due()
     ensures { ServesWhileDue }
+{}
+
+/// The law that turns, and runs, from the same state do the same: they end by the same stop in the same state, and print
+/// the same, where neither meets a failed call on a file or a refused byte.
+pub fn same_state_same_run()
+    ensures { SameStateSameRun }
 {}

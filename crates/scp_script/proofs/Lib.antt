@@ -11,3 +11,4 @@ pub mod NoteLemmas
 pub mod WholeLemmas
 pub mod LawLemmas
 pub mod ActionLemmas
+pub mod CoreLemmas

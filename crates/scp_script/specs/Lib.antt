@@ -6,3 +6,4 @@ pub mod Session
 pub mod Loop
 pub mod Perform
 pub mod Laws
+pub mod Core

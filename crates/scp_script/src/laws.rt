@@ -1,3 +1,4 @@
+ghost use Rattle.scp_script.specs.Core.{SameCoreSameFuture, CutBehindTexts};
 ghost use Rattle.scp_script.specs.Laws.{LineByLine, LinesAreConsumed};
 
 /// The law that a session goes line by line, to its own end and not to that of the bound in its definition.
@@ -9,4 +10,14 @@ pub fn session_goes_line_by_line()
 /// of their costs.
 pub fn lines_are_consumed()
     ensures { LinesAreConsumed }
+{}
+
+/// The law that sessions of the same core, in which no call on a file fails, have the same future.
+pub fn same_core_same_future()
+    ensures { SameCoreSameFuture }
+{}
+
+/// The law that a session is cut behind each of its texts: what follows is what the session there does.
+pub fn session_is_cut_behind_texts()
+    ensures { CutBehindTexts }
 {}
