@@ -18,7 +18,7 @@ use Rattle.nova_processor.specs.Processor.{ProcessorState}
 use Rattle.nova_machine.specs.Machine.{MachineState}
 use Rattle.host_files.specs.Lists.{NamedBytes}
 use Rattle.nova_machine.specs.Notes.{UnitNote, RunNote, at_time}
-use Rattle.nova_machine.specs.Seen.{Seen, seen, erased, with_machine}
+use Rattle.nova_machine.specs.Seen.{Seen, seen, beside, erased, with_machine}
 use Rattle.nova_machine.specs.Parts.{Part, silent, then_part}
 use Rattle.nova_machine.specs.Turned.{Turned, goes_on, stops, still, begun, ticked, executed}
 use Rattle.nova_processor.specs.Instruction.{memory_reference, arithmetic}
@@ -250,23 +250,23 @@ erased-behind count m q = refl
 went : (stops : ℕ → Bool) (watch : WatchState) (note : Option RunNote) (one : Bool) (keys : List (ℕ × ℕ)) (files : List NamedBytes) (most done budget : ℕ) (old new : MachineState) (q : ProcessorState)
     → AreAtBreaks stops watch → IsCalm budget old → old.time + budget ≤ last_time → budget ≤ most → done ≤ budget
     → Reaches stops done old.processor q → new ≡ passed_by done (record old { processor = q })
-    → turns note one false most (seen watch keys files old) ≡ turns note one false (most - done) (seen watch keys files new)
+    → turns note one false most (seen (beside watch keys files) old) ≡ turns note one false (most - done) (seen (beside watch keys files) new)
 went stops watch note one keys files most done budget old new q at_breaks calm end few within reaches is =
     let all : most ≡ done + (most - done) = omega (arith, few, within) in
-    let s = seen watch keys files old in
+    let s = seen (beside watch keys files) old in
     ap (λ (n : ℕ). turns note one false n s) all
     ∙ burst-turns stops note one done budget (most - done) s q at_breaks (calm-erased budget old calm) within end reaches
     ∙ ap (λ (x : MachineState). turns note one false (most - done) (with_machine s x)) (erased-behind done old q)
-    ∙ ap (λ (x : MachineState). turns note one false (most - done) (seen watch keys files x)) (sym (is ∙ behind-is done old q))
+    ∙ ap (λ (x : MachineState). turns note one false (most - done) (seen (beside watch keys files) x)) (sym (is ∙ behind-is done old q))
 
 ended : (stops : ℕ → Bool) (watch : WatchState) (note : Option RunNote) (one : Bool) (keys : List (ℕ × ℕ)) (files : List NamedBytes) (most done budget : ℕ) (old new : MachineState) (mid q : ProcessorState)
     → AreAtBreaks stops watch → IsCalm budget old → old.time + budget ≤ last_time → budget ≤ most → done < budget
     → Reaches stops done old.processor mid → stops mid.cpu.pc ≡ false → step mid ≡ record { processor = q; end = step_end.ChainLimit } → new ≡ passed_by done (record old { processor = q })
-    → turns note one false most (seen watch keys files old) ≡ silent (Some ChainLimit) (seen watch keys files new)
+    → turns note one false most (seen (beside watch keys files) old) ≡ silent (Some ChainLimit) (seen (beside watch keys files) new)
 ended stops watch note one keys files most done budget old new mid q at_breaks calm end few within reaches passes chain is =
     let left = most - done - 1 in
     let all : most ≡ done + suc left = omega (arith, few, within) in
-    let s = seen watch keys files old in
+    let s = seen (beside watch keys files) old in
     let m = s.machine in
     let quiet = calm-erased budget old calm in
     let at = with_machine s (behind done m mid) in
@@ -278,7 +278,7 @@ ended stops watch note one keys files most done budget old new mid q at_breaks c
     ∙ turns-stop note one false left at ChainLimit (ap (λ (p : Part). p.stop) next)
     ∙ next
     ∙ ap (λ (x : MachineState). silent (Some ChainLimit) (with_machine s x)) (behind-with done m mid q ∙ erased-behind done old q)
-    ∙ ap (λ (x : MachineState). silent (Some ChainLimit) (seen watch keys files x)) (sym (is ∙ behind-is done old q))
+    ∙ ap (λ (x : MachineState). silent (Some ChainLimit) (seen (beside watch keys files) x)) (sym (is ∙ behind-is done old q))
 
 pub burst-told : (stops : ℕ → Bool) (watch : WatchState) (most done budget : ℕ) (end : BurstEnd) (old new : MachineState) (q : ProcessorState) → AreAtBreaks stops watch → IsCalm budget old
     → old.time + budget ≤ last_time → budget ≤ most → IsBurst stops old.processor budget done end q → new ≡ passed_by done (record old { processor = q }) → Bursts watch most done end old new

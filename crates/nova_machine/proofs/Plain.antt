@@ -3,7 +3,7 @@ use Rattle.std.proofs.Common.{◌≡◌, ℕ, Bool, false, List, Option, None, o
 use Rattle.nova_machine.specs.Machine.{MachineState}
 use Rattle.host_files.specs.Lists.{NamedBytes}
 use Rattle.nova_machine.specs.Notes.{UnitNote}
-use Rattle.nova_machine.specs.Seen.{Seen, seen, erased, with_machine}
+use Rattle.nova_machine.specs.Seen.{Seen, seen, beside, erased, with_machine}
 use Rattle.nova_machine.specs.Parts.{Part, silent, then_part}
 use Rattle.nova_machine.specs.Turned.{Turned, goes_on, still}
 use Rattle.nova_machine.specs.Turn.{is_interrupted, enter, interrupt, breaks_tested, breaks_tested_unless, attended, prepared}
@@ -53,8 +53,8 @@ plain-prepared note s plain none =
     ∙ breaks-none s none
 
 pub plain-whole : (note : Option UnitNote) (watch : WatchState) (keys : List (ℕ × ℕ)) (files : List NamedBytes) (m : MachineState) (tells : Bool) (b : List ℕ) → IsPlain m
-    → IsWhole (attended note (seen watch keys files m)) None (seen watch keys files m) tells b b
+    → IsWhole (attended note (seen (beside watch keys files) m)) None (seen (beside watch keys files) m) tells b b
 plain-whole note watch keys files m tells b plain =
-    let s = seen watch keys files m in
+    let s = seen (beside watch keys files) m in
     let P : Part → Type 0 = λ p. IsWhole p None s tells b b in
     subst P (sym (plain-attended note s (plain-erased m plain))) (record { stop_is = refl; after_is = refl; written = λ _. sym (append-nil b) })

@@ -8,7 +8,7 @@ use Rattle.nova_processor.specs.declared.burst.BurstEnd.TheVariants as burst_end
 use Rattle.expect_actions.specs.Watch.{WatchState}
 use Rattle.nova_machine.specs.Machine.{MachineState}
 use Rattle.nova_machine.specs.Notes.{UnitNote, RunNote, at_time, unit_note, run_note}
-use Rattle.nova_machine.specs.Seen.{Seen, seen}
+use Rattle.nova_machine.specs.Seen.{Seen, seen, beside}
 use Rattle.nova_machine.specs.Parts.{Part, silent, behind_made, followed, then_part}
 use Rattle.nova_machine.specs.Turn.{turn}
 use Rattle.nova_machine.specs.Run.{next_turn, turns, expired, last_time}
@@ -118,7 +118,7 @@ chain-of note one first left most s mid next tells b c early is turned same =
 -- a burst that no chain has ended
 pub burst-goes : (watch : WatchState) (note : Option RunNote) (most done : ℕ) (end : BurstEnd) (old new : MachineState) (one : Bool) (keys : List (ℕ × ℕ)) (files : List NamedBytes)
     → end ≢ burst_end.ChainLimit → Bursts watch most done end old new
-    → turns note one false most (seen watch keys files old) ≡ turns note one false (most - done) (seen watch keys files new)
+    → turns note one false most (seen (beside watch keys files) old) ≡ turns note one false (most - done) (seen (beside watch keys files) new)
 burst-goes watch note most done burst_end.Spent old new one keys files other told = told note one keys files
 burst-goes watch note most done burst_end.Transfer old new one keys files other told = told note one keys files
 burst-goes watch note most done burst_end.AtStop old new one keys files other told = told note one keys files
@@ -126,7 +126,7 @@ burst-goes watch note most done burst_end.ChainLimit old new one keys files othe
 
 pub burst-ends : (watch : WatchState) (note : Option RunNote) (most done : ℕ) (end : BurstEnd) (old new : MachineState) (one : Bool) (keys : List (ℕ × ℕ)) (files : List NamedBytes)
     → end ≡ burst_end.ChainLimit → Bursts watch most done end old new
-    → turns note one false most (seen watch keys files old) ≡ silent (Some ChainLimit) (seen watch keys files new)
+    → turns note one false most (seen (beside watch keys files) old) ≡ silent (Some ChainLimit) (seen (beside watch keys files) new)
 burst-ends watch note most done burst_end.ChainLimit old new one keys files is told = told note one keys files
 burst-ends watch note most done burst_end.Spent old new one keys files is told = absurd (cc)
 burst-ends watch note most done burst_end.Transfer old new one keys files is told = absurd (cc)

@@ -31,7 +31,7 @@ use Rattle.event_queue.proofs.Dues.{dues-some, dues-none}
 use Rattle.nova_machine.specs.declared.machine.Stop.{Stop}
 use Rattle.nova_machine.specs.declared.machine.Stop.TheVariants.{ConsoleFault, FileFault, Wru, Expect, BadImage}
 use Rattle.nova_machine.specs.Machine.{MachineState}
-use Rattle.nova_machine.specs.Seen.{Seen, seen, erased, unnumbered, attached_in}
+use Rattle.nova_machine.specs.Seen.{Seen, seen, beside, erased, unnumbered, attached_in}
 use Rattle.nova_machine.specs.Parts.{Part, silent, behind_made, then_part}
 use Rattle.nova_machine.specs.Turned.{still}
 use Rattle.nova_machine.specs.Wants.{answer_to, files_after, watch_after, first_key, typed_key, own_stop, bytes_of, prints, IsConsole}
@@ -70,13 +70,13 @@ without_due m = record m { events = served m.events }
 
 -- nothing is due
 pub none-at : (note : Option UnitNote) (watch : WatchState) (keys : List (ℕ × ℕ)) (files : List NamedBytes) (m at : MachineState) (tells : Bool) (b : List ℕ) → due m.events ≡ None
-    → at ≡ without_due m → Comes (serving note (seen watch keys files m)) None (seen watch keys files at) tells b b
+    → at ≡ without_due m → Comes (serving note (seen (beside watch keys files) m)) None (seen (beside watch keys files) at) tells b b
 none-at note watch keys files m at tells b none is =
-    let s = seen watch keys files m in
-    let P : Part → Type 0 = λ x. Comes x None (seen watch keys files at) tells b b in
+    let s = seen (beside watch keys files) m in
+    let P : Part → Type 0 = λ x. Comes x None (seen (beside watch keys files) at) tells b b in
     let stays : without_due m ≡ m = ap (λ (es : List Event). record m { events = es }) (served-none m.events none) in
     subst P (sym (serving-none note s none))
-    (silent-comes None None s (seen watch keys files at) tells b tt refl (ap (λ (x : MachineState). seen watch keys files x) (is ∙ stays)))
+    (silent-comes None None s (seen (beside watch keys files) at) tells b tt refl (ap (λ (x : MachineState). seen (beside watch keys files) x) (is ∙ stays)))
   where
     served-none : (es : List Event) → due es ≡ None → served es ≡ es
     served-none [] h = refl
@@ -89,13 +89,13 @@ none-at note watch keys files m at tells b none is =
 -- the first service goes on, and so do the others
 pub more-at : (note : Option UnitNote) (watch : WatchState) (keys : List (ℕ × ℕ)) (files : List NamedBytes) (m at : MachineState) (next : Seen) (u : UnitName) (ended r : Option Stop) (last : Seen)
     (tells : Bool) (b c a : List ℕ) → due m.events ≡ Some u → at ≡ without_due m → at_unit u note ≡ None
-    → ended ≡ None → Comes (service None u (seen watch keys files at)) ended next tells b c → dues next.machine.events ≡ dues at.events
-    → Comes (serving note next) r last tells c a → Comes (serving note (seen watch keys files m)) r last tells b a
+    → ended ≡ None → Comes (service None u (seen (beside watch keys files) at)) ended next tells b c → dues next.machine.events ≡ dues at.events
+    → Comes (serving note next) r last tells c a → Comes (serving note (seen (beside watch keys files) m)) r last tells b a
 more-at note watch keys files m at next u ended r last tells b c a first is apart goes one same rest =
-    let s = seen watch keys files m in
+    let s = seen (beside watch keys files) m in
     let P : Part → Type 0 = λ x. Comes x r last tells b a in
-    let O : Option Stop → Type 0 = λ o. Comes (service None u (seen watch keys files at)) o next tells b c in
-    let Q : MachineState → Type 0 = λ x. Comes (service None u (seen watch keys files x)) None next tells b c in
+    let O : Option Stop → Type 0 = λ o. Comes (service None u (seen (beside watch keys files) at)) o next tells b c in
+    let Q : MachineState → Type 0 = λ x. Comes (service None u (seen (beside watch keys files) x)) None next tells b c in
     let F : Option Failure → Type 0 = λ f. Comes (service f u (taken s)) None next tells b c in
     let R : List UnitName → Type 0 = λ us. Comes (services note us next) r last tells c a in
     let T : Part → Type 0 = λ x. Comes x r last tells c a in
@@ -108,11 +108,11 @@ more-at note watch keys files m at next u ended r last tells b c a first is apar
 -- the first service stops
 pub stop-at : (note : Option UnitNote) (watch : WatchState) (keys : List (ℕ × ℕ)) (files : List NamedBytes) (m at : MachineState) (u : UnitName) (fault : Option Failure) (stop : Stop) (last : Seen)
     (tells : Bool) (b a : List ℕ) → due m.events ≡ Some u → at ≡ without_due m → at_unit u note ≡ fault
-    → Comes (service fault u (seen watch keys files at)) (Some stop) last tells b a → Comes (serving note (seen watch keys files m)) (Some stop) last tells b a
+    → Comes (service fault u (seen (beside watch keys files) at)) (Some stop) last tells b a → Comes (serving note (seen (beside watch keys files) m)) (Some stop) last tells b a
 stop-at note watch keys files m at u fault stop last tells b a first is meets one =
-    let s = seen watch keys files m in
+    let s = seen (beside watch keys files) m in
     let P : Part → Type 0 = λ x. Comes x (Some stop) last tells b a in
-    let Q : MachineState → Type 0 = λ x. Comes (service fault u (seen watch keys files x)) (Some stop) last tells b a in
+    let Q : MachineState → Type 0 = λ x. Comes (service fault u (seen (beside watch keys files) x)) (Some stop) last tells b a in
     let F : Option Failure → Type 0 = λ f. Comes (service f u (taken s)) (Some stop) last tells b a in
     subst P (sym (serving-some note s u first))
     (comes-stopped (service (at_unit u note) u (taken s)) (λ n. services note (dues (served m.events)) n) stop last tells b a (subst F (sym meets) (subst Q is one)))
@@ -203,17 +203,17 @@ erased-attached [] = refl
 erased-attached (None ∷ slots) = ap (λ (l : List (Option Attachment)). None ∷ l) (erased-attached slots)
 erased-attached (Some h ∷ slots) = ap (λ (l : List (Option Attachment)). Some h.attachment ∷ l) (erased-attached slots)
 
-service-is : (fault : Option Failure) (u : UnitName) (watch : WatchState) (keys : List (ℕ × ℕ)) (files : List NamedBytes) (m : MachineState) → service fault u (seen watch keys files m)
-    ≡ behind_made (prints (want_at u m) (seen watch keys files (asked u m)))
+service-is : (fault : Option Failure) (u : UnitName) (watch : WatchState) (keys : List (ℕ × ℕ)) (files : List NamedBytes) (m : MachineState) → service fault u (seen (beside watch keys files) m)
+    ≡ behind_made (prints (want_at u m) (seen (beside watch keys files) (asked u m)))
     (replied u (own_stop (asks_of watch keys m) watch.expects (want_at u m)) (answer_to fault (attachment_in m u) files (asks_of watch keys m) (want_at u m))
-    (seen (watch_after m.time (want_at u m) watch) keys (files_by fault (want_at u m) u files m) (done_by fault (want_at u m) u watch keys files (asked u m))))
+    (seen (beside (watch_after m.time (want_at u m) watch) keys (files_by fault (want_at u m) u files m)) (done_by fault (want_at u m) u watch keys files (asked u m))))
 unfolding service Rattle.nova_machine.specs.Service.hosted asked
 service-is fault u watch keys files m =
     let same : attachment_at (attached_in (erased m)) u ≡ attachment_in m u = ap (λ (l : List (Option Attachment)). attachment_at l u) (erased-attached m.slots) in
     let w = want_at u m in
-    ap (λ (a : Option Attachment). behind_made (prints w (seen watch keys files (asked u m)))
+    ap (λ (a : Option Attachment). behind_made (prints w (seen (beside watch keys files) (asked u m)))
     (replied u (own_stop (asks_of watch keys m) watch.expects w) (answer_to fault a files (asks_of watch keys m) w)
-    (seen (watch_after m.time w watch) keys (files_after fault a m.processor.memory files w) (done_for fault (typed_key (sent_of watch m) (typed_of keys m)) a files w (asked u m))))) same
+    (seen (beside (watch_after m.time w watch) keys (files_after fault a m.processor.memory files w)) (done_for fault (typed_key (sent_of watch m) (typed_of keys m)) a files w (asked u m))))) same
 
 -- a unit was asked, and this was made of what it wants
 pub record Hosts (u : UnitName) (watch watch' : WatchState) (keys : List (ℕ × ℕ)) (files files' : List NamedBytes) (n h : MachineState) (w : Want) (o : Hosted) : Type 0 where
@@ -251,7 +251,7 @@ own-failure r own = refl
 
 -- a machine's numbers of files are none of the unit's answer
 answered-erased : (u : UnitName) (g : Got) (watch : WatchState) (keys : List (ℕ × ℕ)) (files : List NamedBytes) (stop : Option Stop) (h : MachineState)
-    → still (seen watch keys files h) (stopping stop (answered u g (erased h))) ≡ silent (first_stop stop (answered u g h).stop) (seen watch keys files (answered u g h).machine)
+    → still (seen (beside watch keys files) h) (stopping stop (answered u g (erased h))) ≡ silent (first_stop stop (answered u g h).stop) (seen (beside watch keys files) (answered u g h).machine)
 unfolding answered
 answered-erased u g watch keys files stop h = refl
 
@@ -260,25 +260,25 @@ comes-answered : (u : UnitName) (watch watch' : WatchState) (keys : List (ℕ ×
     → h ≡ done_by None (want_at u m) u watch keys files (asked u m) → answer_to None (attachment_in m u) files (asks_of watch keys m) (want_at u m) ≡ Ok g
     → own_stop (asks_of watch keys m) watch.expects (want_at u m) ≡ stop → watch' ≡ watch_after m.time (want_at u m) watch → files' ≡ files_by None (want_at u m) u files m
     → (IsTrue tells → a ≡ b ++ bytes_of (want_at u m)) → IsOwn r → r ≡ first_stop stop (answered u g h).stop → last ≡ (answered u g h).machine
-    → Comes (service None u (seen watch keys files m)) r (seen watch' keys files' last) tells b a
+    → Comes (service None u (seen (beside watch keys files) m)) r (seen (beside watch' keys files') last) tells b a
 comes-answered u watch watch' keys files files' m h last g stop r tells b a machine said key watched changed printed own stops is =
     let w = want_at u m in
-    let made = prints w (seen watch keys files (asked u m)) in
-    let P : Part → Type 0 = λ x. Comes x r (seen watch' keys files' last) tells b a in
+    let made = prints w (seen (beside watch keys files) (asked u m)) in
+    let P : Part → Type 0 = λ x. Comes x r (seen (beside watch' keys files') last) tells b a in
     let now : replied u (own_stop (asks_of watch keys m) watch.expects w) (answer_to None (attachment_in m u) files (asks_of watch keys m) w)
-    (seen (watch_after m.time w watch) keys (files_by None w u files m) (done_by None w u watch keys files (asked u m)))
-    ≡ silent (first_stop stop (answered u g h).stop) (seen watch' keys files' (answered u g h).machine) =
-    ap (λ (x : Result Got NoAnswer). replied u (own_stop (asks_of watch keys m) watch.expects w) x (seen (watch_after m.time w watch) keys (files_by None w u files m) (done_by None w u watch keys files (asked u m)))) said
-    ∙ ap (λ (x : Option Stop). replied u x (Ok g) (seen (watch_after m.time w watch) keys (files_by None w u files m) (done_by None w u watch keys files (asked u m)))) key
-    ∙ ap (λ (x : WatchState). replied u stop (Ok g) (seen x keys (files_by None w u files m) (done_by None w u watch keys files (asked u m)))) (sym watched)
-    ∙ ap (λ (x : List NamedBytes). replied u stop (Ok g) (seen watch' keys x (done_by None w u watch keys files (asked u m)))) (sym changed)
-    ∙ ap (λ (x : MachineState). replied u stop (Ok g) (seen watch' keys files' x)) (sym machine)
+    (seen (beside (watch_after m.time w watch) keys (files_by None w u files m)) (done_by None w u watch keys files (asked u m)))
+    ≡ silent (first_stop stop (answered u g h).stop) (seen (beside watch' keys files') (answered u g h).machine) =
+    ap (λ (x : Result Got NoAnswer). replied u (own_stop (asks_of watch keys m) watch.expects w) x (seen (beside (watch_after m.time w watch) keys (files_by None w u files m)) (done_by None w u watch keys files (asked u m)))) said
+    ∙ ap (λ (x : Option Stop). replied u x (Ok g) (seen (beside (watch_after m.time w watch) keys (files_by None w u files m)) (done_by None w u watch keys files (asked u m)))) key
+    ∙ ap (λ (x : WatchState). replied u stop (Ok g) (seen (beside x keys (files_by None w u files m)) (done_by None w u watch keys files (asked u m)))) (sym watched)
+    ∙ ap (λ (x : List NamedBytes). replied u stop (Ok g) (seen (beside watch' keys x) (done_by None w u watch keys files (asked u m)))) (sym changed)
+    ∙ ap (λ (x : MachineState). replied u stop (Ok g) (seen (beside watch' keys files') x)) (sym machine)
     ∙ answered-erased u g watch' keys files' stop h in
     subst P (sym (service-is None u watch keys files m ∙ ap (behind_made made) now))
-    (comes-behind made (silent (first_stop stop (answered u g h).stop) (seen watch' keys files' (answered u g h).machine)) r (seen watch' keys files' last) tells b a a
-    (printed-text w (seen watch keys files (asked u m)) tells b a printed)
-    (silent-comes (first_stop stop (answered u g h).stop) r (seen watch' keys files' (answered u g h).machine) (seen watch' keys files' last) tells a own stops
-    (ap (λ (x : MachineState). seen watch' keys files' x) is)))
+    (comes-behind made (silent (first_stop stop (answered u g h).stop) (seen (beside watch' keys files') (answered u g h).machine)) r (seen (beside watch' keys files') last) tells b a a
+    (printed-text w (seen (beside watch keys files) (asked u m)) tells b a printed)
+    (silent-comes (first_stop stop (answered u g h).stop) r (seen (beside watch' keys files') (answered u g h).machine) (seen (beside watch' keys files') last) tells a own stops
+    (ap (λ (x : MachineState). seen (beside watch' keys files') x) is)))
 
 want-text : (w w' : Want) (tells : Bool) (b a : List ℕ) → w ≡ w' → (IsTrue tells → a ≡ b ++ bytes_of w) → IsTrue tells → a ≡ b ++ bytes_of w'
 want-text w w' tells b a same printed told = printed told ∙ ap (λ (x : Want). b ++ bytes_of x) same
@@ -286,17 +286,17 @@ want-text w w' tells b a same printed told = printed told ∙ ap (λ (x : Want).
 -- the unit got its answer
 pub comes-gets : (u : UnitName) (watch watch' : WatchState) (keys : List (ℕ × ℕ)) (files files' : List NamedBytes) (m n h last : MachineState) (w : Want) (g : Got) (r : Option Stop) (tells : Bool) (b a : List ℕ)
     → n ≡ asked u m → w ≡ want_at u m → Hosts u watch watch' keys files files' n h w (Gets g) → (IsTrue tells → a ≡ b ++ bytes_printed w (Gets g)) → IsOwn r
-    → r ≡ (answered u g h).stop → last ≡ (answered u g h).machine → Comes (service (failure_of_stop r) u (seen watch keys files m)) r (seen watch' keys files' last) tells b a
+    → r ≡ (answered u g h).stop → last ≡ (answered u g h).machine → Comes (service (failure_of_stop r) u (seen (beside watch keys files) m)) r (seen (beside watch' keys files') last) tells b a
 comes-gets u watch watch' keys files files' m n h last w g r tells b a asks wants made printed own stops is =
     let at = hosts-at u watch watch' keys files files' m n h w (Gets g) asks wants made in
-    let F : Option Failure → Type 0 = λ f. Comes (service f u (seen watch keys files m)) r (seen watch' keys files' last) tells b a in
+    let F : Option Failure → Type 0 = λ f. Comes (service f u (seen (beside watch keys files) m)) r (seen (beside watch' keys files') last) tells b a in
     subst F (sym (own-failure r own))
     (comes-answered u watch watch' keys files files' m h last g None r tells b a at.machine at.said.0 at.said.1 at.watched at.changed (want-text w (want_at u m) tells b a wants printed) own stops is)
 
 -- the key that stops a run was taken
 pub comes-wru : (u : UnitName) (watch watch' : WatchState) (keys : List (ℕ × ℕ)) (files files' : List NamedBytes) (m n h last : MachineState) (w : Want) (tells : Bool) (b a : List ℕ)
     → n ≡ asked u m → w ≡ want_at u m → Hosts u watch watch' keys files files' n h w hosted.Wru → (IsTrue tells → a ≡ b ++ bytes_printed w hosted.Wru)
-    → last ≡ (answered u got.NoKey h).machine → Comes (service None u (seen watch keys files m)) (Some Wru) (seen watch' keys files' last) tells b a
+    → last ≡ (answered u got.NoKey h).machine → Comes (service None u (seen (beside watch keys files) m)) (Some Wru) (seen (beside watch' keys files') last) tells b a
 comes-wru u watch watch' keys files files' m n h last w tells b a asks wants made printed is =
     let at = hosts-at u watch watch' keys files files' m n h w hosted.Wru asks wants made in
     comes-answered u watch watch' keys files files' m h last got.NoKey (Some Wru) (Some Wru) tells b a at.machine at.said.0 at.said.1 at.watched at.changed
@@ -305,7 +305,7 @@ comes-wru u watch watch' keys files files' m n h last w tells b a asks wants mad
 -- the byte was printed that ends a text which is waited for
 pub comes-matched : (u : UnitName) (watch watch' : WatchState) (keys : List (ℕ × ℕ)) (files files' : List NamedBytes) (m n h last : MachineState) (w : Want) (k : ℕ) (tells : Bool) (b a : List ℕ)
     → n ≡ asked u m → w ≡ want_at u m → Hosts u watch watch' keys files files' n h w (hosted.Matched k) → (IsTrue tells → a ≡ b ++ bytes_printed w (hosted.Matched k))
-    → last ≡ (answered u got.Done h).machine → Comes (service None u (seen watch keys files m)) (Some (Expect k)) (seen watch' keys files' last) tells b a
+    → last ≡ (answered u got.Done h).machine → Comes (service None u (seen (beside watch keys files) m)) (Some (Expect k)) (seen (beside watch' keys files') last) tells b a
 comes-matched u watch watch' keys files files' m n h last w k tells b a asks wants made printed is =
     let at = hosts-at u watch watch' keys files files' m n h w (hosted.Matched k) asks wants made in
     comes-answered u watch watch' keys files files' m h last got.Done (Some (Expect k)) (Some (Expect k)) tells b a at.machine at.said.0 at.said.1 at.watched at.changed
@@ -327,51 +327,51 @@ silent-want fault a files key w why s is = refl
 -- a call on the unit's file failed
 pub comes-failed : (u : UnitName) (watch watch' : WatchState) (keys : List (ℕ × ℕ)) (files files' : List NamedBytes) (m n h : MachineState) (w : Want) (f : UnitFault) (tells : Bool) (b a : List ℕ)
     → n ≡ asked u m → w ≡ want_at u m → Hosts u watch watch' keys files files' n h w (Stops (FileFault f)) → (IsTrue tells → a ≡ b ++ []) → f.unit ≡ u
-    → Comes (service (Some (failure_in f)) u (seen watch keys files m)) (Some (FileFault f)) (seen watch' keys files' h) tells b a
+    → Comes (service (Some (failure_in f)) u (seen (beside watch keys files) m)) (Some (FileFault f)) (seen (beside watch' keys files') h) tells b a
 comes-failed u watch watch' keys files files' m n h w f tells b a asks wants made printed own =
     let at = hosts-at u watch watch' keys files files' m n h w (Stops (FileFault f)) asks wants made in
     let fault = Some (failure_in f) in
     let v = want_at u m in
-    let s = seen (watch_after m.time v watch) keys (files_by fault v u files m) (done_by fault v u watch keys files (asked u m)) in
+    let s = seen (beside (watch_after m.time v watch) keys (files_by fault v u files m)) (done_by fault v u watch keys files (asked u m)) in
     let stays = same-watch fault (attachment_in m u) files (asks_of watch keys m) v (FileFails (failure_in f)) m.time watch at.said in
-    let none = silent-want fault (attachment_in m u) files (asks_of watch keys m) v (FileFails (failure_in f)) (seen watch keys files (asked u m)) at.said in
-    let P : Part → Type 0 = λ x. Comes x (Some (FileFault f)) (seen watch' keys files' h) tells b a in
-    let now : service fault u (seen watch keys files m) ≡ silent (Some (unanswered u (FileFails (failure_in f)))) s =
+    let none = silent-want fault (attachment_in m u) files (asks_of watch keys m) v (FileFails (failure_in f)) (seen (beside watch keys files) (asked u m)) at.said in
+    let P : Part → Type 0 = λ x. Comes x (Some (FileFault f)) (seen (beside watch' keys files') h) tells b a in
+    let now : service fault u (seen (beside watch keys files) m) ≡ silent (Some (unanswered u (FileFails (failure_in f)))) s =
     service-is fault u watch keys files m
-    ∙ ap (λ (x : Result Got NoAnswer). behind_made (prints v (seen watch keys files (asked u m))) (replied u (own_stop (asks_of watch keys m) watch.expects v) x s)) at.said
+    ∙ ap (λ (x : Result Got NoAnswer). behind_made (prints v (seen (beside watch keys files) (asked u m))) (replied u (own_stop (asks_of watch keys m) watch.expects v) x s)) at.said
     ∙ ap (λ (l : List (Observation Seen)). behind_made l (silent (Some (unanswered u (FileFails (failure_in f)))) s)) none in
     subst P (sym now)
     (record {
       stop_is = ap (λ (x : UnitName). Some (FileFault (record { unit = x; file = None; call = f.call; done = f.done }))) own;
       after_is =
-          ap (λ (x : MachineState). seen watch' keys files' x) at.machine
-          ∙ ap (λ (x : List NamedBytes). seen watch' keys x (done_by fault v u watch keys files (asked u m))) at.changed
-          ∙ ap (λ (x : WatchState). seen x keys (files_by fault v u files m) (done_by fault v u watch keys files (asked u m))) (at.watched ∙ sym stays);
+          ap (λ (x : MachineState). seen (beside watch' keys files') x) at.machine
+          ∙ ap (λ (x : List NamedBytes). seen (beside watch' keys x) (done_by fault v u watch keys files (asked u m))) at.changed
+          ∙ ap (λ (x : WatchState). seen (beside x keys (files_by fault v u files m)) (done_by fault v u watch keys files (asked u m))) (at.watched ∙ sym stays);
       written = printed;
     })
 
 -- the image of the unit's tape is bad
 pub comes-bad : (u : UnitName) (watch watch' : WatchState) (keys : List (ℕ × ℕ)) (files files' : List NamedBytes) (m n h : MachineState) (w : Want) (x : UnitName) (place : ℕ) (tells : Bool) (b a : List ℕ)
     → n ≡ asked u m → w ≡ want_at u m → Hosts u watch watch' keys files files' n h w (Stops (BadImage x place)) → (IsTrue tells → a ≡ b ++ []) → x ≡ u
-    → Comes (service None u (seen watch keys files m)) (Some (BadImage x place)) (seen watch' keys files' h) tells b a
+    → Comes (service None u (seen (beside watch keys files) m)) (Some (BadImage x place)) (seen (beside watch' keys files') h) tells b a
 comes-bad u watch watch' keys files files' m n h w x place tells b a asks wants made printed own =
     let at = hosts-at u watch watch' keys files files' m n h w (Stops (BadImage x place)) asks wants made in
     let v = want_at u m in
-    let s = seen (watch_after m.time v watch) keys (files_by None v u files m) (done_by None v u watch keys files (asked u m)) in
+    let s = seen (beside (watch_after m.time v watch) keys (files_by None v u files m)) (done_by None v u watch keys files (asked u m)) in
     let stays = same-watch None (attachment_in m u) files (asks_of watch keys m) v (ImageIsBad place) m.time watch at.said in
-    let none = silent-want None (attachment_in m u) files (asks_of watch keys m) v (ImageIsBad place) (seen watch keys files (asked u m)) at.said in
-    let P : Part → Type 0 = λ p. Comes p (Some (BadImage x place)) (seen watch' keys files' h) tells b a in
-    let now : service None u (seen watch keys files m) ≡ silent (Some (BadImage u place)) s =
+    let none = silent-want None (attachment_in m u) files (asks_of watch keys m) v (ImageIsBad place) (seen (beside watch keys files) (asked u m)) at.said in
+    let P : Part → Type 0 = λ p. Comes p (Some (BadImage x place)) (seen (beside watch' keys files') h) tells b a in
+    let now : service None u (seen (beside watch keys files) m) ≡ silent (Some (BadImage u place)) s =
     service-is None u watch keys files m
-    ∙ ap (λ (r : Result Got NoAnswer). behind_made (prints v (seen watch keys files (asked u m))) (replied u (own_stop (asks_of watch keys m) watch.expects v) r s)) at.said
+    ∙ ap (λ (r : Result Got NoAnswer). behind_made (prints v (seen (beside watch keys files) (asked u m))) (replied u (own_stop (asks_of watch keys m) watch.expects v) r s)) at.said
     ∙ ap (λ (l : List (Observation Seen)). behind_made l (silent (Some (BadImage u place)) s)) none in
     subst P (sym now)
     (record {
       stop_is = ap (λ (y : UnitName). Some (BadImage y place)) own;
       after_is =
-          ap (λ (y : MachineState). seen watch' keys files' y) at.machine
-          ∙ ap (λ (y : List NamedBytes). seen watch' keys y (done_by None v u watch keys files (asked u m))) at.changed
-          ∙ ap (λ (y : WatchState). seen y keys (files_by None v u files m) (done_by None v u watch keys files (asked u m))) (at.watched ∙ sym stays);
+          ap (λ (y : MachineState). seen (beside watch' keys files') y) at.machine
+          ∙ ap (λ (y : List NamedBytes). seen (beside watch' keys y) (done_by None v u watch keys files (asked u m))) at.changed
+          ∙ ap (λ (y : WatchState). seen (beside y keys (files_by None v u files m)) (done_by None v u watch keys files (asked u m))) (at.watched ∙ sym stays);
       written = printed;
     })
 
@@ -397,25 +397,25 @@ console-files w a memory files console = absurd console
 -- the console refused the byte that a unit was to print
 pub comes-broken : (u : UnitName) (watch watch' : WatchState) (keys : List (ℕ × ℕ)) (files files' : List NamedBytes) (m n h : MachineState) (w : Want) (tells : Bool) (b a : List ℕ)
     → n ≡ asked u m → w ≡ want_at u m → Hosts u watch watch' keys files files' n h w (Stops ConsoleFault) → (IsTrue tells → a ≡ b ++ [])
-    → Comes (service None u (seen watch keys files m)) (Some ConsoleFault) (seen watch' keys files' h) tells b a
+    → Comes (service None u (seen (beside watch keys files) m)) (Some ConsoleFault) (seen (beside watch' keys files') h) tells b a
 comes-broken u watch watch' keys files files' m n h w tells b a asks wants made same =
     let at = hosts-at u watch watch' keys files files' m n h w (Stops ConsoleFault) asks wants made in
     let v = want_at u m in
-    let s = seen watch keys files (asked u m) in
-    let stands : seen watch' keys files' h ≡ s =
-    ap (λ (x : WatchState). seen x keys files' h) at.watched
-    ∙ ap (λ (x : List NamedBytes). seen watch keys x h) (at.changed ∙ console-files v (attachment_in m u) m.processor.memory files at.said)
-    ∙ ap (λ (x : MachineState). seen watch keys files x) (at.machine ∙ console-done v u watch keys files (asked u m) at.said) in
-    let P : Part → Type 0 = λ x. IsBrokenOff x (seen watch' keys files' h) tells b a in
+    let s = seen (beside watch keys files) (asked u m) in
+    let stands : seen (beside watch' keys files') h ≡ s =
+    ap (λ (x : WatchState). seen (beside x keys files') h) at.watched
+    ∙ ap (λ (x : List NamedBytes). seen (beside watch keys x) h) (at.changed ∙ console-files v (attachment_in m u) m.processor.memory files at.said)
+    ∙ ap (λ (x : MachineState). seen (beside watch keys files) x) (at.machine ∙ console-done v u watch keys files (asked u m) at.said) in
+    let P : Part → Type 0 = λ x. IsBrokenOff x (seen (beside watch' keys files') h) tells b a in
     let p = replied u (own_stop (asks_of watch keys m) watch.expects v) (answer_to None (attachment_in m u) files (asks_of watch keys m) v)
-    (seen (watch_after m.time v watch) keys (files_by None v u files m) (done_by None v u watch keys files (asked u m))) in
+    (seen (beside (watch_after m.time v watch) keys (files_by None v u files m)) (done_by None v u watch keys files (asked u m))) in
     let Q : Seen → Type 0 = λ x. IsBrokenOff (behind_made (prints v s) p) x tells b a in
     subst P (sym (service-is None u watch keys files m)) (subst Q (sym stands) (broken-console v s p tells b a at.said same))
 
 -- the unit got no answer
 pub comes-stops : (u : UnitName) (watch watch' : WatchState) (keys : List (ℕ × ℕ)) (files files' : List NamedBytes) (m n h : MachineState) (w : Want) (stop : Stop) (tells : Bool) (b a : List ℕ)
     → n ≡ asked u m → w ≡ want_at u m → Hosts u watch watch' keys files files' n h w (Stops stop) → (IsTrue tells → a ≡ b ++ []) → IfSome (unit_note (Some stop)) (λ n. n.unit ≡ u) → IsImageOf u (Some stop)
-    → Comes (service (failure_of_stop (Some stop)) u (seen watch keys files m)) (Some stop) (seen watch' keys files' h) tells b a
+    → Comes (service (failure_of_stop (Some stop)) u (seen (beside watch keys files) m)) (Some stop) (seen (beside watch' keys files') h) tells b a
 comes-stops u watch watch' keys files files' m n h w (FileFault f) tells b a asks wants made printed own image = comes-failed u watch watch' keys files files' m n h w f tells b a asks wants made printed own
 comes-stops u watch watch' keys files files' m n h w (BadImage x place) tells b a asks wants made printed own image = comes-bad u watch watch' keys files files' m n h w x place tells b a asks wants made printed image
 comes-stops u watch watch' keys files files' m n h w ConsoleFault tells b a asks wants made printed own image = comes-broken u watch watch' keys files files' m n h w tells b a asks wants made printed

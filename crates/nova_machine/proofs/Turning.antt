@@ -8,7 +8,7 @@ use Rattle.nova_machine.specs.declared.instruction_end.InstructionEnd.TheVariant
 use Rattle.nova_machine.specs.Ends.{end_stop}
 use Rattle.nova_machine.specs.Machine.{MachineState}
 use Rattle.nova_machine.specs.Notes.{UnitNote, unit_note}
-use Rattle.nova_machine.specs.Seen.{Seen, seen, erased}
+use Rattle.nova_machine.specs.Seen.{Seen, seen, beside, erased}
 use Rattle.nova_machine.specs.Parts.{Part, silent, then_part}
 use Rattle.nova_machine.specs.Turned.{Turned, still}
 use Rattle.expect_actions.specs.Watch.{WatchState}
@@ -37,44 +37,44 @@ turn-is note first s = refl
 -- a piece that looks at no number of an open file
 still-comes : (watch : WatchState) (keys : List (ℕ × ℕ)) (files : List NamedBytes) (f : MachineState → Turned) (mid last : MachineState) (r : Option Stop) (tells : Bool) (b : List ℕ)
     → f (erased mid) ≡ erased_turned (f mid) → IsOwn r → r ≡ (f mid).stop → last ≡ (f mid).machine
-    → Comes (still (seen watch keys files mid) (f (erased mid))) r (seen watch keys files last) tells b b
+    → Comes (still (seen (beside watch keys files) mid) (f (erased mid))) r (seen (beside watch keys files) last) tells b b
 still-comes watch keys files f mid last r tells b same own stops is =
-    let P : Turned → Type 0 = λ t. Comes (still (seen watch keys files mid) t) r (seen watch keys files last) tells b b in
+    let P : Turned → Type 0 = λ t. Comes (still (seen (beside watch keys files) mid) t) r (seen (beside watch keys files) last) tells b b in
     subst P (sym same)
-    (silent-comes (f mid).stop r (seen watch keys files (f mid).machine) (seen watch keys files last) tells b own stops (ap (λ (x : MachineState). seen watch keys files x) is))
+    (silent-comes (f mid).stop r (seen (beside watch keys files) (f mid).machine) (seen (beside watch keys files) last) tells b own stops (ap (λ (x : MachineState). seen (beside watch keys files) x) is))
 
 -- the services go on, and the interrupt is looked for
 pub attended-comes : (watch : WatchState) (keys : List (ℕ × ℕ)) (files : List NamedBytes) (s : Seen) (mid last : MachineState) (r : Option Stop) (tells : Bool) (b a : List ℕ)
-    → Comes (serving None s) None (seen watch keys files mid) tells b a → IsOwn r → r ≡ (interrupt mid).stop → last ≡ (interrupt mid).machine
-    → Comes (attended (unit_note r) s) r (seen watch keys files last) tells b a
+    → Comes (serving None s) None (seen (beside watch keys files) mid) tells b a → IsOwn r → r ≡ (interrupt mid).stop → last ≡ (interrupt mid).machine
+    → Comes (attended (unit_note r) s) r (seen (beside watch keys files) last) tells b a
 attended-comes watch keys files s mid last r tells b a served own stops is =
-    let P : Part → Type 0 = λ p. Comes p r (seen watch keys files last) tells b a in
-    let Q : Option UnitNote → Type 0 = λ n. Comes (attended n s) r (seen watch keys files last) tells b a in
+    let P : Part → Type 0 = λ p. Comes p r (seen (beside watch keys files) last) tells b a in
+    let Q : Option UnitNote → Type 0 = λ n. Comes (attended n s) r (seen (beside watch keys files) last) tells b a in
     subst Q (sym (own-note r own))
     (subst P (sym (attended-is None s))
-    (comes-then (serving None s) (λ x. still x (interrupt x.machine)) (seen watch keys files mid) r (seen watch keys files last) tells b a a served
+    (comes-then (serving None s) (λ x. still x (interrupt x.machine)) (seen (beside watch keys files) mid) r (seen (beside watch keys files) last) tells b a a served
     (still-comes watch keys files interrupt mid last r tells a (erased-interrupt mid) own stops is)))
 
 -- they go on, and the breaks are looked for, but in a run's first turn
 pub prepared-comes : (watch watch' : WatchState) (keys : List (ℕ × ℕ)) (files : List NamedBytes) (s : Seen) (mid : MachineState) (r : Option Stop) (tells : Bool) (b a : List ℕ)
-    → Comes (attended None s) None (seen watch keys files mid) tells b a → IsOwn r → breaks_tested (seen watch keys files mid) ≡ silent r (seen watch' keys files mid)
-    → Comes (prepared (unit_note r) false s) r (seen watch' keys files mid) tells b a
+    → Comes (attended None s) None (seen (beside watch keys files) mid) tells b a → IsOwn r → breaks_tested (seen (beside watch keys files) mid) ≡ silent r (seen (beside watch' keys files) mid)
+    → Comes (prepared (unit_note r) false s) r (seen (beside watch' keys files) mid) tells b a
 prepared-comes watch watch' keys files s mid r tells b a ready own is =
-    let P : Part → Type 0 = λ p. Comes p r (seen watch' keys files mid) tells b a in
-    let Q : Option UnitNote → Type 0 = λ n. Comes (prepared n false s) r (seen watch' keys files mid) tells b a in
-    let T : Part → Type 0 = λ p. Comes p r (seen watch' keys files mid) tells a a in
+    let P : Part → Type 0 = λ p. Comes p r (seen (beside watch' keys files) mid) tells b a in
+    let Q : Option UnitNote → Type 0 = λ n. Comes (prepared n false s) r (seen (beside watch' keys files) mid) tells b a in
+    let T : Part → Type 0 = λ p. Comes p r (seen (beside watch' keys files) mid) tells a a in
     subst Q (sym (own-note r own))
     (subst P (sym (prepared-is None false s))
-    (comes-then (attended None s) (λ at. breaks_tested_unless false at) (seen watch keys files mid) r (seen watch' keys files mid) tells b a a ready
-    (subst T (sym is) (silent-comes r r (seen watch' keys files mid) (seen watch' keys files mid) tells a own refl refl))))
+    (comes-then (attended None s) (λ at. breaks_tested_unless false at) (seen (beside watch keys files) mid) r (seen (beside watch' keys files) mid) tells b a a ready
+    (subst T (sym is) (silent-comes r r (seen (beside watch' keys files) mid) (seen (beside watch' keys files) mid) tells a own refl refl))))
 
 pub first-comes : (watch : WatchState) (keys : List (ℕ × ℕ)) (files : List NamedBytes) (s : Seen) (mid : MachineState) (tells : Bool) (b a : List ℕ)
-    → Comes (attended None s) None (seen watch keys files mid) tells b a → Comes (prepared None true s) None (seen watch keys files mid) tells b a
+    → Comes (attended None s) None (seen (beside watch keys files) mid) tells b a → Comes (prepared None true s) None (seen (beside watch keys files) mid) tells b a
 first-comes watch keys files s mid tells b a ready =
-    let P : Part → Type 0 = λ p. Comes p None (seen watch keys files mid) tells b a in
+    let P : Part → Type 0 = λ p. Comes p None (seen (beside watch keys files) mid) tells b a in
     subst P (sym (prepared-is None true s))
-    (comes-then (attended None s) (λ at. breaks_tested_unless true at) (seen watch keys files mid) None (seen watch keys files mid) tells b a a ready
-    (silent-comes None None (seen watch keys files mid) (seen watch keys files mid) tells a tt refl refl))
+    (comes-then (attended None s) (λ at. breaks_tested_unless true at) (seen (beside watch keys files) mid) None (seen (beside watch keys files) mid) tells b a a ready
+    (silent-comes None None (seen (beside watch keys files) mid) (seen (beside watch keys files) mid) tells a tt refl refl))
 
 -- a service or an entry that stops
 pub attended-stops : (note : Option UnitNote) (first : Bool) (s last : Seen) (stop : Stop) (tells : Bool) (b a : List ℕ)
@@ -85,14 +85,14 @@ attended-stops note first s last stop tells b a ends =
 
 -- what comes before the instruction goes on, and it is executed
 pub turn-comes : (first : Bool) (watch : WatchState) (keys : List (ℕ × ℕ)) (files : List NamedBytes) (s : Seen) (mid last : MachineState) (r : Option Stop) (tells : Bool) (b a : List ℕ)
-    → Comes (prepared None first s) None (seen watch keys files mid) tells b a → IsOwn r → r ≡ (fetch mid).stop → last ≡ (fetch mid).machine
-    → Comes (turn (unit_note r) first s) r (seen watch keys files last) tells b a
+    → Comes (prepared None first s) None (seen (beside watch keys files) mid) tells b a → IsOwn r → r ≡ (fetch mid).stop → last ≡ (fetch mid).machine
+    → Comes (turn (unit_note r) first s) r (seen (beside watch keys files) last) tells b a
 turn-comes first watch keys files s mid last r tells b a ready own stops is =
-    let P : Part → Type 0 = λ p. Comes p r (seen watch keys files last) tells b a in
-    let Q : Option UnitNote → Type 0 = λ n. Comes (turn n first s) r (seen watch keys files last) tells b a in
+    let P : Part → Type 0 = λ p. Comes p r (seen (beside watch keys files) last) tells b a in
+    let Q : Option UnitNote → Type 0 = λ n. Comes (turn n first s) r (seen (beside watch keys files) last) tells b a in
     subst Q (sym (own-note r own))
     (subst P (sym (turn-is None first s))
-    (comes-then (prepared None first s) (λ x. still x (fetch x.machine)) (seen watch keys files mid) r (seen watch keys files last) tells b a a ready
+    (comes-then (prepared None first s) (λ x. still x (fetch x.machine)) (seen (beside watch keys files) mid) r (seen (beside watch keys files) last) tells b a a ready
     (still-comes watch keys files fetch mid last r tells a (erased-fetch mid) own stops is)))
 
 -- an instruction's own stop is none of the console or of a file

@@ -17,7 +17,7 @@ use Rattle.nova_processor.specs.Burst.{steps, refers_to, refers, passes, step_of
 use Rattle.nova_machine.specs.declared.machine.Stop.TheVariants.{UnknownDevice}
 use Rattle.nova_machine.specs.Machine.{MachineState, on_processor}
 use Rattle.nova_machine.specs.Notes.{RunNote, at_time}
-use Rattle.nova_machine.specs.Seen.{Seen, seen, erased, with_machine}
+use Rattle.nova_machine.specs.Seen.{Seen, seen, beside, erased, with_machine}
 use Rattle.nova_machine.specs.Parts.{silent}
 use Rattle.nova_machine.specs.Turned.{Turned, goes_on, stops, still, begun, ticked, executed}
 use Rattle.nova_machine.specs.Transfer.{no_flags, flags_in, asked_unit, to_unit, to_device, to_processor, transfer}
@@ -192,15 +192,15 @@ pub waits-told : (watch : WatchState) (most rounds budget : ℕ) (old new : Mach
     → new ≡ passed_by (rounds * 2) old → Bursts watch most (rounds * 2) burst_end.Transfer old new
 waits-told watch most rounds budget old new unbroken waiting calm end few within is = λ note one keys files.
     let all : most ≡ rounds * 2 + (most - rounds * 2) = omega (arith, few, within) in
-    let s = seen watch keys files old in
+    let s = seen (beside watch keys files) old in
     ap (λ (n : ℕ). turns note one false n s) all
     ∙ rounds-pass note one rounds budget (most - rounds * 2) s (record { test = unbroken.test; back = unbroken.back }) (waiting-erased old waiting) (calm-erased budget old calm) within end
     ∙ ap (λ (x : MachineState). turns note one false (most - rounds * 2) (with_machine s x)) (erased-behind (rounds * 2) old old.processor)
-    ∙ ap (λ (x : MachineState). turns note one false (most - rounds * 2) (seen watch keys files x)) (sym (is ∙ behind-is (rounds * 2) old old.processor))
+    ∙ ap (λ (x : MachineState). turns note one false (most - rounds * 2) (seen (beside watch keys files) x)) (sym (is ∙ behind-is (rounds * 2) old old.processor))
 
 -- a burst, and a wait behind it
 pub burst-and-wait : (watch : WatchState) (most done waited : ℕ) (old mid new : MachineState) → Bursts watch most done burst_end.Transfer old mid → Bursts watch (most - done) waited burst_end.Transfer mid new
     → Bursts watch most (done + waited) burst_end.Transfer old new
 burst-and-wait watch most done waited old mid new first second = λ note one keys files.
     let rest : most - done - waited ≡ most - (done + waited) = omega arith in
-    first note one keys files ∙ second note one keys files ∙ ap (λ (n : ℕ). turns note one false n (seen watch keys files new)) rest
+    first note one keys files ∙ second note one keys files ∙ ap (λ (n : ℕ). turns note one false n (seen (beside watch keys files) new)) rest

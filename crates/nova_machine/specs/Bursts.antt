@@ -10,7 +10,7 @@ use Rattle.nova_machine.specs.declared.machine.Stop.TheVariants.{ChainLimit}
 use Rattle.nova_machine.specs.Machine.{MachineState}
 use Rattle.host_files.specs.Lists.{NamedBytes}
 use Rattle.nova_machine.specs.Notes.{RunNote}
-use Rattle.nova_machine.specs.Seen.{seen}
+use Rattle.nova_machine.specs.Seen.{seen, beside}
 use Rattle.nova_machine.specs.Parts.{silent}
 use Rattle.nova_machine.specs.Run.{turns}
 
@@ -32,7 +32,7 @@ pub record IsCalm (count : ℕ) (m : MachineState) : Type 0 where
 abbrev pub Bursts : WatchState → ℕ → ℕ → BurstEnd → MachineState → MachineState → Type 0
 Bursts watch most done burst_end.ChainLimit old new =
     (note : Option RunNote) (step : Bool) (keys : List (ℕ × ℕ)) (files : List NamedBytes)
-    → turns note step false most (seen watch keys files old) ≡ silent (Some ChainLimit) (seen watch keys files new)
+    → turns note step false most (seen (beside watch keys files) old) ≡ silent (Some ChainLimit) (seen (beside watch keys files) new)
 Bursts watch most done end old new =
     (note : Option RunNote) (step : Bool) (keys : List (ℕ × ℕ)) (files : List NamedBytes)
-    → turns note step false most (seen watch keys files old) ≡ turns note step false (most - done) (seen watch keys files new)
+    → turns note step false most (seen (beside watch keys files) old) ≡ turns note step false (most - done) (seen (beside watch keys files) new)

@@ -23,8 +23,20 @@ unnumbered slot = option_map (λ (h : Held). record h { file = 0 }) slot
 abbrev pub erased : MachineState → MachineState
 erased m = record m { slots = map unnumbered m.slots }
 
-abbrev pub seen : WatchState → List (ℕ × ℕ) → List NamedBytes → MachineState → Seen
-seen watch keys files m = record { machine = erased m; watch = watch; keys = keys; files = files }
+-- What stands beside the machine: the watch tables, the timed keys, and all files. What joins a session later is one part
+-- more of it, and no parameter.
+pub record Beside : Type 0 where
+  -- breaks, texts that are waited for on the console, and bytes that were sent to its keyboard
+  pub watch : WatchState
+  -- the keys of the console, each with its time
+  pub keys : List (ℕ × ℕ)
+  pub files : List NamedBytes
+
+abbrev pub beside : WatchState → List (ℕ × ℕ) → List NamedBytes → Beside
+beside watch keys files = record { watch = watch; keys = keys; files = files }
+
+abbrev pub seen : Beside → MachineState → Seen
+seen b m = record { machine = erased m; watch = b.watch; keys = b.keys; files = b.files }
 
 abbrev pub with_machine : Seen → MachineState → Seen
 with_machine s m = record s { machine = m }

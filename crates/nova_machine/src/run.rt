@@ -30,7 +30,7 @@ impl RunLimit {
 }
 
 impl<U: Unit> Machine<U> {
-    ghost use Rattle.nova_machine.specs.Seen.{seen};
+    ghost use Rattle.nova_machine.specs.Seen.{seen, beside};
     ghost use Rattle.nova_machine.specs.Comes.{Comes, AreTold, StopCounts, FileCause};
     ghost use Rattle.unit_files.specs.Open.{AllOpen};
     ghost use Rattle.nova_machine.specs.Run.{run};
@@ -47,8 +47,8 @@ impl<U: Unit> Machine<U> {
     ) -> Stop
         requires open { AllOpen self.old.slots (F.state files.old).opened }
         ensures told { AreTold F.tells self.old.slots
-            → Comes (run (run_note self.new.time (Some result)) limit.step limit.count (seen watch.old keys.now (F.state files.old).files self.old))
-            (Some result) (seen watch.new keys.now (F.state files.new).files self.new) S.tells (S.written out.old) (S.written out.new) }
+            → Comes (run (run_note self.new.time (Some result)) limit.step limit.count (seen (beside watch.old keys.now (F.state files.old).files) self.old))
+            (Some result) (seen (beside watch.new keys.now (F.state files.new).files) self.new) S.tells (S.written out.old) (S.written out.new) }
         ensures counts { StopCounts (Some result) (S.fault_count out.old) (S.fault_count out.new) }
         ensures unit { HasUnit result }
         ensures slots { self.new.slots ≡ self.old.slots }

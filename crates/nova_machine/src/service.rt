@@ -27,7 +27,7 @@ use unit_trait::{After, Got, Queue, Unit, UnitName, UnitStop, Want};
 
 impl<U: Unit> Machine<U> {
     ghost use Rattle.nova_machine.specs.Core.{IsAmong};
-    ghost use Rattle.nova_machine.specs.Seen.{seen};
+    ghost use Rattle.nova_machine.specs.Seen.{seen, beside};
     ghost use Rattle.nova_machine.specs.Comes.{Comes, AreTold, FileCause};
     ghost use Rattle.nova_machine.specs.Service.{serving, service, asked, answered, want_at};
     ghost use Rattle.unit_files.specs.Open.{AllOpen};
@@ -42,8 +42,8 @@ impl<U: Unit> Machine<U> {
         out: &mut S,
     ) -> Option<Stop>
         requires open { AllOpen self.old.slots (F.state files.old).opened }
-        ensures told { AreTold F.tells self.old.slots → Comes (serving (unit_note result) (seen watch.old keys.now (F.state files.old).files self.old)) result
-            (seen watch.new keys.now (F.state files.new).files self.new) S.tells (S.written out.old) (S.written out.new) }
+        ensures told { AreTold F.tells self.old.slots → Comes (serving (unit_note result) (seen (beside watch.old keys.now (F.state files.old).files) self.old)) result
+            (seen (beside watch.new keys.now (F.state files.new).files) self.new) S.tells (S.written out.old) (S.written out.new) }
         ensures rest { result ≡ None → due self.new.events ≡ None }
         ensures time { self.new.time ≡ self.old.time }
         ensures counts { StopCounts result (S.fault_count out.old) (S.fault_count out.new) }
@@ -87,8 +87,8 @@ impl<U: Unit> Machine<U> {
         requires number { unit.unit < units_of unit.kind }
         requires listed { IsAmong unit.kind (kinds_of self.old.units) }
         requires open { AllOpen self.old.slots (F.state files.old).opened }
-        ensures told { AreTold F.tells self.old.slots → Comes (service (failure_of_stop result) unit (seen watch.old keys.now (F.state files.old).files self.old)) result
-            (seen watch.new keys.now (F.state files.new).files self.new) S.tells (S.written out.old) (S.written out.new) }
+        ensures told { AreTold F.tells self.old.slots → Comes (service (failure_of_stop result) unit (seen (beside watch.old keys.now (F.state files.old).files) self.old)) result
+            (seen (beside watch.new keys.now (F.state files.new).files) self.new) S.tells (S.written out.old) (S.written out.new) }
         ensures own { IfSome (unit_note result) (λ n. n.unit ≡ unit) }
         ensures dues { result ≡ None → dues self.new.events ≡ dues self.old.events }
         ensures time { self.new.time ≡ self.old.time }

@@ -18,7 +18,7 @@ use unit_trait::Unit;
 const JMP_THROUGH_1: Word = Word(0o2001);
 
 impl<U: Unit> Machine<U> {
-    ghost use Rattle.nova_machine.specs.Seen.{seen};
+    ghost use Rattle.nova_machine.specs.Seen.{seen, beside};
     ghost use Rattle.nova_machine.specs.Parts.{stop_of, silent};
     ghost use Rattle.nova_machine.specs.Ends.{end_stop};
     ghost use Rattle.nova_machine.specs.Comes.{Comes, AreTold, StopCounts, FileCause};
@@ -52,8 +52,8 @@ impl<U: Unit> Machine<U> {
     ) -> Turn
         requires early { self.old.time < last_time }
         requires open { AllOpen self.old.slots (F.state files.old).opened }
-        ensures told { AreTold F.tells self.old.slots → Comes (turn (unit_note (stop_of result)) first (seen watch.old keys.now (F.state files.old).files self.old))
-            (stop_of result) (seen watch.new keys.now (F.state files.new).files self.new) S.tells (S.written out.old) (S.written out.new) }
+        ensures told { AreTold F.tells self.old.slots → Comes (turn (unit_note (stop_of result)) first (seen (beside watch.old keys.now (F.state files.old).files) self.old))
+            (stop_of result) (seen (beside watch.new keys.now (F.state files.new).files) self.new) S.tells (S.written out.old) (S.written out.new) }
         ensures time { stop_of result ≡ None → self.new.time ≡ self.old.time + 1 }
         ensures fault { IfSome (unit_note (stop_of result)) (λ n. self.new.time ≡ self.old.time) }
         ensures counts { StopCounts (stop_of result) (S.fault_count out.old) (S.fault_count out.new) }
@@ -80,8 +80,8 @@ impl<U: Unit> Machine<U> {
         out: &mut S,
     ) -> Option<Stop>
         requires open { AllOpen self.old.slots (F.state files.old).opened }
-        ensures told { AreTold F.tells self.old.slots → Comes (prepared (unit_note result) first (seen watch.old keys.now (F.state files.old).files self.old))
-            result (seen watch.new keys.now (F.state files.new).files self.new) S.tells (S.written out.old) (S.written out.new) }
+        ensures told { AreTold F.tells self.old.slots → Comes (prepared (unit_note result) first (seen (beside watch.old keys.now (F.state files.old).files) self.old))
+            result (seen (beside watch.new keys.now (F.state files.new).files) self.new) S.tells (S.written out.old) (S.written out.new) }
         ensures rest { result ≡ None → due self.new.events ≡ None }
         ensures time { self.new.time ≡ self.old.time }
         ensures counts { StopCounts result (S.fault_count out.old) (S.fault_count out.new) }
@@ -102,7 +102,7 @@ impl<U: Unit> Machine<U> {
     #[tactic(auto, unfolding(crate::specs::Turn::breaks_tested))]
     fn test_breaks(&self, watch: &mut Watch) -> Option<Stop>
         ensures told { (keys : List (ℕ × ℕ)) (files : List NamedBytes) →
-            breaks_tested (seen watch.old keys files self.now) ≡ silent result (seen watch.new keys files self.now) }
+            breaks_tested (seen (beside watch.old keys files) self.now) ≡ silent result (seen (beside watch.new keys files) self.now) }
         ensures other { IsOwn result }
         ensures unit { IfSome result HasUnit }
     {
@@ -119,8 +119,8 @@ impl<U: Unit> Machine<U> {
         out: &mut S,
     ) -> Option<Stop>
         requires open { AllOpen self.old.slots (F.state files.old).opened }
-        ensures told { AreTold F.tells self.old.slots → Comes (attended (unit_note result) (seen watch.old keys.now (F.state files.old).files self.old))
-            result (seen watch.new keys.now (F.state files.new).files self.new) S.tells (S.written out.old) (S.written out.new) }
+        ensures told { AreTold F.tells self.old.slots → Comes (attended (unit_note result) (seen (beside watch.old keys.now (F.state files.old).files) self.old))
+            result (seen (beside watch.new keys.now (F.state files.new).files) self.new) S.tells (S.written out.old) (S.written out.new) }
         ensures rest { result ≡ None → due self.new.events ≡ None }
         ensures time { self.new.time ≡ self.old.time }
         ensures counts { StopCounts result (S.fault_count out.old) (S.fault_count out.new) }
@@ -155,8 +155,8 @@ impl<U: Unit> Machine<U> {
         out: &mut S,
     ) -> Option<Stop>
         requires open { AllOpen self.old.slots (F.state files.old).opened }
-        ensures told { AreTold F.tells self.old.slots → Comes (attended (unit_note result) (seen watch.old keys.now (F.state files.old).files self.old))
-            result (seen watch.new keys.now (F.state files.new).files self.new) S.tells (S.written out.old) (S.written out.new) }
+        ensures told { AreTold F.tells self.old.slots → Comes (attended (unit_note result) (seen (beside watch.old keys.now (F.state files.old).files) self.old))
+            result (seen (beside watch.new keys.now (F.state files.new).files) self.new) S.tells (S.written out.old) (S.written out.new) }
         ensures rest { result ≡ None → due self.new.events ≡ None }
         ensures time { self.new.time ≡ self.old.time }
         ensures counts { StopCounts result (S.fault_count out.old) (S.fault_count out.new) }

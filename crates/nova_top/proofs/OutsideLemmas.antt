@@ -7,7 +7,7 @@ use Rattle.observations.proofs.CutLemmas.{cut-printed, cut-refused, cut-map, mor
 use Rattle.fault_notes.specs.Notes.{Note}
 use Rattle.expect_actions.specs.KeysFile.{Key}
 use Rattle.nova_machine.specs.Machine.{MachineState}
-use Rattle.nova_machine.specs.Seen.{seen}
+use Rattle.nova_machine.specs.Seen.{seen, beside}
 use Rattle.scp_script.specs.declared.progress.Finish.{Finish}
 use Rattle.scp_script.specs.declared.progress.Finish.TheVariants.{Exit, EndOfInput, FlushFailed, Commands, Console, Input, OutOfMemory}
 use Rattle.scp_script.specs.Lines.{reads_left}
@@ -123,7 +123,7 @@ opening-reads words options keys script files input own = refl
 
 pub session-outcome : (words : List (List ℕ)) (options : Options) (keys keys' : List Key) (script : Option (List ℕ)) (input left before after : List ℕ) (files files' : List NamedBytes) (finish : Finish) (watch : WatchState) (now : MachineState) (notes own : List Note) (used : ℕ)
     → start_of (options_of words) words files notes ≡ (Begins options keys script, used) → drop used notes ≡ own → IsExitStatus finish
-    → IsSession (opening words options keys script files input own) finish (seen watch keys' files' now) left before after → IsOutcome words input left before after files files' (status_of finish) (Some now) notes
+    → IsSession (opening words options keys script files input own) finish (seen (beside watch keys' files') now) left before after → IsOutcome words input left before after files files' (status_of finish) (Some now) notes
 session-outcome words options keys keys' script input left before after files files' finish watch now notes own used start rest small s =
     record {
       taken = s.end.taken;
@@ -134,7 +134,7 @@ session-outcome words options keys keys' script input left before after files fi
       written = s.end.written;
       rest = s.rest ∙ ap (drop s.made) (opening-input words options keys script files input own);
       is = outcome-start words input files notes (length s.end.taken) s.gives (Begins options keys script) used own start rest
-          ∙ session-cut words options keys script files input own (length s.end.taken) s.gives (status_of finish) s.made s.end.taken (record { live = seen watch keys' files' now; notes = [] }) s.end.outcome;
+          ∙ session-cut words options keys script files input own (length s.end.taken) s.gives (status_of finish) s.made s.end.taken (record { live = seen (beside watch keys' files') now; notes = [] }) s.end.outcome;
     }
 
 -- ---- the laws, at the outcome

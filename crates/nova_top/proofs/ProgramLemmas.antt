@@ -22,7 +22,7 @@ use Rattle.file_commands.proofs.Emptying.{unwritten-since}
 use Rattle.expect_actions.specs.KeysFile.{Key}
 use Rattle.expect_actions.specs.Watch.{WatchState, empty_watch}
 use Rattle.nova_machine.specs.Machine.{MachineState, new_machine, reset_machine, reset_devices}
-use Rattle.nova_machine.specs.Seen.{seen, erased, attached_in}
+use Rattle.nova_machine.specs.Seen.{seen, beside, erased, attached_in}
 use Rattle.scp_commands.specs.Live.{Live, CommandState, live_in}
 use Rattle.scp_commands.specs.Doing.{IsLate, ComeBehind}
 use Rattle.scp_script.specs.declared.progress.Finish.{Finish}
@@ -146,15 +146,15 @@ same-start tells words options s o old mid input notes begun told = λ i. record
   open_ = true;
 }
 
--- what came of a session, seen as the program lets it go
+-- what came of a session, seen (beside as the program) lets it go
 pub lines-told : (s t v : CommandState) (o : Opening) (files files' : List NamedBytes) (input left before after : List ℕ) (finish : Finish) → v ≡ t → t.keys ≡ s.keys
     → Performed (λ (n : List Note). beginning s files o input n) finish (live_in t files') left before after (notes_said s.notes) (notes_said t.notes)
-    → Performed (λ (n : List Note). beginning s files o input n) finish (seen v.watch s.keys files' v.machine) left before after (notes_said s.notes) (notes_said v.notes)
+    → Performed (λ (n : List Note). beginning s files o input n) finish (seen (beside v.watch s.keys files') v.machine) left before after (notes_said s.notes) (notes_said v.notes)
 lines-told s t v o files files' input left before after finish view keys p =
     let left_off : CommandState → Type 0 =
     λ u. Performed (λ (n : List Note). beginning s files o input n) finish (live_in u files') left before after (notes_said s.notes) (notes_said u.notes) in
     let seen_keys : List Key → Type 0 =
-    λ k. Performed (λ (n : List Note). beginning s files o input n) finish (seen v.watch k files' v.machine) left before after (notes_said s.notes) (notes_said v.notes) in
+    λ k. Performed (λ (n : List Note). beginning s files o input n) finish (seen (beside v.watch k files') v.machine) left before after (notes_said s.notes) (notes_said v.notes) in
     subst seen_keys (ap (λ (u : CommandState). u.keys) view ∙ keys) (subst left_off (sym view) p)
 
 -- ---- what the session comes to
@@ -190,25 +190,25 @@ at-opening tells words options s o old mid input left before after finish live n
 
 pub performed-outcome : (tells : Bool) (words : List (List ℕ)) (options : Options) (s : CommandState) (o : Opening) (old mid : FileState) (files' : List NamedBytes) (input left before after : List ℕ) (finish : Finish) (watch : WatchState) (now : MachineState) (notes' : List Note)
     → options_of words ≡ Some options → Begun tells words options s o old mid → IsTrue tells → IsExitStatus finish → status_of finish ≢ 103
-    → Performed (λ (n : List Note). beginning s mid.files o input n) finish (seen watch s.keys files' now) left before after (notes_said s.notes) notes'
+    → Performed (λ (n : List Note). beginning s mid.files o input n) finish (seen (beside watch s.keys files') now) left before after (notes_said s.notes) notes'
     → IsOutcome words input left before after old.files files' (status_of finish) (Some now) notes'
 performed-outcome tells words options s o old mid files' input left before after finish watch now notes' chosen begun told small other performed =
-    let p = at-opening tells words options s o old mid input left before after finish (seen watch s.keys files' now) notes' begun told performed in
+    let p = at-opening tells words options s o old mid input left before after finish (seen (beside watch s.keys files') now) notes' begun told performed in
     let follow = follows words options s.keys (script_text o) old.files input p.own p.first in
     let start = ap (λ (c : Option Options). start_of c words old.files (notes_said s.notes ++ p.own)) chosen ∙ begun.starts told p.own follow in
-    let session = performed-session (opening words options s.keys (script_text o) old.files input p.own) finish (seen watch s.keys files' now) left before after other p.is in
+    let session = performed-session (opening words options s.keys (script_text o) old.files input p.own) finish (seen (beside watch s.keys files') now) left before after other p.is in
     subst (λ (n : List Note). IsOutcome words input left before after old.files files' (status_of finish) (Some now) n) (sym p.kept)
     (session-outcome words options s.keys s.keys (script_text o) input left before after old.files files' finish watch now (notes_said s.notes ++ p.own) p.own (length (notes_said s.notes)) start
     (drop-append_seam (notes_said s.notes) p.own) small session)
 
 pub performed-cut : (tells : Bool) (words : List (List ℕ)) (options : Options) (s : CommandState) (o : Opening) (old mid : FileState) (files' : List NamedBytes) (input left before after : List ℕ) (finish : Finish) (watch : WatchState) (now : MachineState) (notes' : List Note)
     → options_of words ≡ Some options → Begun tells words options s o old mid → IsTrue tells → IsExitStatus finish → status_of finish ≡ 103
-    → Performed (λ (n : List Note). beginning s mid.files o input n) finish (seen watch s.keys files' now) left before after (notes_said s.notes) notes'
+    → Performed (λ (n : List Note). beginning s mid.files o input n) finish (seen (beside watch s.keys files') now) left before after (notes_said s.notes) notes'
     → IsCutShort words input left before after old.files files' (Some now) notes'
 performed-cut tells words options s o old mid files' input left before after finish watch now notes' chosen begun told small memory performed =
-    let p = at-opening tells words options s o old mid input left before after finish (seen watch s.keys files' now) notes' begun told performed in
+    let p = at-opening tells words options s o old mid input left before after finish (seen (beside watch s.keys files') now) notes' begun told performed in
     let follow = follows words options s.keys (script_text o) old.files input p.own p.first in
-    let short = performed-short (opening words options s.keys (script_text o) old.files input p.own) finish (seen watch s.keys files' now) left before after small memory p.is in
+    let short = performed-short (opening words options s.keys (script_text o) old.files input p.own) finish (seen (beside watch s.keys files') now) left before after small memory p.is in
     subst (λ (n : List Note). IsCutShort words input left before after old.files files' (Some now) n) (sym p.kept)
     (record {
       options = options;
@@ -218,17 +218,17 @@ performed-cut tells words options s o old mid files' input left before after fin
         script = script_text o;
         used = length (notes_said s.notes);
         starts = begun.starts told p.own follow;
-        live = seen watch s.keys files' now;
+        live = seen (beside watch s.keys files') now;
         machine_is = refl;
         files_are = refl;
-        short = subst (λ (n : List Note). RunsShort (opening words options s.keys (script_text o) old.files input n) (seen watch s.keys files' now) left before after) (sym (drop-append_seam (notes_said s.notes) p.own)) short;
+        short = subst (λ (n : List Note). RunsShort (opening words options s.keys (script_text o) old.files input n) (seen (beside watch s.keys files') now) left before after) (sym (drop-append_seam (notes_said s.notes) p.own)) short;
       });
     })
 
 -- the same at the names of the code
 pub session-answer : (tells : Bool) (words : List (List ℕ)) (options : Options) (s : CommandState) (o : Opening) (old mid : FileState) (files' : List NamedBytes) (input left before after : List ℕ) (finish : Finish) (watch : WatchState) (now : MachineState) (status : ℕ) (machine : Option MachineState) (notes' : List Note)
     → options_of words ≡ Some options → Begun tells words options s o old mid → IsTrue tells → IsExitStatus finish → status ≡ status_of finish → machine ≡ Some now → status ≢ 103
-    → Performed (λ (n : List Note). beginning s mid.files o input n) finish (seen watch s.keys files' now) left before after (notes_said s.notes) notes'
+    → Performed (λ (n : List Note). beginning s mid.files o input n) finish (seen (beside watch s.keys files') now) left before after (notes_said s.notes) notes'
     → IsOutcome words input left before after old.files files' status machine notes'
 session-answer tells words options s o old mid files' input left before after finish watch now status machine notes' chosen begun told small is there other performed =
     subst (λ (m : Option MachineState). IsOutcome words input left before after old.files files' status m notes') (sym there)
@@ -237,7 +237,7 @@ session-answer tells words options s o old mid files' input left before after fi
 
 pub memory-answer : (tells : Bool) (words : List (List ℕ)) (options : Options) (s : CommandState) (o : Opening) (old mid : FileState) (files' : List NamedBytes) (input left before after : List ℕ) (finish : Finish) (watch : WatchState) (now : MachineState) (status : ℕ) (machine : Option MachineState) (notes' : List Note)
     → options_of words ≡ Some options → Begun tells words options s o old mid → IsTrue tells → IsExitStatus finish → status ≡ status_of finish → machine ≡ Some now → status ≡ 103
-    → Performed (λ (n : List Note). beginning s mid.files o input n) finish (seen watch s.keys files' now) left before after (notes_said s.notes) notes'
+    → Performed (λ (n : List Note). beginning s mid.files o input n) finish (seen (beside watch s.keys files') now) left before after (notes_said s.notes) notes'
     → IsCutShort words input left before after old.files files' machine notes'
 memory-answer tells words options s o old mid files' input left before after finish watch now status machine notes' chosen begun told small is there memory performed =
     subst (λ (m : Option MachineState). IsCutShort words input left before after old.files files' m notes') (sym there)

@@ -5,7 +5,7 @@ ghost use Rattle.host_files.specs.State.{Opened};
 ghost use Rattle.unit_files.specs.Open.{AllOpen, Around};
 ghost use Rattle.fault_notes.specs.Notes.{notes_said};
 ghost use Rattle.fault_notes.specs.Counts.{AreCounted};
-ghost use Rattle.nova_machine.specs.Seen.{seen};
+ghost use Rattle.nova_machine.specs.Seen.{seen, beside};
 ghost use Rattle.scp_script.specs.Loop.{FinishCause, AreKept};
 ghost use Rattle.scp_script.specs.Perform.{beginning, Performed};
 ghost use Rattle.nova_top.specs.Standard.{IsStandard};
@@ -224,7 +224,7 @@ fn lines<U: Unit, C: Source, S: Sink, F: Files>(
     ensures ended { SessionEnds result.status result.machine
         (λ finish watch now. IsTrue C.tells → IsTrue F.tells → IsTrue S.tells → Performed
         (λ notes. beginning session (F.state files.old).files opening.now (C.left input.old) notes)
-        finish (seen watch session.keys (F.state files.new).files now) (C.left input.new) (S.written output.old)
+        finish (seen (beside watch session.keys (F.state files.new).files) now) (C.left input.new) (S.written output.old)
         (S.written output.new) (notes_said session.notes) (notes_said result.faults.items))
         (λ finish. FinishCause finish (S.fault_count output.old) (S.fault_count output.new) (C.fault_count input.old)
         (C.fault_count input.new)) }

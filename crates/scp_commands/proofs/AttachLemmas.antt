@@ -30,7 +30,7 @@ use Rattle.file_commands.specs.declared.stamp.Stamp.{Stamp}
 use Rattle.file_commands.specs.Notes.{IsAttachFault, MissingCause, fault_of_attach, kept_of, own_of, own_note}
 use Rattle.expect_actions.specs.Watch.{WatchState}
 use Rattle.nova_machine.specs.Machine.{MachineState, attached_files, with_attached_files}
-use Rattle.nova_machine.specs.Seen.{erased, seen, attached_in}
+use Rattle.nova_machine.specs.Seen.{erased, seen, beside, attached_in}
 use Rattle.scp_commands.specs.declared.next.Next.TheVariants.{Go}
 use Rattle.scp_commands.specs.declared.fault.CommandFault.TheVariants.{AlreadyAttached, ReadOnly, NoFile, FileTooLong, NotBuilt, FileFailed}
 use Rattle.scp_commands.specs.Live.{Live, standing}
@@ -227,25 +227,25 @@ pub becomes-attached : (watch : WatchState) (keys : List (ℕ × ℕ)) (files fi
     → held ≡ attached_files m → attachments_of a.slots ≡ attached_by (Attached count) mode unit name (attachments_of held.slots)
     → a.disk ≡ buffer_by (Attached count) unit (bytes_of files' name) held.disk → place ≡ first_place unit.kind count
     → m' ≡ record (with_attached_files m a) { units = positioned unit place m.units }
-    → Becomes (seen watch keys files m) (seen watch keys files' m') mode unit name (Attached count)
+    → Becomes (seen (beside watch keys files) m) (seen (beside watch keys files') m') mode unit name (Attached count)
 becomes-attached watch keys files files' m m' a held mode unit name count place was are copied begins is =
     let attached = attached_by (Attached count) mode unit name (attached_in (erased m)) in
     let disk = buffer_by (Attached count) unit (bytes_of files' name) m.disk in
-    ap (λ (x : MachineState). seen watch keys files' x) is
-    ∙ ap (λ (p : ℕ). seen watch keys files' (record (with_attached_files m a) { units = positioned unit p m.units })) begins
+    ap (λ (x : MachineState). seen (beside watch keys files') x) is
+    ∙ ap (λ (p : ℕ). seen (beside watch keys files') (record (with_attached_files m a) { units = positioned unit p m.units })) begins
     ∙ ap (λ (x : MachineState). record { machine = record x { units = positioned unit (first_place unit.kind count) m.units }; watch = watch; keys = keys; files = files' })
     (erased-with m a attached disk
     (are ∙ ap (λ (l : List (Option Attachment)). attached_by (Attached count) mode unit name l) (ap (λ (x : AttachedFiles). attachments_of x.slots) was ∙ sym (attached-erased m)))
     (copied ∙ ap (λ (x : AttachedFiles). buffer_by (Attached count) unit (bytes_of files' name) x.disk) was))
 
 pub becomes-refused : (watch : WatchState) (keys : List (ℕ × ℕ)) (files files' : List NamedBytes) (m : MachineState) (a held : AttachedFiles) (mode : AttachMode) (unit : UnitName) (name : List ℕ) (fault : AttachFault)
-    → held ≡ attached_files m → a ≡ held → IfSome (said_of_attach (Err fault)) (λ said. Becomes (seen watch keys files m) (seen watch keys files' (with_attached_files m a)) mode unit name said)
+    → held ≡ attached_files m → a ≡ held → IfSome (said_of_attach (Err fault)) (λ said. Becomes (seen (beside watch keys files) m) (seen (beside watch keys files') (with_attached_files m a)) mode unit name said)
 becomes-refused watch keys files files' m a held mode unit name fault was stays = by-fault fault
   where
-    same : seen watch keys files' (with_attached_files m a) ≡ seen watch keys files' m
-    same = ap (λ (x : MachineState). seen watch keys files' x) (same-with m a held was stays)
+    same : seen (beside watch keys files') (with_attached_files m a) ≡ seen (beside watch keys files') m
+    same = ap (λ (x : MachineState). seen (beside watch keys files') x) (same-with m a held was stays)
 
-    by-fault : (fault : AttachFault) → IfSome (said_of_attach (Err fault)) (λ said. Becomes (seen watch keys files m) (seen watch keys files' (with_attached_files m a)) mode unit name said)
+    by-fault : (fault : AttachFault) → IfSome (said_of_attach (Err fault)) (λ said. Becomes (seen (beside watch keys files) m) (seen (beside watch keys files') (with_attached_files m a)) mode unit name said)
     by-fault attach.AlreadyAttached = same
     by-fault attach.ReadOnly = same
     by-fault attach.NoFile = same

@@ -24,7 +24,7 @@ use Rattle.file_commands.proofs.Emptying.{emptied-nothing, emptied-more}
 use Rattle.expect_actions.specs.Watch.{WatchState}
 use Rattle.nova_machine.specs.Machine.{MachineState, attached_files, with_attached_files}
 use Rattle.host_files.specs.Lists.{NamedBytes}
-use Rattle.nova_machine.specs.Seen.{attached_in, erased, seen}
+use Rattle.nova_machine.specs.Seen.{attached_in, erased, seen, beside}
 use Rattle.scp_commands.specs.declared.next.Next.{Next}
 use Rattle.scp_commands.specs.declared.next.Next.TheVariants.{Go, Exit}
 use Rattle.scp_commands.specs.Live.{Live, Standing, standing, with_attached, numberless}
@@ -469,7 +469,7 @@ same-attached m = ap (λ (l : List (Option Held)). record m { slots = l }) (ap n
 
 pub left-is : (number time : ℕ) (watch : WatchState) (keys : List (ℕ × ℕ)) (files files' : List NamedBytes) (m : MachineState) (a held : AttachedFiles) (k : Option UnitName) (before after : List FaultNote) (old now : FileState)
     → held ≡ attached_files m → Empties number time attachable (filed_of held files) (filed_of a files') k before after old now
-    → seen watch keys files' (with_attached_files m a) ≡ left_by k (filed_of a files') (seen watch keys files m)
+    → seen (beside watch keys files') (with_attached_files m a) ≡ left_by k (filed_of a files') (seen (beside watch keys files) m)
 left-is number time watch keys files files' m a held None before after old now was e = seen-with watch keys files' m a (attachments_of a.slots) a.disk refl refl
 left-is number time watch keys files files' m a held (Some u) before after old now was e =
     let same = kept-left number time (filed_of held files) (filed_of a files') u before after old now e in

@@ -26,7 +26,7 @@ use Rattle.file_commands.specs.declared.stamp.Stamp.{Stamp}
 use Rattle.file_commands.specs.Notes.{fault_of_detach, kept_of, own_of}
 use Rattle.expect_actions.specs.Watch.{WatchState}
 use Rattle.nova_machine.specs.Machine.{MachineState, attached_files, with_attached_files}
-use Rattle.nova_machine.specs.Seen.{erased, seen, attached_in}
+use Rattle.nova_machine.specs.Seen.{erased, seen, beside, attached_in}
 use Rattle.scp_commands.specs.declared.next.Next.TheVariants.{Go}
 use Rattle.scp_commands.specs.declared.fault.CommandFault.TheVariants.{NotBuilt, FileFailed}
 use Rattle.scp_commands.specs.Live.{Live, standing}
@@ -48,7 +48,7 @@ detach_result (Err fault) = Err (detach_fault fault)
 
 pub detached-live : (watch : WatchState) (keys : List (ℕ × ℕ)) (after : List NamedBytes) (m : MachineState) (a held : AttachedFiles) (unit : UnitName) (r : Result (Option UnitFault) DetachFault)
     → held ≡ attached_files m → attachments_of a.slots ≡ detached_by (said_of_detach r) unit (attachments_of held.slots) → a.disk ≡ buffer_left (said_of_detach r) unit held.disk
-    → OnErr r (a ≡ held) → seen watch keys after (with_attached_files m a) ≡ record { machine = detached_machine (said_of_detach r) unit (erased m); watch = watch; keys = keys; files = after }
+    → OnErr r (a ≡ held) → seen (beside watch keys after) (with_attached_files m a) ≡ record { machine = detached_machine (said_of_detach r) unit (erased m); watch = watch; keys = keys; files = after }
 detached-live watch keys after m a held unit (Ok fault) was are holds refused =
     let said = said_of_detach (Ok fault) in
     seen-with watch keys after m a (detached unit (attached_in (erased m))) (buffer_left said unit m.disk)
@@ -56,11 +56,11 @@ detached-live watch keys after m a held unit (Ok fault) was are holds refused =
     (holds ∙ ap (λ (x : AttachedFiles). buffer_left said unit x.disk) was)
 detached-live watch keys after m a held unit (Err fault) was are holds refused = by-fault fault
   where
-    kept : seen watch keys after (with_attached_files m a) ≡ seen watch keys after m
-    kept = ap (λ (x : MachineState). seen watch keys after x) (same-with m a held was refused)
+    kept : seen (beside watch keys after) (with_attached_files m a) ≡ seen (beside watch keys after) m
+    kept = ap (λ (x : MachineState). seen (beside watch keys after) x) (same-with m a held was refused)
 
     by-fault : (fault : DetachFault)
-        → seen watch keys after (with_attached_files m a) ≡ record { machine = detached_machine (said_of_detach (Err fault)) unit (erased m); watch = watch; keys = keys; files = after }
+        → seen (beside watch keys after) (with_attached_files m a) ≡ record { machine = detached_machine (said_of_detach (Err fault)) unit (erased m); watch = watch; keys = keys; files = after }
     by-fault detach.NotAttached = kept
     by-fault (detach.Failed f) = kept
 

@@ -7,7 +7,7 @@ use Rattle.unit_trait.specs.declared.processor.CpuReg.TheVariants.{Ac0, Ac1, Ac2
 use Rattle.expect_actions.specs.Watch.{WatchState}
 use Rattle.nova_machine.specs.Machine.{MachineState}
 use Rattle.nova_machine.specs.Registers.{register_of, with_register}
-use Rattle.nova_machine.specs.Seen.{erased, seen}
+use Rattle.nova_machine.specs.Seen.{erased, seen, beside}
 use Rattle.operand_forms.specs.declared.listing.Name.{Name}
 use Rattle.operand_forms.specs.declared.listing.Name.TheVariants as whose
 use Rattle.operand_forms.specs.declared.listing.Condition.{Condition}
@@ -101,10 +101,10 @@ after-does {T} m l live (Err list.ReadOnlyName) tells before after same fault to
 -- what EXAMINE comes to, where the machine has the device
 pub examine-does : {T : Type 0} (m : MachineState) (watch : WatchState) (keys : List (ℕ × ℕ)) (files : List NamedBytes) (l : Listing) (r : Result T ExamineFault) (tells : Bool) (before after : List ℕ)
     → lacks_device m l.device ≡ false → FaultIs (examine_fault m l) r → (IsTrue tells → Examines m l r before after)
-    → Does (examine_reply (seen watch keys files m) l) (list_answer r) (standing 0 (seen watch keys files m)) tells before after
+    → Does (examine_reply (seen (beside watch keys files) m) l) (list_answer r) (standing 0 (seen (beside watch keys files) m)) tells before after
 unfolding examine_reply
 examine-does m watch keys files l r tells before after there fault told =
-    let live = seen watch keys files m in
+    let live = seen (beside watch keys files) m in
     subst (λ (b : Bool). Does (if b then refused NotBuilt live else examine_after (examine_fault (erased m) l) live l) (list_answer r) (standing 0 live) tells before after)
     (sym (erased-lacks m l.device ∙ there))
     (subst (λ (o : Option ExamineFault). Does (examine_after o live l) (list_answer r) (standing 0 live) tells before after) (sym (erased-fault m l))
@@ -188,17 +188,17 @@ pub record IsSilent (reply : Reply) (answer : Answer) (live : Live) : Type 0 whe
   pub silent : reply.made ≡ []
 
 after-silent : {T : Type 0} (m new : MachineState) (watch : WatchState) (keys : List (ℕ × ℕ)) (files : List NamedBytes) (l : Listing) (v : ℕ) (r : Result T ExamineFault) → Deposits m l v r new
-    → IsSilent (deposit_after (fault_of_deposit m l v) (seen watch keys files m) l v) (list_answer r) (seen watch keys files new)
+    → IsSilent (deposit_after (fault_of_deposit m l v) (seen (beside watch keys files) m) l v) (list_answer r) (seen (beside watch keys files) new)
 after-silent m new watch keys files l v (Ok x) done =
-    subst (λ (o : Option ExamineFault). IsSilent (deposit_after o (seen watch keys files m) l v) (Ok Go) (seen watch keys files new)) (sym done.0)
+    subst (λ (o : Option ExamineFault). IsSilent (deposit_after o (seen (beside watch keys files) m) l v) (Ok Go) (seen (beside watch keys files) new)) (sym done.0)
     (record {
       answer_is = refl;
-      after_is = ap (λ (x : MachineState). standing 0 (seen watch keys files x)) done.1 ∙ ap (λ (x : MachineState). standing 0 (with_machine (seen watch keys files m) x)) (sym (erased-deposited m l v));
+      after_is = ap (λ (x : MachineState). standing 0 (seen (beside watch keys files) x)) done.1 ∙ ap (λ (x : MachineState). standing 0 (with_machine (seen (beside watch keys files) m) x)) (sym (erased-deposited m l v));
       silent = refl;
     })
 after-silent m new watch keys files l v (Err fault) done =
-    subst (λ (o : Option ExamineFault). IsSilent (deposit_after o (seen watch keys files m) l v) (Err (list_fault fault)) (seen watch keys files new)) (sym done.0)
-    (record { answer_is = refl; after_is = ap (λ (x : MachineState). standing 0 (seen watch keys files x)) done.1; silent = refl })
+    subst (λ (o : Option ExamineFault). IsSilent (deposit_after o (seen (beside watch keys files) m) l v) (Err (list_fault fault)) (seen (beside watch keys files) new)) (sym done.0)
+    (record { answer_is = refl; after_is = ap (λ (x : MachineState). standing 0 (seen (beside watch keys files) x)) done.1; silent = refl })
 
 erased-deposit_fault : (m : MachineState) (l : Listing) (v : ℕ) → fault_of_deposit (erased m) l v ≡ fault_of_deposit m l v
 unfolding fault_of_deposit
@@ -206,13 +206,13 @@ erased-deposit_fault m l v = refl
 
 -- what DEPOSIT comes to, where the machine has the device
 pub deposit-silent : {T : Type 0} (m new : MachineState) (watch : WatchState) (keys : List (ℕ × ℕ)) (files : List NamedBytes) (l : Listing) (value : ℕ) (r : Result T ExamineFault)
-    → lacks_device m l.device ≡ false → Deposits m l (handed value) r new → IsSilent (deposit_reply (seen watch keys files m) l value) (list_answer r) (seen watch keys files new)
+    → lacks_device m l.device ≡ false → Deposits m l (handed value) r new → IsSilent (deposit_reply (seen (beside watch keys files) m) l value) (list_answer r) (seen (beside watch keys files) new)
 unfolding deposit_reply
 deposit-silent m new watch keys files l value r there deposits =
-    let live = seen watch keys files m in
-    subst (λ (b : Bool). IsSilent (if b then refused NotBuilt live else deposit_after (fault_of_deposit (erased m) l (handed value)) live l (handed value)) (list_answer r) (seen watch keys files new))
+    let live = seen (beside watch keys files) m in
+    subst (λ (b : Bool). IsSilent (if b then refused NotBuilt live else deposit_after (fault_of_deposit (erased m) l (handed value)) live l (handed value)) (list_answer r) (seen (beside watch keys files) new))
     (sym (erased-lacks m l.device ∙ there))
-    (subst (λ (o : Option ExamineFault). IsSilent (deposit_after o live l (handed value)) (list_answer r) (seen watch keys files new)) (sym (erased-deposit_fault m l (handed value)))
+    (subst (λ (o : Option ExamineFault). IsSilent (deposit_after o live l (handed value)) (list_answer r) (seen (beside watch keys files) new)) (sym (erased-deposit_fault m l (handed value)))
     (after-silent m new watch keys files l (handed value) r deposits))
 
 -- what is attached and the time stand

@@ -4,7 +4,7 @@ use Rattle.host_files.specs.Lists.{NamedBytes}
 use Rattle.host_files.specs.Streams.{Puts}
 use Rattle.expect_actions.specs.Watch.{WatchState}
 use Rattle.nova_machine.specs.Machine.{MachineState}
-use Rattle.nova_machine.specs.Seen.{erased, seen}
+use Rattle.nova_machine.specs.Seen.{erased, seen, beside}
 use Rattle.operand_forms.specs.declared.listing.Condition.{Condition}
 use Rattle.operand_forms.specs.declared.listing.Test.{Test}
 use Rattle.scp_examine.specs.declared.fault.ExamineFault.{ExamineFault}
@@ -85,8 +85,8 @@ pub assert-own : (m : MachineState) (test : Test) → IsPlain (assert_answer m t
 assert-own m test = own-answer (lacks_device m test.device) (tested m test) (own-tested m test)
 
 pub assert-does : (m : MachineState) (watch : WatchState) (keys : List (ℕ × ℕ)) (files : List NamedBytes) (test : Test) (answer : Answer) (tells : Bool) (text : List ℕ) → answer ≡ assert_answer m test
-    → Does (assert_reply (seen watch keys files m) test) answer (standing 0 (seen watch keys files m)) tells text text
+    → Does (assert_reply (seen (beside watch keys files) m) test) answer (standing 0 (seen (beside watch keys files) m)) tells text text
 unfolding assert_reply
 assert-does m watch keys files test answer tells text is =
-    let live = seen watch keys files m in
+    let live = seen (beside watch keys files) m in
     silent-does (assert_reply live test) answer (standing 0 live) tells text (assert-own (erased m) test) (is ∙ sym (erased-assert m test)) refl refl

@@ -5,7 +5,7 @@ use Rattle.unit_files.specs.Attachments.{Attachment, Held, attachments_of}
 use Rattle.unit_files.specs.Buffer.{Buffer, AttachedFiles}
 use Rattle.expect_actions.specs.Watch.{WatchState}
 use Rattle.nova_machine.specs.Machine.{MachineState, attached_files, with_attached_files}
-use Rattle.nova_machine.specs.Seen.{unnumbered, erased, seen, attached_in}
+use Rattle.nova_machine.specs.Seen.{unnumbered, erased, seen, beside, attached_in}
 use Rattle.scp_commands.specs.Live.{numberless, with_attached}
 
 pub attached-unnumbered : (slots : List (Option Held)) → attachments_of (map unnumbered slots) ≡ attachments_of slots
@@ -39,7 +39,7 @@ erased-with m a attached disk are holds =
 
 pub seen-with : (watch : WatchState) (keys : List (ℕ × ℕ)) (after : List NamedBytes) (m : MachineState) (a : AttachedFiles) (attached : List (Option Attachment)) (disk : Buffer)
     → attachments_of a.slots ≡ attached → a.disk ≡ disk
-    → seen watch keys after (with_attached_files m a) ≡ record { machine = record (with_attached (erased m) attached) { disk = disk }; watch = watch; keys = keys; files = after }
+    → seen (beside watch keys after) (with_attached_files m a) ≡ record { machine = record (with_attached (erased m) attached) { disk = disk }; watch = watch; keys = keys; files = after }
 seen-with watch keys after m a attached disk are holds =
     ap (λ (x : MachineState). record { machine = x; watch = watch; keys = keys; files = after }) (erased-with m a attached disk are holds)
 

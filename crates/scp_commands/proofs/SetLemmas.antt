@@ -8,7 +8,7 @@ use Rattle.nova_memory.specs.Memory.{MemoryState, IsMemory, fits_size, get, resi
 use Rattle.fault_notes.specs.Notes.{CommandNote}
 use Rattle.expect_actions.specs.Watch.{WatchState}
 use Rattle.nova_machine.specs.Machine.{MachineState}
-use Rattle.nova_machine.specs.Seen.{seen}
+use Rattle.nova_machine.specs.Seen.{seen, beside}
 use Rattle.scp_commands.specs.declared.next.Next.TheVariants.{Go}
 use Rattle.scp_commands.specs.declared.fault.CommandFault.TheVariants.{OutOfRange}
 use Rattle.scp_commands.specs.Live.{Live, standing, with_machine}
@@ -21,12 +21,12 @@ use Rattle.scp_commands.specs.Doing.{Does}
 use Rattle.scp_commands.proofs.ReplyLemmas.{goes-said, refused-said}
 
 pub size-does : (watch : WatchState) (keys : List (ℕ × ℕ)) (files : List NamedBytes) (m new : MachineState) (k : ℕ) (tells : Bool) (text : List ℕ) → fits_size k ≡ true → new ≡ sized m k
-    → Does (set_size_reply (seen watch keys files m) k) (Ok Go) (standing 0 (seen watch keys files new)) tells text text
+    → Does (set_size_reply (seen (beside watch keys files) m) k) (Ok Go) (standing 0 (seen (beside watch keys files) new)) tells text text
 unfolding set_size_reply
 size-does watch keys files m new k tells text fits is =
-    let live = seen watch keys files m in
-    subst (λ (b : Bool). Does (if b then goes (with_machine live (sized live.machine k)) else refused OutOfRange live) (Ok Go) (standing 0 (seen watch keys files new)) tells text text) (sym fits)
-    (subst (λ (x : MachineState). Does (goes (with_machine live (sized live.machine k))) (Ok Go) (standing 0 (seen watch keys files x)) tells text text) (sym is)
+    let live = seen (beside watch keys files) m in
+    subst (λ (b : Bool). Does (if b then goes (with_machine live (sized live.machine k)) else refused OutOfRange live) (Ok Go) (standing 0 (seen (beside watch keys files) new)) tells text text) (sym fits)
+    (subst (λ (x : MachineState). Does (goes (with_machine live (sized live.machine k))) (Ok Go) (standing 0 (seen (beside watch keys files) x)) tells text text) (sym is)
     (refl, goes-said (with_machine live (sized live.machine k)) tells text))
 
 pub size-refused : (live : Live) (k : ℕ) (tells : Bool) (text : List ℕ) → fits_size k ≡ false → Does (set_size_reply live k) (Err OutOfRange) (standing 0 live) tells text text

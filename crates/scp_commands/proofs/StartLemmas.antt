@@ -4,7 +4,7 @@ use Rattle.host_files.specs.Lists.{NamedBytes}
 use Rattle.fault_notes.specs.Notes.{CommandNote, Note, notes_said}
 use Rattle.expect_actions.specs.Watch.{WatchState}
 use Rattle.nova_machine.specs.Machine.{MachineState, reset_machine, reset_devices}
-use Rattle.nova_machine.specs.Seen.{erased, seen}
+use Rattle.nova_machine.specs.Seen.{erased, seen, beside}
 use Rattle.scp_commands.specs.declared.next.Next.TheVariants.{Go}
 use Rattle.scp_commands.specs.declared.fault.CommandFault.TheVariants.{OutOfRange}
 use Rattle.scp_commands.specs.Live.{Live, standing, CommandState, live_in}
@@ -40,11 +40,11 @@ started-slots resets address m = starting-slots address (reset_where resets m) �
 
 -- RESET prints nothing
 pub reset-does : (watch : WatchState) (keys : List (ℕ × ℕ)) (files : List NamedBytes) (m new : MachineState) (tells : Bool) (text : List ℕ) → new ≡ reset_machine m
-    → Does (reset_reply (seen watch keys files m)) (Ok Go) (standing 0 (seen watch keys files new)) tells text text
+    → Does (reset_reply (seen (beside watch keys files) m)) (Ok Go) (standing 0 (seen (beside watch keys files) new)) tells text text
 unfolding reset_reply
 reset-does watch keys files m new tells text is =
-    subst (λ (x : MachineState). Does (goes (record { machine = x; watch = watch; keys = keys; files = files })) (Ok Go) (standing 0 (seen watch keys files new)) tells text text)
-    (ap erased is ∙ sym (erased-reset_machine m)) (refl, goes-said (seen watch keys files new) tells text)
+    subst (λ (x : MachineState). Does (goes (record { machine = x; watch = watch; keys = keys; files = files })) (Ok Go) (standing 0 (seen (beside watch keys files) new)) tells text text)
+    (ap erased is ∙ sym (erased-reset_machine m)) (refl, goes-said (seen (beside watch keys files) new) tells text)
 
 -- ---- an address, and a count, that is out of range
 
@@ -60,10 +60,10 @@ step-refused limit count live fits given = ap (λ (b : Bool). if b then stepped 
 -- ---- a run from an address
 
 run_from-runs : (limit : ℕ) (resets : Bool) (address : Option ℕ) (watch : WatchState) (keys : List (ℕ × ℕ)) (files : List NamedBytes) (m : MachineState) → address_fits address ≡ true → (given : List CommandNote)
-    → run_from limit given resets address (seen watch keys files m) ≡ running limit given (seen watch keys files (starting_at address (reset_where resets m)))
+    → run_from limit given resets address (seen (beside watch keys files) m) ≡ running limit given (seen (beside watch keys files) (starting_at address (reset_where resets m)))
 unfolding run_from
 run_from-runs limit resets address watch keys files m fits given =
-    ap (λ (b : Bool). if b then running limit given (started resets address (seen watch keys files m)) else refused OutOfRange (seen watch keys files m)) fits
+    ap (λ (b : Bool). if b then running limit given (started resets address (seen (beside watch keys files) m)) else refused OutOfRange (seen (beside watch keys files) m)) fits
     ∙ ap (λ (x : MachineState). running limit given (record { machine = starting_at address x; watch = watch; keys = keys; files = files })) (erased-reset_where resets m)
     ∙ ap (λ (x : MachineState). running limit given (record { machine = x; watch = watch; keys = keys; files = files })) (erased-starting address (reset_where resets m))
 
@@ -74,6 +74,6 @@ pub started-did : (old at : CommandState) (resets : Bool) (address : Option ℕ)
     → Did (λ given. run_from old.limit given resets address (live_in old files)) old.command answer new tells before after (notes_said old.notes) notes'
 started-did old at resets address files answer new tells before after notes' is fits did =
     let readied = starting_at address (reset_where resets old.machine) in
-    did-same (λ given. running old.limit given (seen old.watch old.keys files readied)) (λ given. run_from old.limit given resets address (live_in old files)) old.command answer new tells before after
+    did-same (λ given. running old.limit given (seen (beside old.watch old.keys files) readied)) (λ given. run_from old.limit given resets address (live_in old files)) old.command answer new tells before after
     (notes_said old.notes) notes' (run_from-runs old.limit resets address old.watch old.keys files old.machine fits)
     (subst (λ (s : CommandState). Did (λ given. running s.limit given (live_in s files)) s.command answer new tells before after (notes_said s.notes) notes') is did)

@@ -6,7 +6,7 @@ use Rattle.unit_files.specs.Attachments.{Attachment, Held}
 use Rattle.fault_notes.specs.declared.note.FaultNote.{FaultNote}
 use Rattle.expect_actions.specs.Watch.{WatchState}
 use Rattle.nova_machine.specs.Machine.{MachineState}
-use Rattle.nova_machine.specs.Seen.{Seen, seen}
+use Rattle.nova_machine.specs.Seen.{Seen, seen, beside}
 
 -- the machine, without the numbers of open files; the breaks, expects and sent bytes; the timed keys; and all files by
 -- their names
@@ -45,4 +45,4 @@ pub record CommandState : Type 0 where
 
 -- what its commands work on
 abbrev pub live_in : CommandState → List NamedBytes → Live
-live_in s files = seen s.watch s.keys files s.machine
+live_in s files = seen (beside s.watch s.keys files) s.machine

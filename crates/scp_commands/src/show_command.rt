@@ -7,7 +7,7 @@ ghost use Rattle.unit_trait.specs.Kinds.{units_of};
 ghost use Rattle.unit_files.specs.Attachments.{attachments_of, attachment_at};
 ghost use Rattle.event_queue.specs.EventList.{event};
 ghost use Rattle.expect_actions.specs.Watch.{WatchState};
-ghost use Rattle.nova_machine.specs.Seen.{seen};
+ghost use Rattle.nova_machine.specs.Seen.{seen, beside};
 ghost use Rattle.scp_parser.specs.Command.{ShowsUnit};
 ghost use Rattle.scp_parser.specs.declared.command.Shown.TheVariants.{Unit as AUnit};
 ghost use Rattle.scp_commands.specs.Live.{standing, live_in};
@@ -84,8 +84,8 @@ fn show_unit<U: Unit, S: Sink>(
 ) -> Result<Next, CommandFault>
     requires { unit.unit < units_of unit.kind }
     ensures told { (watch : WatchState) (keys : List (ℕ × ℕ)) (files : List NamedBytes)
-        → Does (show_reply (seen watch keys files machine.now) (AUnit unit)) result
-        (standing 0 (seen watch keys files machine.now)) S.tells (S.written out.old) (S.written out.new) }
+        → Does (show_reply (seen (beside watch keys files) machine.now) (AUnit unit)) result
+        (standing 0 (seen (beside watch keys files) machine.now)) S.tells (S.written out.old) (S.written out.new) }
     ensures counts { ConsoleCounts result (S.fault_count out.old) (S.fault_count out.new) }
     ensures own { IsShown result }
     ensures exit { IsExitAnswer result }

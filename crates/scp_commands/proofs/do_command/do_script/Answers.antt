@@ -3,7 +3,7 @@ use Rattle.host_files.specs.Lists.{NamedBytes}
 use Rattle.fault_notes.specs.declared.note.Subject.TheVariants as subject
 use Rattle.fault_notes.specs.declared.note.FaultNote.{FaultNote}
 use Rattle.file_commands.specs.declared.stamp.Stamp.{Stamp}
-use Rattle.nova_machine.specs.Seen.{seen}
+use Rattle.nova_machine.specs.Seen.{seen, beside}
 use Rattle.scp_commands.specs.ScriptEffects.{script_of}
 use Rattle.scp_commands.specs.WholeCalls.{read_notes}
 use Rattle.scp_commands.proofs.BehindLemmas.{stamp_in}
@@ -18,8 +18,8 @@ returns-clause-told g c = λ tells text told.
     let after = g.F.Files.state c.read_file-whole.new.files in
     let stamped = c.stamp_of-stamp.ensures ∙ ap stamp_in (sym c.session.view_is) in
     rw (← c.session.view_is)
-    (do-did s.command (seen s.watch s.keys before.files s.machine) (seen s.watch s.keys after.files s.machine) c.args.echo c.args.strict c.args.name.now c.read_file-whole.result c.script_answer.result tells text
-    s.notes.items c.note_reading.new.notes.items c.script_answer.ensures (ap (λ (l : List NamedBytes). seen s.watch s.keys l s.machine) (c.read_file-whole.ensures.files told)) (c.read_file-whole.ensures.said told)
+    (do-did s.command (seen (beside s.watch s.keys before.files) s.machine) (seen (beside s.watch s.keys after.files) s.machine) c.args.echo c.args.strict c.args.name.now c.read_file-whole.result c.script_answer.result tells text
+    s.notes.items c.note_reading.new.notes.items c.script_answer.ensures (ap (λ (l : List NamedBytes). seen (beside s.watch s.keys l) s.machine) (c.read_file-whole.ensures.files told)) (c.read_file-whole.ensures.said told)
     (c.note_reading.ensures.notes ∙ ap (λ (t : Stamp). s.notes.items ++ read_notes subject.Script t c.read_file-whole.result) stamped))
 
 pub returns-clause-keeps : goal.returns-clause-keeps

@@ -3,7 +3,7 @@ use Rattle.host_files.specs.Lists.{NamedBytes}
 use Rattle.fault_notes.specs.declared.note.Subject.TheVariants as subject
 use Rattle.fault_notes.specs.declared.note.FaultNote.{FaultNote}
 use Rattle.file_commands.specs.declared.stamp.Stamp.{Stamp}
-use Rattle.nova_machine.specs.Seen.{seen}
+use Rattle.nova_machine.specs.Seen.{seen, beside}
 use Rattle.scp_commands.specs.WholeCalls.{write_notes}
 use Rattle.scp_commands.proofs.BehindLemmas.{stamp_in}
 use Rattle.scp_commands.proofs.WholeLemmas.{dump-is, write-did, write-keeps, none-written, write-own}
@@ -16,10 +16,10 @@ returns-clause-told g c = λ tells text told.
     let after = g.F.Files.state c.write_file-written.new.files in
     let w = c.write_file-written.result in
     let write = c.write_file-written.ensures in
-    let live = seen s.watch s.keys before.files s.machine in
+    let live = seen (beside s.watch s.keys before.files) s.machine in
     let stamped = c.stamp_of-stamp.ensures ∙ ap stamp_in (sym c.session.view_is) in
     rw (← c.session.view_is)
-    (write-did subject.Dump (λ (l : List NamedBytes). record live { files = l }) s.command s.machine.time (seen s.watch s.keys after.files s.machine)
+    (write-did subject.Dump (λ (l : List NamedBytes). record live { files = l }) s.command s.machine.time (seen (beside s.watch s.keys after.files) s.machine)
     c.args.name.now c.args.tape.now before.files after.files w c.written_answer.result tells text s.notes.items c.note_writing.new.notes.items
     dump-is c.written_answer.ensures refl (write.made told) write.shape.fits (write.said told)
     (c.note_writing.ensures.notes ∙ ap (λ (t : Stamp). s.notes.items ++ write_notes subject.Dump t w) stamped))

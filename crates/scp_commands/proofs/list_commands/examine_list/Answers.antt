@@ -1,5 +1,5 @@
 use Rattle.std.proofs.Common.{◌∙◌, sym, subst, Ok, Err}
-use Rattle.nova_machine.specs.Seen.{seen}
+use Rattle.nova_machine.specs.Seen.{seen, beside}
 use Rattle.scp_commands.specs.declared.fault.CommandFault.{CommandFault}
 use Rattle.scp_commands.specs.Live.{CommandState, live_in, standing}
 use Rattle.scp_commands.specs.ListEffects.{examine_reply}
@@ -26,5 +26,5 @@ returns-in-Err-clause-told g c =
     let l = c.args.listing.now in
     λ files.
     subst (λ (s : CommandState). Does (examine_reply (live_in s files) l) (Err c.of_list.result) (standing 0 (live_in s files)) g.S.Sink.tells before after) c.session.view_is
-    (subst (λ (fault : CommandFault). Does (examine_reply (seen watch keys files m) l) (Err fault) (standing 0 (seen watch keys files m)) g.S.Sink.tells before after) (sym c.of_list.ensures)
+    (subst (λ (fault : CommandFault). Does (examine_reply (seen (beside watch keys files) m) l) (Err fault) (standing 0 (seen (beside watch keys files) m)) g.S.Sink.tells before after) (sym c.of_list.ensures)
     (examine-does {T = Unit {0}} m watch keys files l (Err c.in-Err.fault) g.S.Sink.tells before after there c.in-Err.ensures.faults c.in-Err.ensures.told))

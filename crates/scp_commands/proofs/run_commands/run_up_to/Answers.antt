@@ -2,7 +2,7 @@ use Rattle.std.proofs.Common.{◌≡◌, ◌∙◌, ℕ, List, ap, sym, subst}
 use Rattle.host_files.specs.Streams.{Puts}
 use Rattle.fault_notes.specs.Notes.{notes_said}
 use Rattle.nova_machine.specs.Run.{run}
-use Rattle.nova_machine.specs.Seen.{seen}
+use Rattle.nova_machine.specs.Seen.{seen, beside}
 use Rattle.scp_commands.specs.Live.{Live, CommandState, live_in}
 use Rattle.scp_commands.specs.RunEffects.{run_failure, ran, stop_text}
 use Rattle.scp_commands.specs.Doing.{Did, Keeps}
@@ -14,8 +14,8 @@ returns-then-is_console_fault-clause-told g c =
     let watch = c.session.inside.watch in
     let keys = c.session.inside.keys in
     let m = c.run-stop.new.self in
-    let old = seen watch keys (g.F.Files.state c.args.files.now).files c.session.inside.machine in
-    let new = seen c.run-stop.new.watch keys (g.F.Files.state c.run-stop.new.files).files m in
+    let old = seen (beside watch keys (g.F.Files.state c.args.files.now).files) c.session.inside.machine in
+    let new = seen (beside c.run-stop.new.watch keys (g.F.Files.state c.run-stop.new.files).files) m in
     rw (← c.session.view_is) (λ told.
     cut-did c.args.limit.step c.args.limit.count old new m.time c.run-stop.result c.session.inside.command g.S.Sink.tells (g.S.Sink.written c.args.out.now) (g.S.Sink.written c.run-stop.new.out)
     (notes_said c.session.inside.notes.items) (c.is_console_fault.ensures.yes c.if-is_console_fault.true) (c.run-stop.ensures.told told))
@@ -30,8 +30,8 @@ returns-clause-told g c =
     let after = g.S.Sink.written c.put_stop-printed.new.out in
     let m = c.run-stop.new.self in
     let stop = c.run-stop.result in
-    let old = seen watch keys (g.F.Files.state c.args.files.now).files c.session.inside.machine in
-    let new = seen c.run-stop.new.watch keys files m in
+    let old = seen (beside watch keys (g.F.Files.state c.args.files.now).files) c.session.inside.machine in
+    let new = seen (beside c.run-stop.new.watch keys files) m in
     let number = c.session.inside.command in
     let notes = c.session.inside.notes.items in
     let new_is : live_in c.note_stop.new.session files ≡ new = ap (λ (s : CommandState). live_in s files) c.note_stop.ensures.rest in

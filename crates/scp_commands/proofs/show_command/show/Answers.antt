@@ -3,7 +3,7 @@ use Rattle.host_files.specs.Streams.{Puts}
 use Rattle.event_queue.specs.EventList.{Event}
 use Rattle.expect_actions.specs.Watch.{WatchState}
 use Rattle.nova_machine.specs.Machine.{MachineState}
-use Rattle.nova_machine.specs.Seen.{seen}
+use Rattle.nova_machine.specs.Seen.{seen, beside}
 use Rattle.scp_parser.specs.declared.command.Shown.TheVariants.{Unit as AUnit}
 use Rattle.scp_commands.specs.Live.{standing}
 use Rattle.scp_commands.specs.WatchTexts.{breaks_text, expects_text, sends_text}
@@ -77,5 +77,5 @@ returns-in-Unit-clause-told g c =
     let watch = c.session.inside.watch in
     let keys = c.session.inside.keys in
     rw (c.in-Unit.is) (rw (← c.session.view_is) (λ files.
-    subst (λ (m : MachineState). Does (show_reply (seen watch keys files m) (AUnit c.in-Unit.unit)) c.show_unit.result (standing 0 (seen watch keys files m)) g.S.Sink.tells before after)
+    subst (λ (m : MachineState). Does (show_reply (seen (beside watch keys files) m) (AUnit c.in-Unit.unit)) c.show_unit.result (standing 0 (seen (beside watch keys files) m)) g.S.Sink.tells before after)
     (ap (λ i. i.machine) c.session-inside.view_is) (c.show_unit.ensures.told watch keys files)))

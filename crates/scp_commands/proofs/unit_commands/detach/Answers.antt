@@ -3,7 +3,7 @@ use Rattle.unit_files.specs.Attachments.{attachments_of}
 use Rattle.fault_notes.specs.Notes.{notes_said}
 use Rattle.unit_files.specs.Buffer.{AttachedFiles}
 use Rattle.nova_machine.specs.Machine.{with_attached_files}
-use Rattle.nova_machine.specs.Seen.{seen}
+use Rattle.nova_machine.specs.Seen.{seen, beside}
 use Rattle.scp_commands.proofs.SeenLemmas.{attached-erased}
 use Rattle.scp_commands.proofs.BehindLemmas.{stamp_in}
 use Rattle.scp_commands.proofs.DetachLemmas.{detach_result, detached-live, detach-done, detach-not-built, detach-keeps}
@@ -13,7 +13,7 @@ use Rattle.scp_commands.proofs.unit_commands.detach.Goals.{in-Ok, in-Err}
 pub returns-then-lacks_unit-clause-told : goal.returns-then-lacks_unit-clause-told
 returns-then-lacks_unit-clause-told g c = λ tells text.
     rw (← c.session.view_is)
-    (detach-not-built c.session.inside.command (seen c.session.inside.watch c.session.inside.keys (g.F.Files.state c.args.files.now).files c.session.inside.machine) c.args.unit tells text
+    (detach-not-built c.session.inside.command (seen (beside c.session.inside.watch c.session.inside.keys (g.F.Files.state c.args.files.now).files) c.session.inside.machine) c.args.unit tells text
     (notes_said c.session.inside.notes.items) (sym c.lacks_unit.ensures ∙ c.if-lacks_unit.true))
 
 pub returns-clause-told : goal.returns-clause-told
@@ -29,7 +29,7 @@ returns-clause-told g c = λ tells text.
     let held = c.attached_mut.result.now in
     let are = ap (λ (a : AttachedFiles). attachments_of a.slots) c.attached_mut.ensures.value ∙ sym (attached-erased s.machine) in
     rw (← c.session.view_is)
-    (detach-done s.command c.stamp_of-stamp.result (seen s.watch s.keys before.files s.machine) (seen s.watch s.keys after.files (with_attached_files s.machine new.attached)) (attachments_of held.slots) held.disk
+    (detach-done s.command c.stamp_of-stamp.result (seen (beside s.watch s.keys before.files) s.machine) (seen (beside s.watch s.keys after.files) (with_attached_files s.machine new.attached)) (attachments_of held.slots) held.disk
     c.args.unit c.detach_unit.result c.match-detach_unit.result tells text s.notes.items new.notes.items
     (c.stamp_of-stamp.ensures ∙ ap stamp_in (sym c.session.view_is)) are (ap (λ (a : AttachedFiles). a.disk) c.attached_mut.ensures.value) answered (sym c.lacks_unit.ensures ∙ c.if-lacks_unit.false)
     (record { said = c.detach_unit.ensures.said; left = c.detach_unit.ensures.files; noted = c.detach_unit.ensures.notes })

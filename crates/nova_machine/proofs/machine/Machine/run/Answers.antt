@@ -2,7 +2,7 @@ use Rattle.std.proofs.Common.{◌≡◌, ◌≢◌, ℕ, ◌-◌, ◌+◌, ◌<�
 use Rattle.nova_processor.specs.declared.burst.BurstEnd.TheVariants as burst_end
 use Rattle.nova_machine.specs.declared.machine.Stop.TheVariants.{Limit, ChainLimit}
 use Rattle.nova_machine.specs.Notes.{UnitNote, RunNote, at_time, unit_note, run_note}
-use Rattle.nova_machine.specs.Seen.{seen}
+use Rattle.nova_machine.specs.Seen.{seen, beside}
 use Rattle.nova_machine.specs.Comes.{AreTold, Comes}
 use Rattle.nova_machine.specs.Turn.{turn}
 use Rattle.nova_machine.specs.Run.{last_time, turns, run}
@@ -12,7 +12,7 @@ use Rattle.nova_machine.proofs.machine.Machine.run.Goals as goal
 
 pub returns-then-self-eq-LAST_TIME-clause-told : goal.returns-then-self-eq-LAST_TIME-clause-told
 returns-then-self-eq-LAST_TIME-clause-told g c = λ told.
-    let s = seen c.turns.watch c.args.keys.now (g.F.Files.state c.turns.files).files c.turns.self in
+    let s = seen (beside c.turns.watch c.args.keys.now (g.F.Files.state c.turns.files).files) c.turns.self in
     c.turns.invariant.told told None (Some Limit) s (g.S.Sink.written c.turns.out) tt
     (ended-of None c.args.limit.step c.turns.first c.turns.left s g.S.Sink.tells (g.S.Sink.written c.turns.out) (search rules) (search rules))
 
@@ -20,8 +20,8 @@ pub returns-in-Stopped-clause-told : goal.returns-in-Stopped-clause-told
 returns-in-Stopped-clause-told g c = λ told.
     let early : c.turns.self.time < last_time = search rules in
     let now : AreTold g.F.Files.tells c.turns.self.slots = told-same g.F.Files.tells _ _ (search rules) told in
-    let s = seen c.turns.watch c.args.keys.now (g.F.Files.state c.turns.files).files c.turns.self in
-    let last = seen c.turn.new.watch c.args.keys.now (g.F.Files.state c.turn.new.files).files c.turn.new.self in
+    let s = seen (beside c.turns.watch c.args.keys.now (g.F.Files.state c.turns.files).files) c.turns.self in
+    let last = seen (beside c.turn.new.watch c.args.keys.now (g.F.Files.state c.turn.new.files).files) c.turn.new.self in
     let stop = c.in-Stopped.stop in
     let note = run_note c.turn.new.self.time (Some stop) in
     let here : at_time c.turns.self.time note ≡ unit_note (Some stop) = note-here stop c.turns.self.time c.turn.new.self.time c.in-Stopped.ensures.fault in
@@ -39,9 +39,9 @@ returns-in-ChainLimit-clause-told g c = λ told.
     let now : AreTold g.F.Files.tells c.turns.self.slots = told-same g.F.Files.tells _ _ (search rules) told in
     let keys = c.args.keys.now in
     let files = (g.F.Files.state c.turn.new.files).files in
-    let s = seen c.turns.watch keys (g.F.Files.state c.turns.files).files c.turns.self in
-    let mid = seen c.turn.new.watch keys files c.turn.new.self in
-    let last = seen c.turn.new.watch keys files c.burst-burst.new.self in
+    let s = seen (beside c.turns.watch keys (g.F.Files.state c.turns.files).files) c.turns.self in
+    let mid = seen (beside c.turn.new.watch keys files) c.turn.new.self in
+    let last = seen (beside c.turn.new.watch keys files) c.burst-burst.new.self in
     c.turns.invariant.told told None (Some ChainLimit) last (g.S.Sink.written c.turn.new.out) tt
     (chain-of None c.args.limit.step c.turns.first c.turns.left (c.turns.left - 1) s mid last g.S.Sink.tells
     (g.S.Sink.written c.turns.out) (g.S.Sink.written c.turn.new.out) early one (c.in-Executed.ensures.told now)
@@ -63,9 +63,9 @@ turns-preserved g c =
     let other : c.burst-burst.result.end ≢ burst_end.ChainLimit = search rules in
     let keys = c.args.keys.now in
     let files = (g.F.Files.state c.turn.new.files).files in
-    let s = seen c.turns.watch keys (g.F.Files.state c.turns.files).files c.turns.self in
-    let mid = seen c.turn.new.watch keys files c.turn.new.self in
-    let next = seen c.turn.new.watch keys files c.burst-burst.new.self in
+    let s = seen (beside c.turns.watch keys (g.F.Files.state c.turns.files).files) c.turns.self in
+    let mid = seen (beside c.turn.new.watch keys files) c.turn.new.self in
+    let next = seen (beside c.turn.new.watch keys files) c.burst-burst.new.self in
     let step = c.args.limit.step in
     let rest : c.turns.left - 1 - c.burst-burst.result.done ≡ c.turns.left - (1 + c.burst-burst.result.done) = omega arith in
     let time : c.turn.new.self.time ≡ c.turns.self.time + 1 = search rules in
@@ -92,10 +92,10 @@ turns-preserved g c =
 
 pub returns-clause-told : goal.returns-clause-told
 returns-clause-told g c = λ told.
-    let s = seen c.turns.watch c.args.keys.now (g.F.Files.state c.turns.files).files c.turns.self in
+    let s = seen (beside c.turns.watch c.args.keys.now (g.F.Files.state c.turns.files).files) c.turns.self in
     let stop = c.expired.result in
     let none : run_note c.turns.self.time (Some stop) ≡ None = note-own stop c.turns.self.time c.expired.ensures.other in
-    let start = seen c.args.watch.now c.args.keys.now (g.F.Files.state c.args.files.now).files c.args.self.now in
+    let start = seen (beside c.args.watch.now c.args.keys.now (g.F.Files.state c.args.files.now).files) c.args.self.now in
     let P : Option RunNote → Type 0 = λ x. Comes (run x c.args.limit.step c.args.limit.count start) (Some stop) s g.S.Sink.tells
     (g.S.Sink.written c.args.out.now) (g.S.Sink.written c.turns.out) in
     subst P (sym none) (c.turns.invariant.told told None (Some stop) s (g.S.Sink.written c.turns.out) tt

@@ -3,7 +3,7 @@ use Rattle.unit_files.specs.Open.{AllOpen}
 use Rattle.unit_files.specs.Causes.{IsQuiet}
 use Rattle.nova_machine.specs.declared.machine.Stop.{Stop}
 use Rattle.nova_machine.specs.Notes.{RunNote}
-use Rattle.nova_machine.specs.Seen.{Seen, seen}
+use Rattle.nova_machine.specs.Seen.{Seen, seen, beside}
 use Rattle.nova_machine.specs.Run.{run, turns}
 use Rattle.nova_machine.specs.Comes.{Comes, AreTold}
 use Rattle.nova_machine.proofs.machine.Machine.run.Given as goal
@@ -12,8 +12,8 @@ use Rattle.nova_machine.proofs.machine.Machine.run.Given as goal
 abbrev pub invariant-turns : goal.invariant-turns
 invariant-turns g l = record {
   told : AreTold g.F.Files.tells l.fn.self.slots → (note : Option RunNote) (r : Option Stop) (s : Seen) (after : List ℕ) → IfSome note (λ n. l.self.time ≤ n.time)
-      → Comes (turns note l.limit.step l.first l.left (seen l.watch l.keys (g.F.Files.state l.files).files l.self)) r s g.S.Sink.tells (g.S.Sink.written l.out) after
-      → Comes (run note l.limit.step l.limit.count (seen l.fn.watch l.keys (g.F.Files.state l.fn.files).files l.fn.self)) r s g.S.Sink.tells (g.S.Sink.written l.fn.out) after;
+      → Comes (turns note l.limit.step l.first l.left (seen (beside l.watch l.keys (g.F.Files.state l.files).files) l.self)) r s g.S.Sink.tells (g.S.Sink.written l.out) after
+      → Comes (run note l.limit.step l.limit.count (seen (beside l.fn.watch l.keys (g.F.Files.state l.fn.files).files) l.fn.self)) r s g.S.Sink.tells (g.S.Sink.written l.fn.out) after;
   slots : l.self.slots ≡ l.fn.self.slots;
   opened : (g.F.Files.state l.files).opened ≡ (g.F.Files.state l.fn.files).opened;
   is_open : AllOpen l.self.slots (g.F.Files.state l.files).opened;

@@ -1,7 +1,7 @@
 use Rattle.std.proofs.Common.{◌≡◌, sym, ◌∙◌, None, Some, rules}
 use Rattle.event_queue.specs.EventList.{due}
 use Rattle.nova_machine.specs.Notes.{unit_note, failure_of_stop}
-use Rattle.nova_machine.specs.Seen.{seen}
+use Rattle.nova_machine.specs.Seen.{seen, beside}
 use Rattle.nova_machine.specs.Comes.{AreTold}
 use Rattle.nova_machine.proofs.Serving.{stop-at, more-at, none-at, note-first, note-later}
 use Rattle.nova_machine.proofs.Parts.{counts-none}
@@ -13,7 +13,7 @@ returns-in-Some-serve_unit-clause-told g c = λ told.
     let stop = c.in-Some-serve_unit.stop in
     let keys = c.args.keys.now in
     let files = (g.F.Files.state c.events.files).files in
-    let last = seen c.serve_unit.new.watch keys (g.F.Files.state c.serve_unit.new.files).files c.serve_unit.new.self in
+    let last = seen (beside c.serve_unit.new.watch keys (g.F.Files.state c.serve_unit.new.files).files) c.serve_unit.new.self in
     let first : due c.events.self.events ≡ Some c.in-Some.unit = sym c.in-Some.ensures.unit in
     let note = note-first stop c.in-Some.unit c.events.self first c.in-Some-serve_unit.ensures.own in
     let now : AreTold g.F.Files.tells c.take_due.new.self.slots = told-same g.F.Files.tells _ _ (search rules) told in
@@ -26,7 +26,7 @@ events-preserved g c =
     let goes : c.serve_unit.result ≡ None = search rules in
     let keys = c.args.keys.now in
     let files = (g.F.Files.state c.events.files).files in
-    let next = seen c.serve_unit.new.watch keys (g.F.Files.state c.serve_unit.new.files).files c.serve_unit.new.self in
+    let next = seen (beside c.serve_unit.new.watch keys (g.F.Files.state c.serve_unit.new.files).files) c.serve_unit.new.self in
     let first : due c.events.self.events ≡ Some c.in-Some.unit = sym c.in-Some.ensures.unit in
     record {
       told = λ told note r s after still rest.
@@ -49,7 +49,7 @@ returns-clause-told g c = λ told.
     let none : due c.events.self.events ≡ None = search rules in
     let keys = c.args.keys.now in
     let files = (g.F.Files.state c.events.files).files in
-    c.events.invariant.told told None None (seen c.events.watch keys files c.take_due.new.self) (g.S.Sink.written c.events.out) tt
+    c.events.invariant.told told None None (seen (beside c.events.watch keys files) c.take_due.new.self) (g.S.Sink.written c.events.out) tt
     (none-at None c.events.watch keys files c.events.self c.take_due.new.self g.S.Sink.tells (g.S.Sink.written c.events.out) none c.take_due.ensures.taken)
 
 pub returns-in-Some-serve_unit-clause-file_cause : goal.returns-in-Some-serve_unit-clause-file_cause

@@ -4,7 +4,7 @@ use Rattle.unit_files.specs.Causes.{IsQuiet}
 use Rattle.event_queue.specs.EventList.{dues}
 use Rattle.nova_machine.specs.declared.machine.Stop.{Stop}
 use Rattle.nova_machine.specs.Notes.{UnitNote}
-use Rattle.nova_machine.specs.Seen.{Seen, seen}
+use Rattle.nova_machine.specs.Seen.{Seen, seen, beside}
 use Rattle.nova_machine.specs.Comes.{Comes, AreTold}
 use Rattle.nova_machine.specs.Service.{serving}
 use Rattle.nova_machine.proofs.Serving.{IsStillDue}
@@ -14,8 +14,8 @@ use Rattle.nova_machine.proofs.machine.Machine.serve.Given as goal
 abbrev pub invariant-events : goal.invariant-events
 invariant-events g l = record {
   told : AreTold g.F.Files.tells l.fn.self.slots → (note : Option UnitNote) (r : Option Stop) (s : Seen) (after : List ℕ) → IsStillDue note (dues l.self.events)
-      → Comes (serving note (seen l.watch l.keys (g.F.Files.state l.files).files l.self)) r s g.S.Sink.tells (g.S.Sink.written l.out) after
-      → Comes (serving note (seen l.fn.watch l.keys (g.F.Files.state l.fn.files).files l.fn.self)) r s g.S.Sink.tells (g.S.Sink.written l.fn.out) after;
+      → Comes (serving note (seen (beside l.watch l.keys (g.F.Files.state l.files).files) l.self)) r s g.S.Sink.tells (g.S.Sink.written l.out) after
+      → Comes (serving note (seen (beside l.fn.watch l.keys (g.F.Files.state l.fn.files).files) l.fn.self)) r s g.S.Sink.tells (g.S.Sink.written l.fn.out) after;
   time : l.self.time ≡ l.fn.self.time;
   slots : l.self.slots ≡ l.fn.self.slots;
   opened : (g.F.Files.state l.files).opened ≡ (g.F.Files.state l.fn.files).opened;

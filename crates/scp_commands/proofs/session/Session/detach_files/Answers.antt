@@ -2,7 +2,7 @@ use Rattle.std.proofs.Common.{ap, sym, ◌∙◌}
 use Rattle.unit_files.specs.Attachments.{attachments_of}
 use Rattle.unit_files.specs.Buffer.{AttachedFiles}
 use Rattle.file_commands.specs.AllUnits.{filed_of, keeper}
-use Rattle.nova_machine.specs.Seen.{seen}
+use Rattle.nova_machine.specs.Seen.{seen, beside}
 use Rattle.scp_commands.proofs.SeenLemmas.{attached-erased}
 use Rattle.scp_commands.proofs.CloseLemmas.{closes-of, left-is, keeps-of}
 use Rattle.scp_commands.proofs.session.Session.detach_files.Goals as goal
@@ -17,7 +17,7 @@ returns-clause-closes g c =
     let was = c.attached_mut.ensures.value in
     let before = c.self.inside.notes.items in
     let after = c.detach_all.new.notes.items in
-    let live = seen c.self.inside.watch c.self.inside.keys old.files m in
+    let live = seen (beside c.self.inside.watch c.self.inside.keys old.files) m in
     rw (← c.self.view_is)
     (closes-of c.self.inside.command c.time.result live (filed_of held old.files) (filed_of c.detach_all.new.attached new.files) k before after old new c.time.ensures.time
     (λ i. record {
