@@ -55,6 +55,12 @@ fn load(word: Word, x: u32, acs: &mut [Word; 4], carry: &mut bool) -> bool
     ensures carry { carry.new ≡ loaded_carry word acs.old carry.old }
     ensures skip { result ≡ skips_next word acs.old carry.old }
 {
+    // Most instructions load and have no skip: one test for both.
+    if word.0 % 16 == 0 {
+        acs[usize::from((word.0 >> 11) % 4)] = Word((x % 65536) as u16);
+        *carry = x >= 65536;
+        return false;
+    }
     if (word.0 >> 3) % 2 == 0 {
         acs[usize::from((word.0 >> 11) % 4)] = Word((x % 65536) as u16);
         *carry = x >= 65536;

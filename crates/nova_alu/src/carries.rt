@@ -16,7 +16,7 @@ pub(crate) enum CarryBase {
 
 impl CarryBase {
     /// The choice in bits 10-11 of an instruction word.
-    #[inline(always)]
+    #[inline]
     pub(crate) fn of_word(word: Word) -> CarryBase
         ensures { carry_code result ≡ bits 10 11 word }
     {
@@ -29,7 +29,7 @@ impl CarryBase {
     }
 
     /// The base carry, where Carry is this.
-    #[inline(always)]
+    #[inline]
     #[tactic(auto, unfolding(crate::specs::Arithmetic::base_carry))]
     pub(crate) fn base(self, carry: bool) -> bool
         ensures { result ≡ base_carry (carry_code self) carry }

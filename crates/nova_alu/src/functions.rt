@@ -20,7 +20,7 @@ pub(crate) enum Function {
 
 impl Function {
     /// The function in bits 5-7 of an instruction word.
-    #[inline(always)]
+    #[inline]
     pub(crate) fn of_word(word: Word) -> Function
         ensures { function_code result ≡ bits 5 7 word }
     {
@@ -38,7 +38,7 @@ impl Function {
 
     /// The sum of 17 bits of the words of source and destination: its low 16 bits are the result, and its carry out
     /// complements the base carry. A word is subtracted by adding its complement.
-    #[inline(always)]
+    #[inline]
     #[tactic(auto, unfolding(crate::specs::Arithmetic::function_result, crate::specs::Arithmetic::complements))]
     pub(crate) fn sum(self, s: u16, d: u16) -> u32
         ensures range { result < 2 ^ 17 }

@@ -16,7 +16,7 @@ pub(crate) enum Shift {
 
 impl Shift {
     /// The shift in bits 8-9 of an instruction word.
-    #[inline(always)]
+    #[inline]
     pub(crate) fn of_word(word: Word) -> Shift
         ensures { shift_code result ≡ bits 8 9 word }
     {
@@ -29,7 +29,7 @@ impl Shift {
     }
 
     /// The 17 bits after the shift.
-    #[inline(always)]
+    #[inline]
     #[tactic(auto, unfolding(crate::specs::Arithmetic::shifted))]
     pub(crate) fn shift(self, x: u32) -> u32
         requires { x < 2 ^ 17 }
@@ -46,7 +46,7 @@ impl Shift {
 }
 
 /// Rotates 17 bits to the left by one place. A rotation to the right undoes it.
-#[inline(always)]
+#[inline]
 #[tactic(auto, unfolding(crate::specs::Arithmetic::shifted))]
 fn rotate_left(x: u32) -> u32
     requires { x < 2 ^ 17 }
@@ -58,7 +58,7 @@ fn rotate_left(x: u32) -> u32
 }
 
 /// Rotates 17 bits to the right by one place. A rotation to the left undoes it.
-#[inline(always)]
+#[inline]
 #[tactic(auto, unfolding(crate::specs::Arithmetic::shifted))]
 fn rotate_right(x: u32) -> u32
     requires { x < 2 ^ 17 }
@@ -70,7 +70,7 @@ fn rotate_right(x: u32) -> u32
 }
 
 /// Swaps the two bytes of the result and keeps the carry. A second swap undoes it.
-#[inline(always)]
+#[inline]
 #[tactic(auto, unfolding(crate::specs::Arithmetic::shifted))]
 fn swap_bytes(x: u32) -> u32
     requires { x < 2 ^ 17 }

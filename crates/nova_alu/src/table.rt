@@ -14,7 +14,8 @@ use nova_word::Word;
 
 /// The 17 bits of carry and result after the shift, of the words of source and destination: by bits 5 to 11 of the word,
 /// which are its function, its shift and its base carry. All three are decided by one choice, since a choice costs more
-/// than what it leads to. It has one caller, so that it stands in the loop that it serves.
+/// than what it leads to. What it calls is inlined by the compiler's own choice: where all of that is always inlined, a
+/// function of so many choices is no longer inlined itself, and the loop that it serves would call it.
 #[inline(always)]
 pub(crate) fn number_of(word: Word, s: u16, d: u16, carry: bool) -> u32
     ensures value { result ≡ number_of word s d carry }
@@ -153,7 +154,7 @@ pub(crate) fn number_of(word: Word, s: u16, d: u16, carry: bool) -> u32
 }
 
 /// The 17 bits of a word with that function, base carry and shift.
-#[inline(always)]
+#[inline]
 pub(crate) fn number(
     _word: Word,
     function: Function,
