@@ -17,3 +17,7 @@ empty_watch = record {
   expects = record { list = []; tail = []; actions = [] };
   sends = [];
 }
+
+-- the tables without the actions of the stop that came last
+abbrev pub forgotten : WatchState → WatchState
+forgotten w = record w { breaks = record w.breaks { actions = [] }; expects = record w.expects { actions = [] } }

@@ -147,6 +147,13 @@ impl Breaks {
         self.actions.as_slice()
     }
 
+    /// Lets go of the actions of the break that stopped last: they were read.
+    pub fn forget(&mut self)
+        ensures { self.new ≡ table self.old.list [] }
+    {
+        self.actions = Text::new();
+    }
+
     /// How many breaks there are.
     pub fn len(&self) -> usize
         ensures length { result ≡ length self.now.list }

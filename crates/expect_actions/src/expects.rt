@@ -136,6 +136,13 @@ impl Expects {
         self.actions.as_slice()
     }
 
+    /// Lets go of the actions of the expect that stopped last: they were read.
+    pub fn forget(&mut self)
+        ensures { self.new ≡ table self.old.list self.old.tail [] }
+    {
+        self.actions = Text::new();
+    }
+
     /// Writes the bytes that were printed since the last match, 64 at most, first into `out`, and answers how many.
     pub fn tail(&self, out: &mut [u8; 64]) -> usize
         ensures count { result ≡ length self.now.tail }

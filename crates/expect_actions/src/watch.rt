@@ -1,5 +1,5 @@
 ghost use Rattle.std.specs.Prelude.{◌≡◌, IfOk};
-ghost use Rattle.expect_actions.specs.Watch.{empty_watch};
+ghost use Rattle.expect_actions.specs.Watch.{empty_watch, forgotten};
 
 use crate::breaks::Breaks;
 use crate::expects::Expects;
@@ -34,5 +34,13 @@ impl Watch {
             expects: Expects::new(alloc)?,
             sends: Sends::new(alloc)?,
         })
+    }
+
+    /// Lets go of the actions of the stop that came last: they were read.
+    pub fn forget(&mut self)
+        ensures { self.new ≡ forgotten self.old }
+    {
+        self.breaks.forget();
+        self.expects.forget();
     }
 }

@@ -1,5 +1,5 @@
 -- What is consumed behind texts that only go on.
-use Rattle.std.proofs.Common.{◌≡◌, ◌⊎◌, ⊎_elim, inl, inr, ℕ, zero, suc, ◌+◌, ◌-◌, ◌<◌, Bool, true, false, nat_le, List, [], ◌∷◌, ◌++◌, length, drop, refl, ap, sym, ◌∙◌, arith, if◌then◌else◌}
+use Rattle.std.proofs.Common.{◌≡◌, ◌⊎◌, ⊎_elim, inl, inr, ℕ, zero, suc, ◌+◌, ◌-◌, ◌<◌, Bool, true, false, nat_le, List, [], ◌∷◌, ◌++◌, length, drop, refl, ap, sym, ◌∙◌, arith, subst, if◌then◌else◌}
 use Rattle.std.proofs.lemmas.List.{drop-drop}
 use Rattle.std.proofs.lemmas.Bool.{leb-true, leb-false}
 use Rattle.observations.specs.Observations.{Observation, Prints, reads_of}
@@ -9,8 +9,8 @@ use Rattle.script_text.specs.Lines.{first_line, line_cost}
 use Rattle.scp_script.specs.Lines.{Arrival, InputEnds, Unpaid, LineComes, arrival}
 use Rattle.scp_script.specs.Scripts.{Script, still_open, cost_of_line, text_of_line, echo_text}
 use Rattle.scp_script.specs.Actions.{texts_of}
-use Rattle.scp_script.specs.Session.{State, Session, input_end, emptied_in, AllDone, BudgetSpent, Ends, Comes, Going, state_of, asking_in, asking, behind_line, behind_script_line, behind_action, upcoming_in, upcoming, Step, step, ComesTo}
-use Rattle.scp_script.specs.Laws.{lines_size, lines_cost, AreBehind, IsBehindLines, OnlyInput, LinesAreConsumed}
+use Rattle.scp_script.specs.Session.{State, Session, input_end, emptied_in, SessionEnd, AllDone, BudgetSpent, Upcoming, Ends, Comes, Going, rested, state_of, asking_in, asking, behind_line, behind_script_line, behind_action, upcoming_in, upcoming, Step, step, ComesTo}
+use Rattle.scp_script.specs.Laws.{lines_size, lines_cost, AreBehind, IsBehindLines, OnlyInput, LinesAreConsumed, AreForgotten, ActionsAreForgotten}
 use Rattle.scp_script.proofs.SessionLemmas.{arrival-paid, following-is, step-comes, step-over, upcoming-input, upcoming-done, upcoming-lines, asking-lines, upcoming-action, action-unpaid, asking-action, closing, step-still}
 use Rattle.scp_script.proofs.LineLemmas.{reply_in, left_by, text-made, text-next, made-reads, asking-reads, comes-reads}
 
@@ -39,7 +39,7 @@ record IsNextScript (s t : Session) : Type 0 where
   pub reading : t.reads ≡ s.reads
 
 -- the session that a text has left
-left-is : (s behind t : Session) (text : List ℕ) → upcoming s ≡ Comes text behind → (step s).next ≡ Going t → left_by behind (asked text) ≡ t
+left-is : (s behind t : Session) (text : List ℕ) → upcoming s ≡ Comes text behind → (step s).next ≡ Going t → rested (left_by behind (asked text)) ≡ t
 left-is s behind t text e h =
     let is = step-comes s behind text (asked text) e refl in
     following-is (reply_in behind (asked text)).answer (left_by behind (asked text)) t (sym (text-next s behind (asked text)) ∙ sym (ap (λ (x : Step). x.next) is) ∙ h)
@@ -219,3 +219,19 @@ lines-behind (suc count) s t made (mid, more, goes, parts, rest) closed =
 
 pub lines-are-consumed : LinesAreConsumed
 lines-are-consumed = record { texts = texts-behind; lines = lines-behind }
+
+-- ---- the actions of a stop
+
+comes-rested : (s t : Session) (u : Upcoming) → upcoming s ≡ u → (step s).next ≡ Going t → AreForgotten t
+comes-rested s t (Ends end) e h = let over = ap (λ (x : Step). x.next) (step-over s end e) in absurd (cc (over, h))
+comes-rested s t (Comes text behind) e h = subst AreForgotten (left-is s behind t text e h) refl
+
+next-rested : (s t : Session) → (step s).next ≡ Going t → AreForgotten t
+next-rested s t h = comes-rested s t (upcoming s) refl h
+
+all-rested : (count : ℕ) (s t : Session) (made : List (Observation State)) → AreForgotten s → ComesTo count s made t → AreForgotten t
+all-rested zero s t made none (empty, same) = subst AreForgotten same none
+all-rested (suc count) s t made none (mid, more, goes, parts, rest) = all-rested count mid t more (next-rested s mid goes) rest
+
+pub actions-are-forgotten : ActionsAreForgotten
+actions-are-forgotten = record { next = next-rested; all = all-rested }

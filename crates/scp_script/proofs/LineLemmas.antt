@@ -23,7 +23,7 @@ use Rattle.scp_script.specs.Reading.{AreRead}
 use Rattle.scp_script.specs.Actions.{Texts, texts_of, texts_behind}
 use Rattle.unit_trait.specs.declared.kind.UnitName.{UnitName}
 use Rattle.scp_script.specs.Session as ends
-use Rattle.scp_script.specs.Session.{emptied_in, input_end, State, Session, SessionEnd, ExitDone, AllDone, InputEnded, BudgetSpent, end_status, state_of, state_at, closed, end_state, Going, Over, Ends, Comes, prompt_text, asking_input, asking, upcoming, text_reply, following, text_step, step, over_by, course, trace}
+use Rattle.scp_script.specs.Session.{emptied_in, input_end, State, Session, SessionEnd, ExitDone, AllDone, InputEnded, BudgetSpent, end_status, state_of, state_at, closed, end_state, Going, rested, Over, Ends, Comes, prompt_text, asking_input, asking, upcoming, text_reply, following, text_step, step, over_by, course, trace}
 use Rattle.scp_script.specs.Loop.{exit_of, IsAnswer, IsShort, LetsThrough, status_of, finish_of, Finishes, Progresses}
 use Rattle.scp_script.proofs.TextLemmas.{text-reads}
 use Rattle.scp_script.proofs.SessionLemmas.{arrival-paid, trace-is, trace-asks, trace-begins, course-over, step-comes, step-over, upcoming-input, upcoming-done, asking-is, asking-done}
@@ -216,7 +216,7 @@ made-reads s behind what =
     ∙ ap (λ n. reads_of (asking s) + n) (none-made behind what)
     ∙ add-zero (reads_of (asking s))
 
-following-none : (answer : Answer) (s : Session) → exit_of answer ≡ None → following answer s ≡ Going s
+following-none : (answer : Answer) (s : Session) → exit_of answer ≡ None → following answer s ≡ Going (rested s)
 following-none (Ok (ExitNext status)) s e = absurd (cc)
 following-none (Ok Go) s e = refl
 following-none (Ok (Ran stop)) s e = refl
@@ -301,7 +301,7 @@ answered old behind new text what used GoesOn tells before mid after kept kept' 
     let said : IsSaid reply (standing used new.live) tells mid after = a.2 in
     let state = placed behind new used notes ∙ ap (state_at behind.notes) said.after_is in
     record {
-      next = ap (λ s. s.next) is ∙ text-next old behind what ∙ following-none reply.answer (left_by behind what) a.0 ∙ ap Going (left-is behind new what b state a.1);
+      next = ap (λ s. s.next) is ∙ text-next old behind what ∙ following-none reply.answer (left_by behind what) a.0 ∙ ap (λ (x : Session). Going (rested x)) (left-is behind new what b state a.1);
       written = said.written told ∙ ap (λ t. t ++ text_of reply.made) asks ∙ append_assoc before (text_of (asking old)) (text_of reply.made)
           ∙ ap (λ t. before ++ t) (sym (ap (λ l. text_of l) made ∙ text-text old behind what));
       reads = subst (λ n. AreRead n old.open_ old.input new.open_ new.input) (sym (ap (λ l. reads_of l) made ∙ made-reads old behind what)) reads;

@@ -10,7 +10,7 @@ use Rattle.script_text.specs.Lines.{line_cost, first_line, command_line}
 use Rattle.scp_script.specs.Lines.{Arrival, InputEnds, Unpaid, LineComes, arrival}
 use Rattle.scp_script.specs.Scripts.{Script, still_open, cost_of_line, text_of_line, echo_text}
 use Rattle.scp_script.specs.Actions.{Texts, texts_of, texts_behind}
-use Rattle.scp_script.specs.Session.{State, Session, SessionEnd, ExitDone, AllDone, InputEnded, FlushFailed, BudgetSpent, end_status, state_of, closed, end_state, Following, Going, Over, Upcoming, Ends, Comes, asking_input, asking_in, asking_at, asking, behind_line, behind_script_line, behind_action, upcoming_of, upcoming_in, upcoming_at, upcoming, text_reply, following, text_step, Step, step_upcoming, step, Course, over_by, after_step, texts, course, trace}
+use Rattle.scp_script.specs.Session.{State, Session, SessionEnd, ExitDone, AllDone, InputEnded, FlushFailed, BudgetSpent, end_status, state_of, closed, end_state, Following, Going, rested, Over, Upcoming, Ends, Comes, asking_input, asking_in, asking_at, asking, behind_line, behind_script_line, behind_action, upcoming_of, upcoming_in, upcoming_at, upcoming, text_reply, following, text_step, Step, step_upcoming, step, Course, over_by, after_step, texts, course, trace}
 
 pub going-equal : {s t : Session} → Going s ≡ Going t → s ≡ t
 going-equal h = cc
@@ -38,7 +38,7 @@ behind-action-budget : (s : Session) (others : List (List ℕ)) → (behind_acti
 unfolding behind_action
 behind-action-budget s others = refl
 
-pub following-is : (answer : Answer) (s t : Session) → following answer s ≡ Going t → s ≡ t
+pub following-is : (answer : Answer) (s t : Session) → following answer s ≡ Going t → rested s ≡ t
 following-is (Ok (Exit status)) s t h = absurd (cc)
 following-is (Ok Go) s t h = going-equal h
 following-is (Ok (Ran stop)) s t h = going-equal h

@@ -1,5 +1,5 @@
 -- All lines of a session, one behind another.
-use Rattle.std.proofs.Common.{Option, ◌≡◌, inl, ℕ, zero, suc, ◌+◌, Bool, List, [], ◌++◌, length, drop, refl, ap, sym, ◌∙◌, subst, arith, append_assoc, append-nil, zero-add, length-append}
+use Rattle.std.proofs.Common.{Option, ◌≡◌, inl, ℕ, zero, suc, ◌+◌, Bool, List, [], ◌∷◌, ◌++◌, length, drop, refl, ap, sym, ◌∙◌, subst, arith, append_assoc, append-nil, zero-add, length-append}
 use Rattle.std.proofs.lemmas.List.{drop-drop}
 use Rattle.fault_counts.specs.Faults.{raised}
 use Rattle.host_files.specs.State.{FileState}
@@ -10,14 +10,17 @@ use Rattle.observations.specs.Cut.{behind, ends, cut, cut_trace}
 use Rattle.observations.proofs.CutLemmas.{cut-after}
 use Rattle.observations.proofs.MadeLemmas.{text_of-append, reads_of-append, after_made-append}
 use Rattle.fault_notes.specs.declared.note.FaultNote.{FaultNote}
-use Rattle.fault_notes.specs.Notes.{Note}
+use Rattle.fault_notes.specs.Notes.{CommandNote, Note}
+use Rattle.expect_actions.specs.Watch.{WatchState}
+use Rattle.scp_commands.specs.Live.{Live}
+use Rattle.scp_commands.specs.Doing.{ComeBehind}
 use Rattle.fault_notes.proofs.Adding.{counted-both, counted-none}
 use Rattle.scp_script.specs.declared.progress.Progress.TheVariants.{GoesOn, IsOver}
 use Rattle.scp_script.specs.declared.progress.Finish.{Finish}
 use Rattle.scp_script.specs.declared.progress.Finish.TheVariants.{Exit, EndOfInput, FlushFailed, Commands, Console, Input, OutOfMemory}
 use Rattle.scp_script.specs.Lines.{reads_left}
 use Rattle.scp_script.specs.Reading.{AreRead}
-use Rattle.scp_script.specs.Session.{State, Session, step, Going, after_step, course, trace, ComesTo}
+use Rattle.scp_script.specs.Session.{State, Session, step, Going, rested, after_step, course, trace, ComesTo}
 use Rattle.scp_script.specs.Loop.{status_of, finish_of, Finishes, FinishCause, GoesPast, LetsThrough, RunsOut, MayFollow, Progresses, Stepped, AreKept, KeptCause}
 use Rattle.scp_script.specs.Perform.{IsSession, RunsShort, IsPerformed, Performed}
 use Rattle.scp_script.proofs.SessionLemmas.{course-going}
@@ -65,13 +68,13 @@ reads-behind m n o1 o2 o3 i1 i2 i3 a b = record {
   count = omega (arith, a.count, b.count);
 }
 
-pub reached-more : (start now next : Session) (before mid after : List ℕ) → Reached start now before mid → GoesPast now next mid after → Reached start next before after
+pub reached-more : (start now next : Session) (before mid after : List ℕ) → Reached start now before mid → GoesPast now next mid after → Reached start (rested next) before after
 reached-more start now next before mid after r g = record {
   count = suc r.count;
   done = r.done ++ (step now).made;
-  comes = comes-more r.count start now next r.done r.comes g.next;
-  so_far = r.so_far ∙ ap (λ c. after_step r.done (Going now) (λ _. c)) (course-going now next g.next)
-      ∙ ap (λ t. record { trace = t; end = (course next).end }) (sym (after_made-append r.done (step now).made (course next).trace));
+  comes = comes-more r.count start now (rested next) r.done r.comes g.next;
+  so_far = r.so_far ∙ ap (λ c. after_step r.done (Going now) (λ _. c)) (course-going now (rested next) g.next)
+      ∙ ap (λ t. record { trace = t; end = (course (rested next)).end }) (sym (after_made-append r.done (step now).made (course (rested next)).trace));
   written = g.written ∙ ap (λ t. t ++ text_of (step now).made) r.written ∙ append_assoc before (text_of r.done) (text_of (step now).made)
       ∙ ap (λ t. before ++ t) (sym (text_of-append r.done (step now).made));
   reads = subst (λ n. AreRead n start.open_ start.input next.open_ next.input) (sym (reads_of-append r.done (step now).made))
@@ -159,15 +162,31 @@ begun start before notes = record {
   comes = λ more follow. reached-none (start more) before;
 }
 
+-- what may come behind where the actions of the last stop were let go of
+late-rested : (live : Live) (watch : WatchState) (notes : List CommandNote) → ComeBehind (record live { watch = watch }) notes → ComeBehind live notes
+late-rested live watch [] late = late
+late-rested live watch (n ∷ notes) (late, more) = (
+  record { unit = late.unit; subject_is = late.subject_is; among = late.among; call = late.call; there = late.there },
+  late-rested live watch notes more,
+)
+
+follow-rested : (number : ℕ) (live : Live) (watch : WatchState) (notes : List Note) → MayFollow number (record live { watch = watch }) notes → MayFollow number live notes
+follow-rested number live watch notes f = record { behind = f.behind; later = f.later; are = f.are; closings = late-rested live watch f.behind f.closings; follows = f.follows }
+
 pub further : (start now next : List Note → Session) (before mid after : List ℕ) (notes notes' notes'' : List Note) → ComesSoFar start now before mid notes notes'
-    → Stepped now GoesOn next mid after notes' notes'' → ComesSoFar start next before after notes notes''
-further start now next before mid after notes notes' notes'' s st = record {
-  own = s.own ++ st.own;
-  kept = st.kept ∙ ap (λ l. l ++ st.own) s.kept ∙ append_assoc notes s.own st.own;
-  first = λ more follow. subst (λ l. MayFollow (start []).spent (start []).live l) (sym (append_assoc s.own st.own more)) (s.first (st.own ++ more) (st.first more follow));
-  comes = λ more follow. subst (λ l. Reached (start l) (next more) before after) (sym (append_assoc s.own st.own more))
-      (reached-more (start (s.own ++ (st.own ++ more))) (now (st.own ++ more)) (next more) before mid after (s.comes (st.own ++ more) (st.first more follow)) (st.goes more follow));
-}
+    → Stepped now GoesOn next mid after notes' notes'' → ComesSoFar start (λ n. rested (next n)) before after notes notes''
+further start now next before mid after notes notes' notes'' s st =
+    let follows : (more : List Note) → MayFollow (next []).spent (rested (next [])).live more → MayFollow (next []).spent (next []).live more =
+        λ more follow. follow-rested (next []).spent (next []).live (rested (next [])).live.watch more follow in
+    record {
+      own = s.own ++ st.own;
+      kept = st.kept ∙ ap (λ l. l ++ st.own) s.kept ∙ append_assoc notes s.own st.own;
+      first = λ more follow. subst (λ l. MayFollow (start []).spent (start []).live l) (sym (append_assoc s.own st.own more))
+          (s.first (st.own ++ more) (st.first more (follows more follow)));
+      comes = λ more follow. subst (λ l. Reached (start l) (rested (next more)) before after) (sym (append_assoc s.own st.own more))
+          (reached-more (start (s.own ++ (st.own ++ more))) (now (st.own ++ more)) (next more) before mid after
+          (s.comes (st.own ++ more) (st.first more (follows more follow))) (st.goes more (follows more follow)));
+    }
 
 pub over : (start now : List Note → Session) (new : Session) (finish : Finish) (before mid after : List ℕ) (notes notes' notes'' : List Note) → ComesSoFar start now before mid notes notes'
     → Stepped now (IsOver finish) (with_notes new) mid after notes' notes'' → Performed start finish new.live new.input before after notes notes''

@@ -3,7 +3,8 @@ use Rattle.std.specs.Prelude.{◌≡◌, ℕ, zero, suc, ◌+◌, ◌<◌, ◌�
 use Rattle.observations.specs.Observations.{Observation, reads_of}
 use Rattle.script_text.specs.Lines.{first_line, line_cost}
 use Rattle.scp_script.specs.Actions.{texts_of}
-use Rattle.scp_script.specs.Session.{State, Session, step, after_step, course, ComesTo}
+use Rattle.expect_actions.specs.Watch.{forgotten}
+use Rattle.scp_script.specs.Session.{State, Session, Going, step, after_step, course, ComesTo}
 
 -- a session does its next text, and then what the session behind that text does: the bound in the definition of a
 -- course is never what ends it
@@ -49,3 +50,12 @@ OnlyInput count s made t = (before : ℕ) (more : List (Observation State)) (mid
 pub record LinesAreConsumed : Type 0 where
   pub texts : (count : ℕ) (s t : Session) (made : List (Observation State)) → ComesTo count s made t → AreBehind count s made t
   pub lines : (count : ℕ) (s t : Session) (made : List (Observation State)) → ComesTo count s made t → OnlyInput count s made t → IsBehindLines count s made t
+
+-- no actions of a stop are kept
+abbrev pub AreForgotten : Session → Type 0
+AreForgotten s = s.live.watch ≡ forgotten s.live.watch
+
+-- Between two texts none are, wherever none were before the first; and after one text none are at all.
+pub record ActionsAreForgotten : Type 0 where
+  pub next : (s t : Session) → (step s).next ≡ Going t → AreForgotten t
+  pub all : (count : ℕ) (s t : Session) (made : List (Observation State)) → AreForgotten s → ComesTo count s made t → AreForgotten t

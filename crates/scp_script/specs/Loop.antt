@@ -35,7 +35,7 @@ use Rattle.expect_actions.specs.Watch.{WatchState}
 use Rattle.scp_script.specs.declared.texts.Texts.{Texts as HeldTexts}
 use Rattle.scp_script.specs.Actions.{Texts, texts_of, texts_behind}
 use Rattle.scp_script.specs.Session as ends
-use Rattle.scp_script.specs.Session.{State, Session, SessionEnd, ExitDone, AllDone, InputEnded, BudgetSpent, Going, asking, with_complaint, text_reply, step, course, trace}
+use Rattle.scp_script.specs.Session.{State, Session, SessionEnd, ExitDone, AllDone, InputEnded, BudgetSpent, Going, rested, asking, with_complaint, text_reply, step, course, trace}
 
 -- the texts that the loop holds
 abbrev pub coming : HeldTexts → Texts
@@ -176,9 +176,9 @@ pub record Finishes (old : Session) (finish : Finish) (new : Session) (before af
   pub end : EndsAs (trace old) (status_of finish) gives made before after (record { live = new.live; notes = new.notes })
   pub named : NamesEnd finish (course old).end
 
--- the session goes on behind its next text, all of whose observations were made
+-- the session goes on behind its next text, all of whose observations were made; the actions of a stop are let go of then
 pub record GoesPast (old new : Session) (before after : List ℕ) : Type 0 where
-  pub next : (step old).next ≡ Going new
+  pub next : (step old).next ≡ Going (rested new)
   pub written : after ≡ before ++ text_of (step old).made
   pub reads : AreRead (reads_of (step old).made) old.open_ old.input new.open_ new.input
 

@@ -7,6 +7,7 @@ use Rattle.scp_commands.specs.Live.{Live, Standing}
 use Rattle.scp_commands.specs.Reply.{Answer, Reply}
 use Rattle.scp_commands.specs.FaultText.{fault_text}
 use Rattle.unit_trait.specs.declared.kind.UnitName.{UnitName}
+use Rattle.expect_actions.specs.Watch.{forgotten}
 use Rattle.file_commands.specs.AllUnits.{Emptied}
 use Rattle.scp_commands.specs.FileEffects.{emptied_all, emptied_live}
 use Rattle.scp_commands.specs.Effect.{Asked, does, asked}
@@ -160,9 +161,13 @@ pub data Following : Type 0 where
   Going : Session → Following
   Over : SessionEnd → State → Following
 
+-- between two texts no actions of a stop are kept: those that came last wait as texts, or were refused
+abbrev pub rested : Session → Session
+rested s = record s { live = record s.live { watch = forgotten s.live.watch } }
+
 abbrev pub following : Answer → Session → Following
 following (Ok (Exit status)) s = Over (ExitDone status) (state_of s)
-following answer s = Going s
+following answer s = Going (rested s)
 
 -- what one text of a session comes to
 pub record Step : Type 0 where

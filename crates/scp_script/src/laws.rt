@@ -1,5 +1,5 @@
 ghost use Rattle.scp_script.specs.Core.{SameCoreSameFuture, CutBehindTexts};
-ghost use Rattle.scp_script.specs.Laws.{LineByLine, LinesAreConsumed};
+ghost use Rattle.scp_script.specs.Laws.{ActionsAreForgotten, LineByLine, LinesAreConsumed};
 
 /// The law that a session goes line by line, to its own end and not to that of the bound in its definition.
 pub fn session_goes_line_by_line()
@@ -20,4 +20,9 @@ pub fn same_core_same_future()
 /// The law that a session is cut behind each of its texts: what follows is what the session there does.
 pub fn session_is_cut_behind_texts()
     ensures { CutBehindTexts }
+{}
+
+/// The law that between two texts no actions of a stop are kept: those of the last one wait as texts, or were refused.
+pub fn actions_are_forgotten()
+    ensures { ActionsAreForgotten }
 {}

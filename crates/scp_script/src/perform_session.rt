@@ -73,7 +73,8 @@ pub fn perform<U: Unit, C: Source, F: Files, S: Sink>(
     };
     'lines: loop {
         match next_line(alloc, session, &mut lines, input, files, out) {
-            Progress::GoesOn => (),
+            // The actions of a stop wait now, or were refused.
+            Progress::GoesOn => session.watch.forget(),
             Progress::IsOver(finish) => return finish,
         }
     }
