@@ -8,14 +8,14 @@ use crate::faults::{LoadFault, Start};
 use nova_memory::Memory;
 use nova_word::{Addr, Word};
 
-/// Loads a tape: its words go to their addresses, in their order, and the start is answered. A start past the memory is no
-/// fault. The whole tape is checked before the first word is stored, so that after a fault the memory is as it was.
+/// Loads a tape: its words go to their addresses, in their order, and the start is answered. A start past the memory is
+/// no fault. The whole tape is checked before the first word is stored, so that after a fault the memory is as it was.
 ///
-/// A tape is blocks, with zero bytes before, between and behind them, and all words stand with their low byte first. The
-/// first word of a block is its count. As a signed number, -1 to -16 is a block of that many words; one below -16 a block
-/// of one word, for that many addresses; 1 the start block, which ends the tape; and a block with a count above 1 is
-/// ignored, up to its first byte of all ones. The others have their origin, a checksum and their words behind the count,
-/// and all of it adds up to 0.
+/// A tape is blocks, with zero bytes before, between and behind them, and all words stand with their low byte first.
+/// The first word of a block is its count. As a signed number, -1 to -16 is a block of that many words; one below -16 a
+/// block of one word, for that many addresses; 1 the start block, which ends the tape; and a block with a count above 1
+/// is ignored, up to its first byte of all ones. The others have their origin, a checksum and their words behind the
+/// count, and all of it adds up to 0.
 pub fn load(bytes: &[u8], memory: &mut Memory) -> Result<Start, LoadFault>
     ensures answer { result ≡ answer (tape memory.old.size bytes.now) }
     ensures memory { memory.new ≡ loaded memory.old (tape memory.old.size bytes.now) }

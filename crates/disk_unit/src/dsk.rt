@@ -16,7 +16,8 @@ use unit_trait::{After, Got, IoAnswer, IoOp, Kind, Pulse, Queue, RegFault, Unit,
 /// | 3 | TIME | 1 to 65535 | 200 | no | how many instructions a sector takes |
 /// | 4 | DA | 0 to 17777 (octal) | 0 | no | the number of the sector: platter, track in 7 bits, sector in 3 |
 /// | 5 | MA | 0 to 77777 (octal) | 0 | no | the address of its first word in memory |
-/// | 6 | STAT | 0 to 17 (octal) | 0 | yes | the sum of 1 for an error, 4 for no file and 10 (octal) for a read only file |
+/// | 6 | STAT | 0 to 17 (octal) | 0 | yes | the sum of 1 for an error, 4 for no file and 10 (octal) for a read only
+/// file |
 /// | 7 | WRITE | 0, 1 | 0 | yes | whether the sector goes from memory to the file |
 ///
 /// | call | what it does |

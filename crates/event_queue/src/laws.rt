@@ -1,7 +1,7 @@
 ghost use Rattle.event_queue.specs.Laws.{RemainingTimesAreDueTimes, ListsStaySound};
 
-/// The law that the remaining times are those of a list of absolute times: what is done to the one is done to the other,
-/// and a tick leaves the times at which the events are due.
+/// The law that the remaining times are those of a list of absolute times: what is done to the one is done to the
+/// other, and a tick leaves the times at which the events are due.
 pub fn remaining_times_are_due_times()
     ensures { RemainingTimesAreDueTimes }
 {}

@@ -56,8 +56,8 @@ impl Breaks {
         })
     }
 
-    /// Puts a break at an address, where it replaces one that is there. `Full` comes exactly where it would be the 257th.
-    /// After a fault the table is as it was.
+    /// Puts a break at an address, where it replaces one that is there. `Full` comes exactly where it would be the
+    /// 257th. After a fault the table is as it was.
     pub fn add(&mut self, at: Addr, count: u32, actions: &[u8]) -> Result<(), AddFault>
         requires { length actions.now ≤ 512 }
         ensures full { (result ≡ Err AddFault.Full) ↔ ((has_break at self.old.list ≡ false) × (length self.old.list ≡ 256)) }
@@ -184,8 +184,8 @@ fn take_out(list: &mut Vec<Break>, at: Addr)
     list.retain(|b| b.address.number() != at.number());
 }
 
-// Removes the break of an address, where it is there, and sees that there is room for it. After a fault the list is as it
-// was.
+// Removes the break of an address, where it is there, and sees that there is room for it. After a fault the list is as
+// it was.
 fn make_room(list: &mut Vec<Break>, at: Addr, there: bool) -> Result<(), AddFault>
     requires few { length list.old.items ≤ 256 }
     requires there { there ≡ has_break at list.old.items }

@@ -89,9 +89,9 @@ impl Expects {
         self.list.clear();
     }
 
-    /// Takes a byte that the console has printed. The first expect whose text the printed bytes now end with matches, and
-    /// they are forgotten: a count above 1 is lowered by one, any other expect is removed and stops. Answers its place
-    /// from 0; None comes exactly where none stops.
+    /// Takes a byte that the console has printed. The first expect whose text the printed bytes now end with matches,
+    /// and they are forgotten: a count above 1 is lowered by one, any other expect is removed and stops. Answers its
+    /// place from 0; None comes exactly where none stops.
     pub fn printed(&mut self, byte: u8) -> Option<usize>
         ensures stop { result ≡ match_at byte self.old }
         ensures after { self.new ≡ after_printed byte self.old }

@@ -1,5 +1,5 @@
-//! What comes to a run from outside it, and what stops it and goes on: keys that are typed at given times, bytes that are
-//! sent to the keyboard, breaks, expects, and the actions that wait to be done.
+//! What comes to a run from outside it, and what stops it and goes on: keys that are typed at given times, bytes that
+//! are sent to the keyboard, breaks, expects, and the actions that wait to be done.
 #![tactic(auto)]
 
 pub mod actions;

@@ -45,9 +45,9 @@ impl Sends {
         })
     }
 
-    /// Queues the bytes of a text. The first is due `after` instructions after now, or after the last byte that is still
-    /// queued where that is later, and each further one `delay` later than the byte before it; a time past 2^62 becomes
-    /// 2^62. `Full` comes exactly where more than 4096 bytes would wait, and then none is queued.
+    /// Queues the bytes of a text. The first is due `after` instructions after now, or after the last byte that is
+    /// still queued where that is later, and each further one `delay` later than the byte before it; a time past 2^62
+    /// becomes 2^62. `Full` comes exactly where more than 4096 bytes would wait, and then none is queued.
     pub fn add(&mut self, now: u64, after: u32, delay: u32, text: &[u8]) -> Result<(), Full>
         ensures full { IsErr result ↔ (4096 < length self.old + length text.now) }
         ensures ok { OnOk result (self.new ≡ queued now after delay text.now self.old) }

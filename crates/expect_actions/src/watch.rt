@@ -7,8 +7,8 @@ use crate::sends::Sends;
 use std::alloc::{AllocError, Global};
 use std::marker::Model;
 
-/// What a run watches besides the machine: the breaks and the expects at which it stops, and the bytes that wait for the
-/// keyboard.
+/// What a run watches besides the machine: the breaks and the expects at which it stops, and the bytes that wait for
+/// the keyboard.
 #[derive(Drop)]
 pub struct Watch {
     pub breaks: Breaks,

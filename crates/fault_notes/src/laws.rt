@@ -1,7 +1,7 @@
 ghost use Rattle.fault_notes.specs.Laws.{CommandsTakeTheirNotes, CountsAddUp};
 
-/// The law that a command is handed exactly the notes that have its number, where the next one has a greater number; and
-/// that those are then gone, and the others left.
+/// The law that a command is handed exactly the notes that have its number, where the next one has a greater number;
+/// and that those are then gone, and the others left.
 pub fn commands_take_their_notes()
     ensures { CommandsTakeTheirNotes }
 {}

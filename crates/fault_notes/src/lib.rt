@@ -1,5 +1,5 @@
-//! The notes of a session: one for each call on a file that failed, in order. Each says in which command it failed, when,
-//! for whom, which file and which call it was, and how many bytes a write had written.
+//! The notes of a session: one for each call on a file that failed, in order. Each says in which command it failed,
+//! when, for whom, which file and which call it was, and how many bytes a write had written.
 #![tactic(auto)]
 
 mod keeping;

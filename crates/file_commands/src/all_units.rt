@@ -63,9 +63,9 @@ pub const ATTACHABLE: [UnitName; 12] = [
     },
 ];
 
-/// Takes the files of all units away, one behind another, in bus order. What the disk holds is written back first; where
-/// that fails, it is noted and answered, and all units keep their files. A closing that fails is noted, and the others
-/// follow.
+/// Takes the files of all units away, one behind another, in bus order. What the disk holds is written back first;
+/// where that fails, it is noted and answered, and all units keep their files. A closing that fails is noted, and the
+/// others follow.
 pub fn detach_all<F: Files>(
     attached: &mut Attached,
     files: &mut F,
@@ -86,8 +86,8 @@ pub fn detach_all<F: Files>(
     detach_each(attached, &ATTACHABLE, files, notes, stamp)
 }
 
-/// Takes the files of these units away, one behind another, up to one that could not be written back. A closing that fails
-/// is noted, and the others follow.
+/// Takes the files of these units away, one behind another, up to one that could not be written back. A closing that
+/// fails is noted, and the others follow.
 fn detach_each<F: Files>(
     attached: &mut Attached,
     units: &[UnitName],

@@ -8,13 +8,13 @@ use std::alloc::Global;
 /// How many bytes of a file are read ahead at most.
 pub const PAGE: usize = 4096;
 
-/// Files that are read by pages, so that bytes can be taken one by one without a call of the files beneath for each. One
-/// page of one file is held. What is read is what those files hold, as long as they are changed by nobody else.
+/// Files that are read by pages, so that bytes can be taken one by one without a call of the files beneath for each.
+/// One page of one file is held. What is read is what those files hold, as long as they are changed by nobody else.
 ///
 /// A read is answered from the page where that has all of its bytes. Else the files are asked, so no end of a file is
-/// kept, and no failure. Writes, new lengths, openings and closings go to the files at once. A write, to whichever file,
-/// leaves of the page what stands behind its own last place, and each of the others nothing: so a tape can be copied
-/// byte by byte, and two files may be one by names that nobody compares.
+/// kept, and no failure. Writes, new lengths, openings and closings go to the files at once. A write, to whichever
+/// file, leaves of the page what stands behind its own last place, and each of the others nothing: so a tape can be
+/// copied byte by byte, and two files may be one by names that nobody compares.
 #[derive(Drop)]
 pub struct PagedFiles<F: Files> {
     files: F,

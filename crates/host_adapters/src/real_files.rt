@@ -17,8 +17,8 @@ use std::rt::Files as System;
 /// The files of a system, by their paths. Their bytes are not told. Each call that fails raises the count of its file,
 /// and each opening that fails the count of openings, an opening that finds no file among them.
 ///
-/// A call that a signal cuts short is made again, up to 64 times in a row. A folder is not opened. A pipe, a terminal or
-/// another device that was opened to be read only has no length, since the system says 0 of what has bytes: `length`
+/// A call that a signal cuts short is made again, up to 64 times in a row. A folder is not opened. A pipe, a terminal
+/// or another device that was opened to be read only has no length, since the system says 0 of what has bytes: `length`
 /// fails. What the system meets where it closes a file is not told: closing does not fail.
 #[derive(Drop)]
 pub struct RealFiles<R: System + Drop> {

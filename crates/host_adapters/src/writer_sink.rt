@@ -44,9 +44,9 @@ impl<W: Write> Sink for WriterSink<W> {
 
     ghost fault_count = { λ s. s.faults };
 
-    /// Hands the piece to the writer once, and takes as many of its first bytes as the writer does. A write that a signal
-    /// cuts short is made again, up to 64 times in a row; any other error is a fault, and so is a writer that takes
-    /// nothing of a piece that is not empty.
+    /// Hands the piece to the writer once, and takes as many of its first bytes as the writer does. A write that a
+    /// signal cuts short is made again, up to 64 times in a row; any other error is a fault, and so is a writer that
+    /// takes nothing of a piece that is not empty.
     fn write(&mut self, bytes: &[u8]) -> Result<usize, Failed>
         ensures takes { WriteTakes result bytes.now }
         ensures adds { WriteAppends self.old.written self.new.written result bytes.now }

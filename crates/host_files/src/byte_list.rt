@@ -63,9 +63,9 @@ impl ByteList {
         })
     }
 
-    /// Names a call of `Bytes` that is to fail, by its number; `faults` is no such call. Where it is a write, it writes so
-    /// many first bytes of its piece, or all where the piece is shorter, if they have room. A number that was named before,
-    /// or whose call has passed, changes nothing, and neither does a call that finds no memory.
+    /// Names a call of `Bytes` that is to fail, by its number; `faults` is no such call. Where it is a write, it writes
+    /// so many first bytes of its piece, or all where the piece is shorter, if they have room. A number that was named
+    /// before, or whose call has passed, changes nothing, and neither does a call that finds no memory.
     pub fn fail_call(&mut self, number: u64, done: usize) -> Result<(), OutOfMemory>
         ensures ok { OnOk result (self.new ≡ record self.old { calls = with_failing self.old.calls number done }) }
         ensures refused { OnErr result (self.new ≡ self.old) }

@@ -29,7 +29,8 @@ impl Model for ByteSink {
 }
 
 impl ByteSink {
-    /// An empty sink with room for so many bytes, none of whose writes is to fail. It takes the memory for them at once.
+    /// An empty sink with room for so many bytes, none of whose writes is to fail. It takes the memory for them at
+    /// once.
     pub fn with_room(alloc: Global, room: usize) -> Result<ByteSink, OutOfMemory>
         ensures { IfOk result (λ s. s ≡ record { written = []; room_left = room; calls = no_calls }) }
     {

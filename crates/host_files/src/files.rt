@@ -78,8 +78,8 @@ pub trait Files {
         ensures opened { (state self.new).opened ≡ (state self.old).opened }
         ensures counted { Counted file.0 (state self.old) (state self.new) result };
 
-    /// Writes a piece at a place. A gap in front of it is filled with zero bytes. Where it fails, so many first bytes of
-    /// the piece were written as its fault says.
+    /// Writes a piece at a place. A gap in front of it is filled with zero bytes. Where it fails, so many first bytes
+    /// of the piece were written as its fault says.
     fn write_at(&mut self, file: FileId, place: u64, bytes: &[u8]) -> Result<(), WriteFault>
         requires open { IsOpen (state self.old) file.0 }
         requires writable { IsWritable (state self.old) file.0 }

@@ -1,5 +1,5 @@
-//! What the program reads from and writes to: streams of bytes, and files by their names, with versions of both in memory
-//! for tests and for whoever runs a machine inside a program of their own.
+//! What the program reads from and writes to: streams of bytes, and files by their names, with versions of both in
+//! memory for tests and for whoever runs a machine inside a program of their own.
 #![tactic(auto)]
 
 pub mod byte_list;

@@ -54,9 +54,9 @@ impl MemFiles {
         })
     }
 
-    /// Names a call of `Files` that is to fail, by its number. Where it is a write, it writes so many first bytes of its
-    /// piece, or all where the piece is shorter, if they have room. A number that was named before, or whose call has
-    /// passed, changes nothing, and neither does a call that finds no memory.
+    /// Names a call of `Files` that is to fail, by its number. Where it is a write, it writes so many first bytes of
+    /// its piece, or all where the piece is shorter, if they have room. A number that was named before, or whose call
+    /// has passed, changes nothing, and neither does a call that finds no memory.
     pub fn fail_call(&mut self, number: u64, done: usize) -> Result<(), AllocError>
         ensures ok { OnOk result (mem_of self.new ≡ record (mem_of self.old) { calls = with_failing self.old.calls number done }) }
         ensures refused { OnErr result (mem_of self.new ≡ mem_of self.old) }

@@ -7,8 +7,8 @@ ghost use Rattle.host_files.specs.OneList.{Behind, longest_list, shown};
 use crate::files::WriteFault;
 use crate::streams::Failed;
 
-/// One list of bytes: that of an open file, or one in memory. Places and lengths count bytes. Reads and `length` see its
-/// first 67108864 bytes, and no write passes that place.
+/// One list of bytes: that of an open file, or one in memory. Places and lengths count bytes. Reads and `length` see
+/// its first 67108864 bytes, and no write passes that place.
 pub trait Bytes {
     /// Whether contracts can name its bytes: those of one in memory, and not those of a real file.
     ghost tells: { Bool };
@@ -45,8 +45,8 @@ pub trait Bytes {
         ensures behind { behind self.new ≡ behind self.old }
         ensures counts { CountsFault (fault_count self.old) (fault_count self.new) result };
 
-    /// Writes a piece at a place. A gap in front of it is filled with zero bytes. Where it fails, so many first bytes of
-    /// the piece were written as its fault says.
+    /// Writes a piece at a place. A gap in front of it is filled with zero bytes. Where it fails, so many first bytes
+    /// of the piece were written as its fault says.
     fn write_at(&mut self, place: u64, bytes: &[u8]) -> Result<(), WriteFault>
         requires end { place + length bytes.now ≤ longest_list }
         requires writable { IsTrue (writable self.old) }

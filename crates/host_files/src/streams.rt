@@ -41,8 +41,8 @@ pub trait Sink {
     /// How often a call has failed.
     ghost fault_count: { Self → ℕ };
 
-    /// Writes first bytes of the piece, and answers how many: at least one, where there is one. A write that fails writes
-    /// none.
+    /// Writes first bytes of the piece, and answers how many: at least one, where there is one. A write that fails
+    /// writes none.
     fn write(&mut self, bytes: &[u8]) -> Result<usize, Failed>
         ensures takes { WriteTakes result bytes.now }
         ensures adds { IsTrue tells → WriteAdds (written self.old) result bytes.now (written self.new) }

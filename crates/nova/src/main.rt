@@ -52,7 +52,8 @@ where
     standard_session(rt, words.as_slice())
 }
 
-/// Runs a session over these words and the runtime's standard streams and files, with a new unit of each kind that is built.
+/// Runs a session over these words and the runtime's standard streams and files, with a new unit of each kind that is
+/// built.
 fn standard_session<R: Input + Print + AllocGlobal + System>(
     rt: &R,
     words: &[String],

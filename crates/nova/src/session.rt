@@ -12,9 +12,9 @@ use std::alloc::Global;
 use std::process::ExitCode;
 use unit_trait::Unit;
 
-/// Runs a session over any input, output and files, with the standard units in whichever types. The exit code is the status
-/// that `simulate` has answered, so it keeps all that `simulate` promises of its status, the input, the console and the
-/// files. The machine and the notes are let go.
+/// Runs a session over any input, output and files, with the standard units in whichever types. The exit code is the
+/// status that `simulate` has answered, so it keeps all that `simulate` promises of its status, the input, the console
+/// and the files. The machine and the notes are let go.
 pub fn session<U: Unit, C: Source, S: Sink, F: Files>(
     alloc: Global,
     words: &[String],

@@ -101,8 +101,8 @@ fn quotient_of(high: Word, low: Word, divisor: Word) -> (Word, Word)
     (Word((dividend / by) as u16), Word((dividend % by) as u16))
 }
 
-/// Executes DIV: the unsigned number in AC0 (high) and AC1 is divided by AC2, with the quotient in AC1 and the remainder
-/// in AC0. Where the quotient would not fit a word, Carry is 1 and the accumulators stay; else Carry is 0.
+/// Executes DIV: the unsigned number in AC0 (high) and AC1 is divided by AC2, with the quotient in AC1 and the
+/// remainder in AC0. Where the quotient would not fit a word, Carry is 1 and the accumulators stay; else Carry is 0.
 #[inline]
 #[tactic(auto, unfolding(crate::specs::MultiplyDivide::multiplied, crate::specs::MultiplyDivide::divided))]
 pub fn divide(acs: [Word; 4]) -> Divided

@@ -12,10 +12,10 @@ use crate::shifts::Shift;
 use crate::shifts::Shift::{Left, Right, Stay, Swap};
 use nova_word::Word;
 
-/// The 17 bits of carry and result after the shift, of the words of source and destination: by bits 5 to 11 of the word,
-/// which are its function, its shift and its base carry. All three are decided by one choice, since a choice costs more
-/// than what it leads to. What it calls is inlined by the compiler's own choice: where all of that is always inlined, a
-/// function of so many choices is no longer inlined itself, and the loop that it serves would call it.
+/// The 17 bits of carry and result after the shift, of the words of source and destination: by bits 5 to 11 of the
+/// word, which are its function, its shift and its base carry. All three are decided by one choice, since a choice
+/// costs more than what it leads to. What it calls is inlined by the compiler's own choice: where all of that is always
+/// inlined, a function of so many choices is no longer inlined itself, and the loop that it serves would call it.
 #[inline(always)]
 pub(crate) fn number_of(word: Word, s: u16, d: u16, carry: bool) -> u32
     ensures value { result ≡ number_of word s d carry }

@@ -26,8 +26,8 @@ pub fn units_are_served_while_due()
     ensures { ServesWhileDue }
 {}
 
-/// The law that turns, and runs, from the same state do the same: they end by the same stop in the same state, and print
-/// the same, where neither meets a failed call on a file or a refused byte.
+/// The law that turns, and runs, from the same state do the same: they end by the same stop in the same state, and
+/// print the same, where neither meets a failed call on a file or a refused byte.
 pub fn same_state_same_run()
     ensures { SameStateSameRun }
 {}

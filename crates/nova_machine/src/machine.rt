@@ -28,8 +28,8 @@ pub enum Stop {
     ChainLimit,
     /// The word at PC is for a device that is not there, and STOP_DEV is 1. It was not executed.
     UnknownDevice,
-    /// The break with that place, from 0 in rising address, was tested at PC, and its count is 0. The instruction there was
-    /// not executed.
+    /// The break with that place, from 0 in rising address, was tested at PC, and its count is 0. The instruction there
+    /// was not executed.
     Break(usize),
     /// The console's printer has printed the last byte of a text that is waited for: that of the entry with that place,
     /// from 0. The entry is gone, and the printer is done.
@@ -42,8 +42,8 @@ pub enum Stop {
     UnitEnd(UnitName),
     /// That unit has no file, and its STOP_IOE is 1.
     UnitNone(UnitName),
-    /// The tape image of that drive is bad at that place, in bytes. The unit is as it was when it was asked, and its event
-    /// is gone.
+    /// The tape image of that drive is bad at that place, in bytes. The unit is as it was when it was asked, and its
+    /// event is gone.
     BadImage(UnitName, u64),
     /// The key that stops a run was taken: control E, 005.
     Wru,
@@ -124,8 +124,8 @@ impl<U: Unit> Machine<U> {
     ghost use Rattle.unit_trait.specs.Processor.{largest_of, CanHold};
     ghost use Rattle.nova_machine.specs.Registers.{register_of, with_register};
 
-    /// A machine of 32768 words with those units, at time 0, as a reset leaves it. Memory is 0, and so is every register
-    /// of the processor but `Size`. No key is taken, and no file attached.
+    /// A machine of 32768 words with those units, at time 0, as a reset leaves it. Memory is 0, and so is every
+    /// register of the processor but `Size`. No key is taken, and no file attached.
     #[tactic(auto, unfolding(crate::specs::Machine::new_machine))]
     pub fn new(alloc: Global, units: Vec<U>) -> Result<Machine<U>, AllocError>
         requires { IsBusOrder (map U.unit_state units.items) }
@@ -172,8 +172,8 @@ impl<U: Unit> Machine<U> {
         &self.attached
     }
 
-    /// What holds of every machine: its units' registers are within their limits, and its events are those of units that
-    /// it has, one a unit, in the order of their times, none of which has passed.
+    /// What holds of every machine: its units' registers are within their limits, and its events are those of units
+    /// that it has, one a unit, in the order of their times, none of which has passed.
     #[tactic(auto, using(crate::proofs::Listed::times_later))]
     pub fn core(&self)
         ensures { IsCore self.now }
@@ -224,9 +224,9 @@ impl<U: Unit> Machine<U> {
         Ok(())
     }
 
-    /// Resets the machine: interrupts go off and wait for no instruction, the interrupt mask is cleared, no event waits,
-    /// and each unit is reset, in bus order, which brings the events that a reset wishes. PC, the accumulators, carry,
-    /// the switch register, STOP_DEV, memory, time and the files of its units stay.
+    /// Resets the machine: interrupts go off and wait for no instruction, the interrupt mask is cleared, no event
+    /// waits, and each unit is reset, in bus order, which brings the events that a reset wishes. PC, the accumulators,
+    /// carry, the switch register, STOP_DEV, memory, time and the files of its units stay.
     #[tactic(auto, unfolding(crate::specs::Machine::reset_machine))]
     pub fn reset(&mut self)
         ensures machine { self.new ≡ reset_machine self.old }

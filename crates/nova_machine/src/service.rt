@@ -319,7 +319,8 @@ fn print<S: Sink>(byte: u8, watch: &mut Watch, out: &mut S) -> Hosted
     }
 }
 
-/// What a unit wants whose event is due. It is one that the machine can do for it, with an answer that the unit may get.
+/// What a unit wants whose event is due. It is one that the machine can do for it, with an answer that the unit may
+/// get.
 fn wanted<U: Unit>(units: &mut [U], unit: UnitName) -> Want
     requires number { unit.unit < units_of unit.kind }
     requires fits { AllFit (map U.unit_state units.old) }

@@ -34,9 +34,9 @@ impl<U: Unit> Machine<U> {
     /// program goes on as by JMP @1. Then the breaks are tested at PC, unless this is the first turn of a run, which
     /// `first` says. Then the word at PC is executed, which takes one instruction of time and clears `Hold`.
     ///
-    /// A unit reads and writes the file that is attached to it. The keyboard takes the first byte that was sent to it, if
-    /// that is due, and else the first of the keys that is due. A byte that is printed on the console may end a text that
-    /// is waited for, and then the turn ends behind its service.
+    /// A unit reads and writes the file that is attached to it. The keyboard takes the first byte that was sent to it,
+    /// if that is due, and else the first of the keys that is due. A byte that is printed on the console may end a text
+    /// that is waited for, and then the turn ends behind its service.
     ///
     /// Where a service stops, the turn ends there. After a stop as `ChainLimit` or `UnknownDevice` the registers of the
     /// processor, `Hold` among them, and the time are as they were before the instruction, or the interrupt.

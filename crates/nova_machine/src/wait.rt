@@ -18,8 +18,8 @@ impl<U: Unit> Machine<U> {
     ghost use Rattle.nova_machine.specs.Waits.{IsUntaken, IsWaiting};
     ghost use Rattle.nova_word.specs.Bits.{bits};
 
-    /// Where the machine is at a loop that waits for a flag, lets its rounds pass, up to the next event, and answers how
-    /// many instructions that were, as many as that at the most. All but the time is as it was then.
+    /// Where the machine is at a loop that waits for a flag, lets its rounds pass, up to the next event, and answers
+    /// how many instructions that were, as many as that at the most. All but the time is as it was then.
     pub(crate) fn wait(&mut self, most: u64, watch: &Watch) -> u64
         ensures few { result ≤ most }
         ensures told { Bursts watch.now most result Transfer self.old self.new }

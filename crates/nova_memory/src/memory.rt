@@ -73,8 +73,8 @@ impl Memory {
 
     /// The effective address of the memory reference `word`, which stands at `pc`.
     ///
-    /// Each level of an indirect chain that passes 20 to 27 (octal) adds one to the word there, each that passes 30 to 37
-    /// takes one from it. Words that were changed stay so after `ChainLimit`.
+    /// Each level of an indirect chain that passes 20 to 27 (octal) adds one to the word there, each that passes 30 to
+    /// 37 takes one from it. Words that were changed stay so after `ChainLimit`.
     pub fn address(&mut self, word: Word, pc: Addr, acs: [Word; 4]) -> Result<Addr, ChainLimit>
         ensures memory { self.new ≡ (address self.old word pc acs).memory }
         ensures address { result_ok result ≡ (address self.old word pc acs).address }

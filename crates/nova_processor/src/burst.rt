@@ -40,12 +40,12 @@ pub struct Burst {
 }
 
 impl Processor {
-    /// Executes instructions, as many as the budget at the most, up to one that is not the processor's alone or stands at
-    /// a stop. It knows no unit, no time and no interrupt, and takes no memory.
+    /// Executes instructions, as many as the budget at the most, up to one that is not the processor's alone or stands
+    /// at a stop. It knows no unit, no time and no interrupt, and takes no memory.
     ///
-    /// Registers stand apart for so long, so that the host holds PC and Carry in registers of its own, and are written back
-    /// on the way out. Where bit 0 of a word is 1, it is an arithmetic or logical instruction, and else bits 0 to 4 choose
-    /// one (How to Use the Nova Computers, "Instruction Formats").
+    /// Registers stand apart for so long, so that the host holds PC and Carry in registers of its own, and are written
+    /// back on the way out. Where bit 0 of a word is 1, it is an arithmetic or logical instruction, and else bits 0 to
+    /// 4 choose one (How to Use the Nova Computers, "Instruction Formats").
     #[inline(never)]
     pub fn burst<S: Stops>(&mut self, budget: u64, stops: &S) -> Burst
         ensures { IsBurst (S.stops stops.now) self.old budget result.done result.end self.new }

@@ -1,5 +1,5 @@
-// The memory references, one function for each definition of one. Registers are lent one by one, so that each can stand in
-// a register of the host.
+// The memory references, one function for each definition of one. Registers are lent one by one, so that each can stand
+// in a register of the host.
 ghost use Rattle.std.specs.Prelude.{◌≡◌, ◌<◌, ◌%◌, ◌^◌, Bool};
 ghost use Rattle.nova_word.specs.Bits.{bits};
 ghost use Rattle.nova_processor.specs.Processor.{joined};

@@ -37,6 +37,7 @@ pub struct Naming {
 }
 
 impl Naming {
+    /// A name whose operands have that shape, and the word where each of them is 0.
     pub fn new(shape: Shape, bits: u16) -> Naming
         ensures { result ≡ record { shape = shape; bits = bits } }
     {

@@ -48,10 +48,10 @@ pub struct Ending<U: Unit> {
 /// The whole program, over the words, the units, the input, the console and the files that are handed in. The units are
 /// the standard ones (`is_standard`); the program is the same over whichever types they have, so they may be boxes.
 ///
-/// The keys file of `-k` and then the script are read before the session begins. With `-g` the workload of its number is
-/// run in place of that, and the input is left unread. Files that are attached at the end of
-/// the input, or at EXIT, are closed, behind writing back what the disk holds; at any other end they stay open, and where
-/// that can't be written back, which is status 107 at the end of the input.
+/// The keys file of `-k` and then the script are read before the session begins. With `-g` the workload of its number
+/// is run in place of that, and the input is left unread. Files that are attached at the end of the input, or at EXIT,
+/// are closed, behind writing back what the disk holds; at any other end they stay open, and where that can't be
+/// written back, which is status 107 at the end of the input.
 pub fn simulate<U: Unit, C: Source, S: Sink, F: Files>(
     alloc: Global,
     words: &[String],

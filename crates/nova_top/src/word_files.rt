@@ -68,8 +68,8 @@ pub fn begin<F: Files>(
     }
 }
 
-/// How a session is opened where the words name a script of that text, or none. Memory is taken for the words that are its
-/// name and its arguments, and for the commands of a workload.
+/// How a session is opened where the words name a script of that text, or none. Memory is taken for the words that are
+/// its name and its arguments, and for the commands of a workload.
 fn opening_of(
     alloc: Global,
     words: &[String],

@@ -1,5 +1,5 @@
-//! The forms of the words that stand as operands in command lines: numbers, items of lists, conditions, and the names of
-//! registers, devices and units.
+//! The forms of the words that stand as operands in command lines: numbers, items of lists, conditions, and the names
+//! of registers, devices and units.
 #![tactic(auto)]
 
 pub mod condition;

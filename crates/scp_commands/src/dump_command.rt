@@ -29,9 +29,9 @@ use whole_files::{WholeFault, write_file};
 /// starts at PC, and closes it again. It prints nothing.
 ///
 /// `OutOfRange` comes where the second address is below the first one, or the memory does not have it; `OutOfMemory`
-/// where there is no memory for the tape or the opening; `NoFile` where the file can't be made. No file has changed then.
-/// `FileFailed` comes where the opening or the write failed: behind a write the file has its first bytes and no others.
-/// Each call that failed is noted, the closing too.
+/// where there is no memory for the tape or the opening; `NoFile` where the file can't be made. No file has changed
+/// then. `FileFailed` comes where the opening or the write failed: behind a write the file has its first bytes and no
+/// others. Each call that failed is noted, the closing too.
 #[tactic(auto, unfolding(crate::specs::TapeEffects::dump_reply))]
 pub fn dump_file<U: Unit, F: Files>(
     alloc: Global,

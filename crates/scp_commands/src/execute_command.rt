@@ -35,9 +35,9 @@ use unit_trait::Unit;
 ///
 /// A command that is refused has printed nothing and changed nothing, but that ATTACH and DUMP may have made or emptied
 /// their file, and DUMP may have written a first part of it; who called prints the text of its fault. `Console` means
-/// that the console refused a byte, also within a run: what comes before it was printed, and the session stands as it did
-/// when that byte was to be printed. `OutOfMemory` means that nothing was done: it comes where the room for 16 notes
-/// can't be taken, and from BREAK, EXPECT, ATTACH, DO, LOAD and DUMP.
+/// that the console refused a byte, also within a run: what comes before it was printed, and the session stands as it
+/// did when that byte was to be printed. `OutOfMemory` means that nothing was done: it comes where the room for 16
+/// notes can't be taken, and from BREAK, EXPECT, ATTACH, DO, LOAD and DUMP.
 pub fn execute<U: Unit, F: Files, S: Sink>(
     alloc: Global,
     session: &mut Session<U>,

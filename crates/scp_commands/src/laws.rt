@@ -1,16 +1,16 @@
 ghost use Rattle.scp_commands.specs.QuotedText.{QuotedTextsReadBack};
 ghost use Rattle.scp_commands.specs.Laws.{RefusalsChangeNothing, ResetsLeaveTheProgram, SetCpuLeavesTheRest};
 
-/// The law that a command that is refused prints nothing and leaves the machine, the breaks, the expects, the sent bytes
-/// and the keys as they were, and all files too, but for ATTACH, DETACH, EXIT and DUMP where a call on a file failed:
-/// they may have changed that file before.
+/// The law that a command that is refused prints nothing and leaves the machine, the breaks, the expects, the sent
+/// bytes and the keys as they were, and all files too, but for ATTACH, DETACH, EXIT and DUMP where a call on a file
+/// failed: they may have changed that file before.
 pub fn refusals_change_nothing()
     ensures { RefusalsChangeNothing }
 {}
 
-/// The law that RESET, and RUN before its run, leave the processor with its memory, the switches, STOP_DEV, the time, the
-/// keys that were taken and the attached files as they were, but for the PC that RUN may give, and that what waits then
-/// are the events that the resets of the units wish.
+/// The law that RESET, and RUN before its run, leave the processor with its memory, the switches, STOP_DEV, the time,
+/// the keys that were taken and the attached files as they were, but for the PC that RUN may give, and that what waits
+/// then are the events that the resets of the units wish.
 pub fn resets_leave_the_program()
     ensures { ResetsLeaveTheProgram }
 {}

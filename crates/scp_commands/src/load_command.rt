@@ -25,8 +25,8 @@ use std::alloc::Global;
 use unit_trait::Unit;
 use whole_files::{WholeFault, read_file};
 
-/// LOAD reads the loader tape of a name whole, closes it again, and stores its words. PC becomes its start, where it has
-/// one. It prints nothing, and no file changes.
+/// LOAD reads the loader tape of a name whole, closes it again, and stores its words. PC becomes its start, where it
+/// has one. It prints nothing, and no file changes.
 ///
 /// `NoFile` comes where there is no such file, `FileTooLong` where it is longer than 1048576 bytes, `FileFailed` where
 /// its opening, its length or a read failed, `OutOfMemory` where there is no memory for it, and `LoadTruncated`,

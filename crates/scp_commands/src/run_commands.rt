@@ -194,8 +194,8 @@ fn step_by<U: Unit, F: Files, S: Sink>(
     run_up_to(session, limit, files, out)
 }
 
-// Runs up to that limit, notes the call on a file that failed, if that is why it stopped, and prints the stop behind what
-// the run has printed.
+// Runs up to that limit, notes the call on a file that failed, if that is why it stopped, and prints the stop behind
+// what the run has printed.
 fn run_up_to<U: Unit, F: Files, S: Sink>(
     session: &mut Session<U>,
     limit: RunLimit,

@@ -57,8 +57,8 @@ impl<U: Unit> Session<U> {
     ghost use Rattle.scp_commands.specs.Doing.{Closes, Keeps};
     ghost use Rattle.scp_commands.specs.declared.next.Next.TheVariants.{Go};
 
-    /// A session of a machine with those units, before its first command. No file is attached, nothing is watched, and no
-    /// note kept.
+    /// A session of a machine with those units, before its first command. No file is attached, nothing is watched, and
+    /// no note kept.
     pub fn new(
         alloc: Global,
         units: Vec<U>,
@@ -98,8 +98,8 @@ impl<U: Unit> Session<U> {
     }
 
     /// Takes the files of all units away, in bus order, as at the end of the input. What the disk holds is written back
-    /// first; where that fails, it is noted and answered, and all units keep their files. A closing that fails is noted,
-    /// and the next one follows.
+    /// first; where that fails, it is noted and answered, and all units keep their files. A closing that fails is
+    /// noted, and the next one follows.
     pub fn detach_files<F: Files>(&mut self, files: &mut F) -> Result<(), UnitFault>
         requires room { 12 ≤ self.old.spare }
         requires open { AllOpen self.old.machine.slots (F.state files.old).opened }

@@ -27,8 +27,8 @@ const LONGEST_TEXT: usize = 64;
 
 /// BREAK puts a break at an address, where it replaces one that is there. It prints nothing.
 ///
-/// `OutOfRange` comes where the address is above 77777 or the count above 2^32 - 1, and `Full` where it would be the 257th
-/// break. After `OutOfMemory` nothing has changed.
+/// `OutOfRange` comes where the address is above 77777 or the count above 2^32 - 1, and `Full` where it would be the
+/// 257th break. After `OutOfMemory` nothing has changed.
 #[tactic(auto, unfolding(crate::specs::WatchEffects::break_reply))]
 pub fn add_break<U: Unit>(
     session: &mut Session<U>,
@@ -77,8 +77,8 @@ fn added(added: Result<(), AddFault>) -> Result<Next, CommandFault>
     }
 }
 
-/// NOBREAK removes the break of an address, if one is there, and NOBREAK ALL all of them. It prints nothing. `OutOfRange`
-/// comes where the address is above 77777.
+/// NOBREAK removes the break of an address, if one is there, and NOBREAK ALL all of them. It prints nothing.
+/// `OutOfRange` comes where the address is above 77777.
 #[tactic(auto, unfolding(crate::specs::WatchEffects::no_break_reply))]
 pub fn remove_breaks<U: Unit>(
     session: &mut Session<U>,
@@ -105,8 +105,8 @@ pub fn remove_breaks<U: Unit>(
 
 /// EXPECT waits for a text on the console, behind all that are waited for already. It prints nothing.
 ///
-/// `OutOfRange` comes where the count is not 1 to 2^32 - 1, or the text has not 1 to 64 bytes, and `Full` where it would be
-/// the 65th text. After `OutOfMemory` nothing has changed.
+/// `OutOfRange` comes where the count is not 1 to 2^32 - 1, or the text has not 1 to 64 bytes, and `Full` where it
+/// would be the 65th text. After `OutOfMemory` nothing has changed.
 #[tactic(auto, unfolding(crate::specs::WatchEffects::expect_reply))]
 pub fn add_expect<U: Unit>(
     session: &mut Session<U>,
@@ -166,8 +166,9 @@ pub fn remove_expects<U: Unit>(session: &mut Session<U>) -> Result<Next, Command
     Ok(Next::Go)
 }
 
-/// SEND queues the bytes of a text for the keyboard: the first so many instructions after now, or after the last byte that
-/// is still queued, and each further one so much later than the one before it. It prints nothing and takes no memory.
+/// SEND queues the bytes of a text for the keyboard: the first so many instructions after now, or after the last byte
+/// that is still queued, and each further one so much later than the one before it. It prints nothing and takes no
+/// memory.
 ///
 /// `OutOfRange` comes where a number is above 2^32 - 1, and `Full` where more than 4096 bytes would wait.
 #[tactic(auto, unfolding(crate::specs::WatchEffects::send_reply))]

@@ -181,8 +181,8 @@ impl Command {
         }
     }
 
-    /// The bytes that an ECHO prints, the label that a GOTO looks for, the arguments of a DO, or the actions of a BREAK or
-    /// an EXPECT. There are at most 512.
+    /// The bytes that an ECHO prints, the label that a GOTO looks for, the arguments of a DO, or the actions of a BREAK
+    /// or an EXPECT. There are at most 512.
     pub fn text(&self) -> &[u8]
         requires { GivesText self.now }
         ensures text { result.now ≡ given_text self.now }

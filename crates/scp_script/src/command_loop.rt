@@ -225,7 +225,8 @@ fn script_line<U: Unit, F: Files, S: Sink>(
     }
 }
 
-/// Pays for an action or a line of a script, where enough units are left, and counts them as spent. Answers whether it is paid.
+/// Pays for an action or a line of a script, where enough units are left, and counts them as spent. Answers whether it
+/// is paid.
 fn pay<U: Unit>(session: &mut Session<U>, lines: &mut CommandLoop, cost: u64) -> bool
     requires { session.old.command + lines.old.budget ≤ 2 ^ 33 }
     ensures paid { result ≡ true → (cost ≤ lines.old.budget) × (lines.new.budget ≡ lines.old.budget - cost) }

@@ -43,6 +43,7 @@ impl Model for LineReader {
 impl LineReader {
     ghost use Rattle.scp_script.specs.Reading.{IsReading, Pays, LineEnds};
 
+    /// No line was read yet.
     pub fn new() -> LineReader
         ensures { result ≡ record { line = []; open_ = true } }
     {

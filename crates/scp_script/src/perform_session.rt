@@ -25,13 +25,13 @@ pub struct Opening {
     pub script: Option<DoFile>,
     /// The script's name, and then its arguments. The first ten of these words count.
     pub arguments: Vec<String>,
-    /// Whether the input is read behind the script. Else the session is over there, as by EXIT with status 0, but no unit
-    /// loses its file.
+    /// Whether the input is read behind the script. Else the session is over there, as by EXIT with status 0, but no
+    /// unit loses its file.
     pub reads: bool,
     /// Whether the prompt is printed before each line of the input.
     pub prompt: bool,
-    /// The units to pay for lines and actions, at most 2^32: each costs one, and a line one more for each whole 512 bytes
-    /// past its first 512.
+    /// The units to pay for lines and actions, at most 2^32: each costs one, and a line one more for each whole 512
+    /// bytes past its first 512.
     pub budget: u64,
 }
 

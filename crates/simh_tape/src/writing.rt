@@ -16,8 +16,8 @@ pub struct PutFault {
     pub done: u64,
 }
 
-/// Writes a block at a place, without an error flag, and answers the place behind it. The tape ends there then. A gap in
-/// front of it is filled with zero bytes.
+/// Writes a block at a place, without an error flag, and answers the place behind it. The tape ends there then. A gap
+/// in front of it is filled with zero bytes.
 pub fn write_block<B: Bytes>(tape: &mut B, place: u64, bytes: &[u8]) -> Result<u64, PutFault>
     requires some { 0 < length bytes.now }
     requires most { length bytes.now < 2 ^ 24 }

@@ -3,9 +3,9 @@ ghost use Rattle.std.specs.Prelude.{◌≡◌};
 use crate::control::Control;
 use unit_trait::{After, Got, IoAnswer, IoOp, Kind, Pulse, Queue, RegFault, Unit, Want};
 
-/// The magnetic tape: MTA, device 22, with its eight drives, the units MTA0 to MTA7, that share one control. Each time that
-/// it is started it does one command for one drive, between the file of that drive and memory. It is made after the
-/// magnetic tape of the Nova (How to Use the Nova Computers, "Magnetic Tape"); its registers and the numbers of its
+/// The magnetic tape: MTA, device 22, with its eight drives, the units MTA0 to MTA7, that share one control. Each time
+/// that it is started it does one command for one drive, between the file of that drive and memory. It is made after
+/// the magnetic tape of the Nova (How to Use the Nova Computers, "Magnetic Tape"); its registers and the numbers of its
 /// commands are this project's own. Words are of 16 bits, and what is not said to be octal is decimal.
 ///
 /// | number | register | values | at first | reset to 0 | what it holds |
@@ -19,7 +19,8 @@ use unit_trait::{After, Got, IoAnswer, IoOp, Kind, Pulse, Queue, RegFault, Unit,
 /// | 6 | MA | 0 to 77777 (octal) | 0 | no | the address of the first word in memory |
 /// | 7 | WC | 0 to 7777 (octal) | 0 | no | 10000 (octal) less the count of words or blocks |
 /// | 8 | STAT | 0 to 177777 (octal) | 0 | yes | the sum of the bits below |
-/// | 9 to 16 | POS0 to POS7 | 0 to 400000000 (octal) | 0 | no | where the tape of a drive stands, in bytes of its file |
+/// | 9 to 16 | POS0 to POS7 | 0 to 400000000 (octal) | 0 | no | where the tape of a drive stands, in bytes of its file
+/// |
 ///
 /// | CMD | command |
 /// |---|---|
@@ -52,11 +53,15 @@ use unit_trait::{After, Got, IoAnswer, IoOp, Kind, Pulse, Queue, RegFault, Unit,
 /// | DOA | where BUSY is 0: sets DRIVE to the low 3 bits of the word and CMD to the next 3, before the pulse |
 /// | DOB | where BUSY is 0: sets MA to the low 15 bits of the word, before the pulse |
 /// | DOC | where BUSY is 0: sets WC to the low 12 bits of the word, before the pulse |
-/// | S | where BUSY is 0: sets BUSY, clears DONE and STAT, and wishes an event of the drive DRIVE after TIME instructions |
+/// | S | where BUSY is 0: sets BUSY, clears DONE and STAT, and wishes an event of the drive DRIVE after TIME
+/// instructions |
 /// | C | clears BUSY, DONE and STAT, and wishes that no event comes |
 /// | P, another function | nothing |
-/// | the event of a drive is due | it wants CMD done for that drive, from its POS on, at MA, for the count; nothing where CMD is 2 |
-/// | the command was done | STAT is RDY with what it came to, POS of the drive is the new place, MA grows by the words and WC by the words and the blocks that were passed, each past its largest value from 0 on; BUSY is cleared and DONE set; at the end of the medium it stops the machine where STOP_IOE is 1 |
+/// | the event of a drive is due | it wants CMD done for that drive, from its POS on, at MA, for the count; nothing
+/// where CMD is 2 |
+/// | the command was done | STAT is RDY with what it came to, POS of the drive is the new place, MA grows by the words
+/// and WC by the words and the blocks that were passed, each past its largest value from 0 on; BUSY is cleared and DONE
+/// set; at the end of the medium it stops the machine where STOP_IOE is 1 |
 /// | nothing was done, as CMD is 2 | STAT is 120000 (octal), BUSY is cleared and DONE set |
 /// | no file is there | the same; where STOP_IOE is 1, it stops the machine |
 /// | the file is read only | STAT is 120001 (octal), BUSY is cleared and DONE set |

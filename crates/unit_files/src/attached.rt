@@ -136,9 +136,9 @@ impl Attached {
 
     /// Writes back what the disk holds of its file, where a sector was written since the file was attached or last
     /// written back, and then closes a unit's file. Behind that nothing is attached to the unit, also where the closing
-    /// failed, which is answered as a fault. `NotAttached` comes exactly where nothing was attached. `Failed` comes where
-    /// the file could not be written: it is still attached, and holds as many first bytes of the copy as the fault says,
-    /// and behind them its own.
+    /// failed, which is answered as a fault. `NotAttached` comes exactly where nothing was attached. `Failed` comes
+    /// where the file could not be written: it is still attached, and holds as many first bytes of the copy as the
+    /// fault says, and behind them its own.
     #[tactic(auto, unfolding(crate::specs::Acts::flush_files))]
     pub fn detach<F: Files>(
         &mut self,

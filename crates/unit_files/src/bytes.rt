@@ -43,8 +43,8 @@ impl Attached {
     }
 
     /// Writes a byte at a place of a unit's file, places counting bytes. A gap in front of it is filled with zero
-    /// bytes. `End` comes past the bytes that the unit sees, where nothing is written; `NoFile` exactly where nothing is
-    /// attached. After `Failed` the byte was written exactly where the fault says so.
+    /// bytes. `End` comes past the bytes that the unit sees, where nothing is written; `NoFile` exactly where nothing
+    /// is attached. After `Failed` the byte was written exactly where the fault says so.
     #[tactic(auto, unfolding(crate::specs::Acts::write_act, crate::specs::Acts::write_files, crate::specs::Acts::most_bytes))]
     pub fn write_byte<F: Files>(
         &mut self,

@@ -34,8 +34,8 @@ impl Attached {
         SectorAnswer::Done
     }
 
-    /// Writes a sector of the disk, below 8192, into what the disk holds of its file, behind zero bytes where there is a
-    /// gap. It takes no memory and makes no call on the file: the bytes are written back by `flush` and `detach`.
+    /// Writes a sector of the disk, below 8192, into what the disk holds of its file, behind zero bytes where there is
+    /// a gap. It takes no memory and makes no call on the file: the bytes are written back by `flush` and `detach`.
     /// `NoFile` comes exactly where nothing is attached, and `ReadOnly` exactly where the file is only read; then
     /// nothing has changed.
     #[tactic(auto, unfolding(crate::specs::Buffer::disk_sectors, crate::specs::Buffer::sector_bytes, crate::specs::View::disk_bytes))]

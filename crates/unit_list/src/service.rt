@@ -23,9 +23,9 @@ pub fn due_at<U: Unit>(units: &mut [U], unit: UnitName) -> Want
     }
 }
 
-/// The machine's answer to what a unit wanted: none that would move a unit on whose POS is at its largest value, and none
-/// that leaves a tape behind the largest place. Its device wishes for nothing, and does not stop, where no unit has its
-/// kind.
+/// The machine's answer to what a unit wanted: none that would move a unit on whose POS is at its largest value, and
+/// none that leaves a tape behind the largest place. Its device wishes for nothing, and does not stop, where no unit
+/// has its kind.
 #[tactic(auto, using(crate::proofs::Standing::standing))]
 pub fn got_at<U: Unit>(units: &mut [U], unit: UnitName, got: Got) -> After
     requires number { unit.unit < units_of unit.kind }

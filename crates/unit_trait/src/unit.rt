@@ -53,8 +53,8 @@ pub trait Unit: Drop {
         ensures moved { unit_state self.new ≡ moved (unit_state self.old) (Due unit) }
         ensures fits { Fits (unit_state self.new) };
 
-    /// The machine's answer to what a unit wanted. The wish is for that unit. A unit whose POS is at its largest value gets
-    /// no answer that would move it on, and no tape is left behind the largest place.
+    /// The machine's answer to what a unit wanted. The wish is for that unit. A unit whose POS is at its largest value
+    /// gets no answer that would move it on, and no tape is left behind the largest place.
     fn got(&mut self, unit: u8, got: Got) -> After
         requires number { unit < units_of (unit_state self.old).kind }
         requires room { TakesAnswer (unit_state self.old) got }

@@ -25,8 +25,8 @@ pub struct Written {
 
 /// Makes the file of a name, or empties it where there is one, writes these bytes in one call, and closes it again,
 /// whatever comes of it. `Failed` comes where its opening or the write failed: behind a write the file has the first
-/// `done` bytes and no others. `OutOfMemory` comes where there is no memory for its opening, and `NoFile` where it can't
-/// be made; no file changes then.
+/// `done` bytes and no others. `OutOfMemory` comes where there is no memory for its opening, and `NoFile` where it
+/// can't be made; no file changes then.
 #[tactic(auto, unfolding(crate::specs::Writing::write_act))]
 pub fn write_file<F: Files>(alloc: Global, name: &str, bytes: &[u8], files: &mut F) -> Written
     ensures said { IsTrue F.tells → IfSome (said_of_writing result.answer) (λ said.

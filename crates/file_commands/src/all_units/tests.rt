@@ -42,8 +42,8 @@ fn failing(rt: &impl Abort, alloc: Global, number: u64) -> Result<MemFiles, Fail
     Ok(files)
 }
 
-/// Attaches a tape to the reader, as command 1, and a new file to the punch, as command 2, and detaches all, as command 3.
-/// Answers the notes.
+/// Attaches a tape to the reader, as command 1, and a new file to the punch, as command 2, and detaches all, as command
+/// 3. Answers the notes.
 fn notes_of(rt: &impl Abort, alloc: Global, number: u64) -> Result<Vec<FaultNote>, Fail> {
     let mut files = failing(rt, alloc, number)?;
     let mut attached = Attached::new(alloc)?;

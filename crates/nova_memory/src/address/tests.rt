@@ -94,8 +94,8 @@ fn every_level_of_a_chain_changes_its_word(rt: HostRuntime) -> Result<(), Fail> 
     let mut memory = Memory::new(rt.alloc())?;
     memory.write(at(0o100), Word(0o100100));
 
-    // two places, the words there, what an indirect reference through the first comes to, and the words there after, all
-    // in octal
+    // two places, the words there, what an indirect reference through the first comes to, and the words there after,
+    // all in octal
     for (first, word1, second, word2, want, after1, after2) in [
         (0o50, 0o100020, 0o20, 0o1000, Some(0o1001), 0o100020, 0o1001),
         (0o20, 0o100017, 0o21, 0, Some(1), 0o100021, 1),
