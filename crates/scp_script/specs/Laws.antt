@@ -2,6 +2,7 @@
 use Rattle.std.specs.Prelude.{◌≡◌, ℕ, zero, suc, ◌+◌, ◌<◌, ◌≤◌, List, [], length, drop}
 use Rattle.observations.specs.Observations.{Observation, reads_of}
 use Rattle.script_text.specs.Lines.{first_line, line_cost}
+use Rattle.scp_script.specs.Scripts.{still_open}
 use Rattle.scp_script.specs.Actions.{texts_of}
 use Rattle.expect_actions.specs.Watch.{forgotten}
 use Rattle.scp_script.specs.Session.{State, Session, Going, step, after_step, course, ComesTo}
@@ -59,3 +60,12 @@ AreForgotten s = s.live.watch ≡ forgotten s.live.watch
 pub record ActionsAreForgotten : Type 0 where
   pub next : (s t : Session) → (step s).next ≡ Going t → AreForgotten t
   pub all : (count : ℕ) (s t : Session) (made : List (Observation State)) → AreForgotten s → ComesTo count s made t → AreForgotten t
+
+-- a session without the scripts, from the innermost on, whose last line was done
+abbrev pub without_ended : Session → Session
+without_ended s = record s { texts = texts_of s.texts.actions (still_open s.texts.scripts) }
+
+-- Where no action waits, nothing depends on such scripts: the next text is the same, and so are all.
+pub record EndedScriptsDoNotMatter : Type 0 where
+  pub next : (s : Session) → s.texts.actions ≡ [] → step (without_ended s) ≡ step s
+  pub all : (s : Session) → s.texts.actions ≡ [] → course (without_ended s) ≡ course s

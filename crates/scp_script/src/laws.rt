@@ -1,5 +1,5 @@
 ghost use Rattle.scp_script.specs.Core.{SameCoreSameFuture, CutBehindTexts};
-ghost use Rattle.scp_script.specs.Laws.{ActionsAreForgotten, LineByLine, LinesAreConsumed};
+ghost use Rattle.scp_script.specs.Laws.{ActionsAreForgotten, EndedScriptsDoNotMatter, LineByLine, LinesAreConsumed};
 
 /// The law that a session goes line by line, to its own end and not to that of the bound in its definition.
 pub fn session_goes_line_by_line()
@@ -25,4 +25,9 @@ pub fn session_is_cut_behind_texts()
 /// The law that between two texts no actions of a stop are kept: those of the last one wait as texts, or were refused.
 pub fn actions_are_forgotten()
     ensures { ActionsAreForgotten }
+{}
+
+/// The law that where no action waits, nothing depends on the innermost scripts whose last line was done.
+pub fn ended_scripts_do_not_matter()
+    ensures { EndedScriptsDoNotMatter }
 {}

@@ -13,8 +13,8 @@ mod script_stack;
 mod texts;
 
 pub use laws::{
-    actions_are_forgotten, lines_are_consumed, same_core_same_future, session_goes_line_by_line,
-    session_is_cut_behind_texts,
+    actions_are_forgotten, ended_scripts_do_not_matter, lines_are_consumed, same_core_same_future,
+    session_goes_line_by_line, session_is_cut_behind_texts,
 };
 pub use perform_session::{Opening, perform};
 pub use progress::Finish;
