@@ -33,6 +33,7 @@ use Rattle.expect_actions.specs.Watch.{WatchState}
 use Rattle.nova_machine.specs.Bursts.{passed_by, IsCalm, Bursts}
 use Rattle.nova_machine.proofs.Plain.{plain-prepared}
 use Rattle.nova_machine.proofs.Runs.{turns-stop, turns-go, next-early}
+use Rattle.nova_machine.proofs.Opened.{turn-is}
 
 -- the machine behind an instruction of the processor alone
 pub behind_step : MachineState → ProcessorState → MachineState
@@ -103,10 +104,6 @@ unfolding step fetch
 agrees-step m = agrees-step_of (get m.processor.memory m.processor.cpu.pc) m
 
 -- ---- a plain turn
-
-turn-is : (note : Option UnitNote) (first : Bool) (s : Seen) → turn note first s ≡ then_part (prepared note first s) (λ ready. still ready (fetch ready.machine))
-unfolding turn
-turn-is note first s = refl
 
 -- no break is at PC
 abbrev pub IsUnbroken : Seen → Type 0

@@ -16,18 +16,11 @@ use Rattle.expect_actions.specs.declared.breaks.Break.{Break as BreakAt}
 use Rattle.expect_actions.specs.Breaks.{table, has_break, tested, stopped_actions}
 use Rattle.expect_actions.proofs.BreakLemmas.{stop_none, tested_none}
 use Rattle.nova_machine.specs.declared.machine.Stop.TheVariants.{Break}
+use Rattle.nova_machine.proofs.Opened.{attended-is, prepared-is}
 
 interrupt-none : (m : MachineState) → is_interrupted m ≡ false → interrupt m ≡ goes_on m
 unfolding interrupt
 interrupt-none m quiet = ap (λ (b : Bool). if b then enter m else goes_on m) quiet
-
-attended-is : (note : Option UnitNote) (s : Seen) → attended note s ≡ then_part (serving note s) (λ served. still served (interrupt served.machine))
-unfolding attended
-attended-is note s = refl
-
-prepared-is : (note : Option UnitNote) (first : Bool) (s : Seen) → prepared note first s ≡ then_part (attended note s) (λ at. breaks_tested_unless first at)
-unfolding prepared
-prepared-is note first s = refl
 
 -- where no break is at PC, none is tested
 pub breaks-none : (s : Seen) → has_break s.machine.processor.cpu.pc s.watch.breaks.list ≡ false → breaks_tested s ≡ silent None s

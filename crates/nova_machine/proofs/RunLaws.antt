@@ -15,6 +15,7 @@ use Rattle.expect_actions.specs.Breaks.{has_break}
 use Rattle.nova_machine.proofs.Plain.{breaks-none}
 use Rattle.nova_machine.proofs.Runs.{turns-none, turns-stop, turns-go}
 use Rattle.nova_machine.proofs.Turns.{turns-turn, unchanged-same, unchanged-then}
+use Rattle.nova_machine.proofs.Opened.{prepared-is, turn-is}
 
 -- a turn where time may have ended: it stops for a limit exactly there, and then all is as it was
 pub record NextTurn (before : Seen) (p : Part) : Type 0 where
@@ -88,14 +89,6 @@ unbroken-part : (made : List (Observation Seen)) (stop : Option Stop) (after : S
     → followed made stop after (λ at. breaks_tested_unless true at) ≡ followed made stop after (λ at. breaks_tested_unless false at)
 unbroken-part made (Some stop) after none = refl
 unbroken-part made None after none = ap (λ (p : Part). behind_made made p) (sym (breaks-none after (none refl)))
-
-prepared-is : (note : Option UnitNote) (first : Bool) (s : Seen) → prepared note first s ≡ then_part (attended note s) (λ at. breaks_tested_unless first at)
-unfolding prepared
-prepared-is note first s = refl
-
-turn-is : (note : Option UnitNote) (first : Bool) (s : Seen) → turn note first s ≡ then_part (prepared note first s) (λ ready. still ready (fetch ready.machine))
-unfolding turn
-turn-is note first s = refl
 
 unbroken-turn : (note : Option UnitNote) (s : Seen)
     → ((attended note s).stop ≡ None → has_break (attended note s).after.machine.processor.cpu.pc (attended note s).after.watch.breaks.list ≡ false)

@@ -40,6 +40,7 @@ use Rattle.nova_machine.specs.Comes.{Comes, IsBrokenOff}
 use Rattle.nova_machine.proofs.Parts.{silent-comes, comes-behind, comes-then, comes-stopped}
 use Rattle.nova_machine.specs.Tapes.{NoAnswer, FileFails, ImageIsBad}
 use Rattle.nova_memory.specs.Memory.{MemoryState}
+use Rattle.nova_machine.proofs.Opened.{serving-is}
 
 services-none : (note : Option UnitNote) (s : Seen) → services note [] s ≡ silent None s
 unfolding services
@@ -49,10 +50,6 @@ services-some : (note : Option UnitNote) (u : UnitName) (us : List UnitName) (s 
     → services note (u ∷ us) s ≡ then_part (service (at_unit u note) u (taken s)) (λ next. services note us next)
 unfolding services
 services-some note u us s = refl
-
-serving-is : (note : Option UnitNote) (s : Seen) → serving note s ≡ services note (dues s.machine.events) s
-unfolding serving
-serving-is note s = refl
 
 pub serving-none : (note : Option UnitNote) (s : Seen) → due s.machine.events ≡ None → serving note s ≡ silent None s
 serving-none note s none =
@@ -198,7 +195,7 @@ abbrev pub files_by : Option Failure → Want → UnitName → List NamedBytes �
 files_by fault w u files m = files_after fault (attachment_in m u) m.processor.memory files w
 
 -- the numbers of files are no part of what is attached
-erased-attached : (slots : List (Option Held)) → attachments_of (map unnumbered slots) ≡ attachments_of slots
+pub erased-attached : (slots : List (Option Held)) → attachments_of (map unnumbered slots) ≡ attachments_of slots
 erased-attached [] = refl
 erased-attached (None ∷ slots) = ap (λ (l : List (Option Attachment)). None ∷ l) (erased-attached slots)
 erased-attached (Some h ∷ slots) = ap (λ (l : List (Option Attachment)). Some h.attachment ∷ l) (erased-attached slots)

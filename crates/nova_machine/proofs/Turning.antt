@@ -17,22 +17,11 @@ use Rattle.nova_machine.specs.Service.{serving}
 use Rattle.nova_machine.specs.Comes.{Comes, IsOwn}
 use Rattle.nova_machine.proofs.Parts.{silent-comes, comes-then, comes-stopped}
 use Rattle.nova_machine.proofs.Erased.{erased_turned, erased-fetch, erased-interrupt}
+use Rattle.nova_machine.proofs.Opened.{attended-is, prepared-is, turn-is}
 
 pub own-note : (r : Option Stop) → IsOwn r → unit_note r ≡ None
 own-note (Some (FileFault f)) own = absurd own
 own-note r own = refl
-
-attended-is : (note : Option UnitNote) (s : Seen) → attended note s ≡ then_part (serving note s) (λ served. still served (interrupt served.machine))
-unfolding attended
-attended-is note s = refl
-
-prepared-is : (note : Option UnitNote) (first : Bool) (s : Seen) → prepared note first s ≡ then_part (attended note s) (λ at. breaks_tested_unless first at)
-unfolding prepared
-prepared-is note first s = refl
-
-turn-is : (note : Option UnitNote) (first : Bool) (s : Seen) → turn note first s ≡ then_part (prepared note first s) (λ ready. still ready (fetch ready.machine))
-unfolding turn
-turn-is note first s = refl
 
 -- a piece that looks at no number of an open file
 still-comes : (watch : WatchState) (keys : List (ℕ × ℕ)) (files : List NamedBytes) (f : MachineState → Turned) (mid last : MachineState) (r : Option Stop) (tells : Bool) (b : List ℕ)

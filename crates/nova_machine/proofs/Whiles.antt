@@ -19,6 +19,7 @@ use Rattle.nova_machine.specs.Service.{asked, answered, replied, hosted, want_at
 use Rattle.nova_machine.specs.ServiceLaws.{ServesWhileDue}
 use Rattle.nova_machine.proofs.Serving.{serving-none, serving-some}
 use Rattle.nova_machine.specs.Tapes.{NoAnswer}
+use Rattle.nova_machine.proofs.Opened.{serving-is}
 
 same-then : (p : Part) (f g : Seen → Part) → f p.after ≡ g p.after → then_part p f ≡ then_part p g
 same-then p f g same = by-stop p.made p.stop p.after same
@@ -40,10 +41,6 @@ unfolding service hosted asked
 service-dues fault u s fit =
     let w = want_at u s.machine in
     replied-dues u (own_stop (key_at s) s.watch.expects w) (answer_to fault (attachment_at (attached_in s.machine) u) s.files (key_at s) w) (hosted fault u s) (after-fits (code_of u.kind) u.unit s.machine.units fit)
-
-serving-is : (note : Option UnitNote) (s : Seen) → serving note s ≡ services note (dues s.machine.events) s
-unfolding serving
-serving-is note s = refl
 
 pub serves-while-due : ServesWhileDue
 serves-while-due = record {

@@ -64,7 +64,7 @@ calls-other (call ∷ calls) more follow =
 
 -- ---- what is taken of a file
 
-some-weaker : {A : Type 0} (P Q : A → Type 0) (o : Option A) → ((a : A) → P a → Q a) → IfSome o P → IfSome o Q
+pub some-weaker : {A : Type 0} (P Q : A → Type 0) (o : Option A) → ((a : A) → P a → Q a) → IfSome o P → IfSome o Q
 some-weaker P Q None all is = tt
 some-weaker P Q (Some a) all is = all a is
 

@@ -12,6 +12,7 @@ use Rattle.nova_top.specs.declared.options.Wanted.{Wanted}
 use Rattle.nova_top.specs.declared.options.Wanted.TheVariants as wanted
 use Rattle.nova_top.specs.Words.{options_from, options_of, all_chosen, next_choice, chosen_option, limit_of, usual_budget, within_budget, budget_of, workload_of, is_file_name, texts_of}
 use Rattle.nova_top.specs.Words.{wants_option, names_script, are_arguments, with_script, FilesAreNamed}
+use Rattle.nova_top.proofs.WordFileLemmas.{some-weaker}
 
 -- what the words from one on choose: a script with its arguments, or what it chooses and then what the others do
 chosen_from : Bool → ℕ → Choices → List ℕ → List (List ℕ) → Option Options
@@ -96,10 +97,6 @@ some-map P f (Some a) all = all a
 some-map-if : {A B : Type 0} (P : B → Type 0) (Q : A → Type 0) (f : A → B) (o : Option A) → IfSome o Q → ((a : A) → Q a → P (f a)) → IfSome (option_map f o) P
 some-map-if P Q f None is all = tt
 some-map-if P Q f (Some a) is all = all a is
-
-some-weaker : {A : Type 0} (P Q : A → Type 0) (o : Option A) → ((a : A) → P a → Q a) → IfSome o P → IfSome o Q
-some-weaker P Q None all is = tt
-some-weaker P Q (Some a) all is = all a is
 
 below-next : (o : Option ℕ) (place : ℕ) → IfSome o (λ (p : ℕ). p < place) → IfSome o (λ (p : ℕ). p < place + 1)
 below-next None place below = tt

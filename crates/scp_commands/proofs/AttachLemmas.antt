@@ -263,11 +263,11 @@ attach-not-built number live option unit name tells text notes lacks =
 
 -- ---- the notes that are kept
 
-one-note : (fault : Option UnitFault) (stamp : Stamp) → length (kept_of stamp fault) ≤ 16
+pub one-note : (fault : Option UnitFault) (stamp : Stamp) → length (kept_of stamp fault) ≤ 16
 one-note None stamp = omega arith
 one-note (Some f) stamp = omega arith
 
-stamped-note : (number time : ℕ) (fault : Option UnitFault) → AllByRecursion (IsStamped number time) (kept_of (record { command = number; time = time }) fault)
+pub stamped-note : (number time : ℕ) (fault : Option UnitFault) → AllByRecursion (IsStamped number time) (kept_of (record { command = number; time = time }) fault)
 stamped-note number time None = tt
 stamped-note number time (Some f) = ((refl, refl), tt)
 

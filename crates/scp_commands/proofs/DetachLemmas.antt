@@ -38,6 +38,7 @@ use Rattle.scp_commands.proofs.SeenLemmas.{attached-erased, attached-with, seen-
 use Rattle.scp_commands.proofs.CloseLemmas.{same-self, closing-call, detached-none}
 use Rattle.scp_commands.proofs.DidLemmas.{refused-did}
 use Rattle.scp_commands.proofs.BehindLemmas.{kept-said, none-behind, handed-own}
+use Rattle.scp_commands.proofs.AttachLemmas.{one-note, stamped-note}
 
 -- what is answered
 abbrev pub detach_result : Result (Option UnitFault) DetachFault → Answer
@@ -177,14 +178,6 @@ detach-done number stamp live new held disk unit r answer tells text before afte
     (kept-said own (fault_of_detach r) before after here.noted))
 
 -- ---- the notes that are kept
-
-one-note : (fault : Option UnitFault) (stamp : Stamp) → length (kept_of stamp fault) ≤ 16
-one-note None stamp = omega arith
-one-note (Some f) stamp = omega arith
-
-stamped-note : (number time : ℕ) (fault : Option UnitFault) → AllByRecursion (IsStamped number time) (kept_of (record { command = number; time = time }) fault)
-stamped-note number time None = tt
-stamped-note number time (Some f) = ((refl, refl), tt)
 
 -- the first of the command's notes is that call
 handed-first : (time : ℕ) (unit : UnitName) (f : UnitFault) → f.unit ≡ unit → failure_now time (subject.Unit unit) (own_of time (Some f)) ≡ Some (failure_in f)

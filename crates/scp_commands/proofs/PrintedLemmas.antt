@@ -4,6 +4,7 @@ use Rattle.std.proofs.Math.Seq.{take-suc, take-append-add, take-append-le}
 use Rattle.std.proofs.lemmas.List.{take-append-drop}
 use Rattle.std.proofs.lemmas.Option.{slice_get_within, get_or_from_slice_get}
 use Rattle.host_files.specs.Streams.{AddsPart}
+use Rattle.scp_examine.proofs.ShowLemmas.{part_behind as part-behind}
 
 -- a text is the lines of a list, one behind another
 pub record AreLines {A : Type 0} (line : A → List ℕ) (text : List A → List ℕ) : Type 0 where
@@ -38,20 +39,6 @@ lines-rest : {A : Type 0} (line : A → List ℕ) (text : List A → List ℕ) �
 lines-rest line text are xs k x is =
     ap text (sym (take-append-drop (k + 1) xs)) ∙ lines-append line text are (take (k + 1) xs) (drop (k + 1) xs)
     ∙ ap (λ (t : List ℕ). t ++ text (drop (k + 1) xs)) (lines-more line text are xs k x is)
-
--- a first part of a text behind another one is a first part of the whole
-part-behind : (before done piece rest at after : List ℕ) → at ≡ before ++ done → AddsPart at piece after → AddsPart before ((done ++ piece) ++ rest) after
-part-behind before done piece rest at after e part =
-    let n = part.0 in
-    let lt : n < length piece = part.1 in
-    let l1 : length ((done ++ piece) ++ rest) ≡ length done + length piece + length rest = simp length-append in
-    let within : length done + n ≤ length (done ++ piece) = omega (arith, length-append done piece) in
-    let taken : take (length done + n) ((done ++ piece) ++ rest) ≡ done ++ take n piece =
-    take-append-le (length done + n) (done ++ piece) rest within ∙ take-append-add done piece n in (
-      length done + n,
-      omega (arith, l1, lt),
-      part.2 ∙ ap (λ t. t ++ take n piece) e ∙ append_assoc before done (take n piece) ∙ ap (λ t. before ++ t) (sym taken),
-    )
 
 -- a first part of the line of an entry, behind the lines before it, is a first part of all lines
 pub lines-part : {A : Type 0} (line : A → List ℕ) (text : List A → List ℕ) → AreLines line text → (xs : List A) (k : ℕ) (x : A) (before at after : List ℕ)

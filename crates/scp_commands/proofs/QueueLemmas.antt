@@ -8,6 +8,7 @@ use Rattle.unit_trait.specs.declared.kind.Kind.TheVariants.{Clk}
 use Rattle.unit_trait.specs.declared.kind.UnitName.{UnitName}
 use Rattle.event_queue.specs.EventList.{Event, event}
 use Rattle.scp_commands.specs.ShowEffects.{event_line, queue_text}
+use Rattle.scp_examine.proofs.ShowLemmas.{part_behind as part-behind}
 
 queue-append : (xs ys : List Event) → queue_text (xs ++ ys) ≡ queue_text xs ++ queue_text ys
 unfolding queue_text
@@ -59,16 +60,3 @@ no-end es k low none =
     let here = none ∙ ap (λ (o : Option Event). option_map (λ e. (e.unit, e.remaining)) o) (slice_get-get_or es k d low) in
     cc
 
--- a first part of a text behind another one is a first part of the whole
-pub part-behind : (before done piece rest at after : List ℕ) → at ≡ before ++ done → AddsPart at piece after → AddsPart before ((done ++ piece) ++ rest) after
-part-behind before done piece rest at after e part =
-    let n = part.0 in
-    let lt : n < length piece = part.1 in
-    let l1 : length ((done ++ piece) ++ rest) ≡ length done + length piece + length rest = simp length-append in
-    let within : length done + n ≤ length (done ++ piece) = omega (arith, length-append done piece) in
-    let taken : take (length done + n) ((done ++ piece) ++ rest) ≡ done ++ take n piece =
-    take-append-le (length done + n) (done ++ piece) rest within ∙ take-append-add done piece n in (
-      length done + n,
-      omega (arith, l1, lt),
-      part.2 ∙ ap (λ t. t ++ take n piece) e ∙ append_assoc before done (take n piece) ∙ ap (λ t. before ++ t) (sym taken),
-    )

@@ -27,14 +27,11 @@ use Rattle.scp_commands.specs.Reply.{refused}
 use Rattle.scp_commands.specs.RunEffects.{address_fits, starting_at, running, started, run_from, reset_reply}
 use Rattle.scp_commands.specs.Effect.{effect}
 use Rattle.scp_commands.specs.Laws.{IsReset, ResetsLeaveTheProgram}
+use Rattle.scp_examine.proofs.UnitLemmas.{or_later as or-right}
 
 or-left : (a b : Bool) → a ≡ true → (a || b) ≡ true
 or-left true b h = refl
 or-left false b h = absurd (cc)
-
-or-right : (a b : Bool) → b ≡ true → (a || b) ≡ true
-or-right true b h = refl
-or-right false b h = h
 
 or-more : (a b c : Bool) → (b ≡ true → c ≡ true) → (a || b) ≡ true → (a || c) ≡ true
 or-more true b c more h = refl

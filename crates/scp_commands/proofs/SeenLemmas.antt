@@ -7,11 +7,7 @@ use Rattle.expect_actions.specs.Watch.{WatchState}
 use Rattle.nova_machine.specs.Machine.{MachineState, attached_files, with_attached_files}
 use Rattle.nova_machine.specs.Seen.{unnumbered, erased, seen, beside, attached_in}
 use Rattle.scp_commands.specs.Live.{numberless, with_attached}
-
-pub attached-unnumbered : (slots : List (Option Held)) → attachments_of (map unnumbered slots) ≡ attachments_of slots
-attached-unnumbered [] = refl
-attached-unnumbered (None ∷ slots) = ap (λ (l : List (Option Attachment)). None ∷ l) (attached-unnumbered slots)
-attached-unnumbered (Some h ∷ slots) = ap (λ (l : List (Option Attachment)). Some h.attachment ∷ l) (attached-unnumbered slots)
+use Rattle.nova_machine.proofs.Serving.{erased-attached as attached-unnumbered}
 
 pub unnumbered-is : (slots : List (Option Held)) → map unnumbered slots ≡ numberless (attachments_of slots)
 unnumbered-is [] = refl

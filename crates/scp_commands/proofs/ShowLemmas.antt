@@ -18,12 +18,7 @@ use Rattle.scp_commands.specs.WatchTexts.{breaks_text, expects_text, sends_text}
 use Rattle.scp_commands.specs.ShowEffects.{time_text, cpu_text, version_text, queue_text, show_reply}
 use Rattle.scp_commands.specs.Doing.{Does, told_or_console}
 use Rattle.scp_commands.proofs.ReplyLemmas.{says-does, refused-said}
-
--- attachments have no numbers
-pub unnumbered-attachments : (slots : List (Option Held)) → attachments_of (map unnumbered slots) ≡ attachments_of slots
-unnumbered-attachments [] = refl
-unnumbered-attachments (None ∷ slots) = ap (λ (l : List (Option Attachment)). None ∷ l) (unnumbered-attachments slots)
-unnumbered-attachments (Some h ∷ slots) = ap (λ (l : List (Option Attachment)). Some h.attachment ∷ l) (unnumbered-attachments slots)
+use Rattle.nova_machine.proofs.Serving.{erased-attached as unnumbered-attachments}
 
 -- a unit's attachment, by the name of its file and whether it is only read
 pub attachment-is : (slots : List (Option Held)) (unit : UnitName) (name : List ℕ) (read_only : Bool) → Some name ≡ option_map (λ (h : Held). h.attachment.name) (held_at slots unit)

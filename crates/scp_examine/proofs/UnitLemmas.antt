@@ -93,7 +93,7 @@ has_unit-kind kind (u ∷ us) = by_code (code_of u.kind == code_of kind) (has_un
     by_code true later = refl
     by_code false later = later
 
-or_later : (a b : Bool) → b ≡ true → (a || b) ≡ true
+pub or_later : (a b : Bool) → b ≡ true → (a || b) ≡ true
 or_later true b h = refl
 or_later false b h = h
 

@@ -181,7 +181,7 @@ pub step-over : (s : Session) (end : SessionEnd) → upcoming s ≡ Ends end →
 unfolding step
 step-over s end e = ap (step_upcoming s) e
 
-still-none : (scripts : List Script) → scripts ≡ [] → still_open scripts ≡ []
+pub still-none : (scripts : List Script) → scripts ≡ [] → still_open scripts ≡ []
 unfolding still_open
 still-none scripts none = ap still_open none
 

@@ -1,6 +1,7 @@
 -- The innermost of the scripts that are open.
 use Rattle.std.proofs.Common.{◌≡◌, ◌||◌, Bool, true, false, nat_lt, List, [], ◌∷◌, length, ap, ◌∙◌, if◌then◌else◌}
 use Rattle.scp_script.specs.Scripts.{Script, still_open, behind_failure}
+use Rattle.scp_script.proofs.SessionLemmas.{still-none as still-nil}
 
 -- where its last line was done it is closed
 pub still-closed : (scripts : List Script) (script : Script) (outer : List Script) → scripts ≡ script ∷ outer → nat_lt script.place (length script.text) ≡ false
@@ -12,10 +13,6 @@ pub still-kept : (scripts : List Script) (script : Script) (outer : List Script)
     → still_open scripts ≡ script ∷ outer
 unfolding still_open
 still-kept scripts script outer is more = ap still_open is ∙ ap (λ (b : Bool). if b then script ∷ outer else still_open outer) more
-
-pub still-nil : (scripts : List Script) → scripts ≡ [] → still_open scripts ≡ []
-unfolding still_open
-still-nil scripts none = ap still_open none
 
 -- a failed command ends it, or not
 pub failure-ends : (ends : Bool) (scripts : List Script) (script : Script) (outer : List Script) → scripts ≡ script ∷ outer → (ends || script.strict) ≡ true

@@ -4,7 +4,8 @@ use Rattle.host_files.specs.Streams.{AddsPart}
 use Rattle.unit_trait.specs.declared.kind.UnitName.{UnitName}
 use Rattle.event_queue.specs.EventList.{event}
 use Rattle.scp_commands.specs.ShowEffects.{event_line, queue_text}
-use Rattle.scp_commands.proofs.QueueLemmas.{queue-none, entry_at, queue-more, queue-rest, no-end, part-behind}
+use Rattle.scp_commands.proofs.QueueLemmas.{queue-none, entry_at, queue-more, queue-rest, no-end}
+use Rattle.scp_examine.proofs.ShowLemmas.{part_behind as part-behind}
 use Rattle.scp_commands.proofs.show_command.put_queue.Goals as goal
 
 pub loop-k-init : goal.loop-k-init

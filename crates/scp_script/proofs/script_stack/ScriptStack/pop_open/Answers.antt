@@ -1,5 +1,6 @@
 use Rattle.std.proofs.Common.{sym, ◌∙◌}
-use Rattle.scp_script.proofs.StackLemmas.{still-closed, still-kept, still-nil}
+use Rattle.scp_script.proofs.StackLemmas.{still-closed, still-kept}
+use Rattle.scp_script.proofs.SessionLemmas.{still-none as still-nil}
 use Rattle.scp_script.proofs.script_stack.ScriptStack.pop_open.Goals as goal
 
 pub returns-then-has_line-clause-taken : goal.returns-then-has_line-clause-taken
