@@ -18,6 +18,7 @@ use Rattle.nova_machine.specs.Service.{want_at, key_at, asked, replied, hosted, 
 use Rattle.nova_machine.specs.Turn.{breaks_tested, breaks_tested_unless, attended, prepared, turn}
 use Rattle.nova_machine.specs.Run.{last_time, next_turn, turns, run}
 use Rattle.nova_machine.specs.Tapes.{NoAnswer}
+use Rattle.nova_machine.proofs.Walks.{OfRuns, walk-run}
 
 followed-reads : (made : List (Observation Seen)) (stop : Option Stop) (s : Seen) (goes_on : Seen → Part) → reads_of made ≡ 0 → ((t : Seen) → reads_of (goes_on t).made ≡ 0)
     → reads_of (followed made stop s goes_on).made ≡ 0
@@ -44,44 +45,30 @@ service-reads fault u s =
     let none = prints-reads (want_at u s.machine) (with_machine s (asked u s.machine)) in
     reads_of-append made _ ∙ ap (λ (n : ℕ). reads_of made + n) (replied-reads u (own_stop (key_at s) s.watch.expects w) (answer_to fault (attachment_at (attached_in s.machine) u) s.files (key_at s) w) (hosted fault u s)) ∙ omega (arith, none)
 
-services-reads : (note : Option UnitNote) (us : List UnitName) (s : Seen) → reads_of (services note us s).made ≡ 0
-unfolding services
-services-reads note [] s = refl
-services-reads note (u ∷ us) s = then-reads (service (at_unit u note) u (taken s)) (λ next. services note us next) (service-reads (at_unit u note) u (taken s)) (λ next. services-reads note us next)
-
-serving-reads : (note : Option UnitNote) (s : Seen) → reads_of (serving note s).made ≡ 0
-unfolding serving
-serving-reads note s = services-reads note (dues s.machine.events) s
-
-attended-reads : (note : Option UnitNote) (s : Seen) → reads_of (attended note s).made ≡ 0
-unfolding attended
-attended-reads note s = then-reads (serving note s) _ (serving-reads note s) (λ next. refl)
-
-tested-reads : (first : Bool) (s : Seen) → reads_of (breaks_tested_unless first s).made ≡ 0
+tested-reads : (s : Seen) → reads_of (breaks_tested s).made ≡ 0
 unfolding breaks_tested
-tested-reads true s = refl
-tested-reads false s = refl
+tested-reads s = refl
 
-prepared-reads : (note : Option UnitNote) (first : Bool) (s : Seen) → reads_of (prepared note first s).made ≡ 0
-unfolding prepared
-prepared-reads note first s = then-reads (attended note s) (λ at. breaks_tested_unless first at) (attended-reads note s) (tested-reads first)
+-- nothing is read in a part
+abbrev ReadsNothing : Seen → Part → Type 0
+ReadsNothing s p = reads_of p.made ≡ 0
 
-turn-reads : (note : Option UnitNote) (first : Bool) (s : Seen) → reads_of (turn note first s).made ≡ 0
-unfolding turn
-turn-reads note first s = then-reads (prepared note first s) _ (prepared-reads note first s) (λ next. refl)
-
-reads-if : (b : Bool) (x y : Part) → reads_of x.made ≡ 0 → reads_of y.made ≡ 0 → reads_of (if b then x else y).made ≡ 0
-reads-if true x y first second = first
-reads-if false x y first second = second
-
-next-reads : (note : Option RunNote) (first : Bool) (s : Seen) → reads_of (next_turn note first s).made ≡ 0
-unfolding next_turn
-next-reads note first s = reads-if (s.machine.time == last_time) _ _ refl (turn-reads (at_time s.machine.time note) first s)
-
-turns-reads : (note : Option RunNote) (step first : Bool) (count : ℕ) (s : Seen) → reads_of (turns note step first count s).made ≡ 0
-unfolding turns
-turns-reads note step first zero s = refl
-turns-reads note step first (suc count) s = then-reads (next_turn note first s) (λ next. turns note step false count next) (next-reads note first s) (λ next. turns-reads note step false count next)
+runs-read_nothing : OfRuns ReadsNothing
+runs-read_nothing = record {
+  turn = record {
+    pieces = record {
+      services = record {
+        none = λ s. refl;
+        both = λ s p goes_on first more. then-reads p goes_on first more;
+        one = λ fault u s. service-reads fault u (taken s);
+      };
+      interrupted = λ s. refl;
+      tested = tested-reads;
+    };
+    fetched = λ s. refl;
+  };
+  over = λ s stop limit. refl;
+}
 
 pub run-reads : (note : Option RunNote) (step : Bool) (count : ℕ) (s : Seen) → reads_of (run note step count s).made ≡ 0
-run-reads note step count s = turns-reads note step true count s
+run-reads note step count s = walk-run ReadsNothing runs-read_nothing note step count s

@@ -13,9 +13,9 @@ use Rattle.nova_machine.specs.Run.{turns, run, next_turn, expired, last_time}
 use Rattle.nova_machine.specs.Laws.{IsLimit, PassesNoBreak, Unchanged, RunSplits, RunTakesTime}
 use Rattle.expect_actions.specs.Breaks.{has_break}
 use Rattle.nova_machine.proofs.Plain.{breaks-none}
-use Rattle.nova_machine.proofs.Runs.{turns-none, turns-stop, turns-go}
+use Rattle.nova_machine.proofs.Runs.{turns-stop, turns-go}
 use Rattle.nova_machine.proofs.Turns.{turns-turn, unchanged-same, unchanged-then}
-use Rattle.nova_machine.proofs.Opened.{prepared-is, turn-is}
+use Rattle.nova_machine.proofs.Opened.{prepared-is, turn-is, turns-none}
 
 -- a turn where time may have ended: it stops for a limit exactly there, and then all is as it was
 pub record NextTurn (before : Seen) (p : Part) : Type 0 where

@@ -16,15 +16,7 @@ use Rattle.nova_machine.specs.Bursts.{Bursts}
 use Rattle.host_files.specs.Lists.{NamedBytes}
 use Rattle.nova_machine.specs.Comes.{Comes, IsOwn}
 use Rattle.nova_machine.proofs.Parts.{silent-comes, comes-then, comes-stopped}
-
--- no instruction is left
-pub turns-none : (note : Option RunNote) (step first : Bool) (s : Seen) → turns note step first 0 s ≡ silent (Some (expired step)) s
-unfolding turns
-turns-none note step first s = refl
-
-turns-some : (note : Option RunNote) (step first : Bool) (left : ℕ) (s : Seen) → turns note step first (suc left) s ≡ then_part (next_turn note first s) (λ next. turns note step false left next)
-unfolding turns
-turns-some note step first left s = refl
+use Rattle.nova_machine.proofs.Opened.{turns-none, turns-some}
 
 -- the next turn stops
 pub turns-stop : (note : Option RunNote) (step first : Bool) (left : ℕ) (s : Seen) (stop : Stop) → (next_turn note first s).stop ≡ Some stop → turns note step first (suc left) s ≡ next_turn note first s

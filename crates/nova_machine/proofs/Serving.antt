@@ -40,16 +40,7 @@ use Rattle.nova_machine.specs.Comes.{Comes, IsBrokenOff}
 use Rattle.nova_machine.proofs.Parts.{silent-comes, comes-behind, comes-then, comes-stopped}
 use Rattle.nova_machine.specs.Tapes.{NoAnswer, FileFails, ImageIsBad}
 use Rattle.nova_memory.specs.Memory.{MemoryState}
-use Rattle.nova_machine.proofs.Opened.{serving-is}
-
-services-none : (note : Option UnitNote) (s : Seen) → services note [] s ≡ silent None s
-unfolding services
-services-none note s = refl
-
-services-some : (note : Option UnitNote) (u : UnitName) (us : List UnitName) (s : Seen)
-    → services note (u ∷ us) s ≡ then_part (service (at_unit u note) u (taken s)) (λ next. services note us next)
-unfolding services
-services-some note u us s = refl
+use Rattle.nova_machine.proofs.Opened.{serving-is, services-none, services-some}
 
 pub serving-none : (note : Option UnitNote) (s : Seen) → due s.machine.events ≡ None → serving note s ≡ silent None s
 serving-none note s none =

@@ -35,6 +35,8 @@ use Rattle.nova_machine.specs.Service.{answered, first_stop, replied, hosted, wa
 use Rattle.nova_machine.specs.Turn.{with_memory, refer_to, refer, execute, fetch, is_interrupted, jump_to, interrupt_reference, enter, interrupt, breaks_tested, breaks_tested_unless, attended, prepared, turn}
 use Rattle.nova_machine.specs.StopLaws.{fetched, IsTransfer, IsHalt, IsUnknown, IsEndless, IsEndlessEntry, IsBroken, IsReached, ready, IsHalted, behind_entry, TurnStops}
 use Rattle.nova_machine.specs.Tapes.{NoAnswer, FileFails, ImageIsBad}
+use Rattle.nova_machine.proofs.Walks.{OfServices, walk-serving}
+use Rattle.nova_machine.proofs.Opened.{attended-is, prepared-is, turn-is}
 
 -- ---- an instruction
 
@@ -273,14 +275,19 @@ unit-service fault u s =
     let w = want_at u s.machine in
     unit-replied u (key_at s) s.watch.expects w (answer_to fault (attachment_at (attached_in s.machine) u) s.files (key_at s) w) (hosted fault u s)
 
-unit-services : (note : Option UnitNote) (us : List UnitName) (s : Seen) → IsUnitStop (services note us s).stop
-unfolding services
-unit-services note [] s = tt
-unit-services note (u ∷ us) s = unit-followed _ (service (at_unit u note) u (taken s)).stop (service (at_unit u note) u (taken s)).after (λ next. services note us next) (unit-service (at_unit u note) u (taken s)) (λ next. unit-services note us next)
+-- the stop of a part is one of a service
+abbrev StopsForUnits : Seen → Part → Type 0
+StopsForUnits s p = IsUnitStop p.stop
+
+services-stop : OfServices StopsForUnits
+services-stop = record {
+  none = λ s. tt;
+  both = λ s p goes_on first more. unit-followed p.made p.stop p.after goes_on first more;
+  one = λ fault u s. unit-service fault u (taken s);
+}
 
 pub unit-serving : (note : Option UnitNote) (s : Seen) → IsUnitStop (serving note s).stop
-unfolding serving
-unit-serving note s = unit-services note (dues s.machine.events) s
+unit-serving note s = walk-serving StopsForUnits services-stop note s
 
 -- what the interrupt comes to
 record EntersAt (m : MachineState) (t : Turned) : Type 0 where
@@ -304,18 +311,6 @@ unfolding interrupt
 enters-interrupt m = enters-if (is_interrupted m) m refl
 
 -- ---- the whole turn
-
-attended-is : (note : Option UnitNote) (s : Seen) → attended note s ≡ followed (serving note s).made (serving note s).stop (serving note s).after (λ served. still served (interrupt served.machine))
-unfolding attended
-attended-is note s = refl
-
-prepared-is : (note : Option UnitNote) (first : Bool) (s : Seen) → prepared note first s ≡ followed (attended note s).made (attended note s).stop (attended note s).after (λ at. breaks_tested_unless first at)
-unfolding prepared
-prepared-is note first s = refl
-
-turn-is : (note : Option UnitNote) (first : Bool) (s : Seen) → turn note first s ≡ followed (prepared note first s).made (prepared note first s).stop (prepared note first s).after (λ r. still r (fetch r.machine))
-unfolding turn
-turn-is note first s = refl
 
 -- a part that stops, and one that goes on
 stops-there : (made : List (Observation Seen)) (o : Option Stop) (s : Seen) (more : Seen → Part) (stop : Stop) → o ≡ Some stop → followed made o s more ≡ record { made = made; after = s; stop = o }

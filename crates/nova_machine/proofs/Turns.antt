@@ -1,5 +1,5 @@
 -- What every instruction and every turn keeps, and how time grows over a turn.
-use Rattle.std.proofs.Common.{◌≡◌, ℕ, zero, suc, ◌+◌, ◌≤◌, ◌==◌, Bool, true, false, List, [], ◌∷◌, Option, Some, None, option_map, Result, Ok, Err, slice_index, refl, ap, ◌∙◌, if◌then◌else◌, arith}
+use Rattle.std.proofs.Common.{◌≡◌, ℕ, zero, suc, ◌+◌, ◌≤◌, ◌==◌, Bool, true, false, List, [], ◌∷◌, Option, Some, None, option_map, Result, Ok, Err, slice_index, refl, ap, ◌∙◌, if◌then◌else◌, arith, sym, subst}
 use Rattle.std.proofs.lemmas.Bool.Decides.{nat_tests}
 use Rattle.observations.specs.Observations.{Observation}
 use Rattle.nova_word.specs.Bits.{bits}
@@ -42,6 +42,8 @@ use Rattle.nova_machine.specs.Tapes.{NoAnswer, FileFails, ImageIsBad, block_put,
 use Rattle.simh_tape.specs.Image.{Met}
 use Rattle.simh_tape.specs.Image.Met.{BlockTo}
 use Rattle.simh_tape.specs.Reading.{next_act}
+use Rattle.nova_machine.proofs.Walks.{OfPieces, walk-prepared}
+use Rattle.nova_machine.proofs.Opened.{turn-is}
 
 -- an instruction leaves the size of memory
 pub record SameSize (before after : ProcessorState) : Type 0 where
@@ -393,15 +395,6 @@ service-prepares fault u s =
     prepares-behind s (prints w (with_machine x (asked u x.machine))) _
     (replied-prepares u (key_at x) x.watch.expects w (answer_to fault (attachment_at (attached_in x.machine) u) x.files (key_at x) w) s (hosted fault u x) (record { acts = record { time = refl; unchanged = record { size = size-behind fault _ x.files x.machine.disk w x.machine.processor.memory; sr = refl; stop_dev = refl; slots = refl } }; hold = refl }))
 
-services-prepare : (note : Option UnitNote) (us : List UnitName) (s : Seen) → Prepares s (services note us s)
-unfolding services
-services-prepare note [] s = record { stays = record { acts = acts-same s.machine; hold = refl }; other = λ limit. limit }
-services-prepare note (u ∷ us) s = then-prepares s (service (at_unit u note) u (taken s)) (λ next. services note us next) (service-prepares (at_unit u note) u s) (λ next. services-prepare note us next)
-
-pub serving-prepares : (note : Option UnitNote) (s : Seen) → Prepares s (serving note s)
-unfolding serving
-serving-prepares note s = services-prepare note (dues s.machine.events) s
-
 -- the interrupt, as a piece
 pub record Enters (before : MachineState) (t : Turned) : Type 0 where
   pub stays : Stays before t.machine
@@ -435,25 +428,29 @@ enters-interrupt : (m : MachineState) → Enters m (interrupt m)
 unfolding interrupt
 enters-interrupt m = enters-if (is_interrupted m) m _ _ (enters-enter m) (record { stays = record { acts = acts-same m; hold = refl }; other = λ limit. limit })
 
-attended-prepares : (note : Option UnitNote) (s : Seen) → Prepares s (attended note s)
-unfolding attended
-attended-prepares note s =
-    then-prepares s (serving note s) (λ served. still served (interrupt served.machine)) (serving-prepares note s)
-    (λ next. record { stays = (enters-interrupt next.machine).stays; other = (enters-interrupt next.machine).other })
-
 -- a test of the breaks, as a piece
 broken-other : (stop : Option ℕ) → ¬ IsLimit (option_map Break stop)
 broken-other None = λ limit. limit
 broken-other (Some k) = λ limit. limit
 
-tested-prepares : (first : Bool) (s : Seen) → Prepares s (breaks_tested_unless first s)
+tested-prepares : (s : Seen) → Prepares s (breaks_tested s)
 unfolding breaks_tested
-tested-prepares true s = record { stays = record { acts = acts-same s.machine; hold = refl }; other = λ limit. limit }
-tested-prepares false s = record { stays = record { acts = acts-same s.machine; hold = refl }; other = broken-other (stop_at s.machine.processor.cpu.pc s.watch.breaks.list) }
+tested-prepares s = record { stays = record { acts = acts-same s.machine; hold = refl }; other = broken-other (stop_at s.machine.processor.cpu.pc s.watch.breaks.list) }
+
+-- all that comes before the instruction
+pieces-prepare : OfPieces Prepares
+pieces-prepare = record {
+  services = record {
+    none = λ s. record { stays = record { acts = acts-same s.machine; hold = refl }; other = λ limit. limit };
+    both = then-prepares;
+    one = service-prepares;
+  };
+  interrupted = λ s. record { stays = (enters-interrupt s.machine).stays; other = (enters-interrupt s.machine).other };
+  tested = tested-prepares;
+}
 
 pub prepared-prepares : (note : Option UnitNote) (first : Bool) (s : Seen) → Prepares s (prepared note first s)
-unfolding prepared
-prepared-prepares note first s = then-prepares s (attended note s) (λ at. breaks_tested_unless first at) (attended-prepares note s) (tested-prepares first)
+prepared-prepares note first s = walk-prepared Prepares pieces-prepare note first s
 
 -- a whole turn
 pub record TurnsPart (before : Seen) (p : Part) : Type 0 where
@@ -487,6 +484,6 @@ turns-followed s made None ready stays other =
     }
 
 pub turns-turn : (note : Option UnitNote) (first : Bool) (s : Seen) → TurnsPart s (turn note first s)
-unfolding turn
 turns-turn note first s =
-    let p = prepared-prepares note first s in turns-followed s (prepared note first s).made (prepared note first s).stop (prepared note first s).after p.stays p.other
+    let p = prepared-prepares note first s in
+    subst (TurnsPart s) (sym (turn-is note first s)) (turns-followed s (prepared note first s).made (prepared note first s).stop (prepared note first s).after p.stays p.other)

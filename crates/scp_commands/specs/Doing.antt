@@ -1,5 +1,5 @@
 -- What a call comes to that does a command: on a console that had and has these bytes, and with the notes that it kept.
-use Rattle.std.specs.Prelude.{◌≡◌, ◌⊎◌, ℕ, ◌≤◌, ◌<◌, Bool, true, IsTrue, List, [], ◌∷◌, ◌++◌, length, Option, is_some, Result, Ok, Err}
+use Rattle.std.specs.Prelude.{◌≡◌, ◌⊎◌, ℕ, ◌≤◌, ◌<◌, Bool, true, IsTrue, List, [], ◌∷◌, ◌++◌, length, Option, is_some, Result, Ok, Err, false, if◌then◌else◌}
 use Rattle.std.specs.List.{AllByRecursion, list_any}
 use Rattle.fault_counts.specs.Faults.{raised, Rose}
 use Rattle.observations.specs.Observations.{text_of, StandsAt}
@@ -23,12 +23,13 @@ use Rattle.nova_machine.specs.declared.machine.Stop.{Stop}
 use Rattle.nova_machine.specs.declared.machine.Stop.TheVariants.{ConsoleFault, FileFault}
 use Rattle.nova_machine.specs.Comes.{AreFree}
 use Rattle.nova_machine.specs.Seen.{attached_in}
-use Rattle.scp_parser.specs.Command.{Request, Break, Expect, Attach, Do, Load, Dump}
+use Rattle.scp_parser.specs.Command.{Request}
 use Rattle.scp_commands.specs.declared.next.Next.{Next}
 use Rattle.scp_commands.specs.declared.next.Next.TheVariants.{Exit, Ran}
 use Rattle.scp_commands.specs.declared.fault.CommandFault.TheVariants.{Console, OutOfMemory, NoFile, FileTooLong, FileFailed}
 use Rattle.scp_commands.specs.declared.fault.CommandFault.TheVariants.{LoadTruncated, LoadSum, PastMemory}
 use Rattle.scp_commands.specs.Live.{Live, Standing, standing, CommandState}
+use Rattle.scp_commands.specs.Nature.{nature}
 use Rattle.scp_commands.specs.Reply.{Answer, Reply, bare_answer}
 use Rattle.scp_commands.specs.FileEffects.{emptied_all, emptied_live}
 
@@ -86,12 +87,12 @@ pub record Did (reply : List CommandNote → Reply) (number : ℕ) (answer : Ans
   pub does : (behind : List CommandNote) → ComeBehind new behind → Does (reply (own ++ behind)) answer (standing (length own) new) tells before after
 
 -- what is done is told where the names and bytes of files are told, or where no file is attached
+abbrev pub told_by : Bool → Bool → List (Option Held) → Type 0
+told_by true tells slots = IsTrue tells
+told_by false tells slots = IsTrue tells ⊎ AreFree slots
+
 abbrev pub IsTold : Bool → List (Option Held) → Request → Type 0
-IsTold tells slots (Attach option unit name) = IsTrue tells
-IsTold tells slots (Do echo strict name arguments) = IsTrue tells
-IsTold tells slots (Load name) = IsTrue tells
-IsTold tells slots (Dump from to name) = IsTrue tells
-IsTold tells slots request = IsTrue tells ⊎ AreFree slots
+IsTold tells slots request = told_by (nature request).names_file tells slots
 
 -- ---- causes, whether anything is told or not
 
@@ -183,22 +184,18 @@ IsRunAnswer answer = Unit {0}
 
 -- ---- want of memory
 
--- memory may be wanted where the room of 16 notes is not there yet, and by BREAK, EXPECT, ATTACH, DO, LOAD and DUMP
-abbrev pub MayWant : ℕ → Request → Type 0
-MayWant spare (Break at count actions) = Unit {0}
-MayWant spare (Expect count text actions) = Unit {0}
-MayWant spare (Attach option unit name) = Unit {0}
-MayWant spare (Do echo strict name arguments) = Unit {0}
-MayWant spare (Load name) = Unit {0}
-MayWant spare (Dump from to name) = Unit {0}
-MayWant spare request = spare < 16
+-- memory may be wanted where the room of 16 notes is not there yet, and by a command that takes some of its own
+abbrev pub want_by : Bool → ℕ → Type 0
+want_by true spare = Unit {0}
+want_by false spare = spare < 16
 
--- Whether it is said of all files that they are as they were: behind DO and LOAD, which were reading one, only where files
--- are told.
+abbrev pub MayWant : ℕ → Request → Type 0
+MayWant spare request = want_by (nature request).takes_memory spare
+
+-- Whether it is said of all files that they are as they were: behind a command that was reading one, only where files are
+-- told.
 abbrev pub says_files : Bool → Request → Bool
-says_files tells (Do echo strict name arguments) = tells
-says_files tells (Load name) = tells
-says_files tells request = true
+says_files tells request = if (nature request).reads_whole then tells else true
 
 -- nothing was done
 pub record IsUndone (says : Bool) (old new : CommandState) (before after : List ℕ) (files files' : FileState) : Type 0 where

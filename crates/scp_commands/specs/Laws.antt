@@ -1,5 +1,5 @@
 -- What holds of every command, in a reader's words.
-use Rattle.std.specs.Prelude.{◌≡◌, ℕ, ◌*◌, ◌<◌, ◌≤◌, true, IsTrue, List, [], Option, is_some, Err}
+use Rattle.std.specs.Prelude.{◌≡◌, ℕ, ◌*◌, ◌<◌, ◌≤◌, true, IsTrue, List, [], Option, is_some, Err, Bool, false}
 use Rattle.unit_trait.specs.declared.kind.Kind.TheVariants.{Tti}
 use Rattle.unit_trait.specs.Kinds.{code_of}
 use Rattle.event_queue.specs.EventList.{waits}
@@ -10,10 +10,11 @@ use Rattle.nova_interrupts.specs.Interrupts.{no_interrupts}
 use Rattle.nova_memory.specs.Memory.{IsMemory, fits_size, get}
 use Rattle.nova_machine.specs.Machine.{MachineState}
 use Rattle.nova_machine.specs.Turn.{with_memory}
-use Rattle.scp_parser.specs.Command.{Request, Reset, Run, Attach, Detach, Exit, SetSize, Dump}
+use Rattle.scp_parser.specs.Command.{Request, Reset, Run, SetSize}
 use Rattle.scp_commands.specs.declared.fault.CommandFault.{CommandFault}
 use Rattle.scp_commands.specs.declared.fault.CommandFault.TheVariants.{FileFailed}
 use Rattle.scp_commands.specs.Live.{Live, with_machine}
+use Rattle.scp_commands.specs.Nature.{nature}
 use Rattle.scp_commands.specs.Reply.{Reply}
 use Rattle.scp_commands.specs.RunEffects.{address_fits, starting_at, running}
 use Rattle.scp_commands.specs.Effect.{effect}
@@ -21,12 +22,13 @@ use Rattle.scp_commands.specs.Effect.{effect}
 -- the commands that may leave something behind where they are refused with that fault: ATTACH, which may have made or
 -- emptied its file before a call on it failed; DETACH and EXIT, whose write may have changed a first part of the disk's
 -- file; and DUMP, whose file may have a first part of the tape
+abbrev pub traces_by : Bool → CommandFault → Type 0
+traces_by true (FileFailed who) = Unit {0}
+traces_by true fault = ⊥
+traces_by false fault = ⊥
+
 abbrev pub LeavesTraces : Request → CommandFault → Type 0
-LeavesTraces (Attach option unit name) (FileFailed who) = Unit {0}
-LeavesTraces (Detach unit) (FileFailed who) = Unit {0}
-LeavesTraces (Exit status) (FileFailed who) = Unit {0}
-LeavesTraces (Dump from to name) (FileFailed who) = Unit {0}
-LeavesTraces request fault = ⊥
+LeavesTraces request fault = traces_by (nature request).leaves_part fault
 
 -- it has printed nothing, and changed nothing but files
 pub record IsUntouched (live : Live) (reply : Reply) : Type 0 where

@@ -15,6 +15,7 @@ pub mod TapeEffects
 pub mod SetEffects
 pub mod Unbuilt
 pub mod Effect
+pub mod Nature
 pub mod Doing
 pub mod Parts
 pub mod Laws
