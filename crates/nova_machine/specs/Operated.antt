@@ -1,5 +1,5 @@
 -- What the machine's own answers mean that it makes of a tape operation.
-use Rattle.std.specs.Prelude.{◌≡◌, ℕ, ◌≤◌, Option, Some, None, option_map, Result, Ok, Err}
+use Rattle.std.specs.Prelude.{◌≡◌, ℕ, ◌≤◌, Option, Some, None, Result, Ok, Err}
 use Rattle.fault_counts.specs.Faults.{raised}
 use Rattle.host_files.specs.declared.files.FileCall.{FileCall}
 use Rattle.host_files.specs.declared.files.FileCall.TheVariants.{Opening, Closing}
@@ -32,10 +32,6 @@ failure_in_stop (Call f) = Some (record { call = f.call; done = f.done })
 abbrev pub failure_of : Result Got TapeStop → Option Failure
 failure_of (Ok answer) = None
 failure_of (Err stop) = failure_in_stop stop
-
--- the call of that failure
-abbrev pub call_of : Result Got TapeStop → Option FileCall
-call_of result = option_map (λ f. f.call) (failure_of result)
 
 -- a fault of a reading
 abbrev pub stop_of : TapeFault → TapeStop

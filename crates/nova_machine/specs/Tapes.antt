@@ -2,6 +2,7 @@
 -- and Handling). On a tape the high byte of each word stands first.
 use Rattle.std.specs.Prelude.{ℕ, zero, suc, ◌+◌, ◌*◌, ◌/◌, ◌%◌, ◌^◌, ◌==◌, ◌&&◌, nat_le, nat_lt, min, Bool, true, false, List, [], ◌∷◌, ◌++◌, length, take, drop, slice_index, Option, Some, None, option_map, Result, Ok, Err, if◌then◌else◌}
 use Rattle.host_files.specs.declared.files.FileCall.{FileCall}
+use Rattle.host_files.specs.declared.files.FileCall.TheVariants.{Length, Read, Write, SetLength}
 use Rattle.host_files.specs.Lists.{NamedBytes, bytes_of, changed, resized}
 use Rattle.host_files.specs.OneList.{longest_list, shown}
 use Rattle.nova_memory.specs.Memory.{MemoryState, get, put}
@@ -12,7 +13,7 @@ use Rattle.unit_trait.specs.declared.calls.TapeOrder.{TapeOrder}
 use Rattle.unit_trait.specs.declared.calls.Got.{Got}
 use Rattle.unit_trait.specs.declared.calls.Got.TheVariants as got
 use Rattle.unit_files.specs.Attachments.{Attachment}
-use Rattle.unit_files.specs.Acts.{Failure}
+use Rattle.unit_files.specs.Acts.{Failure, failure_at}
 use Rattle.simh_tape.specs.declared.items.TapeFault.TheVariants.{BadImage, Failed}
 use Rattle.simh_tape.specs.declared.spacing.Spaced.{Spaced}
 use Rattle.simh_tape.specs.declared.items.TapeFault.{TapeFault}
@@ -84,6 +85,40 @@ space_answer (Ok s) = Ok (got.Tape (came_to s.end s.place 0 s.passed))
 space_answer (Err (BadImage place)) = Err (ImageIsBad place)
 space_answer (Err (Failed call)) = Err (FileFails (record { call = call; done = 0 }))
 
+-- ---- the failure of a call that an operation makes: that of another call is none of it
+
+-- the first of two
+abbrev pub first_failure : Option Failure → Option Failure → Option Failure
+first_failure (Some f) other = Some f
+first_failure None other = other
+
+-- An item is read forward by reads; backwards the length is asked for first.
+abbrev pub reading_failure : Bool → Option Failure → Option Failure
+reading_failure true fault = failure_at Read fault
+reading_failure false fault = first_failure (failure_at Length fault) (failure_at Read fault)
+
+-- a call that writes nothing
+abbrev pub with_nothing_done : Option Failure → Option Failure
+with_nothing_done fault = option_map (λ f. record f { done = 0 }) fault
+
+-- the tape is ended by setting the length
+abbrev pub erasing_failure : Option Failure → Option Failure
+erasing_failure fault = with_nothing_done (failure_at SetLength fault)
+
+-- an item of so many bytes is written behind that, of which a write that fails wrote a first part
+abbrev pub writing_failure : ℕ → Option Failure → Option Failure
+writing_failure size fault = first_failure (erasing_failure fault) (option_map (λ f. record f { done = min f.done size }) (failure_at Write fault))
+
+-- the call of it
+abbrev pub failing_call : Option Failure → Option FileCall
+failing_call fault = option_map (λ f. f.call) fault
+
+-- the call of a reading that fails
+abbrev pub reading_call : Bool → Option Failure → Option FileCall
+reading_call forward fault = failing_call (reading_failure forward fault)
+
+-- ---- what an operation answers
+
 -- a writing of so many bytes. One that would pass the end of the longest tape is not begun.
 abbrev pub put_answer : Option Failure → TapeOrder → ℕ → TapeEnd → ℕ → Result Got NoAnswer
 put_answer fault order size end words =
@@ -93,21 +128,24 @@ put_answer fault order size end words =
     done_or None = Ok (got.Tape (came_to end (order.place + size) words 0))
     done_or (Some f) = Err (FileFails f)
 
--- the call that fails
-abbrev pub failing_call : Option Failure → Option FileCall
-failing_call fault = option_map (λ f. f.call) fault
+-- how many bytes the block has that is written of so many words, and a mark
+abbrev pub block_written : ℕ → ℕ
+block_written words = 2 * words + 8
 
--- An operation on an image, where no call fails or that one does: reading, rewinding, spacing forward and in reverse,
+abbrev pub mark_written : ℕ
+mark_written = 4
+
+-- An operation on an image, where no call fails or that one does, if it is one that the operation makes: reading, rewinding, spacing forward and in reverse,
 -- writing a block, writing a mark, and erasing. Another command does nothing.
 abbrev pub operation : Option Failure → List ℕ → TapeOrder → Result Got NoAnswer
 operation fault image order =
-    if order.command == 0 then read_answer order (next_act image order.place (failing_call fault))
+    if order.command == 0 then read_answer order (next_act image order.place (reading_call true fault))
     else if order.command == 1 then Ok (got.Tape (came_to ends.Plain 0 0 0))
-    else if order.command == 3 then space_answer (space_act image order.place order.count true (failing_call fault))
-    else if order.command == 4 then space_answer (space_act image order.place order.count false (failing_call fault))
-    else if order.command == 5 then put_answer fault order (2 * order.count + 8) ends.Plain order.count
-    else if order.command == 6 then put_answer fault order 4 ends.Mark 0
-    else if order.command == 7 then put_answer fault order 0 ends.Plain 0
+    else if order.command == 3 then space_answer (space_act image order.place order.count true (reading_call true fault))
+    else if order.command == 4 then space_answer (space_act image order.place order.count false (reading_call false fault))
+    else if order.command == 5 then put_answer (writing_failure (block_written order.count) fault) order (block_written order.count) ends.Plain order.count
+    else if order.command == 6 then put_answer (writing_failure mark_written fault) order mark_written ends.Mark 0
+    else if order.command == 7 then put_answer (erasing_failure fault) order 0 ends.Plain 0
     else Ok got.Done
 
 -- ---- on a drive
@@ -132,7 +170,7 @@ memory_read image order met memory = memory
 
 abbrev pub memory_operated : Option Failure → List ℕ → TapeOrder → MemoryState → MemoryState
 memory_operated fault image order memory =
-    if order.command == 0 then memory_read image order (next_act image order.place (failing_call fault)) memory else memory
+    if order.command == 0 then memory_read image order (next_act image order.place (reading_call true fault)) memory else memory
 
 abbrev pub tape_memory : Option Failure → Option Attachment → List NamedBytes → TapeOrder → MemoryState → MemoryState
 tape_memory fault None files order memory = memory
@@ -149,9 +187,9 @@ item_written fault place item old = if nat_le (place + length item) longest_list
 -- an image behind an operation
 abbrev pub image_operated : Option Failure → MemoryState → TapeOrder → List ℕ → List ℕ
 image_operated fault memory order old =
-    if order.command == 5 then item_written fault order.place (block_bytes (block_got order.count order.address memory)) old
-    else if order.command == 6 then item_written fault order.place mark_bytes old
-    else if order.command == 7 then item_written fault order.place [] old
+    if order.command == 5 then item_written (writing_failure (block_written order.count) fault) order.place (block_bytes (block_got order.count order.address memory)) old
+    else if order.command == 6 then item_written (writing_failure mark_written fault) order.place mark_bytes old
+    else if order.command == 7 then item_written (erasing_failure fault) order.place [] old
     else old
 
 abbrev pub tape_files : Option Failure → Option Attachment → MemoryState → List NamedBytes → TapeOrder → List NamedBytes

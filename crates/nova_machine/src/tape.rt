@@ -7,8 +7,9 @@ ghost use Rattle.simh_tape.specs.Reading.{next_act};
 ghost use Rattle.simh_tape.specs.Spacing.{space_act};
 ghost use Rattle.simh_tape.specs.Writing.{block_bytes, mark_bytes};
 ghost use Rattle.nova_machine.specs.Tapes.{writes_tape, block_put, block_got, came_to, read_answer, space_answer, put_answer, operation};
+ghost use Rattle.nova_machine.specs.Tapes.{reading_call, writing_failure, erasing_failure, block_written, mark_written};
 ghost use Rattle.nova_machine.specs.Tapes.{memory_read, memory_operated, item_written, image_operated};
-ghost use Rattle.nova_machine.specs.Operated.{operated, failure_of, call_of, stop_of, IsOnImage, CountsStop, IsTapeCall};
+ghost use Rattle.nova_machine.specs.Operated.{operated, failure_of, stop_of, IsOnImage, CountsStop, IsTapeCall};
 
 use host_files::{Bytes, FileCall};
 use nova_memory::Memory;
@@ -85,9 +86,9 @@ fn read<B: Bytes>(memory: &mut Memory, order: TapeOrder, tape: &mut B) -> Result
     requires address { order.address < 2 ^ 15 }
     requires most { order.count ≤ 2 ^ 12 }
     ensures said { IsTrue B.tells → operated result
-        ≡ read_answer order (next_act (shown (B.content tape.old)) order.place (call_of result)) }
+        ≡ read_answer order (next_act (shown (B.content tape.old)) order.place (reading_call true (failure_of result))) }
     ensures memory { IsTrue B.tells → memory.new ≡ memory_read (shown (B.content tape.old)) order
-        (next_act (shown (B.content tape.old)) order.place (call_of result)) memory.old }
+        (next_act (shown (B.content tape.old)) order.place (reading_call true (failure_of result))) memory.old }
     ensures same { B.content tape.new ≡ B.content tape.old }
     ensures behind { B.behind tape.new ≡ B.behind tape.old }
     ensures bound { IsOnImage result }
@@ -142,7 +143,7 @@ fn put_block(memory: &mut Memory, address: u16, words: u16, bytes: &[u8; 8192])
 fn pass<B: Bytes>(order: TapeOrder, forward: bool, tape: &mut B) -> Result<Got, TapeStop>
     requires { order.place ≤ longest_list }
     ensures said { IsTrue B.tells → operated result
-        ≡ space_answer (space_act (shown (B.content tape.old)) order.place order.count forward (call_of result)) }
+        ≡ space_answer (space_act (shown (B.content tape.old)) order.place order.count forward (reading_call forward (failure_of result))) }
     ensures same { B.content tape.new ≡ B.content tape.old }
     ensures behind { B.behind tape.new ≡ B.behind tape.old }
     ensures bound { IsOnImage result }
@@ -162,8 +163,10 @@ fn write<B: Bytes>(memory: &Memory, order: TapeOrder, tape: &mut B) -> Result<Go
     requires some { 1 ≤ order.count }
     requires most { order.count ≤ 2 ^ 12 }
     requires writable { IsTrue (B.writable tape.old) }
-    ensures said { operated result ≡ put_answer (failure_of result) order (2 * order.count + 8) ends.Plain order.count }
-    ensures image { IsTrue B.tells → B.content tape.new ≡ item_written (failure_of result) order.place
+    ensures said { operated result ≡ put_answer (writing_failure (block_written order.count) (failure_of result)) order
+        (block_written order.count) ends.Plain order.count }
+    ensures image { IsTrue B.tells → B.content tape.new
+        ≡ item_written (writing_failure (block_written order.count) (failure_of result)) order.place
         (block_bytes (block_got order.count order.address memory.now)) (B.content tape.old) }
     ensures behind { B.behind tape.new ≡ B.behind tape.old }
     ensures bound { IsOnImage result }
@@ -202,9 +205,9 @@ fn block_of(memory: &Memory, address: u16, words: u16) -> [u8; 8192]
 fn mark<B: Bytes>(order: TapeOrder, tape: &mut B) -> Result<Got, TapeStop>
     requires place { order.place ≤ longest_list }
     requires writable { IsTrue (B.writable tape.old) }
-    ensures said { operated result ≡ put_answer (failure_of result) order 4 ends.Mark 0 }
+    ensures said { operated result ≡ put_answer (writing_failure mark_written (failure_of result)) order mark_written ends.Mark 0 }
     ensures image { IsTrue B.tells → B.content tape.new
-        ≡ item_written (failure_of result) order.place mark_bytes (B.content tape.old) }
+        ≡ item_written (writing_failure mark_written (failure_of result)) order.place mark_bytes (B.content tape.old) }
     ensures behind { B.behind tape.new ≡ B.behind tape.old }
     ensures bound { IsOnImage result }
     ensures call { IsTapeCall result }
@@ -223,9 +226,9 @@ fn mark<B: Bytes>(order: TapeOrder, tape: &mut B) -> Result<Got, TapeStop>
 fn erase<B: Bytes>(order: TapeOrder, tape: &mut B) -> Result<Got, TapeStop>
     requires place { order.place ≤ longest_list }
     requires writable { IsTrue (B.writable tape.old) }
-    ensures said { operated result ≡ put_answer (failure_of result) order 0 ends.Plain 0 }
+    ensures said { operated result ≡ put_answer (erasing_failure (failure_of result)) order 0 ends.Plain 0 }
     ensures image { IsTrue B.tells → B.content tape.new
-        ≡ item_written (failure_of result) order.place [] (B.content tape.old) }
+        ≡ item_written (erasing_failure (failure_of result)) order.place [] (B.content tape.old) }
     ensures behind { B.behind tape.new ≡ B.behind tape.old }
     ensures bound { IsOnImage result }
     ensures call { IsTapeCall result }
