@@ -99,15 +99,20 @@ reading_failure false fault = first_failure (failure_at Length fault) (failure_a
 
 -- a call that writes nothing
 abbrev pub with_nothing_done : Option Failure → Option Failure
-with_nothing_done fault = option_map (λ f. record f { done = 0 }) fault
+with_nothing_done None = None
+with_nothing_done (Some f) = Some (record f { done = 0 })
 
 -- the tape is ended by setting the length
 abbrev pub erasing_failure : Option Failure → Option Failure
 erasing_failure fault = with_nothing_done (failure_at SetLength fault)
 
 -- an item of so many bytes is written behind that, of which a write that fails wrote a first part
+abbrev pub with_some_done : ℕ → Option Failure → Option Failure
+with_some_done size None = None
+with_some_done size (Some f) = Some (record f { done = min f.done size })
+
 abbrev pub writing_failure : ℕ → Option Failure → Option Failure
-writing_failure size fault = first_failure (erasing_failure fault) (option_map (λ f. record f { done = min f.done size }) (failure_at Write fault))
+writing_failure size fault = first_failure (erasing_failure fault) (with_some_done size (failure_at Write fault))
 
 -- the call of it
 abbrev pub failing_call : Option Failure → Option FileCall

@@ -74,3 +74,21 @@ returns-in-Err-Call-clause-files g c = λ told.
     (on-file c.operate_file.result g.F.Files.tells c.args.attached.now.slots c.args.unit c.in-Some.field-0 (g.F.Files.state c.args.files.now).opened c.args.order
     (g.F.Files.state c.args.files.now).files (g.F.Files.state c.operate_file.new.files).files c.args.memory.now c.operate_file.new.memory
     c.requires.«open» c.in-Some.ensures.holds (sym c.is_refused.ensures ∙ c.if-is_refused.false) e.said e.memory e.files told)).files_are
+
+pub returns-in-Err-Call-clause-memory : goal.returns-in-Err-Call-clause-memory
+returns-in-Err-Call-clause-memory g c = λ told.
+    let e = c.operate_file.ensures in
+    let is : c.operate_file.result ≡ Err (Call c.in-Err-Call.fault) = c.in-Err-Call.is ∙ ap (λ (stop : TapeStop). Err stop) c.in-Err-Call.field-0-is in
+    (subst (λ (r : Result Got TapeStop). Done r (attachment_at (attachments_of c.args.attached.now.slots) c.args.unit) (g.F.Files.state c.args.files.now).files (g.F.Files.state c.operate_file.new.files).files c.args.order c.args.memory.now c.operate_file.new.memory) is
+    (on-file c.operate_file.result g.F.Files.tells c.args.attached.now.slots c.args.unit c.in-Some.field-0 (g.F.Files.state c.args.files.now).opened c.args.order
+    (g.F.Files.state c.args.files.now).files (g.F.Files.state c.operate_file.new.files).files c.args.memory.now c.operate_file.new.memory
+    c.requires.«open» c.in-Some.ensures.holds (sym c.is_refused.ensures ∙ c.if-is_refused.false) e.said e.memory e.files told)).memory_is
+
+pub returns-in-Err-Call-clause-said : goal.returns-in-Err-Call-clause-said
+returns-in-Err-Call-clause-said g c = λ told key expects.
+    let e = c.operate_file.ensures in
+    let is : c.operate_file.result ≡ Err (Call c.in-Err-Call.fault) = c.in-Err-Call.is ∙ ap (λ (stop : TapeStop). Err stop) c.in-Err-Call.field-0-is in
+    sym (subst (λ (r : Result Got TapeStop). Done r (attachment_at (attachments_of c.args.attached.now.slots) c.args.unit) (g.F.Files.state c.args.files.now).files (g.F.Files.state c.operate_file.new.files).files c.args.order c.args.memory.now c.operate_file.new.memory) is
+    (on-file c.operate_file.result g.F.Files.tells c.args.attached.now.slots c.args.unit c.in-Some.field-0 (g.F.Files.state c.args.files.now).opened c.args.order
+    (g.F.Files.state c.args.files.now).files (g.F.Files.state c.operate_file.new.files).files c.args.memory.now c.operate_file.new.memory
+    c.requires.«open» c.in-Some.ensures.holds (sym c.is_refused.ensures ∙ c.if-is_refused.false) e.said e.memory e.files told)).said
