@@ -1,5 +1,5 @@
 -- What a unit wants of the machine, by its kind.
-use Rattle.std.proofs.Common.{◌≡◌, ◌==◌, if◌then◌else◌, inl, inr, ℕ, ◌<◌, ◌≤◌, Bool, true, false, IsTrue, List, [], ◌∷◌, refl, ap, sym, subst, arith, Option, Some, None, zero, suc, slice_get, slice_index, option_map, nat_lt, get_or, codes, drop}
+use Rattle.std.proofs.Common.{◌≡◌, ◌==◌, if◌then◌else◌, inl, inr, ℕ, ◌<◌, ◌≤◌, Bool, true, false, IsTrue, List, [], ◌∷◌, refl, ◌∙◌, ap, sym, subst, arith, Option, Some, None, zero, suc, slice_get, slice_index, option_map, nat_lt, get_or, codes, drop}
 use Rattle.std.specs.Prelude.{IfSome}
 use Rattle.std.proofs.lemmas.Option.{same_Some}
 use Rattle.std.proofs.lemmas.Bool.Decides.{nat_tests}
@@ -154,7 +154,9 @@ read-is : (answer : ByteAnswer) (a : Option Attachment) (place : ℕ) (files : L
 read-is (byte.Byte b) a place files key expects may said = (ap got_of_byte (sym said), refl)
 read-is byte.End a place files key expects may said = (ap got_of_byte (sym said), refl)
 read-is byte.NoFile a place files key expects may said = (ap got_of_byte (sym said), refl)
-read-is (byte.Failed f) a place files key expects may said = ap got_of_byte (sym said)
+read-is (byte.Failed f) (Some a) place files key expects may said =
+    ap got_of_byte (ap (λ (done : ℕ). read_act (Some (record { call = f.call; done = done })) (Some a) place files) (sym may.2) ∙ sym said)
+read-is (byte.Failed f) None place files key expects may said = absurd may
 read-is byte.Written a place files key expects may said = absurd may
 
 -- a byte of a unit's file was read for it

@@ -14,6 +14,7 @@ use Rattle.simh_tape.specs.declared.items.TapeFault.TheVariants.{BadImage, Faile
 use Rattle.nova_machine.specs.declared.tape.TapeStop.{TapeStop}
 use Rattle.nova_machine.specs.declared.tape.TapeStop.TheVariants.{Image, Call}
 use Rattle.nova_machine.specs.Tapes.{NoAnswer, FileFails, ImageIsBad}
+use Rattle.nova_machine.specs.Wants.{IsRunDone}
 
 -- a stop in the words of the definition
 abbrev pub no_answer : TapeStop → NoAnswer
@@ -43,14 +44,14 @@ abbrev pub IsOnImage : Result Got TapeStop → Type 0
 IsOnImage (Ok (Tape got)) = got.place ≤ longest_list
 IsOnImage result = Unit {0}
 
--- the calls of an operation
+-- the calls of an operation, and what they may have written
 abbrev pub IsImageCall : FileCall → Type 0
 IsImageCall Opening = ⊥
 IsImageCall Closing = ⊥
 IsImageCall call = Unit {0}
 
 abbrev pub IsTapeCall : Result Got TapeStop → Type 0
-IsTapeCall (Err (Call f)) = IsImageCall f.call
+IsTapeCall (Err (Call f)) = IsImageCall f.call × IsRunDone f.call f.done
 IsTapeCall result = Unit {0}
 
 -- the count of faults is one more where a call failed, and else as it was

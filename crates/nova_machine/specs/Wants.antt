@@ -1,5 +1,5 @@
 -- What the machine does for a unit whose event is due.
-use Rattle.std.specs.Prelude.{ℕ, ◌+◌, ◌<◌, ◌==◌, ◌≡◌, IsTrue, false, List, [], ◌∷◌, Option, Some, None, option_map, Result, Ok, Err, if◌then◌else◌}
+use Rattle.std.specs.Prelude.{ℕ, ◌+◌, ◌<◌, ◌==◌, ◌≡◌, IsTrue, false, List, [], ◌∷◌, Option, Some, None, option_map, Result, Ok, Err, if◌then◌else◌, ◌≤◌}
 use Rattle.observations.specs.Observations.{Observation, Prints}
 use Rattle.host_files.specs.declared.files.FileCall.{FileCall}
 use Rattle.host_files.specs.declared.files.FileCall.TheVariants as call
@@ -21,7 +21,7 @@ use Rattle.expect_actions.specs.Expects.{ExpectTable, match_at, after_printed}
 use Rattle.expect_actions.specs.Sends.{sends_left}
 use Rattle.expect_actions.specs.Watch.{WatchState}
 use Rattle.nova_machine.specs.Sectors.{got_of_sector, said_of_sector, memory_after}
-use Rattle.nova_machine.specs.Tapes.{NoAnswer, FileFails, ImageIsBad, tape_answer, tape_memory, tape_files}
+use Rattle.nova_machine.specs.Tapes.{NoAnswer, FileFails, ImageIsBad, with_nothing_done, with_some_done, tape_answer, tape_memory, tape_files}
 use Rattle.nova_machine.specs.declared.machine.Stop.{Stop}
 use Rattle.nova_machine.specs.declared.machine.Stop.TheVariants.{UnitEnd, UnitNone, BadImage, FileFault, Wru, Expect}
 
@@ -53,21 +53,22 @@ got_of_byte NothingThere = Ok got.NoFile
 got_of_byte (ByteFailed f) = Err (FileFails f)
 
 -- The machine's answer to what a unit wants that has this attachment, where this key is due, or the failure of the call on
--- the unit's file. There are no lines yet: no key comes on one, and what is sent on one goes nowhere.
+-- the unit's file, where it is the call that is made: a read that fails has done nothing, and a write of a byte at most
+-- that. There are no lines yet: no key comes on one, and what is sent on one goes nowhere.
 abbrev pub answer_to : Option Failure → Option Attachment → List NamedBytes → Option ℕ → Want → Result Got NoAnswer
 answer_to fault a files key want.Nothing = Ok got.Done
 answer_to fault a files key want.Key = Ok (got_of_key key)
 answer_to fault a files key (want.LineKey line) = Ok got.NoKey
 answer_to fault a files key (want.Console byte) = Ok got.Done
 answer_to fault a files key (want.LinePut line byte) = Ok got.Done
-answer_to fault a files key (want.ReadByte place) = got_of_byte (read_act fault a place files)
-answer_to fault a files key (want.WriteByte place byte) = got_of_byte (write_act fault a place)
+answer_to fault a files key (want.ReadByte place) = got_of_byte (read_act (with_nothing_done fault) a place files)
+answer_to fault a files key (want.WriteByte place byte) = got_of_byte (write_act (with_some_done 1 fault) a place)
 answer_to fault a files key (want.Sector write sector from) = Ok (got_of_sector (said_of_sector write a))
 answer_to fault a files key (want.Tape order) = tape_answer fault a files order
 
 -- the files once that was done by a machine with this memory
 abbrev pub files_after : Option Failure → Option Attachment → MemoryState → List NamedBytes → Want → List NamedBytes
-files_after fault a memory files (want.WriteByte place byte) = write_files fault a place byte files
+files_after fault a memory files (want.WriteByte place byte) = write_files (with_some_done 1 fault) a place byte files
 files_after fault a memory files (want.Tape order) = tape_files fault a memory files order
 files_after fault a memory files other = files
 
@@ -132,10 +133,16 @@ IsRunCall kind call.Length = IsTrue (is_tape kind)
 IsRunCall kind call.SetLength = IsTrue (is_tape kind)
 IsRunCall kind call = ⊥
 
--- The unit that a stop names, if it names one, is a unit of its kind, and its call is one that a run makes.
+-- A write that fails may have written a first part, at most of the longest block that is written; other calls write nothing.
+abbrev pub IsRunDone : FileCall → ℕ → Type 0
+IsRunDone call.Write done = done ≤ 8200
+IsRunDone other done = done ≡ 0
+
+-- The unit that a stop names, if it names one, is a unit of its kind, its call is one that a run makes, and no more was
+-- written than that call can have.
 abbrev pub HasUnit : Stop → Type 0
 HasUnit (UnitEnd unit) = unit.unit < units_of unit.kind
 HasUnit (UnitNone unit) = unit.unit < units_of unit.kind
 HasUnit (BadImage unit place) = unit.unit < units_of unit.kind
-HasUnit (FileFault f) = (f.unit.unit < units_of f.unit.kind) × IsRunCall f.unit.kind f.call
+HasUnit (FileFault f) = (f.unit.unit < units_of f.unit.kind) × IsRunCall f.unit.kind f.call × IsRunDone f.call f.done
 HasUnit stop = Unit {0}
