@@ -29,7 +29,8 @@ use Rattle.scp_commands.specs.declared.next.Next.TheVariants.{Exit, Ran}
 use Rattle.scp_commands.specs.declared.fault.CommandFault.TheVariants.{Console, OutOfMemory, NoFile, FileTooLong, FileFailed}
 use Rattle.scp_commands.specs.declared.fault.CommandFault.TheVariants.{LoadTruncated, LoadSum, PastMemory}
 use Rattle.scp_commands.specs.Live.{Live, Standing, standing, CommandState}
-use Rattle.scp_commands.specs.Nature.{nature}
+use Rattle.scp_commands.specs.Nature.{Telling, nature}
+use Rattle.scp_commands.specs.Nature.Telling.{Nothing, Attached, Named}
 use Rattle.scp_commands.specs.Reply.{Answer, Reply, bare_answer}
 use Rattle.scp_commands.specs.FileEffects.{emptied_all, emptied_live}
 
@@ -86,13 +87,14 @@ pub record Did (reply : List CommandNote → Reply) (number : ℕ) (answer : Ans
   pub kept : notes' ≡ notes ++ numbered number own
   pub does : (behind : List CommandNote) → ComeBehind new behind → Does (reply (own ++ behind)) answer (standing (length own) new) tells before after
 
--- what is done is told where the names and bytes of files are told, or where no file is attached
-abbrev pub told_by : Bool → Bool → List (Option Held) → Type 0
-told_by true tells slots = IsTrue tells
-told_by false tells slots = IsTrue tells ⊎ AreFree slots
+-- what is done is told where of files that is told which the command needs
+abbrev pub told_by : Telling → Bool → List (Option Held) → Type 0
+told_by Named tells slots = IsTrue tells
+told_by Attached tells slots = IsTrue tells ⊎ AreFree slots
+told_by Nothing tells slots = Unit {0}
 
 abbrev pub IsTold : Bool → List (Option Held) → Request → Type 0
-IsTold tells slots request = told_by (nature request).names_file tells slots
+IsTold tells slots request = told_by (nature request).telling tells slots
 
 -- ---- causes, whether anything is told or not
 

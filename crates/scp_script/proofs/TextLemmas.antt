@@ -314,7 +314,11 @@ told-of tells slots (Attach option unit name) told = told
 told-of tells slots (request.Do echo strict name arguments) told = told
 told-of tells slots (request.Load name) told = told
 told-of tells slots (request.Dump from to name) told = told
-told-of tells slots r told = inl told
+told-of tells slots (request.Run address) told = inl told
+told-of tells slots (request.Go address) told = inl told
+told-of tells slots request.Cont told = inl told
+told-of tells slots (request.Step count) told = inl told
+told-of tells slots r told = tt
 
 -- a command was done, and then its answer was followed
 pub answers-of : (limit : ℕ) (old : Live) (texts : Texts) (r : Request) (number : ℕ) (answer : Answer) (result : Progress) (new : Live) (texts' : Texts) (tells : Bool) (before mid after : List ℕ) (notes notes' : List Note)
