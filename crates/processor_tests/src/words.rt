@@ -1,0 +1,76 @@
+// Addresses: which numbers are some, and their sums.
+use crate::rows::{at, holds, octals};
+use nova_word::Addr;
+
+const ADDRESSES: &str = "0
+77777";
+
+const NO_ADDRESSES: &str = "100000
+177777";
+
+fn is_address(line: &str) -> bool {
+    match octals(line) {
+        [Some(n), None, ..] => match Addr::new(n) {
+            Some(address) => address.number() == n,
+            None => false,
+        },
+        _ => false,
+    }
+}
+
+fn is_no_address(line: &str) -> bool {
+    match octals(line) {
+        [Some(n), None, ..] => Addr::new(n).is_none(),
+        _ => false,
+    }
+}
+
+#[test]
+fn addresses_are_below_32768(rt: HostRuntime) {
+    for line in ADDRESSES.lines() {
+        holds(&rt, is_address(line), line);
+    }
+    for line in NO_ADDRESSES.lines() {
+        holds(&rt, is_no_address(line), line);
+    }
+}
+
+/// A word, and its low 15 bits.
+const CUT: &str = "0 0
+77777 77777
+100000 0
+177777 77777";
+
+fn is_cut(line: &str) -> bool {
+    match octals(line) {
+        [Some(word), Some(address), None, ..] => at(word).number() == address,
+        _ => false,
+    }
+}
+
+#[test]
+fn a_word_is_cut_to_its_low_15_bits(rt: HostRuntime) {
+    for line in CUT.lines() {
+        holds(&rt, is_cut(line), line);
+    }
+}
+
+/// An address, a number, and the address that many words further on.
+const SUMS: &str = "100 1 101
+77777 1 0
+77777 77777 77776
+1 177777 0";
+
+fn is_sum(line: &str) -> bool {
+    match octals(line) {
+        [Some(a), Some(n), Some(sum), None, ..] => at(a).plus(n).number() == sum,
+        _ => false,
+    }
+}
+
+#[test]
+fn sums_go_around_the_end_of_memory(rt: HostRuntime) {
+    for line in SUMS.lines() {
+        holds(&rt, is_sum(line), line);
+    }
+}

@@ -1,0 +1,66 @@
+// The name of a script and its arguments.
+use crate::checked::holds;
+use script_text::Arguments;
+use std::alloc::AllocError;
+use std::test::Fail;
+
+/// Whether these texts stand in their order, and no others.
+fn are(arguments: &Arguments, texts: &[&str]) -> bool {
+    for (index, text) in texts.iter().enumerate() {
+        if arguments.get(index) != text.as_bytes() {
+            return false;
+        }
+    }
+    arguments.len() == texts.len()
+        && arguments.get(texts.len()).is_empty()
+        && arguments.get(1000).is_empty()
+}
+
+fn push_three(arguments: &mut Arguments) -> Result<(), AllocError> {
+    const TEXTS: [&str; 3] = ["go.cmd", "", "two words"];
+    for text in TEXTS.iter() {
+        push(arguments, text)?;
+    }
+    Ok(())
+}
+
+/// Adds a text where there is room.
+fn push(arguments: &mut Arguments, text: &str) -> Result<(), AllocError> {
+    if arguments.is_full() {
+        return Ok(());
+    }
+    arguments.push(text.as_bytes())
+}
+
+fn push_seven(arguments: &mut Arguments) -> Result<(), AllocError> {
+    for _ in 3..10 {
+        push(arguments, "x")?;
+    }
+    Ok(())
+}
+
+const THREE: &[&str] = &["go.cmd", "", "two words"];
+
+const TEN: &[&str] = &["go.cmd", "", "two words", "x", "x", "x", "x", "x", "x", "x"];
+
+#[test]
+fn texts_are_kept_in_their_order(rt: HostRuntime) -> Result<(), Fail> {
+    let mut arguments = Arguments::new(rt.alloc());
+    holds(&rt, arguments.is_empty(), "no text yet");
+    push_three(&mut arguments)?;
+    holds(&rt, are(&arguments, THREE) && !arguments.is_full(), "three texts");
+    push_seven(&mut arguments)?;
+    holds(&rt, are(&arguments, TEN) && arguments.is_full(), "ten texts");
+    Ok(())
+}
+
+const WORDS: &[&str] = &["a b", "1", "two", "3", "4", "5", "6", "7", "8", "9"];
+
+#[test]
+fn arguments_are_the_words_of_a_text(rt: HostRuntime) -> Result<(), Fail> {
+    let arguments = Arguments::from_text(rt.alloc(), b"a b", b"\t 1 two\t\t3 4 5 6 7 8 9 10 11")?;
+    holds(&rt, are(&arguments, WORDS), "words behind the ninth are left out");
+    let alone = Arguments::from_text(rt.alloc(), b"go", b" \t ")?;
+    holds(&rt, are(&alone, &["go"]), "a text of blanks alone");
+    Ok(())
+}
