@@ -32,12 +32,12 @@ const SUMS: &str = "000000 1000 2000 3000 0 | the displacement alone, without a 
 
 fn comes_to(memory: &mut Memory, line: &str) -> bool {
     let (numbers, _what) = cut(line);
-    match octals(numbers) {
-        [Some(word), Some(pc), Some(ac2), Some(ac3), Some(wanted), None] => {
+    match octals::<5>(numbers) {
+        Some([word, pc, ac2, ac3, wanted]) => {
             let acs = [Word(0o4000), Word(0o5000), Word(ac2), Word(ac3)];
             memory.address(Word(word), at(pc), acs) == Ok(at(wanted))
         }
-        _ => false,
+        None => false,
     }
 }
 
@@ -74,13 +74,13 @@ fn stays(memory: &mut Memory, place: u16, word: u16) -> bool {
 
 fn changes(memory: &mut Memory, line: &str) -> bool {
     let (numbers, _what) = cut(line);
-    match octals(numbers) {
-        [Some(place), Some(before), Some(wanted), Some(after), None, None] => {
+    match octals::<4>(numbers) {
+        Some([place, before, wanted, after]) => {
             stays(memory, place, before)
                 && reference(memory, 0o2000 | place) == Ok(at(wanted))
                 && memory.read(at(place)) == Word(after)
         }
-        _ => false,
+        None => false,
     }
 }
 
@@ -106,27 +106,31 @@ const CHAINS: &str = "50 100020 20 1000 | 100020 1001 | 1001
 fn leads(memory: &mut Memory, line: &str) -> bool {
     let (given, rest) = cut(line);
     let (after, end) = cut(rest);
-    match octals(given) {
-        [Some(first), Some(word), Some(second), Some(other), None, None] => {
+    match octals::<4>(given) {
+        Some([first, word, second, other]) => {
             memory.write(at(first), Word(word));
             memory.write(at(second), Word(other));
             ends(memory, first, end) && are(memory, first, second, after)
         }
-        _ => false,
+        None => false,
     }
 }
 
 fn ends(memory: &mut Memory, first: u16, end: &str) -> bool {
-    match reference(memory, 0o2000 | first) {
-        Ok(address) => octals(end) == [Some(address.number()), None, None, None, None, None],
-        Err(ChainLimit) => octals(end) == [None; 6],
+    match (reference(memory, 0o2000 | first), octals::<1>(end)) {
+        (Ok(address), Some([wanted])) => address.number() == wanted,
+        (Err(ChainLimit), None) => true,
+        _ => false,
     }
 }
 
 fn are(memory: &Memory, first: u16, second: u16, words: &str) -> bool {
-    let word = Some(memory.read(at(first)).0);
-    let other = Some(memory.read(at(second)).0);
-    octals(words) == [word, other, None, None, None, None]
+    match octals::<2>(words) {
+        Some([word, other]) => {
+            memory.read(at(first)) == Word(word) && memory.read(at(second)) == Word(other)
+        }
+        None => false,
+    }
 }
 
 #[test]

@@ -1,5 +1,6 @@
 // Bursts of instructions.
-use crate::rows::{at, cut, holds, octals};
+use crate::rows::{at, cut, holds, octal, octals};
+use nova_memory::Memory;
 use nova_processor::{Burst, BurstEnd, Nowhere, Processor, Stops};
 use nova_word::{Addr, Word};
 use std::alloc::{AllocError, Global};
@@ -17,14 +18,19 @@ const BURSTS: &str = "101400 101400 101400 | 0 0 0 100 | Spent | INC 0,0 three t
 101400 073301 073101 | 3 3 0 103 | Spent | MUL, which is 0 times 0 plus AC0, and DIV by 0
 020104 040107 010107 004107 5 | 4 4 5 107 | Spent | LDA 0,104, STA 0,107, ISZ 107 and JSR 107";
 
+/// Puts words into a memory, from 100 on.
+fn put(memory: &mut Memory, program: &str) {
+    let mut place = at(0o100);
+    for word in program.split_whitespace() {
+        memory.write(place, Word(octal(word).unwrap_or(0)));
+        place = place.plus(1);
+    }
+}
+
 /// A processor at 100 with those words from there on.
 fn with_words(alloc: Global, program: &str) -> Result<Processor, AllocError> {
     let mut processor = Processor::new(alloc)?;
-    let mut place = at(0o100);
-    for number in octals(program).iter() {
-        processor.memory.write(place, Word(number.unwrap_or(0)));
-        place = place.plus(1);
-    }
+    put(&mut processor.memory, program);
     processor.cpu.pc = at(0o100);
     Ok(processor)
 }
@@ -41,12 +47,12 @@ fn end_of(name: &str) -> Option<BurstEnd> {
 
 /// Whether a burst comes to what stands in those columns.
 fn bursts<S: Stops>(processor: &mut Processor, stops: &S, numbers: &str, end: &str) -> bool {
-    match octals(numbers) {
-        [Some(budget), Some(done), Some(ac0), Some(pc), None, None] => {
+    match octals::<4>(numbers) {
+        Some([budget, done, ac0, pc]) => {
             let burst = processor.burst(u64::from(budget), stops);
             is_burst(burst, done, end) && stands(processor, ac0, pc)
         }
-        _ => false,
+        None => false,
     }
 }
 
@@ -102,9 +108,9 @@ fn ends_in_circle(alloc: Global, line: &str) -> Result<bool, AllocError> {
     let (stop, rest) = cut(line);
     let (numbers, end) = cut(rest);
     let mut processor = with_words(alloc, CIRCLE)?;
-    match octals(stop) {
-        [Some(n), None, ..] => Ok(bursts(&mut processor, &Stop(at(n)), numbers, end)),
-        _ => Ok(false),
+    match octals::<1>(stop) {
+        Some([n]) => Ok(bursts(&mut processor, &Stop(at(n)), numbers, end)),
+        None => Ok(false),
     }
 }
 

@@ -10,9 +10,7 @@ fn inputs(processor: &mut Processor) -> bool {
     processor.pass(3, 1, 7);
     processor.pass(2, 1, 9);
     processor.go_past();
-    processor.accumulator(0) == 5
-        && processor.accumulator(1) == 7
-        && processor.cpu.pc == at(0o104)
+    processor.accumulator(0) == 5 && processor.accumulator(1) == 7 && processor.cpu.pc == at(0o104)
 }
 
 /// The number of a test of BUSY, which is set, or DONE, which is not, and PC behind it: SKPBN, SKPBZ, SKPDN and SKPDZ.

@@ -24,24 +24,24 @@ const ROWS: &str = "101400 177777 0 0 0 0 | 0 0 0 0 1 0 | INC 0,0 complements Ca
 
 /// What an instruction leaves of what it finds, by that column.
 fn done(given: &str) -> Option<Arith> {
-    match octals(given) {
-        [Some(word), Some(ac0), Some(ac1), Some(ac2), Some(ac3), Some(carry)] => {
+    match octals::<6>(given) {
+        Some([word, ac0, ac1, ac2, ac3, carry]) => {
             Some(arith(Word(word), words([ac0, ac1, ac2, ac3]), carry == 1))
         }
-        _ => None,
+        None => None,
     }
 }
 
 fn left(wanted: &str) -> Option<Arith> {
-    match octals(wanted) {
-        [Some(ac0), Some(ac1), Some(ac2), Some(ac3), Some(carry), Some(skip)] => {
+    match octals::<6>(wanted) {
+        Some([ac0, ac1, ac2, ac3, carry, skip]) => {
             Some(Arith {
                 acs: words([ac0, ac1, ac2, ac3]),
                 carry: carry == 1,
                 skip: skip == 1,
             })
         }
-        _ => None,
+        None => None,
     }
 }
 

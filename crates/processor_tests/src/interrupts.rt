@@ -47,11 +47,11 @@ fn acknowledges<U: Unit>(units: &[U], mask: u16, code: u16) -> bool {
 }
 
 fn answers<U: Unit>(units: &mut [U], line: &str) -> bool {
-    match octals(line) {
-        [Some(clock), Some(keyboard), Some(printer), Some(mask), Some(code), None] => {
+    match octals::<5>(line) {
+        Some([clock, keyboard, printer, mask, code]) => {
             set_done(units, [clock, keyboard, printer]) && acknowledges(units, mask, code)
         }
-        _ => false,
+        None => false,
     }
 }
 

@@ -38,9 +38,9 @@ fn starts_at(tape: &[u8], memory: &mut Memory, start: u16) -> bool {
 }
 
 fn has(memory: &Memory, line: &str) -> bool {
-    match octals(line) {
-        [Some(place), Some(word), None, ..] => memory.read(at(place)) == Word(word),
-        _ => false,
+    match octals::<2>(line) {
+        Some([place, word]) => memory.read(at(place)) == Word(word),
+        None => false,
     }
 }
 

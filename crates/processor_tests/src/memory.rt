@@ -20,13 +20,13 @@ const PUT: &str = "0 123456
 77777 177777";
 
 fn keeps(memory: &mut Memory, line: &str) -> bool {
-    match octals(line) {
-        [Some(place), Some(word), None, ..] => {
+    match octals::<2>(line) {
+        Some([place, word]) => {
             let zero = has(memory, place, 0);
             put(memory, place, word);
             zero && has(memory, place, word) && has(memory, place ^ 1, 0)
         }
-        _ => false,
+        None => false,
     }
 }
 

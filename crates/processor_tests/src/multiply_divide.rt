@@ -9,11 +9,9 @@ const PRODUCTS: &str = "177777 177777 177777 10 | 177777 0 177777 10
 1 400 400 10 | 1 1 400 10";
 
 fn accumulators(column: &str) -> Option<[Word; 4]> {
-    match octals(column) {
-        [Some(ac0), Some(ac1), Some(ac2), Some(ac3), None, None] => {
-            Some(words([ac0, ac1, ac2, ac3]))
-        }
-        _ => None,
+    match octals::<4>(column) {
+        Some([ac0, ac1, ac2, ac3]) => { Some(words([ac0, ac1, ac2, ac3])) }
+        None => None,
     }
 }
 
@@ -46,14 +44,14 @@ const QUOTIENTS: &str = "5 3 5 10 | 5 3 5 10 1
 177776 177777 177777 10 | 177776 177777 177777 10 0";
 
 fn left(column: &str) -> Option<Divided> {
-    match octals(column) {
-        [Some(ac0), Some(ac1), Some(ac2), Some(ac3), Some(carry), None] => {
+    match octals::<5>(column) {
+        Some([ac0, ac1, ac2, ac3, carry]) => {
             Some(Divided {
                 acs: words([ac0, ac1, ac2, ac3]),
                 carry: carry == 1,
             })
         }
-        _ => None,
+        None => None,
     }
 }
 

@@ -7,19 +7,23 @@ pub fn holds(rt: &impl Abort, so: bool, line: &str) {
     assert!(rt; so, "{line}");
 }
 
-/// How many numbers a column has at most.
-const MOST: usize = 6;
-
-/// The octal numbers of a column. Those behind the last one, and what is no number of 16 bits, are `None`.
-pub fn octals(column: &str) -> [Option<u16>; MOST] {
-    let mut list = [None; MOST];
-    for (number, word) in list.iter_mut().zip(column.split_whitespace()) {
-        *number = octal(word);
+/// The octal numbers of a column, where it has that many, each of 16 bits.
+pub fn octals<const N: usize>(column: &str) -> Option<[u16; N]> {
+    if column.split_whitespace().count() != N {
+        return None;
     }
-    list
+    let mut list = [0; N];
+    for (number, word) in list.iter_mut().zip(column.split_whitespace()) {
+        match octal(word) {
+            Some(n) => *number = n,
+            None => return None,
+        }
+    }
+    Some(list)
 }
 
-fn octal(word: &str) -> Option<u16> {
+/// An octal number of 16 bits.
+pub fn octal(word: &str) -> Option<u16> {
     match read_octal(word.as_bytes()) {
         Ok(number) => u16::try_from(number).ok(),
         Err(_) => None,

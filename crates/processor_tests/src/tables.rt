@@ -139,11 +139,9 @@ const OPERANDS: &str = "0 1 77777 100000
 100001 100001 40000 100000";
 
 fn are_plain_at(line: &str) -> bool {
-    match octals(line) {
-        [Some(ac0), Some(ac1), Some(ac2), Some(ac3), None, None] => {
-            are_plain([ac0, ac1, ac2, ac3])
-        }
-        _ => false,
+    match octals::<4>(line) {
+        Some([ac0, ac1, ac2, ac3]) => { are_plain([ac0, ac1, ac2, ac3]) }
+        None => false,
     }
 }
 

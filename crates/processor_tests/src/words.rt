@@ -9,19 +9,19 @@ const NO_ADDRESSES: &str = "100000
 177777";
 
 fn is_address(line: &str) -> bool {
-    match octals(line) {
-        [Some(n), None, ..] => match Addr::new(n) {
+    match octals::<1>(line) {
+        Some([n]) => match Addr::new(n) {
             Some(address) => address.number() == n,
             None => false,
         },
-        _ => false,
+        None => false,
     }
 }
 
 fn is_no_address(line: &str) -> bool {
-    match octals(line) {
-        [Some(n), None, ..] => Addr::new(n).is_none(),
-        _ => false,
+    match octals::<1>(line) {
+        Some([n]) => Addr::new(n).is_none(),
+        None => false,
     }
 }
 
@@ -42,9 +42,9 @@ const CUT: &str = "0 0
 177777 77777";
 
 fn is_cut(line: &str) -> bool {
-    match octals(line) {
-        [Some(word), Some(address), None, ..] => at(word).number() == address,
-        _ => false,
+    match octals::<2>(line) {
+        Some([word, address]) => at(word).number() == address,
+        None => false,
     }
 }
 
@@ -62,9 +62,9 @@ const SUMS: &str = "100 1 101
 1 177777 0";
 
 fn is_sum(line: &str) -> bool {
-    match octals(line) {
-        [Some(a), Some(n), Some(sum), None, ..] => at(a).plus(n).number() == sum,
-        _ => false,
+    match octals::<3>(line) {
+        Some([a, n, sum]) => at(a).plus(n).number() == sum,
+        None => false,
     }
 }
 

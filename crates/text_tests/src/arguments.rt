@@ -48,9 +48,17 @@ fn texts_are_kept_in_their_order(rt: HostRuntime) -> Result<(), Fail> {
     let mut arguments = Arguments::new(rt.alloc());
     holds(&rt, arguments.is_empty(), "no text yet");
     push_three(&mut arguments)?;
-    holds(&rt, are(&arguments, THREE) && !arguments.is_full(), "three texts");
+    holds(
+        &rt,
+        are(&arguments, THREE) && !arguments.is_full(),
+        "three texts",
+    );
     push_seven(&mut arguments)?;
-    holds(&rt, are(&arguments, TEN) && arguments.is_full(), "ten texts");
+    holds(
+        &rt,
+        are(&arguments, TEN) && arguments.is_full(),
+        "ten texts",
+    );
     Ok(())
 }
 
@@ -59,7 +67,11 @@ const WORDS: &[&str] = &["a b", "1", "two", "3", "4", "5", "6", "7", "8", "9"];
 #[test]
 fn arguments_are_the_words_of_a_text(rt: HostRuntime) -> Result<(), Fail> {
     let arguments = Arguments::from_text(rt.alloc(), b"a b", b"\t 1 two\t\t3 4 5 6 7 8 9 10 11")?;
-    holds(&rt, are(&arguments, WORDS), "words behind the ninth are left out");
+    holds(
+        &rt,
+        are(&arguments, WORDS),
+        "words behind the ninth are left out",
+    );
     let alone = Arguments::from_text(rt.alloc(), b"go", b" \t ")?;
     holds(&rt, are(&alone, &["go"]), "a text of blanks alone");
     Ok(())
