@@ -95,8 +95,8 @@ fn auto_index_locations(rt: HostRuntime) -> Result<(), Fail> {
     Ok(())
 }
 
-/// Two places with the words there, and the words there after an indirect reference through the first, behind a bar. What
-/// it comes to stands behind the second bar. 100 leads to itself.
+/// Two places with the words there; the words there after an indirect reference through the first; and the address that
+/// it comes to. 100 leads to itself.
 const CHAINS: &str = "50 100020 20 1000 | 100020 1001 | 1001
 20 100017 21 0 | 100021 1 | 1
 50 100100 51 0 | 100100 0 | no end

@@ -6,7 +6,7 @@ use nova_word::{Addr, Word};
 use std::alloc::{AllocError, Global};
 use std::test::Fail;
 
-/// The program, from 100 on; the budget, how many instructions are executed, AC0 and PC after them; what ends the burst.
+/// The program, from 100 on; the budget, how many instructions are done, AC0 and PC after them; what ends the burst.
 const BURSTS: &str = "101400 101400 101400 | 0 0 0 100 | Spent | INC 0,0 three times
 101400 101400 101400 | 2 2 2 102 | Spent
 101400 063077 | 11 1 1 101 | Transfer | INC 0,0 before HALT
@@ -97,7 +97,7 @@ impl Stops for Stop {
 /// INC 0,0, INC 0,0,SKP, a HALT that is passed over, and JMP 100.
 const CIRCLE: &str = "101400 101401 063077 000100";
 
-/// A stop in that program; the budget, how many instructions are executed, AC0 and PC after them; what ends the burst.
+/// A stop in that program; the budget, how many instructions are done, AC0 and PC after them; what ends the burst.
 const STOPS: &str = "100 | 11 0 0 100 | AtStop
 101 | 11 1 1 101 | AtStop
 102 | 5 5 4 103 | Spent

@@ -31,9 +31,9 @@ fn units(alloc: Global) -> Result<Vec<Box<dyn Unit>>, AllocError> {
 }
 
 /// Sets the DONE of each unit.
-fn set_done<U: Unit>(units: &mut [U], done: [u16; 3]) -> bool {
+fn set_done<U: Unit>(units: &mut [U], done: &[u16]) -> bool {
     for (unit, done) in units.iter_mut().zip(done) {
-        if unit.set_reg(1, u32::from(done)).is_err() {
+        if unit.set_reg(1, u32::from(*done)).is_err() {
             return false;
         }
     }
@@ -49,7 +49,7 @@ fn acknowledges<U: Unit>(units: &[U], mask: u16, code: u16) -> bool {
 fn answers<U: Unit>(units: &mut [U], line: &str) -> bool {
     match octals::<5>(line) {
         Some([clock, keyboard, printer, mask, code]) => {
-            set_done(units, [clock, keyboard, printer]) && acknowledges(units, mask, code)
+            set_done(units, &[clock, keyboard, printer]) && acknowledges(units, mask, code)
         }
         None => false,
     }

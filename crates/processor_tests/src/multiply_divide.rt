@@ -10,7 +10,7 @@ const PRODUCTS: &str = "177777 177777 177777 10 | 177777 0 177777 10
 
 fn accumulators(column: &str) -> Option<[Word; 4]> {
     match octals::<4>(column) {
-        Some([ac0, ac1, ac2, ac3]) => { Some(words([ac0, ac1, ac2, ac3])) }
+        Some(numbers) => Some(words(numbers)),
         None => None,
     }
 }

@@ -140,7 +140,7 @@ const OPERANDS: &str = "0 1 77777 100000
 
 fn are_plain_at(line: &str) -> bool {
     match octals::<4>(line) {
-        Some([ac0, ac1, ac2, ac3]) => { are_plain([ac0, ac1, ac2, ac3]) }
+        Some(acs) => are_plain(acs),
         None => false,
     }
 }

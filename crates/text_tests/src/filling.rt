@@ -43,8 +43,8 @@ fn arguments_are_filled_in(rt: HostRuntime) -> Result<(), Fail> {
     Ok(())
 }
 
-/// How many letters a line has, what stands behind them, and how many bytes it has once it is filled in, where that is a
-/// line. `%1` stands for three bytes, `%%` for one, and `%2` for none.
+/// How many letters a line has, what stands behind them, and how many bytes it has once it is filled in, where that is
+/// not too long. `%1` stands for three bytes, `%%` for one, and `%2` for none.
 const LENGTHS: [(usize, &str, Option<usize>); 6] = [
     (0, "%1", Some(3)),
     (508, "%1", Some(511)),
