@@ -1,5 +1,5 @@
 // The effective address of a memory reference.
-use crate::rows::{at, cut, holds, octals};
+use crate::rows::{at, cut, holds, octal, octals};
 use nova_memory::{ChainLimit, Memory};
 use nova_word::{Addr, Word};
 use std::test::Fail;
@@ -33,7 +33,8 @@ const SUMS: &str = "000000 1000 2000 3000 0 | the displacement alone, without a 
 fn comes_to(memory: &mut Memory, line: &str) -> bool {
     let (numbers, _what) = cut(line);
     match octals::<5>(numbers) {
-        Some([word, pc, ac2, ac3, wanted]) => {
+        Some(row) => {
+            let [word, pc, ac2, ac3, wanted] = row;
             let acs = [Word(0o4000), Word(0o5000), Word(ac2), Word(ac3)];
             memory.address(Word(word), at(pc), acs) == Ok(at(wanted))
         }
@@ -75,7 +76,8 @@ fn stays(memory: &mut Memory, place: u16, word: u16) -> bool {
 fn changes(memory: &mut Memory, line: &str) -> bool {
     let (numbers, _what) = cut(line);
     match octals::<4>(numbers) {
-        Some([place, before, wanted, after]) => {
+        Some(row) => {
+            let [place, before, wanted, after] = row;
             stays(memory, place, before)
                 && reference(memory, 0o2000 | place) == Ok(at(wanted))
                 && memory.read(at(place)) == Word(after)
@@ -107,7 +109,8 @@ fn leads(memory: &mut Memory, line: &str) -> bool {
     let (given, rest) = cut(line);
     let (after, end) = cut(rest);
     match octals::<4>(given) {
-        Some([first, word, second, other]) => {
+        Some(row) => {
+            let [first, word, second, other] = row;
             memory.write(at(first), Word(word));
             memory.write(at(second), Word(other));
             ends(memory, first, end) && are(memory, first, second, after)
@@ -117,16 +120,16 @@ fn leads(memory: &mut Memory, line: &str) -> bool {
 }
 
 fn ends(memory: &mut Memory, first: u16, end: &str) -> bool {
-    match (reference(memory, 0o2000 | first), octals::<1>(end)) {
-        (Ok(address), Some([wanted])) => address.number() == wanted,
-        (Err(ChainLimit), None) => true,
-        _ => false,
+    match reference(memory, 0o2000 | first) {
+        Ok(address) => Some(address.number()) == octal(end),
+        Err(ChainLimit) => end == "no end",
     }
 }
 
 fn are(memory: &Memory, first: u16, second: u16, words: &str) -> bool {
     match octals::<2>(words) {
-        Some([word, other]) => {
+        Some(row) => {
+            let [word, other] = row;
             memory.read(at(first)) == Word(word) && memory.read(at(second)) == Word(other)
         }
         None => false,

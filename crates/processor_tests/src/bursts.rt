@@ -48,7 +48,8 @@ fn end_of(name: &str) -> Option<BurstEnd> {
 /// Whether a burst comes to what stands in those columns.
 fn bursts<S: Stops>(processor: &mut Processor, stops: &S, numbers: &str, end: &str) -> bool {
     match octals::<4>(numbers) {
-        Some([budget, done, ac0, pc]) => {
+        Some(row) => {
+            let [budget, done, ac0, pc] = row;
             let burst = processor.burst(u64::from(budget), stops);
             is_burst(burst, done, end) && stands(processor, ac0, pc)
         }
@@ -108,8 +109,8 @@ fn ends_in_circle(alloc: Global, line: &str) -> Result<bool, AllocError> {
     let (stop, rest) = cut(line);
     let (numbers, end) = cut(rest);
     let mut processor = with_words(alloc, CIRCLE)?;
-    match octals::<1>(stop) {
-        Some([n]) => Ok(bursts(&mut processor, &Stop(at(n)), numbers, end)),
+    match octal(stop) {
+        Some(n) => Ok(bursts(&mut processor, &Stop(at(n)), numbers, end)),
         None => Ok(false),
     }
 }

@@ -25,18 +25,18 @@ const ROWS: &str = "101400 177777 0 0 0 0 | 0 0 0 0 1 0 | INC 0,0 complements Ca
 /// What an instruction leaves of what it finds, by that column.
 fn done(given: &str) -> Option<Arith> {
     match octals::<6>(given) {
-        Some([word, ac0, ac1, ac2, ac3, carry]) => Some(arith(
-            Word(word),
-            words([ac0, ac1, ac2, ac3]),
-            carry == 1,
-        )),
+        Some(row) => {
+            let [word, ac0, ac1, ac2, ac3, carry] = row;
+            Some(arith(Word(word), words([ac0, ac1, ac2, ac3]), carry == 1))
+        }
         None => None,
     }
 }
 
 fn left(wanted: &str) -> Option<Arith> {
     match octals::<6>(wanted) {
-        Some([ac0, ac1, ac2, ac3, carry, skip]) => {
+        Some(row) => {
+            let [ac0, ac1, ac2, ac3, carry, skip] = row;
             Some(Arith {
                 acs: words([ac0, ac1, ac2, ac3]),
                 carry: carry == 1,

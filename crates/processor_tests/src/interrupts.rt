@@ -48,7 +48,8 @@ fn acknowledges<U: Unit>(units: &[U], mask: u16, code: u16) -> bool {
 
 fn answers<U: Unit>(units: &mut [U], line: &str) -> bool {
     match octals::<5>(line) {
-        Some([clock, keyboard, printer, mask, code]) => {
+        Some(row) => {
+            let [clock, keyboard, printer, mask, code] = row;
             set_done(units, &[clock, keyboard, printer]) && acknowledges(units, mask, code)
         }
         None => false,

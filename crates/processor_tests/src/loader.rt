@@ -39,7 +39,10 @@ fn starts_at(tape: &[u8], memory: &mut Memory, start: u16) -> bool {
 
 fn has(memory: &Memory, line: &str) -> bool {
     match octals::<2>(line) {
-        Some([place, word]) => memory.read(at(place)) == Word(word),
+        Some(row) => {
+            let [place, word] = row;
+            memory.read(at(place)) == Word(word)
+        }
         None => false,
     }
 }

@@ -21,7 +21,8 @@ const PUT: &str = "0 123456
 
 fn keeps(memory: &mut Memory, line: &str) -> bool {
     match octals::<2>(line) {
-        Some([place, word]) => {
+        Some(row) => {
+            let [place, word] = row;
             let zero = has(memory, place, 0);
             put(memory, place, word);
             zero && has(memory, place, word) && has(memory, place ^ 1, 0)

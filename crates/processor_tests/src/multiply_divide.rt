@@ -45,7 +45,8 @@ const QUOTIENTS: &str = "5 3 5 10 | 5 3 5 10 1
 
 fn left(column: &str) -> Option<Divided> {
     match octals::<5>(column) {
-        Some([ac0, ac1, ac2, ac3, carry]) => {
+        Some(row) => {
+            let [ac0, ac1, ac2, ac3, carry] = row;
             Some(Divided {
                 acs: words([ac0, ac1, ac2, ac3]),
                 carry: carry == 1,

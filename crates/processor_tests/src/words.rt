@@ -1,5 +1,5 @@
 // Addresses: which numbers are some, and their sums.
-use crate::rows::{at, holds, octals};
+use crate::rows::{at, holds, octal, octals};
 use nova_word::Addr;
 
 const ADDRESSES: &str = "0
@@ -9,18 +9,22 @@ const NO_ADDRESSES: &str = "100000
 177777";
 
 fn is_address(line: &str) -> bool {
-    match octals::<1>(line) {
-        Some([n]) => match Addr::new(n) {
-            Some(address) => address.number() == n,
-            None => false,
-        },
+    match octal(line) {
+        Some(n) => has_number(Addr::new(n), n),
+        None => false,
+    }
+}
+
+fn has_number(address: Option<Addr>, n: u16) -> bool {
+    match address {
+        Some(address) => address.number() == n,
         None => false,
     }
 }
 
 fn is_no_address(line: &str) -> bool {
-    match octals::<1>(line) {
-        Some([n]) => Addr::new(n).is_none(),
+    match octal(line) {
+        Some(n) => Addr::new(n).is_none(),
         None => false,
     }
 }
@@ -43,7 +47,10 @@ const CUT: &str = "0 0
 
 fn is_cut(line: &str) -> bool {
     match octals::<2>(line) {
-        Some([word, address]) => at(word).number() == address,
+        Some(row) => {
+            let [word, address] = row;
+            at(word).number() == address
+        }
         None => false,
     }
 }
@@ -63,7 +70,10 @@ const SUMS: &str = "100 1 101
 
 fn is_sum(line: &str) -> bool {
     match octals::<3>(line) {
-        Some([a, n, sum]) => at(a).plus(n).number() == sum,
+        Some(row) => {
+            let [a, n, sum] = row;
+            at(a).plus(n).number() == sum
+        }
         None => false,
     }
 }

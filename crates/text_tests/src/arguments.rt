@@ -26,10 +26,10 @@ fn push_three(arguments: &mut Arguments) -> Result<(), AllocError> {
 
 /// Adds a text where there is room.
 fn push(arguments: &mut Arguments, text: &str) -> Result<(), AllocError> {
-    if arguments.is_full() {
-        return Ok(());
+    if arguments.len() < 10 {
+        arguments.push(text.as_bytes())?;
     }
-    arguments.push(text.as_bytes())
+    Ok(())
 }
 
 fn push_seven(arguments: &mut Arguments) -> Result<(), AllocError> {
