@@ -120,7 +120,7 @@ fn words_past_the_size_are_lost_for_good(rt: HostRuntime) -> Result<(), Fail> {
 
 const SIZES: [u64; 8] = [4, 8, 12, 16, 20, 24, 28, 32];
 
-/// Whether a memory has that many K, and no word behind them.
+/// Whether a memory has that many K, and the last word stays where one is put behind it.
 fn ends_at(memory: &mut Memory, k: u64) -> bool {
     if !set_size(memory, k) {
         return false;

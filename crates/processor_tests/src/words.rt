@@ -1,41 +1,32 @@
 // Addresses: which numbers are some, and their sums.
-use crate::rows::{at, holds, octal, octals};
+use crate::rows::{at, cut, holds, octal, octals};
 use nova_word::Addr;
 
-const ADDRESSES: &str = "0
-77777";
+/// A number, and that of its address.
+const NUMBERS: &str = "0 | 0
+77777 | 77777
+100000 | none
+177777 | none";
 
-const NO_ADDRESSES: &str = "100000
-177777";
-
-fn is_address(line: &str) -> bool {
-    match octal(line) {
-        Some(n) => has_number(Addr::new(n), n),
-        None => false,
+fn address_of(n: u16) -> Option<u16> {
+    match Addr::new(n) {
+        Some(address) => Some(address.number()),
+        None => None,
     }
 }
 
-fn has_number(address: Option<Addr>, n: u16) -> bool {
-    match address {
-        Some(address) => address.number() == n,
-        None => false,
-    }
-}
-
-fn is_no_address(line: &str) -> bool {
-    match octal(line) {
-        Some(n) => Addr::new(n).is_none(),
+fn has_its_address(line: &str) -> bool {
+    let (number, address) = cut(line);
+    match octal(number) {
+        Some(n) => address_of(n) == octal(address),
         None => false,
     }
 }
 
 #[test]
 fn addresses_are_below_32768(rt: HostRuntime) {
-    for line in ADDRESSES.lines() {
-        holds(&rt, is_address(line), line);
-    }
-    for line in NO_ADDRESSES.lines() {
-        holds(&rt, is_no_address(line), line);
+    for line in NUMBERS.lines() {
+        holds(&rt, has_its_address(line), line);
     }
 }
 

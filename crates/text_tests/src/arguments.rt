@@ -16,30 +16,19 @@ fn are(arguments: &Arguments, texts: &[&str]) -> bool {
         && arguments.get(1000).is_empty()
 }
 
-fn push_three(arguments: &mut Arguments) -> Result<(), AllocError> {
-    const TEXTS: [&str; 3] = ["go.cmd", "", "two words"];
-    for text in TEXTS.iter() {
-        push(arguments, text)?;
-    }
-    Ok(())
-}
-
-/// Adds a text where there is room.
-fn push(arguments: &mut Arguments, text: &str) -> Result<(), AllocError> {
-    if arguments.len() < 10 {
-        arguments.push(text.as_bytes())?;
-    }
-    Ok(())
-}
-
-fn push_seven(arguments: &mut Arguments) -> Result<(), AllocError> {
-    for _ in 3..10 {
-        push(arguments, "x")?;
+/// Adds texts while there is room.
+fn add(arguments: &mut Arguments, texts: &[&str]) -> Result<(), AllocError> {
+    for text in texts.iter() {
+        if arguments.len() < 10 {
+            arguments.push(text.as_bytes())?;
+        }
     }
     Ok(())
 }
 
 const THREE: &[&str] = &["go.cmd", "", "two words"];
+
+const SEVEN: &[&str] = &["x", "x", "x", "x", "x", "x", "x"];
 
 const TEN: &[&str] = &["go.cmd", "", "two words", "x", "x", "x", "x", "x", "x", "x"];
 
@@ -47,13 +36,13 @@ const TEN: &[&str] = &["go.cmd", "", "two words", "x", "x", "x", "x", "x", "x", 
 fn texts_are_kept_in_their_order(rt: HostRuntime) -> Result<(), Fail> {
     let mut arguments = Arguments::new(rt.alloc());
     holds(&rt, arguments.is_empty(), "no text yet");
-    push_three(&mut arguments)?;
+    add(&mut arguments, THREE)?;
     holds(
         &rt,
         are(&arguments, THREE) && !arguments.is_full(),
         "three texts",
     );
-    push_seven(&mut arguments)?;
+    add(&mut arguments, SEVEN)?;
     holds(
         &rt,
         are(&arguments, TEN) && arguments.is_full(),
