@@ -87,6 +87,3 @@ fn push_word(tape: &mut Vec<u8>, word: u16) -> Result<(), AllocError>
     tape.push((word / 256) as u8)?;
     Ok(())
 }
-
-#[cfg(test)]
-mod tests;

@@ -124,6 +124,3 @@ fn store_repeated(word: Word, origin: u16, count: u16, memory: &mut Memory)
         memory.write(Addr::of_word(Word(at)), word);
     }
 }
-
-#[cfg(test)]
-mod tests;

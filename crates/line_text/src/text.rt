@@ -125,6 +125,3 @@ impl<const N: usize> Text<N> {
         self.push_all(&out[..count]);
     }
 }
-
-#[cfg(test)]
-mod tests;

@@ -84,6 +84,3 @@ fn first_other(text: &[u8]) -> usize
 {
     other_place(text).unwrap_or(text.len())
 }
-
-#[cfg(test)]
-mod tests;

@@ -92,6 +92,3 @@ fn decoded_number(word: Word, acs: &[Word; 4], carry: bool) -> u32
     let base = CarryBase::of_word(word);
     number(word, function, base, Shift::of_word(word), s.0, d.0, carry)
 }
-
-#[cfg(test)]
-mod tests;

@@ -103,6 +103,3 @@ fn asks<U: Unit>(mask: u16, unit: &U) -> bool
 {
     unit.reg(1) == 1 && mask / mask_of(unit.kind()) % 2 == 0
 }
-
-#[cfg(test)]
-mod tests;

@@ -105,6 +105,3 @@ fn changed(at: Addr, word: Word) -> Word
         _ => word,
     }
 }
-
-#[cfg(test)]
-mod tests;

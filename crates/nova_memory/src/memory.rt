@@ -95,6 +95,3 @@ impl Memory {
         &mut self.inside
     }
 }
-
-#[cfg(test)]
-mod tests;

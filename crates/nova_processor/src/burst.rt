@@ -129,6 +129,3 @@ impl Processor {
         }
     }
 }
-
-#[cfg(test)]
-mod tests;

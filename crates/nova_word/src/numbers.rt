@@ -122,6 +122,3 @@ pub fn texts_have_one_answer()
     ensures one { (base largest : ℕ) → HasOneAnswer base largest }
     ensures computed { (base largest : ℕ) → AnswerIsComputed base largest }
 {}
-
-#[cfg(test)]
-mod tests;

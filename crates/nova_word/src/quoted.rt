@@ -103,6 +103,3 @@ pub fn quoted_texts_are_unambiguous()
     ensures one { QuotedIsUnique }
     ensures computed { QuotedIsComputed }
 {}
-
-#[cfg(test)]
-mod tests;

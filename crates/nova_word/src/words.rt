@@ -62,6 +62,3 @@ impl Addr {
         Addr(((u32::from(self.0) + u32::from(n)) % 32768) as u16)
     }
 }
-
-#[cfg(test)]
-mod tests;

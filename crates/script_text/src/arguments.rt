@@ -111,6 +111,3 @@ fn between(bytes: &[u8], from: usize, to: usize) -> &[u8]
 {
     &bytes[from..to]
 }
-
-#[cfg(test)]
-mod tests;

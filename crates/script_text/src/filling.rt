@@ -68,6 +68,3 @@ fn is_name(b: u8) -> bool
 {
     b == b'%' || b.is_ascii_digit()
 }
-
-#[cfg(test)]
-mod tests;

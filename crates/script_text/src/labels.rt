@@ -41,6 +41,3 @@ fn is_label(line: &[u8], label: &[u8]) -> bool
         _ => false,
     }
 }
-
-#[cfg(test)]
-mod tests;

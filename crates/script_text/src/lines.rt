@@ -76,6 +76,3 @@ fn first_line_end(script: &[u8]) -> usize
 {
     line_feed_place(script).unwrap_or(script.len())
 }
-
-#[cfg(test)]
-mod tests;

@@ -1,0 +1,19 @@
+//! Tests of texts: quoted ones, lines that are put together, words of a line, and scripts.
+#![tactic(auto)]
+
+#[cfg(test)]
+mod arguments;
+#[cfg(test)]
+mod checked;
+#[cfg(test)]
+mod filling;
+#[cfg(test)]
+mod labels;
+#[cfg(test)]
+mod lines;
+#[cfg(test)]
+mod quoted;
+#[cfg(test)]
+mod texts;
+#[cfg(test)]
+mod words;
