@@ -4,7 +4,7 @@ ghost use Rattle.std.specs.Prelude.{◌≡◌};
 ghost use Rattle.unit_files.specs.Open.{AllOpen};
 
 use crate::images::with_file;
-use crate::texts::{Call, call_of, columns_of, equal, holds, number, size};
+use crate::texts::{Call, call_of, columns_of, equal, file_call, holds, number, size};
 use host_files::{FileCall, FileId, Files, MemFiles};
 use std::alloc::Global;
 use std::process::Abort;
@@ -22,17 +22,10 @@ const DISK: UnitName = UnitName {
 /// A failed call on the disk's file, as `Write:512`.
 fn fault_of(text: &str) -> Option<UnitFault> {
     let (call, done) = text.split_once(':')?;
-    let call = match call {
-        "Length" => FileCall::Length,
-        "Read" => FileCall::Read,
-        "Write" => FileCall::Write,
-        "Closing" => FileCall::Closing,
-        _ => return None,
-    };
     Some(UnitFault {
         unit: DISK,
         file: Some(FileId(0)),
-        call,
+        call: file_call(call)?,
         done: number(done)?,
     })
 }

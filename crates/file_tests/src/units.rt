@@ -5,8 +5,8 @@ ghost use Rattle.unit_files.specs.Attachments.{takes_attachment, is_paper};
 ghost use Rattle.unit_files.specs.Open.{AllOpen};
 
 use crate::images::{left, with_file};
-use crate::texts::{Call, call_of, columns_of, equal, holds, number};
-use host_files::{FileCall, FileId, Files, MemFiles};
+use crate::texts::{Call, call_of, columns_of, equal, file_call, holds, number};
+use host_files::{FileId, Files, MemFiles};
 use std::alloc::Global;
 use std::process::Abort;
 use std::test::Fail;
@@ -14,7 +14,7 @@ use unit_files::{AttachFault, AttachMode, Attached, ByteAnswer, DetachFault, Uni
 use unit_trait::{Kind, UnitName};
 
 /// The reader, the punch or the printer.
-fn unit_of(name: &str) -> UnitName
+pub fn unit_of(name: &str) -> UnitName
     ensures paper { IsTrue (is_paper result.kind) }
     ensures takes { IsTrue (takes_attachment result) }
 {
@@ -34,7 +34,7 @@ fn unit_of(name: &str) -> UnitName
     }
 }
 
-fn mode_of(name: &str) -> AttachMode {
+pub fn mode_of(name: &str) -> AttachMode {
     match name {
         "any" => AttachMode::Any,
         "there" => AttachMode::MustExist,
@@ -43,7 +43,7 @@ fn mode_of(name: &str) -> AttachMode {
     }
 }
 
-fn file_of(text: &str) -> Option<FileId> {
+pub fn file_of(text: &str) -> Option<FileId> {
     text.parse().ok().map(FileId)
 }
 
@@ -51,18 +51,10 @@ fn file_of(text: &str) -> Option<FileId> {
 fn fault_of(unit: UnitName, text: &str) -> Option<UnitFault> {
     let (call, rest) = text.split_once(':')?;
     let (file, done) = rest.split_once(':')?;
-    let call = match call {
-        "Opening" => FileCall::Opening,
-        "Length" => FileCall::Length,
-        "Read" => FileCall::Read,
-        "Write" => FileCall::Write,
-        "Closing" => FileCall::Closing,
-        _ => return None,
-    };
     Some(UnitFault {
         unit,
         file: file_of(file),
-        call,
+        call: file_call(call)?,
         done: number(done)?,
     })
 }
@@ -81,7 +73,7 @@ fn attach_answer(unit: UnitName, text: &str) -> Option<Result<u64, AttachFault>>
 }
 
 /// What a detaching answers, of units that write nothing back.
-fn detach_answer(unit: UnitName, text: &str) -> Result<Option<UnitFault>, DetachFault> {
+pub fn detach_answer(unit: UnitName, text: &str) -> Result<Option<UnitFault>, DetachFault> {
     match text {
         "NotAttached" => Err(DetachFault::NotAttached),
         _ => Ok(fault_of(unit, text)),

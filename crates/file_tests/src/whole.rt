@@ -2,7 +2,7 @@
 // how often openings and calls on it have failed. Bytes stand behind a sign of equality.
 use crate::images::{left, with_file};
 use crate::piecewise::Piecewise;
-use crate::texts::{columns_of, equal, holds, number};
+use crate::texts::{columns_of, equal, file_call, holds, number};
 use host_files::{FileCall, FileId, Files, MemFiles, OpenMode};
 use std::alloc::Global;
 use std::process::Abort;
@@ -22,14 +22,7 @@ struct Row<'a> {
 
 /// A failed call on the first file that was opened, or of an opening.
 fn call_of(text: &str) -> Option<FailedCall> {
-    let call = match text {
-        "Opening" => FileCall::Opening,
-        "Length" => FileCall::Length,
-        "Read" => FileCall::Read,
-        "Write" => FileCall::Write,
-        "Closing" => FileCall::Closing,
-        _ => return None,
-    };
+    let call = file_call(text)?;
     Some(FailedCall {
         file: if call == FileCall::Opening {
             None
