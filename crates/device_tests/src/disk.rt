@@ -2,7 +2,8 @@
 use crate::rows::all;
 use disk_unit::Dsk;
 
-const THE_FUNCTION_COMES_BEFORE_THE_PULSE: &str = "0 1 0 9 5 6 0o11 1 | DIA 7 = 0o11 keep | 0 1 0 9 5 6 0o11 1
+const THE_FUNCTION_COMES_BEFORE_THE_PULSE: &str =
+    "0 1 0 9 5 6 0o11 1 | DIA 7 = 0o11 keep | 0 1 0 9 5 6 0o11 1
 0 1 1 9 5 6 5 1 | DIAC 7 = 5 cancel | 0 0 1 9 5 6 0 1
 0 1 0 9 5 6 5 1 | DIAS 7 = 5 after:9 | 1 0 0 9 5 6 0 0
 0 0 0 9 5 0o77777 0 0 | DIB 0 = 0o77777 keep | 0 0 0 9 5 0o77777 0 0
@@ -24,7 +25,8 @@ fn the_function_comes_before_the_pulse(rt: HostRuntime) {
     all(&rt, &mut Dsk::new(), THE_FUNCTION_COMES_BEFORE_THE_PULSE);
 }
 
-const A_SECTOR_IS_MOVED_AS_THE_REGISTERS_THEN_SAY: &str = "1 0 0 9 7 0 0 1 | due 0 = sector_write 7 0 | 1 0 0 9 7 0 0 1 | got 0 done = keep go | 0 1 0 9 7 0o400 0 1
+const A_SECTOR_IS_MOVED_AS_THE_REGISTERS_THEN_SAY: &str =
+    "1 0 0 9 7 0 0 1 | due 0 = sector_write 7 0 | 1 0 0 9 7 0 0 1 | got 0 done = keep go | 0 1 0 9 7 0o400 0 1
 | reset = keep | 0 0 0 9 7 0o400 0 0
 1 0 1 9 7 0o77400 0 0 | due 0 = sector_read 7 0o77400 | 1 0 1 9 7 0o77400 0 0 | got 0 done = keep go | 0 1 1 9 7 0 0 0
 | reset = keep | 0 0 1 9 7 0 0 0
@@ -45,7 +47,11 @@ const A_SECTOR_IS_MOVED_AS_THE_REGISTERS_THEN_SAY: &str = "1 0 0 9 7 0 0 1 | due
 
 #[test]
 fn a_sector_is_moved_as_the_registers_then_say(rt: HostRuntime) {
-    all(&rt, &mut Dsk::new(), A_SECTOR_IS_MOVED_AS_THE_REGISTERS_THEN_SAY);
+    all(
+        &rt,
+        &mut Dsk::new(),
+        A_SECTOR_IS_MOVED_AS_THE_REGISTERS_THEN_SAY,
+    );
 }
 
 const A_REGISTER_TAKES_ITS_LIMITS_AND_NOTHING_PAST_THEM: &str = "| 0 0 0 200 0 0 0 0
@@ -61,5 +67,9 @@ const A_REGISTER_TAKES_ITS_LIMITS_AND_NOTHING_PAST_THEM: &str = "| 0 0 0 200 0 0
 
 #[test]
 fn a_register_takes_its_limits_and_nothing_past_them(rt: HostRuntime) {
-    all(&rt, &mut Dsk::new(), A_REGISTER_TAKES_ITS_LIMITS_AND_NOTHING_PAST_THEM);
+    all(
+        &rt,
+        &mut Dsk::new(),
+        A_REGISTER_TAKES_ITS_LIMITS_AND_NOTHING_PAST_THEM,
+    );
 }

@@ -8,7 +8,7 @@ mod clock;
 #[cfg(test)]
 mod disk;
 #[cfg(test)]
-mod paper_tape;
+mod paper_units;
 #[cfg(test)]
 mod rows;
 #[cfg(test)]

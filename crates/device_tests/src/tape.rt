@@ -27,7 +27,8 @@ const AT_PLACES: &str = "0 0 0 1000 0 0 0 0 0 0 100 200 300 400 500 600 700 | ki
 const STILL_AT_PLACES: &str = "| from 9 = 0 100 200 300 400 500 600 700";
 
 // Words at rest, and then at work, where no output and no S is taken, but C is. P is no pulse of the tape.
-const THE_FUNCTION_COMES_BEFORE_THE_PULSE: &str = "0 1 0 9 3 5 6 7 0o120001 | DIA 7 = 0o120001 keep | 0 1 0 9 3 5 6 7 0o120001
+const THE_FUNCTION_COMES_BEFORE_THE_PULSE: &str =
+    "0 1 0 9 3 5 6 7 0o120001 | DIA 7 = 0o120001 keep | 0 1 0 9 3 5 6 7 0o120001
 0 1 1 9 3 5 6 7 1 | DIAC 7 = 1 cancel | 0 0 1 9 3 5 6 7 0
 0 1 1 9 3 5 6 7 1 | DIAS 7 = 1 after:9 5 | 1 0 1 9 3 5 6 7 0
 1 0 0 9 3 5 0o77777 7 0 | DIB 0 = 0o77777 keep | 1 0 0 9 3 5 0o77777 7 0
@@ -57,7 +58,8 @@ fn the_function_comes_before_the_pulse(rt: HostRuntime) {
     all_in_place(&rt, THE_FUNCTION_COMES_BEFORE_THE_PULSE);
 }
 
-const A_REGISTER_TAKES_ITS_LIMITS_AND_NOTHING_PAST_THEM: &str = "| kind = MTA | 0 0 0 1000 0 0 0 0 0 0 0 0 0 0 0 0 0
+const A_REGISTER_TAKES_ITS_LIMITS_AND_NOTHING_PAST_THEM: &str =
+    "| kind = MTA | 0 0 0 1000 0 0 0 0 0 0 0 0 0 0 0 0 0
 | set 0 2 = refused 0 | set 0 0 = taken 0 | set 0 1 = taken 1
 | set 1 2 = refused 0 | set 1 0 = taken 0 | set 1 1 = taken 1
 | set 2 2 = refused 0 | set 2 0 = taken 0 | set 2 1 = taken 1
@@ -79,11 +81,16 @@ const A_REGISTER_TAKES_ITS_LIMITS_AND_NOTHING_PAST_THEM: &str = "| kind = MTA | 
 
 #[test]
 fn a_register_takes_its_limits_and_nothing_past_them(rt: HostRuntime) {
-    all(&rt, &mut Mta::new(), A_REGISTER_TAKES_ITS_LIMITS_AND_NOTHING_PAST_THEM);
+    all(
+        &rt,
+        &mut Mta::new(),
+        A_REGISTER_TAKES_ITS_LIMITS_AND_NOTHING_PAST_THEM,
+    );
 }
 
 // DRIVE names another drive by then.
-const A_COMMAND_IS_WANTED_AT_THE_PLACE_OF_ITS_DRIVE: &str = "1 0 0 9 0 5 0o1000 0o7700 0 | due 3 = tape 0 300 0o1000 0o100 | 1 0 0 9 0 5 0o1000 0o7700 0
+const A_COMMAND_IS_WANTED_AT_THE_PLACE_OF_ITS_DRIVE: &str =
+    "1 0 0 9 0 5 0o1000 0o7700 0 | due 3 = tape 0 300 0o1000 0o100 | 1 0 0 9 0 5 0o1000 0o7700 0
 1 0 0 9 1 5 0 0 0 | due 0 = tape 1 0 0 4096 | 1 0 0 9 1 5 0 0 0
 1 0 0 9 3 5 5 0o7777 0 | due 7 = tape 3 700 5 1 | 1 0 0 9 3 5 5 0o7777 0
 1 0 0 9 4 5 5 0o7775 0 | due 6 = tape 4 600 5 3 | 1 0 0 9 4 5 5 0o7775 0
@@ -96,7 +103,8 @@ fn a_command_is_wanted_at_the_place_of_its_drive(rt: HostRuntime) {
     all_in_place(&rt, A_COMMAND_IS_WANTED_AT_THE_PLACE_OF_ITS_DRIVE);
 }
 
-const STAT_SAYS_WHAT_AN_OPERATION_CAME_TO: &str = "1 0 0 9 3 5 6 7 0 | got 2 tape plain 8 0 0 = keep go | 0 1 0 9 3 5 6 7 1
+const STAT_SAYS_WHAT_AN_OPERATION_CAME_TO: &str =
+    "1 0 0 9 3 5 6 7 0 | got 2 tape plain 8 0 0 = keep go | 0 1 0 9 3 5 6 7 1
 1 0 0 9 3 5 6 7 0 | got 2 tape plain 8 0 0 flagged = keep go | 0 1 0 9 3 5 6 7 0o102001
 1 0 0 9 3 5 6 7 0 | got 2 tape medium 8 0 0 = keep go | 0 1 0 9 3 5 6 7 0o101001
 1 0 0 9 3 5 6 7 0 | got 2 tape mark 8 0 0 = keep go | 0 1 0 9 3 5 6 7 0o401
@@ -114,7 +122,8 @@ fn stat_says_what_an_operation_came_to(rt: HostRuntime) {
     all_at_places(&rt, STAT_SAYS_WHAT_AN_OPERATION_CAME_TO);
 }
 
-const MA_AND_WC_MOVE_ON_AND_THE_RIGHT_TAPE_ALONE: &str = "1 0 1 9 3 2 0o100 0o7700 0 | got 0 tape plain 8 0o40 0 = keep go | 0 1 1 9 3 2 0o140 0o7740 1 8 100 200 300 400 500 600 700
+const MA_AND_WC_MOVE_ON_AND_THE_RIGHT_TAPE_ALONE: &str =
+    "1 0 1 9 3 2 0o100 0o7700 0 | got 0 tape plain 8 0o40 0 = keep go | 0 1 1 9 3 2 0o140 0o7740 1 8 100 200 300 400 500 600 700
 1 0 1 9 3 2 0o77770 0o7770 0 | got 7 tape plain 67108864 0o10 0 = keep go | 0 1 1 9 3 2 0 0 1 0 100 200 300 400 500 600 67108864
 1 0 1 9 3 2 0o77777 0o7777 0 | got 3 tape plain 8 4096 0 = keep go | 0 1 1 9 3 2 0o7777 0o7777 1 0 100 200 8 400 500 600 700
 1 0 1 9 3 2 5 0o7776 0 | got 4 tape plain 8 0 3 = keep go | 0 1 1 9 3 2 5 1 1 0 100 200 300 8 500 600 700
@@ -125,7 +134,8 @@ fn ma_and_wc_move_on_and_the_right_tape_alone(rt: HostRuntime) {
     all_at_places(&rt, MA_AND_WC_MOVE_ON_AND_THE_RIGHT_TAPE_ALONE);
 }
 
-const AN_ANSWER_MAY_STOP_THE_MACHINE: &str = "1 0 0 9 3 5 6 7 4 | got 2 tape medium 200 0 0 = keep go | 0 1 0 9 3 5 6 7 0o101001 | reset = keep | 0 0 0 9 0 0 6 7 0
+const AN_ANSWER_MAY_STOP_THE_MACHINE: &str =
+    "1 0 0 9 3 5 6 7 4 | got 2 tape medium 200 0 0 = keep go | 0 1 0 9 3 5 6 7 0o101001 | reset = keep | 0 0 0 9 0 0 6 7 0
 1 0 1 9 3 5 6 7 4 | got 2 tape medium 200 0 0 = keep end | 0 1 1 9 3 5 6 7 0o101001 | reset = keep | 0 0 1 9 0 0 6 7 0
 1 0 1 9 3 5 6 7 4 | got 2 tape mark 200 0 0 = keep go | 0 1 1 9 3 5 6 7 0o401 | reset = keep | 0 0 1 9 0 0 6 7 0
 1 0 0 9 3 5 6 7 4 | got 2 done = keep go | 0 1 0 9 3 5 6 7 0o120000 | reset = keep | 0 0 0 9 0 0 6 7 0

@@ -2,7 +2,8 @@
 use crate::rows::all;
 use tty_units::{Tti, Tto};
 
-const THE_PULSES_OF_A_KEYBOARD_CHANGE_ITS_FLAGS_ALONE: &str = "1 1 7 0o101 | DIA 0o123456 = 0o101 keep | 1 1 7 0o101
+const THE_PULSES_OF_A_KEYBOARD_CHANGE_ITS_FLAGS_ALONE: &str =
+    "1 1 7 0o101 | DIA 0o123456 = 0o101 keep | 1 1 7 0o101
 1 1 7 0o377 | DIAC 0o123456 = 0o377 keep | 0 0 7 0o377
 0 1 7 0o101 | DIAS 0o123456 = 0o101 keep | 1 0 7 0o101
 0 1 100 1 | NIOS 0o123456 = 0 keep | 1 0 100 1
@@ -14,10 +15,15 @@ const THE_PULSES_OF_A_KEYBOARD_CHANGE_ITS_FLAGS_ALONE: &str = "1 1 7 0o101 | DIA
 
 #[test]
 fn the_pulses_of_a_keyboard_change_its_flags_alone(rt: HostRuntime) {
-    all(&rt, &mut Tti::new(), THE_PULSES_OF_A_KEYBOARD_CHANGE_ITS_FLAGS_ALONE);
+    all(
+        &rt,
+        &mut Tti::new(),
+        THE_PULSES_OF_A_KEYBOARD_CHANGE_ITS_FLAGS_ALONE,
+    );
 }
 
-const A_KEYBOARD_LOOKS_AGAIN_AFTER_TIME: &str = "1 0 100 0 | due 0 = key | 1 0 100 0 | got 0 key 0o377 = after:100 go | 0 1 100 0o377
+const A_KEYBOARD_LOOKS_AGAIN_AFTER_TIME: &str =
+    "1 0 100 0 | due 0 = key | 1 0 100 0 | got 0 key 0o377 = after:100 go | 0 1 100 0o377
 0 1 7 0o102 | due 0 = key | 0 1 7 0o102 | got 0 key 0o101 = after:7 go | 0 1 7 0o101
 0 0 9 5 | due 0 = key | 0 0 9 5 | got 0 key 0 = after:9 go | 0 1 9 0
 1 0 100 5 | due 0 = key | 1 0 100 5 | got 0 no_key = after:100 go | 1 0 100 5
@@ -30,7 +36,8 @@ fn a_keyboard_looks_again_after_time(rt: HostRuntime) {
     all(&rt, &mut Tti::new(), A_KEYBOARD_LOOKS_AGAIN_AFTER_TIME);
 }
 
-const A_PRINTER_KEEPS_EIGHT_BITS_AND_THEN_TAKES_ITS_PULSE: &str = "0 1 9 0 | DOA 0o177701 = 0 keep | 0 1 9 0o301
+const A_PRINTER_KEEPS_EIGHT_BITS_AND_THEN_TAKES_ITS_PULSE: &str =
+    "0 1 9 0 | DOA 0o177701 = 0 keep | 0 1 9 0o301
 0 1 7 0 | DOAS 0o101 = 0 after:7 | 1 0 7 0o101
 1 0 100 5 | DOAS 0o400 = 0 after:100 | 1 0 100 0
 1 1 7 5 | DOAC 0o102 = 0 cancel | 0 0 7 0o102
@@ -42,10 +49,15 @@ const A_PRINTER_KEEPS_EIGHT_BITS_AND_THEN_TAKES_ITS_PULSE: &str = "0 1 9 0 | DOA
 
 #[test]
 fn a_printer_keeps_eight_bits_and_then_takes_its_pulse(rt: HostRuntime) {
-    all(&rt, &mut Tto::new(), A_PRINTER_KEEPS_EIGHT_BITS_AND_THEN_TAKES_ITS_PULSE);
+    all(
+        &rt,
+        &mut Tto::new(),
+        A_PRINTER_KEEPS_EIGHT_BITS_AND_THEN_TAKES_ITS_PULSE,
+    );
 }
 
-const A_PRINTER_PRINTS_SEVEN_BITS_AND_WAITS_WHILE_THE_CONSOLE_IS_FULL: &str = "1 0 9 0o301 | due 0 = console 0o101 | 1 0 9 0o301 | got 0 done = keep go | 0 1 9 0o301
+const A_PRINTER_PRINTS_SEVEN_BITS_AND_WAITS_WHILE_THE_CONSOLE_IS_FULL: &str =
+    "1 0 9 0o301 | due 0 = console 0o101 | 1 0 9 0o301 | got 0 done = keep go | 0 1 9 0o301
 0 0 9 0o377 | due 0 = console 0o177 | 0 0 9 0o377 | got 0 done = keep go | 0 1 9 0o377
 1 0 9 0o205 | due 0 = console 5 | 1 0 9 0o205 | got 0 line_full = after:9 go | 1 0 9 0o205
 0 1 1 0o200 | due 0 = console 0 | 0 1 1 0o200 | got 0 line_full = after:1 go | 0 1 1 0o200
@@ -53,7 +65,11 @@ const A_PRINTER_PRINTS_SEVEN_BITS_AND_WAITS_WHILE_THE_CONSOLE_IS_FULL: &str = "1
 
 #[test]
 fn a_printer_prints_seven_bits_and_waits_while_the_console_is_full(rt: HostRuntime) {
-    all(&rt, &mut Tto::new(), A_PRINTER_PRINTS_SEVEN_BITS_AND_WAITS_WHILE_THE_CONSOLE_IS_FULL);
+    all(
+        &rt,
+        &mut Tto::new(),
+        A_PRINTER_PRINTS_SEVEN_BITS_AND_WAITS_WHILE_THE_CONSOLE_IS_FULL,
+    );
 }
 
 const A_RESET_STARTS_THE_KEYBOARD: &str = "1 1 100 0 | reset = after:100 | 0 0 100 0
@@ -91,6 +107,14 @@ const A_REGISTER_TAKES_ITS_LIMITS_AND_NOTHING_PAST_THEM: &str = "| 0 0 100 0
 
 #[test]
 fn a_register_takes_its_limits_and_nothing_past_them(rt: HostRuntime) {
-    all(&rt, &mut Tti::new(), A_REGISTER_TAKES_ITS_LIMITS_AND_NOTHING_PAST_THEM);
-    all(&rt, &mut Tto::new(), A_REGISTER_TAKES_ITS_LIMITS_AND_NOTHING_PAST_THEM);
+    all(
+        &rt,
+        &mut Tti::new(),
+        A_REGISTER_TAKES_ITS_LIMITS_AND_NOTHING_PAST_THEM,
+    );
+    all(
+        &rt,
+        &mut Tto::new(),
+        A_REGISTER_TAKES_ITS_LIMITS_AND_NOTHING_PAST_THEM,
+    );
 }

@@ -103,10 +103,19 @@ fn unit_stop(word: &str) -> Option<UnitStop> {
 /// command, the place, the address and the count.
 pub fn want(text: &str) -> Option<Want> {
     let (name, operands) = cut(text);
-    let (first, second) = cut(operands);
     match name {
         "nothing" => Some(Want::Nothing),
         "key" => Some(Want::Key),
+        "tape" => Some(Want::Tape(tape_order(operands)?)),
+        _ => {
+            let (first, second) = cut(operands);
+            transfer(name, first, second)
+        }
+    }
+}
+
+fn transfer(name: &str, first: &str, second: &str) -> Option<Want> {
+    match name {
         "console" => Some(Want::Console(byte(first)?)),
         "read" => Some(Want::ReadByte {
             place: place(first)?,
@@ -115,7 +124,6 @@ pub fn want(text: &str) -> Option<Want> {
             place: place(first)?,
             byte: byte(second)?,
         }),
-        "tape" => Some(Want::Tape(tape_order(operands)?)),
         "sector_read" => sector(false, first, second),
         "sector_write" => sector(true, first, second),
         _ => None,
