@@ -135,19 +135,19 @@ fn ma_and_wc_move_on_and_the_right_tape_alone(rt: HostRuntime) {
 }
 
 const AN_ANSWER_MAY_STOP_THE_MACHINE: &str =
-    "1 0 0 9 3 5 6 7 4 | got 2 tape medium 200 0 0 = keep go | 0 1 0 9 3 5 6 7 0o101001 | reset = keep | 0 0 0 9 0 0 6 7 0
-1 0 1 9 3 5 6 7 4 | got 2 tape medium 200 0 0 = keep end | 0 1 1 9 3 5 6 7 0o101001 | reset = keep | 0 0 1 9 0 0 6 7 0
-1 0 1 9 3 5 6 7 4 | got 2 tape mark 200 0 0 = keep go | 0 1 1 9 3 5 6 7 0o401 | reset = keep | 0 0 1 9 0 0 6 7 0
-1 0 0 9 3 5 6 7 4 | got 2 done = keep go | 0 1 0 9 3 5 6 7 0o120000 | reset = keep | 0 0 0 9 0 0 6 7 0
-1 0 1 9 3 5 6 7 4 | got 2 done = keep go | 0 1 1 9 3 5 6 7 0o120000 | reset = keep | 0 0 1 9 0 0 6 7 0
-1 0 0 9 3 5 6 7 4 | got 2 no_file = keep go | 0 1 0 9 3 5 6 7 0o120000 | reset = keep | 0 0 0 9 0 0 6 7 0
-1 0 1 9 3 5 6 7 4 | got 2 no_file = keep no_file | 0 1 1 9 3 5 6 7 0o120000 | reset = keep | 0 0 1 9 0 0 6 7 0
-1 0 0 9 3 5 6 7 4 | got 2 read_only = keep go | 0 1 0 9 3 5 6 7 0o120001 | reset = keep | 0 0 0 9 0 0 6 7 0
-1 0 1 9 3 5 6 7 4 | got 2 read_only = keep go | 0 1 1 9 3 5 6 7 0o120001 | reset = keep | 0 0 1 9 0 0 6 7 0
-1 0 1 9 3 5 6 7 4 | got 2 end = keep go | 1 0 1 9 3 5 6 7 4 | reset = keep | 0 0 1 9 0 0 6 7 0
-1 0 1 9 3 5 6 7 4 | got 2 byte 7 = keep go | 1 0 1 9 3 5 6 7 4 | reset = keep | 0 0 1 9 0 0 6 7 0
-1 0 1 9 3 5 6 7 4 | got 2 no_key = keep go | 1 0 1 9 3 5 6 7 4 | reset = keep | 0 0 1 9 0 0 6 7 0
-1 0 1 9 3 5 6 7 4 | got 2 line_full = keep go | 1 0 1 9 3 5 6 7 4 | reset = keep | 0 0 1 9 0 0 6 7 0";
+    "1 0 0 9 3 5 6 7 4 | got 2 tape medium 200 0 0 = keep go | 0 1 0 9 3 5 6 7 0o101001 0 100 200 300 400 500 600 700 | reset = keep | 0 0 0 9 0 0 6 7 0
+1 0 1 9 3 5 6 7 4 | got 2 tape medium 200 0 0 = keep end | 0 1 1 9 3 5 6 7 0o101001 0 100 200 300 400 500 600 700 | reset = keep | 0 0 1 9 0 0 6 7 0
+1 0 1 9 3 5 6 7 4 | got 2 tape mark 200 0 0 = keep go | 0 1 1 9 3 5 6 7 0o401 0 100 200 300 400 500 600 700 | reset = keep | 0 0 1 9 0 0 6 7 0
+1 0 0 9 3 5 6 7 4 | got 2 done = keep go | 0 1 0 9 3 5 6 7 0o120000 0 100 200 300 400 500 600 700 | reset = keep | 0 0 0 9 0 0 6 7 0
+1 0 1 9 3 5 6 7 4 | got 2 done = keep go | 0 1 1 9 3 5 6 7 0o120000 0 100 200 300 400 500 600 700 | reset = keep | 0 0 1 9 0 0 6 7 0
+1 0 0 9 3 5 6 7 4 | got 2 no_file = keep go | 0 1 0 9 3 5 6 7 0o120000 0 100 200 300 400 500 600 700 | reset = keep | 0 0 0 9 0 0 6 7 0
+1 0 1 9 3 5 6 7 4 | got 2 no_file = keep no_file | 0 1 1 9 3 5 6 7 0o120000 0 100 200 300 400 500 600 700 | reset = keep | 0 0 1 9 0 0 6 7 0
+1 0 0 9 3 5 6 7 4 | got 2 read_only = keep go | 0 1 0 9 3 5 6 7 0o120001 0 100 200 300 400 500 600 700 | reset = keep | 0 0 0 9 0 0 6 7 0
+1 0 1 9 3 5 6 7 4 | got 2 read_only = keep go | 0 1 1 9 3 5 6 7 0o120001 0 100 200 300 400 500 600 700 | reset = keep | 0 0 1 9 0 0 6 7 0
+1 0 1 9 3 5 6 7 4 | got 2 end = keep go | 1 0 1 9 3 5 6 7 4 0 100 200 300 400 500 600 700 | reset = keep | 0 0 1 9 0 0 6 7 0
+1 0 1 9 3 5 6 7 4 | got 2 byte 7 = keep go | 1 0 1 9 3 5 6 7 4 0 100 200 300 400 500 600 700 | reset = keep | 0 0 1 9 0 0 6 7 0
+1 0 1 9 3 5 6 7 4 | got 2 no_key = keep go | 1 0 1 9 3 5 6 7 4 0 100 200 300 400 500 600 700 | reset = keep | 0 0 1 9 0 0 6 7 0
+1 0 1 9 3 5 6 7 4 | got 2 line_full = keep go | 1 0 1 9 3 5 6 7 4 0 100 200 300 400 500 600 700 | reset = keep | 0 0 1 9 0 0 6 7 0";
 
 #[test]
 fn an_answer_may_stop_the_machine(rt: HostRuntime) {
