@@ -10,7 +10,7 @@ use std::test::Fail;
 
 /// Files of 16 bytes, one of which is there and was put in twice.
 fn with_tape(alloc: Global, fails: &str) -> Result<MemFiles, Fail> {
-    let mut files = with_file(alloc, 16, "tape", b"old", fails)?;
+    let mut files = with_file(alloc, 16, "tape", b"old", fails).ok_or(AddFault::OutOfMemory)?;
     files.add_file("tape", b"hello")?;
     Ok(files)
 }

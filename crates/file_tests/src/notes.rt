@@ -120,19 +120,17 @@ fn notes_are<F: Files>(
     Ok(())
 }
 
-/// Plays a line.
-fn plays_line(rt: &impl Abort, alloc: Global, line: &str) -> Result<(), Fail> {
+/// Plays a line, if there is memory for it.
+fn plays_line(rt: &impl Abort, alloc: Global, line: &str) -> Option<()> {
     let row = columns_of(line);
     let mut files = with_file(alloc, 16, "tape", b"hello", row.first)?;
-    notes_are(rt, alloc, &mut files, row.second, row.third)?;
-    Ok(())
+    notes_are(rt, alloc, &mut files, row.second, row.third).ok()
 }
 
-fn all(rt: &impl Abort, alloc: Global, table: &str) -> Result<(), Fail> {
+fn all(rt: &impl Abort, alloc: Global, table: &str) {
     for line in table.lines() {
-        plays_line(rt, alloc, line)?;
+        holds(rt, plays_line(rt, alloc, line).is_some(), line);
     }
-    Ok(())
 }
 
 const EACH_FAILING_CALL_OF_ATTACHING_AND_DETACHING_IS_NOTED: &str =
@@ -146,19 +144,19 @@ const EACH_FAILING_CALL_OF_ATTACHING_AND_DETACHING_IS_NOTED: &str =
 7:0 | attach@PTR:tape:there attach@PTP:out:any all name@PTR name@PTP |";
 
 #[test]
-fn each_failing_call_of_attaching_and_detaching_is_noted(rt: HostRuntime) -> Result<(), Fail> {
+fn each_failing_call_of_attaching_and_detaching_is_noted(rt: HostRuntime) {
     all(
         &rt,
         rt.alloc(),
         EACH_FAILING_CALL_OF_ATTACHING_AND_DETACHING_IS_NOTED,
-    )
+    );
 }
 
 const A_UNIT_WITHOUT_A_FILE_IS_NOT_DETACHED: &str = "100:0 | detach@PTP=NotAttached |";
 
 #[test]
-fn a_unit_without_a_file_is_not_detached(rt: HostRuntime) -> Result<(), Fail> {
-    all(&rt, rt.alloc(), A_UNIT_WITHOUT_A_FILE_IS_NOT_DETACHED)
+fn a_unit_without_a_file_is_not_detached(rt: HostRuntime) {
+    all(&rt, rt.alloc(), A_UNIT_WITHOUT_A_FILE_IS_NOT_DETACHED);
 }
 
 /// The note of a write that failed in that command.
@@ -199,9 +197,17 @@ fn fills(rt: &impl Abort, notes: &mut Vec<FaultNote>) -> Result<(), AllocError> 
     let room = notes.capacity() - notes.len();
     holds(rt, room >= NOTES_OF_A_COMMAND, "the room for a command");
     keep_all(notes);
-    holds(rt, all_are_kept(notes.as_slice()), "the notes that were kept");
+    holds(
+        rt,
+        all_are_kept(notes.as_slice()),
+        "the notes that were kept",
+    );
     take_room(notes)?;
-    holds(rt, all_are_kept(notes.as_slice()), "the notes behind new room");
+    holds(
+        rt,
+        all_are_kept(notes.as_slice()),
+        "the notes behind new room",
+    );
     Ok(())
 }
 
