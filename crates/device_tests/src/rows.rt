@@ -12,7 +12,7 @@ use unit_trait::{Got, Unit, units_of};
 ///
 /// | call and answer | what is called |
 /// |---|---|
-/// | `DOAS 0o7 = 0 after:9 3` | a word to the device: the word that it answers, its wish, and the unit, where it is not 0 |
+/// | `DOAS 0o7 = 0 after:9 3` | a word to the device: what it answers, its wish, and the unit, where it is not 0 |
 /// | `due 3 = key` | the event of a unit is due: what it wants |
 /// | `got 3 no_key = after:9 go` | the machine's answer to a unit: the wish, and whether the machine stops |
 /// | `reset = keep` | a reset: the wish |

@@ -114,7 +114,7 @@ fn fail_named(list: &mut ByteList, fails: &str) -> Result<(), AllocError> {
     Ok(())
 }
 
-/// A line on a file that has room for 16 bytes, if there is memory for it; where the mode is `Read`, it is only looked at.
+/// A line on a file of at most 16 bytes, if there is memory for it; where the mode is `Read`, it is only looked at.
 fn in_a_file(rt: &impl Abort, alloc: Global, mode: OpenMode, line: &str) -> Option<()> {
     let row = columns_of(line);
     let mut files = with_file(alloc, 16, "tape", row.first.as_bytes(), row.second)?;
