@@ -130,6 +130,3 @@ impl Unit for Clk {
         Queue::Keep
     }
 }
-
-#[cfg(test)]
-mod tests;

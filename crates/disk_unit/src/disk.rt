@@ -175,6 +175,3 @@ impl Unit for Drive {
         Queue::Keep
     }
 }
-
-#[cfg(test)]
-mod tests;

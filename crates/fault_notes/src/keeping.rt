@@ -27,6 +27,3 @@ pub fn keep(notes: &mut Vec<FaultNote>, note: FaultNote)
 {
     notes.push(note).unwrap();
 }
-
-#[cfg(test)]
-mod tests;

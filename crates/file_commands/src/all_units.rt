@@ -129,6 +129,3 @@ fn flush_fault(said: Result<Option<UnitFault>, DetachFault>) -> Option<UnitFault
         Ok(_) | Err(DetachFault::NotAttached) => None,
     }
 }
-
-#[cfg(test)]
-mod tests;

@@ -3,7 +3,6 @@ use crate::texts::{holds, number, size, stand_for};
 use host_files::{AddFault, MemFiles};
 use std::alloc::{AllocError, Global};
 use std::process::Abort;
-use std::test::Fail;
 
 /// A number of a call that is to fail, and how many bytes it writes.
 pub fn failing(word: &str) -> Option<(u64, usize)> {
@@ -11,17 +10,17 @@ pub fn failing(word: &str) -> Option<(u64, usize)> {
     Some((number(call)?, size(done)?))
 }
 
-/// Files with room for so many bytes, one of which is there.
+/// Files with room for so many bytes, one of which is there, as far as there is memory.
 pub fn with_file(
     alloc: Global,
     room: u64,
     name: &str,
     bytes: &[u8],
     fails: &str,
-) -> Result<MemFiles, Fail> {
-    let mut files = MemFiles::with_room(alloc, room)?;
-    prepare(&mut files, name, bytes, fails)?;
-    Ok(files)
+) -> Option<MemFiles> {
+    let mut files = MemFiles::with_room(alloc, room).ok()?;
+    prepare(&mut files, name, bytes, fails).ok()?;
+    Some(files)
 }
 
 fn prepare(files: &mut MemFiles, name: &str, bytes: &[u8], fails: &str) -> Result<(), AddFault> {
@@ -32,7 +31,8 @@ fn prepare(files: &mut MemFiles, name: &str, bytes: &[u8], fails: &str) -> Resul
     }
 }
 
-fn fail_named(files: &mut MemFiles, fails: &str) -> Result<(), AllocError> {
+/// Names the calls that are to fail.
+pub fn fail_named(files: &mut MemFiles, fails: &str) -> Result<(), AllocError> {
     for call in fails.split_whitespace() {
         if let Some((number, done)) = failing(call) {
             files.fail_call(number, done)?;

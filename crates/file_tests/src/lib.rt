@@ -12,6 +12,8 @@ mod long;
 #[cfg(test)]
 mod mem_files;
 #[cfg(test)]
+mod notes;
+#[cfg(test)]
 mod piecewise;
 #[cfg(test)]
 mod streams;

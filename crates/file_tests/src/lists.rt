@@ -7,7 +7,6 @@ use crate::texts::{Call, call_of, columns_of, equal, holds, number, size, stand_
 use host_files::{AddFault, ByteList, Bytes, Failed, Files, OneFile, OpenMode, WriteFault};
 use std::alloc::{AllocError, Global};
 use std::process::Abort;
-use std::test::Fail;
 
 /// The longest list.
 const LONGEST: u64 = 67_108_864;
@@ -96,14 +95,14 @@ fn write_answer(answer: &str) -> Result<(), WriteFault> {
     }
 }
 
-/// A line on a list in memory that has room for 8 bytes.
-fn in_memory(rt: &impl Abort, alloc: Global, line: &str) -> Result<(), Fail> {
+/// A line on a list in memory that has room for 8 bytes, if there is memory for it.
+fn in_memory(rt: &impl Abort, alloc: Global, line: &str) -> Option<()> {
     let row = columns_of(line);
-    let mut list = ByteList::new(alloc, row.first.as_bytes(), 8)?;
-    fail_named(&mut list, row.second)?;
+    let mut list = ByteList::new(alloc, row.first.as_bytes(), 8).ok()?;
+    fail_named(&mut list, row.second).ok()?;
     plays(rt, &mut list, row.third);
     holds(rt, stand_for(list.bytes(), row.fourth), line);
-    Ok(())
+    Some(())
 }
 
 fn fail_named(list: &mut ByteList, fails: &str) -> Result<(), AllocError> {
@@ -115,13 +114,13 @@ fn fail_named(list: &mut ByteList, fails: &str) -> Result<(), AllocError> {
     Ok(())
 }
 
-/// A line on a file that has room for 16 bytes; where the mode is `Read`, it is only looked at.
-fn in_a_file(rt: &impl Abort, alloc: Global, mode: OpenMode, line: &str) -> Result<(), Fail> {
+/// A line on a file of at most 16 bytes, if there is memory for it; where the mode is `Read`, it is only looked at.
+fn in_a_file(rt: &impl Abort, alloc: Global, mode: OpenMode, line: &str) -> Option<()> {
     let row = columns_of(line);
     let mut files = with_file(alloc, 16, "tape", row.first.as_bytes(), row.second)?;
     opened(rt, alloc, mode, &mut files, row.third);
     left(rt, &files, "tape", row.fourth, line);
-    Ok(())
+    Some(())
 }
 
 fn opened<F: Files>(rt: &impl Abort, alloc: Global, mode: OpenMode, files: &mut F, calls: &str) {
@@ -132,19 +131,24 @@ fn opened<F: Files>(rt: &impl Abort, alloc: Global, mode: OpenMode, files: &mut 
     }
 }
 
-fn all_in_memory(rt: &impl Abort, alloc: Global, table: &str) -> Result<(), Fail> {
+fn all_in_a_file(rt: &impl Abort, alloc: Global, mode: OpenMode, table: &str) {
     for line in table.lines() {
-        in_memory(rt, alloc, line)?;
+        holds(rt, in_a_file(rt, alloc, mode, line).is_some(), line);
     }
-    Ok(())
+}
+
+fn all_in_memory(rt: &impl Abort, alloc: Global, table: &str) {
+    for line in table.lines() {
+        holds(rt, in_memory(rt, alloc, line).is_some(), line);
+    }
 }
 
 const A_LIST_IS_READ_UP_TO_ITS_END: &str =
     "hello | none | length=5 read@0=hell read@3=lo-- read@5=---- read@67108864=---- faults=0 | hello";
 
 #[test]
-fn a_list_is_read_up_to_its_end(rt: HostRuntime) -> Result<(), Fail> {
-    all_in_memory(&rt, rt.alloc(), A_LIST_IS_READ_UP_TO_ITS_END)
+fn a_list_is_read_up_to_its_end(rt: HostRuntime) {
+    all_in_memory(&rt, rt.alloc(), A_LIST_IS_READ_UP_TO_ITS_END);
 }
 
 const A_PIECE_IS_WRITTEN_OVER_THE_BYTES_OR_BEHIND_A_GAP: &str = "hello | none | write@0:J=ok | Jello
@@ -153,12 +157,12 @@ hello | none | write@7:!=ok | hello..!
 hello | none | write@8:=ok | hello";
 
 #[test]
-fn a_piece_is_written_over_the_bytes_or_behind_a_gap(rt: HostRuntime) -> Result<(), Fail> {
+fn a_piece_is_written_over_the_bytes_or_behind_a_gap(rt: HostRuntime) {
     all_in_memory(
         &rt,
         rt.alloc(),
         A_PIECE_IS_WRITTEN_OVER_THE_BYTES_OR_BEHIND_A_GAP,
-    )
+    );
 }
 
 const A_LIST_IS_CUT_OR_FILLED_UP_WITH_ZERO_BYTES: &str = "hello | none | set@0=ok |
@@ -166,15 +170,15 @@ hello | none | set@2=ok | he
 hello | none | set@8=ok | hello...";
 
 #[test]
-fn a_list_is_cut_or_filled_up_with_zero_bytes(rt: HostRuntime) -> Result<(), Fail> {
-    all_in_memory(&rt, rt.alloc(), A_LIST_IS_CUT_OR_FILLED_UP_WITH_ZERO_BYTES)
+fn a_list_is_cut_or_filled_up_with_zero_bytes(rt: HostRuntime) {
+    all_in_memory(&rt, rt.alloc(), A_LIST_IS_CUT_OR_FILLED_UP_WITH_ZERO_BYTES);
 }
 
 const WHAT_PASSES_THE_ROOM_IS_REFUSED: &str =
     "hello | none | write@6:abc=0 write@9:=0 set@9=failed faults=3 | hello";
 
 #[test]
-fn what_passes_the_room_is_refused(rt: HostRuntime) -> Result<(), Fail> {
+fn what_passes_the_room_is_refused(rt: HostRuntime) {
     let refused = ByteList::new(rt.alloc(), b"hello", 4).err();
     equal(
         &rt,
@@ -182,19 +186,19 @@ fn what_passes_the_room_is_refused(rt: HostRuntime) -> Result<(), Fail> {
         &Some(AddFault::TooLong),
         "bytes longer than their room",
     );
-    all_in_memory(&rt, rt.alloc(), WHAT_PASSES_THE_ROOM_IS_REFUSED)
+    all_in_memory(&rt, rt.alloc(), WHAT_PASSES_THE_ROOM_IS_REFUSED);
 }
 
 const A_NAMED_CALL_OF_EACH_KIND_FAILS_AND_CHANGES_NOTHING: &str =
     "hello | 0:0 1:0 2:0 3:0 | length=failed read@0=failed set@0=failed write@0:abc=0 faults=4 length=5 | hello";
 
 #[test]
-fn a_named_call_of_each_kind_fails_and_changes_nothing(rt: HostRuntime) -> Result<(), Fail> {
+fn a_named_call_of_each_kind_fails_and_changes_nothing(rt: HostRuntime) {
     all_in_memory(
         &rt,
         rt.alloc(),
         A_NAMED_CALL_OF_EACH_KIND_FAILS_AND_CHANGES_NOTHING,
-    )
+    );
 }
 
 const A_NAMED_WRITE_WRITES_ITS_FIRST_BYTES: &str = "hello | 0:2 | write@0:abc=2 | abllo
@@ -203,8 +207,8 @@ hello | 0:2 | write@6:abc=2 | hello.ab
 hello | 0:3 | write@6:abc=0 | hello";
 
 #[test]
-fn a_named_write_writes_its_first_bytes(rt: HostRuntime) -> Result<(), Fail> {
-    all_in_memory(&rt, rt.alloc(), A_NAMED_WRITE_WRITES_ITS_FIRST_BYTES)
+fn a_named_write_writes_its_first_bytes(rt: HostRuntime) {
+    all_in_memory(&rt, rt.alloc(), A_NAMED_WRITE_WRITES_ITS_FIRST_BYTES);
 }
 
 const A_LIST_IN_MEMORY_IS_READ_AND_CHANGED_AS_A_FILE_IS: &str =
@@ -212,12 +216,12 @@ const A_LIST_IN_MEMORY_IS_READ_AND_CHANGED_AS_A_FILE_IS: &str =
 hello | 5:2 | length=5 read@0=hell set@0=ok write@0:new=ok set@0=ok write@0:longer=2 | lo";
 
 #[test]
-fn a_list_in_memory_is_read_and_changed_as_a_file_is(rt: HostRuntime) -> Result<(), Fail> {
+fn a_list_in_memory_is_read_and_changed_as_a_file_is(rt: HostRuntime) {
     all_in_memory(
         &rt,
         rt.alloc(),
         A_LIST_IN_MEMORY_IS_READ_AND_CHANGED_AS_A_FILE_IS,
-    )
+    );
 }
 
 // A place past what a file shows is answered as its end.
@@ -225,13 +229,13 @@ const A_FILE_THAT_WAS_OPENED_TO_BE_READ_IS_ONE_LIST: &str =
     "hello | none | length=5 read@0=hell length=5 read@4=o--- read@5=---- read@67108864=---- faults=0 | hello";
 
 #[test]
-fn a_file_that_was_opened_to_be_read_is_one_list(rt: HostRuntime) -> Result<(), Fail> {
-    in_a_file(
+fn a_file_that_was_opened_to_be_read_is_one_list(rt: HostRuntime) {
+    all_in_a_file(
         &rt,
         rt.alloc(),
         OpenMode::Read,
         A_FILE_THAT_WAS_OPENED_TO_BE_READ_IS_ONE_LIST,
-    )
+    );
 }
 
 const A_FILE_THAT_WAS_OPENED_TO_BE_UPDATED_IS_CHANGED_AS_ONE_LIST: &str =
@@ -239,13 +243,13 @@ const A_FILE_THAT_WAS_OPENED_TO_BE_UPDATED_IS_CHANGED_AS_ONE_LIST: &str =
 hello | none | set@0=ok write@0:new=ok write@5:er=ok set@6=ok | new..e";
 
 #[test]
-fn a_file_that_was_opened_to_be_updated_is_changed_as_one_list(
-    rt: HostRuntime,
-) -> Result<(), Fail> {
-    for line in A_FILE_THAT_WAS_OPENED_TO_BE_UPDATED_IS_CHANGED_AS_ONE_LIST.lines() {
-        in_a_file(&rt, rt.alloc(), OpenMode::Update, line)?;
-    }
-    Ok(())
+fn a_file_that_was_opened_to_be_updated_is_changed_as_one_list(rt: HostRuntime) {
+    all_in_a_file(
+        &rt,
+        rt.alloc(),
+        OpenMode::Update,
+        A_FILE_THAT_WAS_OPENED_TO_BE_UPDATED_IS_CHANGED_AS_ONE_LIST,
+    );
 }
 
 // Call 0 is the opening.
@@ -253,11 +257,11 @@ const A_CALL_THAT_FAILS_ON_THE_FILE_FAILS_ON_THE_LIST: &str =
     "hello | 1:0 2:0 3:0 4:2 | length=failed read@0=failed set@0=failed write@0:abc=2 faults=4 | abllo";
 
 #[test]
-fn a_call_that_fails_on_the_file_fails_on_the_list(rt: HostRuntime) -> Result<(), Fail> {
-    in_a_file(
+fn a_call_that_fails_on_the_file_fails_on_the_list(rt: HostRuntime) {
+    all_in_a_file(
         &rt,
         rt.alloc(),
         OpenMode::Update,
         A_CALL_THAT_FAILS_ON_THE_FILE_FAILS_ON_THE_LIST,
-    )
+    );
 }

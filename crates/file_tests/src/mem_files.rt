@@ -1,18 +1,63 @@
 // Files in memory: what is called on them, and what they have then.
 ghost use Rattle.host_files.specs.State.{IsOpen, IsWritable};
 
-use crate::images::{left, with_file};
+use crate::images::with_file;
 use crate::texts::{equal, holds};
+use crate::units::all_left;
 use host_files::{AddFault, Failed, FileId, Files, MemFiles, OpenFault, OpenMode, WriteFault};
 use std::alloc::Global;
 use std::process::Abort;
-use std::test::Fail;
+
+/// What is done with the files.
+#[derive(Clone, Copy)]
+enum Deed {
+    Read,
+    Write,
+    WriteAndCut,
+    Make,
+    FailToWrite,
+    FailToOpenAndClose,
+}
 
 /// Files of 16 bytes, one of which is there and was put in twice.
-fn with_tape(alloc: Global, fails: &str) -> Result<MemFiles, Fail> {
+fn with_tape(alloc: Global, fails: &str) -> Option<MemFiles> {
     let mut files = with_file(alloc, 16, "tape", b"old", fails)?;
-    files.add_file("tape", b"hello")?;
-    Ok(files)
+    files.add_file("tape", b"hello").ok()?;
+    Some(files)
+}
+
+fn refuse_more(rt: &impl Abort, files: &mut MemFiles) {
+    let refused = files.add_file("tape", b"more than the room");
+    equal(rt, &refused, &Err(AddFault::TooLong), "more than the room");
+}
+
+/// Does that with such files, where calls fail. They are then as the words say.
+fn plays(rt: &impl Abort, alloc: Global, fails: &str, deed: Deed, wanted: &str) {
+    match with_tape(alloc, fails) {
+        Some(mut files) => {
+            refuse_more(rt, &mut files);
+            does(rt, alloc, &mut files, deed);
+            all_left(rt, &files, wanted);
+        }
+        None => holds(rt, false, wanted),
+    }
+}
+
+fn does<F: Files>(rt: &impl Abort, alloc: Global, files: &mut F, deed: Deed) {
+    match deed {
+        Deed::Read => opens_and_reads(rt, alloc, files),
+        Deed::Write => opens_and_changes(rt, alloc, files, false),
+        Deed::WriteAndCut => {
+            opens_and_changes(rt, alloc, files, false);
+            opens_and_changes(rt, alloc, files, true);
+        }
+        Deed::Make => makes_and_closes(rt, alloc, files),
+        Deed::FailToWrite => opens_and_fails(rt, alloc, files),
+        Deed::FailToOpenAndClose => {
+            fails_to_open(rt, alloc, files);
+            opens_and_fails_to_close(rt, alloc, files);
+        }
+    }
 }
 
 fn reads<F: Files>(rt: &impl Abort, files: &mut F, tape: FileId)
@@ -40,13 +85,8 @@ fn opens_and_reads<F: Files>(rt: &impl Abort, alloc: Global, files: &mut F) {
 }
 
 #[test]
-fn a_file_is_read(rt: HostRuntime) -> Result<(), Fail> {
-    let mut files = with_tape(rt.alloc(), "none")?;
-    let refused = files.add_file("tape", b"more than the room");
-    equal(&rt, &refused, &Err(AddFault::TooLong), "more than the room");
-    opens_and_reads(&rt, rt.alloc(), &mut files);
-    left(&rt, &files, "none", "none", "no file is made");
-    Ok(())
+fn a_file_is_read(rt: HostRuntime) {
+    plays(&rt, rt.alloc(), "none", Deed::Read, "tape=hello none=none");
 }
 
 /// Writes behind a gap, and cuts the file where that is said.
@@ -68,13 +108,9 @@ fn opens_and_changes<F: Files>(rt: &impl Abort, alloc: Global, files: &mut F, cu
 }
 
 #[test]
-fn a_file_is_written_and_cut(rt: HostRuntime) -> Result<(), Fail> {
-    let mut files = with_tape(rt.alloc(), "none")?;
-    opens_and_changes(&rt, rt.alloc(), &mut files, false);
-    left(&rt, &files, "tape", "hello..!", "behind the write");
-    opens_and_changes(&rt, rt.alloc(), &mut files, true);
-    left(&rt, &files, "tape", "he", "behind the cut");
-    Ok(())
+fn a_file_is_written_and_cut(rt: HostRuntime) {
+    plays(&rt, rt.alloc(), "none", Deed::Write, "tape=hello..!");
+    plays(&rt, rt.alloc(), "none", Deed::WriteAndCut, "tape=he");
 }
 
 fn makes_and_closes<F: Files>(rt: &impl Abort, alloc: Global, files: &mut F) {
@@ -96,12 +132,8 @@ fn makes_and_closes<F: Files>(rt: &impl Abort, alloc: Global, files: &mut F) {
 }
 
 #[test]
-fn a_file_is_made_or_emptied_and_closed(rt: HostRuntime) -> Result<(), Fail> {
-    let mut files = with_tape(rt.alloc(), "none")?;
-    makes_and_closes(&rt, rt.alloc(), &mut files);
-    left(&rt, &files, "tape", "", "the file that was emptied");
-    left(&rt, &files, "new", "", "the file that was made");
-    Ok(())
+fn a_file_is_made_or_emptied_and_closed(rt: HostRuntime) {
+    plays(&rt, rt.alloc(), "none", Deed::Make, "tape= new=");
 }
 
 /// A write that fails as it was named, and one that finds no room.
@@ -124,11 +156,14 @@ fn opens_and_fails<F: Files>(rt: &impl Abort, alloc: Global, files: &mut F) {
 }
 
 #[test]
-fn a_named_write_fails_behind_its_first_bytes(rt: HostRuntime) -> Result<(), Fail> {
-    let mut files = with_tape(rt.alloc(), "1:2")?;
-    opens_and_fails(&rt, rt.alloc(), &mut files);
-    left(&rt, &files, "tape", "abllo", "the bytes then");
-    Ok(())
+fn a_named_write_fails_behind_its_first_bytes(rt: HostRuntime) {
+    plays(&rt, rt.alloc(), "1:2", Deed::FailToWrite, "tape=abllo");
+}
+
+fn fails_to_open<F: Files>(rt: &impl Abort, alloc: Global, files: &mut F) {
+    let refused = files.open_file(alloc, "tape", OpenMode::Create);
+    equal(rt, &refused, &Err(OpenFault::Failed), "the opening");
+    equal(rt, &files.open_faults(), &1, "the faults of openings");
 }
 
 fn opens_and_fails_to_close<F: Files>(rt: &impl Abort, alloc: Global, files: &mut F) {
@@ -142,12 +177,12 @@ fn opens_and_fails_to_close<F: Files>(rt: &impl Abort, alloc: Global, files: &mu
 }
 
 #[test]
-fn a_named_opening_and_a_named_closing_fail(rt: HostRuntime) -> Result<(), Fail> {
-    let mut files = with_tape(rt.alloc(), "0:0 2:0")?;
-    let refused = files.open_file(rt.alloc(), "tape", OpenMode::Create);
-    equal(&rt, &refused, &Err(OpenFault::Failed), "the opening");
-    left(&rt, &files, "tape", "hello", "the file stays");
-    equal(&rt, &files.open_faults(), &1, "the faults of openings");
-    opens_and_fails_to_close(&rt, rt.alloc(), &mut files);
-    Ok(())
+fn a_named_opening_and_a_named_closing_fail(rt: HostRuntime) {
+    plays(
+        &rt,
+        rt.alloc(),
+        "0:0 2:0",
+        Deed::FailToOpenAndClose,
+        "tape=hello",
+    );
 }

@@ -4,7 +4,6 @@ use crate::texts::{Call, call_of, columns_of, equal, holds, number, size};
 use host_files::{ByteSink, ByteSource, Failed, Sink, Source, next_byte, put_all, put_pieces};
 use std::alloc::{AllocError, Global};
 use std::process::Abort;
-use std::test::Fail;
 
 /// A sink that takes at most two bytes a call.
 #[derive(Drop)]
@@ -76,20 +75,19 @@ fn on_sink(rt: &impl Abort, sink: &mut ByteSink, calls: &str) -> Result<(), Allo
     Ok(())
 }
 
-/// A line on a sink.
-fn writes(rt: &impl Abort, alloc: Global, line: &str) -> Result<(), Fail> {
+/// A line on a sink, if there is memory for it.
+fn writes(rt: &impl Abort, alloc: Global, line: &str) -> Option<()> {
     let row = columns_of(line);
-    let mut sink = ByteSink::with_room(alloc, size(row.first).unwrap_or(0))?;
-    on_sink(rt, &mut sink, row.second)?;
+    let mut sink = ByteSink::with_room(alloc, size(row.first).unwrap_or(0)).ok()?;
+    on_sink(rt, &mut sink, row.second).ok()?;
     holds(rt, sink.bytes() == row.third.as_bytes(), line);
-    Ok(())
+    Some(())
 }
 
-fn all_write(rt: &impl Abort, alloc: Global, table: &str) -> Result<(), Fail> {
+fn all_write(rt: &impl Abort, alloc: Global, table: &str) {
     for line in table.lines() {
-        writes(rt, alloc, line)?;
+        holds(rt, writes(rt, alloc, line).is_some(), line);
     }
-    Ok(())
 }
 
 /// Plays calls on a source, also `fail=N`.
@@ -135,19 +133,17 @@ fn read<C: Source>(rt: &impl Abort, source: &mut C, call: Call) {
     }
 }
 
-/// A line on a source.
-fn reads(rt: &impl Abort, alloc: Global, line: &str) -> Result<(), Fail> {
+/// A line on a source, if there is memory for it.
+fn reads(rt: &impl Abort, alloc: Global, line: &str) -> Option<()> {
     let row = columns_of(line);
-    let mut source = ByteSource::new(alloc, row.first.as_bytes())?;
-    on_source(rt, &mut source, row.second)?;
-    Ok(())
+    let mut source = ByteSource::new(alloc, row.first.as_bytes()).ok()?;
+    on_source(rt, &mut source, row.second).ok()
 }
 
-fn all_read(rt: &impl Abort, alloc: Global, table: &str) -> Result<(), Fail> {
+fn all_read(rt: &impl Abort, alloc: Global, table: &str) {
     for line in table.lines() {
-        reads(rt, alloc, line)?;
+        holds(rt, reads(rt, alloc, line).is_some(), line);
     }
-    Ok(())
 }
 
 // An empty piece needs no room.
@@ -155,8 +151,8 @@ const A_WRITE_TAKES_WHAT_THERE_IS_ROOM_FOR: &str =
     "5 | write@abc=3 write@defg=2 write@=0 faults=0 write@h=failed faults=1 | abcde";
 
 #[test]
-fn a_write_takes_what_there_is_room_for(rt: HostRuntime) -> Result<(), Fail> {
-    all_write(&rt, rt.alloc(), A_WRITE_TAKES_WHAT_THERE_IS_ROOM_FOR)
+fn a_write_takes_what_there_is_room_for(rt: HostRuntime) {
+    all_write(&rt, rt.alloc(), A_WRITE_TAKES_WHAT_THERE_IS_ROOM_FOR);
 }
 
 const NAMED_WRITES_FAIL_AND_TAKE_NOTHING: &str =
@@ -166,8 +162,8 @@ const NAMED_WRITES_FAIL_AND_TAKE_NOTHING: &str =
 8 | fail=3 fail=0 fail=2 write@a=failed write@a=1 write@a=failed write@a=failed faults=3 | a";
 
 #[test]
-fn named_writes_fail_and_take_nothing(rt: HostRuntime) -> Result<(), Fail> {
-    all_write(&rt, rt.alloc(), NAMED_WRITES_FAIL_AND_TAKE_NOTHING)
+fn named_writes_fail_and_take_nothing(rt: HostRuntime) {
+    all_write(&rt, rt.alloc(), NAMED_WRITES_FAIL_AND_TAKE_NOTHING);
 }
 
 // The second number names a write of an empty piece.
@@ -175,40 +171,40 @@ const A_NUMBER_OF_A_WRITE_THAT_HAS_PASSED_CHANGES_NOTHING: &str =
     "2 | write@a=1 fail=0 fail=1 write@=failed write@b=1 faults=1 | ab";
 
 #[test]
-fn a_number_of_a_write_that_has_passed_changes_nothing(rt: HostRuntime) -> Result<(), Fail> {
+fn a_number_of_a_write_that_has_passed_changes_nothing(rt: HostRuntime) {
     all_write(
         &rt,
         rt.alloc(),
         A_NUMBER_OF_A_WRITE_THAT_HAS_PASSED_CHANGES_NOTHING,
-    )
+    );
 }
 
 const ALL_IS_WRITTEN_WHERE_NOTHING_FAILS: &str =
     "5 | put@abc=ok put@=ok put@de=ok faults=0 | abcde";
 
 #[test]
-fn all_is_written_where_nothing_fails(rt: HostRuntime) -> Result<(), Fail> {
-    all_write(&rt, rt.alloc(), ALL_IS_WRITTEN_WHERE_NOTHING_FAILS)
+fn all_is_written_where_nothing_fails(rt: HostRuntime) {
+    all_write(&rt, rt.alloc(), ALL_IS_WRITTEN_WHERE_NOTHING_FAILS);
 }
 
 const A_PIECE_THAT_IS_TAKEN_IN_PARTS_IS_WRITTEN_WHOLE: &str =
     "8 | narrow@abcde=ok faults=0 | abcde";
 
 #[test]
-fn a_piece_that_is_taken_in_parts_is_written_whole(rt: HostRuntime) -> Result<(), Fail> {
+fn a_piece_that_is_taken_in_parts_is_written_whole(rt: HostRuntime) {
     all_write(
         &rt,
         rt.alloc(),
         A_PIECE_THAT_IS_TAKEN_IN_PARTS_IS_WRITTEN_WHOLE,
-    )
+    );
 }
 
 const PIECES_ARE_WRITTEN_ONE_BEHIND_ANOTHER: &str = "6 | pieces@ab,,c=ok pieces@=ok faults=0 | abc
 6 | fail=1 pieces@ab,c,d=failed faults=1 | ab";
 
 #[test]
-fn pieces_are_written_one_behind_another(rt: HostRuntime) -> Result<(), Fail> {
-    all_write(&rt, rt.alloc(), PIECES_ARE_WRITTEN_ONE_BEHIND_ANOTHER)
+fn pieces_are_written_one_behind_another(rt: HostRuntime) {
+    all_write(&rt, rt.alloc(), PIECES_ARE_WRITTEN_ONE_BEHIND_ANOTHER);
 }
 
 const THE_FIRST_BYTES_STAY_WHERE_A_LATER_WRITE_FAILS: &str =
@@ -216,20 +212,20 @@ const THE_FIRST_BYTES_STAY_WHERE_A_LATER_WRITE_FAILS: &str =
 3 | put@abcde=failed faults=1 | abc";
 
 #[test]
-fn the_first_bytes_stay_where_a_later_write_fails(rt: HostRuntime) -> Result<(), Fail> {
+fn the_first_bytes_stay_where_a_later_write_fails(rt: HostRuntime) {
     all_write(
         &rt,
         rt.alloc(),
         THE_FIRST_BYTES_STAY_WHERE_A_LATER_WRITE_FAILS,
-    )
+    );
 }
 
 const A_READ_GIVES_AS_MANY_BYTES_AS_FIT: &str =
     "abcde | read@3=abc read@0= read@3=de- read@3=--- faults=0";
 
 #[test]
-fn a_read_gives_as_many_bytes_as_fit(rt: HostRuntime) -> Result<(), Fail> {
-    all_read(&rt, rt.alloc(), A_READ_GIVES_AS_MANY_BYTES_AS_FIT)
+fn a_read_gives_as_many_bytes_as_fit(rt: HostRuntime) {
+    all_read(&rt, rt.alloc(), A_READ_GIVES_AS_MANY_BYTES_AS_FIT);
 }
 
 const NAMED_READS_FAIL_AND_TAKE_NOTHING: &str =
@@ -240,8 +236,8 @@ abc | fail=2 fail=0 fail=4 next=failed next=a next=failed next=b next=failed fau
 abc | fail=3 fail=4 fail=2 next=a next=b next=failed next=failed next=failed faults=3";
 
 #[test]
-fn named_reads_fail_and_take_nothing(rt: HostRuntime) -> Result<(), Fail> {
-    all_read(&rt, rt.alloc(), NAMED_READS_FAIL_AND_TAKE_NOTHING)
+fn named_reads_fail_and_take_nothing(rt: HostRuntime) {
+    all_read(&rt, rt.alloc(), NAMED_READS_FAIL_AND_TAKE_NOTHING);
 }
 
 // The second number names a read into an empty buffer.
@@ -249,19 +245,26 @@ const A_NUMBER_OF_A_READ_THAT_HAS_PASSED_CHANGES_NOTHING: &str =
     "ab | next=a fail=0 fail=1 read@0=failed next=b faults=1";
 
 #[test]
-fn a_number_of_a_read_that_has_passed_changes_nothing(rt: HostRuntime) -> Result<(), Fail> {
+fn a_number_of_a_read_that_has_passed_changes_nothing(rt: HostRuntime) {
     all_read(
         &rt,
         rt.alloc(),
         A_NUMBER_OF_A_READ_THAT_HAS_PASSED_CHANGES_NOTHING,
-    )
+    );
+}
+
+/// Bytes of 0 and 255 are read, and then the end, twice.
+fn next_bytes<C: Source>(rt: &impl Abort, source: &mut C) {
+    const BYTES: [Option<u8>; 4] = [Some(0), Some(255), None, None];
+    for wanted in BYTES.iter() {
+        equal(rt, &next_byte(source), &Ok(*wanted), "0 and 255");
+    }
 }
 
 #[test]
-fn bytes_are_read_one_by_one(rt: HostRuntime) -> Result<(), Fail> {
-    let mut source = ByteSource::new(rt.alloc(), &[0, 255])?;
-    for wanted in [Some(0), Some(255), None, None] {
-        equal(&rt, &next_byte(&mut source), &Ok(wanted), "0 and 255");
+fn bytes_are_read_one_by_one(rt: HostRuntime) {
+    match ByteSource::new(rt.alloc(), &[0, 255]) {
+        Ok(mut source) => next_bytes(&rt, &mut source),
+        Err(_) => holds(&rt, false, "the memory"),
     }
-    Ok(())
 }

@@ -1,4 +1,5 @@
 // Lines of text: columns with bars between them, calls with what they answer, and what is asserted of them.
+use host_files::FileCall;
 use std::fmt::Debug;
 use std::process::Abort;
 
@@ -63,6 +64,18 @@ pub fn number(digits: &str) -> Option<u64> {
 /// A decimal number that counts bytes.
 pub fn size(digits: &str) -> Option<usize> {
     digits.parse().ok()
+}
+
+/// A call on a file, by its name.
+pub fn file_call(name: &str) -> Option<FileCall> {
+    match name {
+        "Opening" => Some(FileCall::Opening),
+        "Length" => Some(FileCall::Length),
+        "Read" => Some(FileCall::Read),
+        "Write" => Some(FileCall::Write),
+        "Closing" => Some(FileCall::Closing),
+        _ => None,
+    }
 }
 
 /// It is so at that line.

@@ -1,12 +1,11 @@
 // Files that are read or written whole, as lines of text: the calls that fail, the file's name and what comes of it, and
 // how often openings and calls on it have failed. Bytes stand behind a sign of equality.
-use crate::images::{left, with_file};
+use crate::images::{fail_named, left, with_file};
 use crate::piecewise::Piecewise;
-use crate::texts::{columns_of, equal, holds, number};
+use crate::texts::{columns_of, equal, file_call, holds, number};
 use host_files::{FileCall, FileId, Files, MemFiles, OpenMode};
 use std::alloc::Global;
 use std::process::Abort;
-use std::test::Fail;
 use whole_files::{FailedCall, LONGEST_FILE, Whole, WholeFault, Written, read_file, write_file};
 
 /// What a reading or a writing of a file is to come to.
@@ -22,14 +21,7 @@ struct Row<'a> {
 
 /// A failed call on the first file that was opened, or of an opening.
 fn call_of(text: &str) -> Option<FailedCall> {
-    let call = match text {
-        "Opening" => FileCall::Opening,
-        "Length" => FileCall::Length,
-        "Read" => FileCall::Read,
-        "Write" => FileCall::Write,
-        "Closing" => FileCall::Closing,
-        _ => return None,
-    };
+    let call = file_call(text)?;
     Some(FailedCall {
         file: if call == FileCall::Opening {
             None
@@ -120,44 +112,42 @@ fn counts<F: Files>(rt: &impl Abort, files: &F, text: &str) {
 }
 
 /// Files of 16 bytes, of which one has bytes and one is empty.
-fn with_files(alloc: Global, fails: &str) -> Result<MemFiles, Fail> {
+fn with_files(alloc: Global, fails: &str) -> Option<MemFiles> {
     let mut files = with_file(alloc, 16, "script", b"hello", fails)?;
-    files.add_file("empty", b"")?;
-    Ok(files)
+    files.add_file("empty", b"").ok()?;
+    Some(files)
 }
 
-/// Plays a line of readings.
-fn read_as(rt: &impl Abort, alloc: Global, line: &str) -> Result<(), Fail> {
+/// Plays a line of readings, if there is memory for it.
+fn read_as(rt: &impl Abort, alloc: Global, line: &str) -> Option<()> {
     let row = columns_of(line);
     let mut files = with_files(alloc, row.first)?;
     reads(rt, alloc, &mut files, row.second);
     counts(rt, &files, row.third);
-    Ok(())
+    Some(())
 }
 
-fn all_read(rt: &impl Abort, alloc: Global, table: &str) -> Result<(), Fail> {
+fn all_read(rt: &impl Abort, alloc: Global, table: &str) {
     for line in table.lines() {
-        read_as(rt, alloc, line)?;
+        holds(rt, read_as(rt, alloc, line).is_some(), line);
     }
-    Ok(())
 }
 
-/// Plays a line of writings, which ends with the bytes of the file then.
-fn written_as(rt: &impl Abort, alloc: Global, line: &str) -> Result<(), Fail> {
+/// Plays a line of writings, which ends with the bytes of the file then, if there is memory for it.
+fn written_as(rt: &impl Abort, alloc: Global, line: &str) -> Option<()> {
     let row = columns_of(line);
     let (name, _) = row.second.split_once(' ').unwrap_or((line, ""));
     let mut files = with_file(alloc, 16, "old", b"0123456789", row.first)?;
     writes(rt, alloc, &mut files, row.second);
     counts(rt, &files, row.third);
     left(rt, &files, name, row.fourth, line);
-    Ok(())
+    Some(())
 }
 
-fn all_written(rt: &impl Abort, alloc: Global, table: &str) -> Result<(), Fail> {
+fn all_written(rt: &impl Abort, alloc: Global, table: &str) {
     for line in table.lines() {
-        written_as(rt, alloc, line)?;
+        holds(rt, written_as(rt, alloc, line).is_some(), line);
     }
-    Ok(())
 }
 
 const A_FILE_IS_READ_WHOLE: &str = "none | script =hello none none | 0 0
@@ -165,8 +155,8 @@ none | empty = none none | 0 0
 none | missing NoFile none none | 0 0";
 
 #[test]
-fn a_file_is_read_whole(rt: HostRuntime) -> Result<(), Fail> {
-    all_read(&rt, rt.alloc(), A_FILE_IS_READ_WHOLE)
+fn a_file_is_read_whole(rt: HostRuntime) {
+    all_read(&rt, rt.alloc(), A_FILE_IS_READ_WHOLE);
 }
 
 const EACH_FAILING_CALL_IS_TOLD: &str = "0:0 | script Failed Opening none | 1 0
@@ -175,8 +165,8 @@ const EACH_FAILING_CALL_IS_TOLD: &str = "0:0 | script Failed Opening none | 1 0
 3:0 | script =hello none Closing | 0 1";
 
 #[test]
-fn each_failing_call_is_told(rt: HostRuntime) -> Result<(), Fail> {
-    all_read(&rt, rt.alloc(), EACH_FAILING_CALL_IS_TOLD)
+fn each_failing_call_is_told(rt: HostRuntime) {
+    all_read(&rt, rt.alloc(), EACH_FAILING_CALL_IS_TOLD);
 }
 
 const A_CLOSING_THAT_FAILS_BEHIND_A_REFUSAL_IS_TOLD_TOO: &str =
@@ -184,68 +174,77 @@ const A_CLOSING_THAT_FAILS_BEHIND_A_REFUSAL_IS_TOLD_TOO: &str =
 2:0 3:0 | script Failed Read Closing | 0 2";
 
 #[test]
-fn a_closing_that_fails_behind_a_refusal_is_told_too(rt: HostRuntime) -> Result<(), Fail> {
+fn a_closing_that_fails_behind_a_refusal_is_told_too(rt: HostRuntime) {
     all_read(
         &rt,
         rt.alloc(),
         A_CLOSING_THAT_FAILS_BEHIND_A_REFUSAL_IS_TOLD_TOO,
-    )
+    );
 }
 
-/// A file of so many bytes.
-fn with_long(alloc: Global, count: usize) -> Result<MemFiles, Fail> {
-    let bytes = vec![in alloc; b'x'; count]?;
-    let mut files = MemFiles::with_room(alloc, count as u64)?;
-    files.add_file("long", bytes.as_slice())?;
-    Ok(files)
+/// A file of so many bytes, and calls that fail.
+fn with_long(alloc: Global, count: usize, fails: &str) -> Option<MemFiles> {
+    let bytes = vec![in alloc; b'x'; count].ok()?;
+    let mut files = MemFiles::with_room(alloc, count as u64).ok()?;
+    files.add_file("long", bytes.as_slice()).ok()?;
+    fail_named(&mut files, fails).ok()?;
+    Some(files)
 }
 
-#[test]
-fn a_file_of_1048576_bytes_is_the_longest(rt: HostRuntime) -> Result<(), Fail> {
-    let mut files = with_long(rt.alloc(), LONGEST_FILE as usize)?;
-    let whole = read_file(rt.alloc(), "long", &mut files);
+fn has_longest<F: Files>(rt: &impl Abort, alloc: Global, files: &mut F) {
+    let whole = read_file(alloc, "long", files);
     let length = whole.bytes.as_ref().map(|bytes| bytes.len()).ok();
-    equal(&rt, &length, &Some(1_048_576), "its length");
-    Ok(())
+    equal(rt, &length, &Some(1_048_576), "its length");
 }
 
 #[test]
-fn a_longer_file_is_refused_and_closed(rt: HostRuntime) -> Result<(), Fail> {
-    let mut files = with_long(rt.alloc(), 1_048_577)?;
-    files.fail_call(2, 0)?;
-    reads(&rt, rt.alloc(), &mut files, "long TooLong none Closing");
-    Ok(())
+fn a_file_of_1048576_bytes_is_the_longest(rt: HostRuntime) {
+    match with_long(rt.alloc(), LONGEST_FILE as usize, "none") {
+        Some(mut files) => has_longest(&rt, rt.alloc(), &mut files),
+        None => holds(&rt, false, "the memory"),
+    }
+}
+
+#[test]
+fn a_longer_file_is_refused_and_closed(rt: HostRuntime) {
+    match with_long(rt.alloc(), 1_048_577, "2:0") {
+        Some(mut files) => reads(&rt, rt.alloc(), &mut files, "long TooLong none Closing"),
+        None => holds(&rt, false, "the memory"),
+    }
+}
+
+fn reads_pieces(rt: &impl Abort, alloc: Global, files: &mut Piecewise, text: &str) {
+    reads(rt, alloc, files, text);
+    equal(rt, &files.mode, &Some(OpenMode::Read), text);
 }
 
 /// Reads a file in pieces, which ends so many bytes before the length that it tells.
-fn in_pieces(
-    rt: &impl Abort,
-    alloc: Global,
-    fails: &str,
-    lacking: u64,
-    text: &str,
-) -> Result<(), Fail> {
-    let mut files = Piecewise {
-        files: with_files(alloc, fails)?,
-        mode: None,
-        lacking,
-    };
-    reads(rt, alloc, &mut files, text);
-    equal(rt, &files.mode, &Some(OpenMode::Read), text);
-    Ok(())
-}
-
-#[test]
-fn a_file_that_is_read_in_pieces_is_read_whole(rt: HostRuntime) -> Result<(), Fail> {
-    for lacking in [0, 1, 2, 100] {
-        in_pieces(&rt, rt.alloc(), "none", lacking, "script =hello none none")?;
+fn in_pieces(rt: &impl Abort, alloc: Global, fails: &str, lacking: u64, text: &str) {
+    match with_files(alloc, fails) {
+        Some(files) => {
+            let mut files = Piecewise {
+                files,
+                mode: None,
+                lacking,
+            };
+            reads_pieces(rt, alloc, &mut files, text);
+        }
+        None => holds(rt, false, text),
     }
-    Ok(())
+}
+
+const LACKING: [u64; 4] = [0, 1, 2, 100];
+
+#[test]
+fn a_file_that_is_read_in_pieces_is_read_whole(rt: HostRuntime) {
+    for lacking in LACKING.iter() {
+        in_pieces(&rt, rt.alloc(), "none", *lacking, "script =hello none none");
+    }
 }
 
 #[test]
-fn a_file_that_fails_behind_a_piece_is_not_read(rt: HostRuntime) -> Result<(), Fail> {
-    in_pieces(&rt, rt.alloc(), "3:0", 0, "script Failed Read none")
+fn a_file_that_fails_behind_a_piece_is_not_read(rt: HostRuntime) {
+    in_pieces(&rt, rt.alloc(), "3:0", 0, "script Failed Read none");
 }
 
 const A_FILE_IS_MADE_OR_EMPTIED_AND_WRITTEN: &str = "none | old =hello ok none 0 none | 0 0 | hello
@@ -253,8 +252,8 @@ none | new =hello ok none 0 none | 0 0 | hello
 none | old = ok none 0 none | 0 0 |";
 
 #[test]
-fn a_file_is_made_or_emptied_and_written(rt: HostRuntime) -> Result<(), Fail> {
-    all_written(&rt, rt.alloc(), A_FILE_IS_MADE_OR_EMPTIED_AND_WRITTEN)
+fn a_file_is_made_or_emptied_and_written(rt: HostRuntime) {
+    all_written(&rt, rt.alloc(), A_FILE_IS_MADE_OR_EMPTIED_AND_WRITTEN);
 }
 
 const EACH_FAILING_CALL_OF_A_WRITING_IS_TOLD: &str =
@@ -263,6 +262,6 @@ const EACH_FAILING_CALL_OF_A_WRITING_IS_TOLD: &str =
 2:4 | old =hello ok none 0 Closing | 0 1 | hello";
 
 #[test]
-fn each_failing_call_of_a_writing_is_told(rt: HostRuntime) -> Result<(), Fail> {
-    all_written(&rt, rt.alloc(), EACH_FAILING_CALL_OF_A_WRITING_IS_TOLD)
+fn each_failing_call_of_a_writing_is_told(rt: HostRuntime) {
+    all_written(&rt, rt.alloc(), EACH_FAILING_CALL_OF_A_WRITING_IS_TOLD);
 }

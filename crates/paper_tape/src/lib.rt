@@ -10,6 +10,3 @@ mod writer;
 pub use lpt::Lpt;
 pub use ptp::Ptp;
 pub use ptr::Ptr;
-
-#[cfg(test)]
-mod tests;

@@ -286,6 +286,3 @@ impl Control {
         self.status = status;
     }
 }
-
-#[cfg(test)]
-mod tests;

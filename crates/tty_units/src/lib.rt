@@ -8,6 +8,3 @@ pub mod tto;
 
 pub use tti::Tti;
 pub use tto::Tto;
-
-#[cfg(test)]
-mod tests;
