@@ -1,233 +1,250 @@
 // A run against its turns, one by one, on machines with programs by chance: events, interrupts and stops come in the middle
 // of bursts.
-ghost use Rattle.std.specs.Prelude.{◌≡◌, ◌<◌, ◌∷◌, [], map};
+ghost use Rattle.std.specs.Prelude.{◌≡◌, ◌∷◌, [], map};
 ghost use Rattle.unit_trait.specs.declared.kind.Kind.TheVariants.{Clk as clock, Tti as keyboard, Tto as printer};
 ghost use Rattle.unit_trait.specs.Row.{initial_unit};
+ghost use Rattle.unit_files.specs.Open.{AllOpen};
 
-use crate::scenario::{REGISTERS, held, run_free, step, turn_alone};
-use clock_unit::Clk;
+use crate::acts::{run, turn};
+use crate::chance::set;
+use crate::machines::console_units;
+use crate::places::{REGISTERS, held};
 use event_queue::Events;
-use host_files::ByteSink;
-use nova_machine::{Machine, Stop, Turn};
+use expect_actions::{Keys, Watch};
+use host_files::{ByteSink, Files, MemFiles, Sink};
+use nova_machine::{Machine, RunLimit, Stop, Turn};
 use nova_memory::Memory;
 use nova_word::{Addr, Word};
 use std::alloc::{AllocError, Global};
 use std::process::Abort;
 use std::test::Fail;
-use tty_units::{Tti, Tto};
-use unit_trait::{CpuReg, RegFault, Unit};
+use unit_files::Attached;
+use unit_trait::Unit;
 
 const MACHINES: u32 = 300;
 
-/// NIOS to the clock and to the printer, with which each program begins.
-const STARTS: [u16; 2] = [0o060114, 0o060111];
-
-/// The devices of words of input and output: keyboard, printer, clock, multiply and divide, the processor itself, and one
-/// that is not there.
-const DEVICES: [u16; 6] = [0o10, 0o11, 0o14, 1, 0o77, 0o22];
-
-/// Numbers by chance, the same in each run of the tests.
-#[derive(Drop)]
-struct Chance {
-    state: u32,
-}
-
-impl Chance {
-    fn next(&mut self) -> u16 {
-        self.state = self.state.wrapping_mul(1664525).wrapping_add(1013904223);
-        ((self.state >> 16) % 65536) as u16
-    }
-
-    /// A word: most are instructions that stay among the first words of memory.
-    fn word(&mut self) -> u16 {
-        let word = self.next();
-        match self.next() % 8 {
-            0..=2 => word % 0o100000 + 0o100000,
-            3..=5 => {
-                let indirect = if word % 4 == 0 { 0o2000 } else { 0 };
-                (self.next() % 12) * 0o4000 + indirect + word / 4 % 0o200
-            }
-            6 => {
-                let device = DEVICES[usize::from(self.next() % 6)];
-                0o60000 + word / 64 % 128 * 64 + device
-            }
-            _ => word,
-        }
-    }
+/// How a machine goes on.
+#[derive(Clone, Copy)]
+enum Way {
+    Run,
+    Turns,
 }
 
 #[test]
 fn a_run_is_its_turns(rt: HostRuntime) -> Result<(), Fail> {
     for seed in 0..MACHINES {
-        agree(&rt, rt.alloc(), seed)?;
+        one_way(&rt, rt.alloc(), seed)?;
     }
     Ok(())
 }
 
-/// A run and turns come to the same, on two machines with a program by that chance.
-fn agree(rt: &impl Abort, alloc: Global, seed: u32) -> Result<(), Fail>
-    requires { seed < 300 }
-{
-    let mut units: Vec<Box<dyn Unit>> = Vec::new(alloc);
-    units.push(Box::new(alloc, Clk::new())?)?;
-    units.push(Box::new(alloc, Tti::new())?)?;
-    units.push(Box::new(alloc, Tto::new())?)?;
+/// A machine that runs.
+fn one_way(rt: &impl Abort, alloc: Global, seed: u32) -> Result<(), AllocError> {
+    let units = console_units(alloc)?;
     with_run(rt, alloc, units, seed)
 }
 
-fn with_run<U: Unit>(rt: &impl Abort, alloc: Global, units: Vec<U>, seed: u32) -> Result<(), Fail>
-    requires seed { seed < 300 }
-    requires units { map U.unit_state units.items ≡ map initial_unit (clock ∷ keyboard ∷ printer ∷ []) }
-{
-    let mut run = begun(alloc, units, seed)?;
-    with_other(rt, alloc, &mut run, seed)
-}
-
-fn with_other<U: Unit>(
+fn with_run<U: Unit>(
     rt: &impl Abort,
     alloc: Global,
-    run: &mut Machine<U>,
+    units: Vec<U>,
     seed: u32,
-) -> Result<(), Fail>
-    requires { seed < 300 }
+) -> Result<(), AllocError>
+    requires { map U.unit_state units.items ≡ map initial_unit (clock ∷ keyboard ∷ printer ∷ []) }
 {
-    let mut units: Vec<Box<dyn Unit>> = Vec::new(alloc);
-    units.push(Box::new(alloc, Clk::new())?)?;
-    units.push(Box::new(alloc, Tti::new())?)?;
-    units.push(Box::new(alloc, Tto::new())?)?;
-    with_turns(rt, alloc, run, units, seed)
+    let mut machine = begun(rt, alloc, units, seed)?;
+    runs(rt, alloc, &mut machine, seed)
+}
+
+/// A machine with a program by chance.
+fn begun<U: Unit>(
+    rt: &impl Abort,
+    alloc: Global,
+    units: Vec<U>,
+    seed: u32,
+) -> Result<Machine<U>, AllocError>
+    requires { map U.unit_state units.items ≡ map initial_unit (clock ∷ keyboard ∷ printer ∷ []) }
+{
+    let mut machine = Machine::new(alloc, units)?;
+    agree(rt, set(&mut machine, seed).is_ok(), seed);
+    Ok(machine)
+}
+
+fn runs<U: Unit>(
+    rt: &impl Abort,
+    alloc: Global,
+    machine: &mut Machine<U>,
+    seed: u32,
+) -> Result<(), AllocError> {
+    let mut console = ByteSink::with_room(alloc, 20)?;
+    let stop = goes(alloc, machine, Way::Run, seed, &mut console)?;
+    other_way(rt, alloc, machine, &console, stop, seed)
+}
+
+/// The other machine, which makes turns.
+fn other_way<U: Unit>(
+    rt: &impl Abort,
+    alloc: Global,
+    run: &Machine<U>,
+    console: &ByteSink,
+    stop: Stop,
+    seed: u32,
+) -> Result<(), AllocError> {
+    let units = console_units(alloc)?;
+    with_turns(rt, alloc, run, console, stop, units, seed)
 }
 
 fn with_turns<U: Unit, V: Unit>(
     rt: &impl Abort,
     alloc: Global,
-    run: &mut Machine<U>,
+    run: &Machine<U>,
+    console: &ByteSink,
+    stop: Stop,
     units: Vec<V>,
     seed: u32,
-) -> Result<(), Fail>
-    requires seed { seed < 300 }
-    requires units { map V.unit_state units.items ≡ map initial_unit (clock ∷ keyboard ∷ printer ∷ []) }
+) -> Result<(), AllocError>
+    requires { map V.unit_state units.items ≡ map initial_unit (clock ∷ keyboard ∷ printer ∷ []) }
 {
-    let mut turned = begun(alloc, units, seed)?;
-    go_on(rt, alloc, run, &mut turned, seed)
+    let mut machine = begun(rt, alloc, units, seed)?;
+    compare(rt, alloc, run, console, stop, &mut machine, seed)
 }
 
-/// A machine with a program by that chance.
-fn begun<U: Unit>(alloc: Global, units: Vec<U>, seed: u32) -> Result<Machine<U>, Fail>
-    requires { map U.unit_state units.items ≡ map initial_unit (clock ∷ keyboard ∷ printer ∷ []) }
-{
-    let mut machine = Machine::new(alloc, units)?;
-    set(&mut machine, Chance { state: seed })?;
-    Ok(machine)
-}
-
-fn go_on<U: Unit, V: Unit>(
+fn compare<U: Unit, V: Unit>(
     rt: &impl Abort,
     alloc: Global,
-    run: &mut Machine<U>,
-    turned: &mut Machine<V>,
+    run: &Machine<U>,
+    console: &ByteSink,
+    stop: Stop,
+    machine: &mut Machine<V>,
     seed: u32,
-) -> Result<(), Fail>
-    requires { seed < 300 }
-{
-    let count = u64::from(seed * 3);
-    let mut run_console = ByteSink::with_room(alloc, 20)?;
-    let stop = run_free(run, alloc, step(count), &mut run_console)?;
-    let mut turned_console = ByteSink::with_room(alloc, 20)?;
-    let turns_stop = turns(alloc, turned, count, &mut turned_console)?;
-    same_ends(rt, stop, turns_stop, seed);
-    same_bytes(rt, &run_console, &turned_console, seed);
-    same_registers(rt, run, turned, seed);
-    same_words(rt, run.memory(), turned.memory(), seed);
-    same_events(rt, run.events(), turned.events(), seed);
+) -> Result<(), AllocError> {
+    let turns = takes_turns(alloc, machine, console, seed)?;
+    agree(rt, turns == Some(stop) && same(run, machine), seed);
     Ok(())
 }
 
-fn same_ends(rt: &impl Abort, run: Stop, turned: Stop, seed: u32) {
-    assert_eq!(rt; run, turned, "{seed}");
-}
-
-fn same_bytes(rt: &impl Abort, run: &ByteSink, turned: &ByteSink, seed: u32) {
-    assert_eq!(rt; run.bytes(), turned.bytes(), "{seed}");
-}
-
-fn same_registers<U: Unit, V: Unit>(
-    rt: &impl Abort,
-    run: &Machine<U>,
-    turned: &Machine<V>,
+/// The end of the turns, where they print the same.
+fn takes_turns<U: Unit>(
+    alloc: Global,
+    machine: &mut Machine<U>,
+    console: &ByteSink,
     seed: u32,
-) {
-    assert_eq!(rt; run.time(), turned.time(), "{seed}");
-    for place in REGISTERS.iter() {
-        assert_eq!(rt; held(run, *place), held(turned, *place), "{seed} {place:?}");
-    }
+) -> Result<Option<Stop>, AllocError> {
+    let mut other = ByteSink::with_room(alloc, 20)?;
+    let stop = goes(alloc, machine, Way::Turns, seed, &mut other)?;
+    Ok(if console.bytes() == other.bytes() {
+        Some(stop)
+    } else {
+        None
+    })
 }
 
-fn same_words(rt: &impl Abort, run: &Memory, turned: &Memory, seed: u32) {
-    let mut at = Addr::of_word(Word(0));
-    for _ in 0..32768u16 {
-        assert_eq!(rt; run.read(at), turned.read(at), "{seed}");
-        at = at.plus(1);
-    }
+/// They come to the same by that chance.
+fn agree(rt: &impl Abort, so: bool, seed: u32) {
+    assert!(rt; so, "{seed}");
 }
 
-fn same_events(rt: &impl Abort, run: &Events, turned: &Events, seed: u32) {
-    assert_eq!(rt; run.len(), turned.len(), "{seed}");
-    for place in 0..3usize {
-        assert_eq!(rt; run.in_order(place), turned.in_order(place), "{seed}");
+/// A machine goes on for some instructions.
+fn goes<U: Unit, S: Sink>(
+    alloc: Global,
+    machine: &mut Machine<U>,
+    way: Way,
+    seed: u32,
+    out: &mut S,
+) -> Result<Stop, AllocError> {
+    *machine.attached_mut() = Attached::new(alloc)?;
+    let mut files = MemFiles::with_room(alloc, 0)?;
+    with_files(alloc, machine, way, u64::from(seed) * 3, &mut files, out)
+}
+
+fn with_files<U: Unit, F: Files, S: Sink>(
+    alloc: Global,
+    machine: &mut Machine<U>,
+    way: Way,
+    count: u64,
+    files: &mut F,
+    out: &mut S,
+) -> Result<Stop, AllocError>
+    requires { AllOpen machine.old.slots (F.state files.old).opened }
+{
+    let mut watch = Watch::new(alloc)?;
+    let keys = Keys::none(alloc);
+    Ok(with_watch(machine, way, count, &mut watch, &keys, files, out))
+}
+
+fn with_watch<U: Unit, F: Files, S: Sink>(
+    machine: &mut Machine<U>,
+    way: Way,
+    count: u64,
+    watch: &mut Watch,
+    keys: &Keys,
+    files: &mut F,
+    out: &mut S,
+) -> Stop
+    requires { AllOpen machine.old.slots (F.state files.old).opened }
+{
+    match way {
+        Way::Run => {
+            let limit = RunLimit { count, step: true };
+            run(machine, limit, watch, keys, files, out)
+        }
+        Way::Turns => turns(machine, count, watch, keys, files, out),
     }
 }
 
 /// As many turns as that, up to one that stops.
-fn turns<U: Unit>(
-    alloc: Global,
+fn turns<U: Unit, F: Files, S: Sink>(
     machine: &mut Machine<U>,
     count: u64,
-    console: &mut ByteSink,
-) -> Result<Stop, AllocError> {
+    watch: &mut Watch,
+    keys: &Keys,
+    files: &mut F,
+    out: &mut S,
+) -> Stop
+    requires { AllOpen machine.old.slots (F.state files.old).opened }
+{
     for done in 0..count {
-        if machine.time() >= 1 << 60 {
-            return Ok(Stop::Limit);
-        }
-        match turn_alone(machine, alloc, done == 0, console)? {
-            Turn::Executed => (),
-            Turn::Stopped(stop) => return Ok(stop),
+        match turn(machine, done == 0, watch, keys, files, out) {
+            Some(Turn::Executed) => (),
+            Some(Turn::Stopped(stop)) => return stop,
+            None => return Stop::Limit,
         }
     }
-    Ok(Stop::Stepped)
+    Stop::Stepped
 }
 
-/// A program and registers by chance.
-fn set<U: Unit>(machine: &mut Machine<U>, mut chance: Chance) -> Result<(), RegFault> {
-    set_words(machine, &mut chance);
-    set_registers(machine, &mut chance)
+fn same<U: Unit, V: Unit>(run: &Machine<U>, turned: &Machine<V>) -> bool {
+    run.time() == turned.time()
+        && same_registers(run, turned)
+        && same_words(run.memory(), turned.memory())
+        && same_events(run.events(), turned.events())
 }
 
-fn set_words<U: Unit>(machine: &mut Machine<U>, chance: &mut Chance) {
+fn same_registers<U: Unit, V: Unit>(run: &Machine<U>, turned: &Machine<V>) -> bool {
+    for place in REGISTERS.iter() {
+        if held(run, *place) != held(turned, *place) {
+            return false;
+        }
+    }
+    true
+}
+
+fn same_words(run: &Memory, turned: &Memory) -> bool {
     let mut at = Addr::of_word(Word(0));
-    for _ in 0..0o400u16 {
-        let word = chance.word();
-        machine.memory_mut().write(at, Word(word));
+    for _ in 0..32768u16 {
+        if run.read(at) != turned.read(at) {
+            return false;
+        }
         at = at.plus(1);
     }
-    // Where interrupts lead
-    let handler = chance.next() % 0o400;
-    machine
-        .memory_mut()
-        .write(Addr::of_word(Word(1)), Word(handler));
-    let mut at = Addr::of_word(Word(0o100));
-    for word in STARTS {
-        machine.memory_mut().write(at, Word(word));
-        at = at.plus(1);
-    }
+    true
 }
 
-fn set_registers<U: Unit>(machine: &mut Machine<U>, chance: &mut Chance) -> Result<(), RegFault> {
-    let registers = [CpuReg::Ac0, CpuReg::Ac1, CpuReg::Ac2, CpuReg::Ac3];
-    for register in registers {
-        machine.set_cpu_reg(register, u32::from(chance.next() % 0o400))?;
+fn same_events(run: &Events, turned: &Events) -> bool {
+    for place in 0..3usize {
+        if run.in_order(place) != turned.in_order(place) {
+            return false;
+        }
     }
-    machine.set_cpu_reg(CpuReg::Pc, 0o100)?;
-    machine.set_cpu_reg(CpuReg::Ion, u32::from(chance.next() % 2))?;
-    machine.set_cpu_reg(CpuReg::StopDev, u32::from(chance.next() % 4 / 3))
+    run.len() == turned.len()
 }

@@ -2,18 +2,34 @@
 #![tactic(auto)]
 
 #[cfg(test)]
+mod acts;
+#[cfg(test)]
 mod bursts;
 #[cfg(test)]
-mod cases;
+mod chance;
 #[cfg(test)]
-mod files;
+mod machines;
 #[cfg(test)]
-mod reading;
+mod names;
+#[cfg(test)]
+mod paper;
+#[cfg(test)]
+mod places;
+#[cfg(test)]
+mod play;
 #[cfg(test)]
 mod registers;
 #[cfg(test)]
-mod scenario;
+mod row;
+#[cfg(test)]
+mod runs;
+#[cfg(test)]
+mod stands;
 #[cfg(test)]
 mod tapes;
+#[cfg(test)]
+mod turns;
+#[cfg(test)]
+mod watched;
 #[cfg(test)]
 mod watches;

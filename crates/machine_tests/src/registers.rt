@@ -1,14 +1,15 @@
 // The registers of the processor, by a machine without a unit.
+use crate::row::check;
 use clock_unit::Clk;
 use nova_machine::Machine;
 use std::alloc::{AllocError, Global};
-use std::process::Abort;
 use std::test::Fail;
 use unit_trait::{CpuReg, RegFault, Unit};
 
-/// The registers that can be set, in their order, with the largest value of each, and one that tells it from the one
-/// before it.
-const REGISTERS: [(CpuReg, u32, u32); 11] = [
+/// A register that can be set, the largest value of it, and one that tells it from the one before it.
+type Register = (CpuReg, u32, u32);
+
+const REGISTERS: [Register; 11] = [
     (CpuReg::Ac0, 0o177777, 1),
     (CpuReg::Ac1, 0o177777, 2),
     (CpuReg::Ac2, 0o177777, 3),
@@ -22,73 +23,87 @@ const REGISTERS: [(CpuReg, u32, u32); 11] = [
     (CpuReg::StopDev, 1, 1),
 ];
 
+const FLAGS: [CpuReg; 4] = [CpuReg::C, CpuReg::Ion, CpuReg::Hold, CpuReg::StopDev];
+
 fn bare_machine(alloc: Global) -> Result<Machine<Clk>, AllocError> {
     Machine::new(alloc, Vec::new(alloc))
+}
+
+/// Whether a value is refused.
+fn refuses<U: Unit>(machine: &mut Machine<U>, register: CpuReg, value: u32) -> bool {
+    machine.set_cpu_reg(register, value) == Err(RegFault::OutOfRange)
+}
+
+/// Whether a value is taken, and is there then.
+fn takes<U: Unit>(machine: &mut Machine<U>, register: CpuReg, value: u32) -> bool {
+    machine.set_cpu_reg(register, value).is_ok() && machine.cpu_reg(register) == value
+}
+
+/// Whether the register is 0, and then takes its largest value and none above it.
+fn holds_its_range<U: Unit>(machine: &mut Machine<U>, row: &Register) -> bool {
+    row.0.largest() == row.1
+        && machine.cpu_reg(row.0) == 0
+        && takes(machine, row.0, row.1)
+        && refuses(machine, row.0, row.1.saturating_add(1))
+        && refuses(machine, row.0, u32::MAX)
+        && machine.cpu_reg(row.0) == row.1
+}
+
+fn all_hold_their_ranges<U: Unit>(machine: &mut Machine<U>) -> bool {
+    for row in REGISTERS.iter() {
+        if !holds_its_range(machine, row) {
+            return false;
+        }
+    }
+    machine.pc().number() == 0o77777 && machine.cpu_reg(CpuReg::Ac3) == 0o177777
+}
+
+fn flags_go_off<U: Unit>(machine: &mut Machine<U>) -> bool {
+    for flag in FLAGS.iter() {
+        if !takes(machine, *flag, 0) {
+            return false;
+        }
+    }
+    true
+}
+
+const SIZES: [u32; 5] = [0, 1, 0o100000, 0o100001, u32::MAX];
+
+fn size_is_read_only<U: Unit>(machine: &mut Machine<U>) -> bool {
+    for value in SIZES.iter() {
+        if !refuses(machine, CpuReg::Size, *value) || machine.cpu_reg(CpuReg::Size) != 0o100000 {
+            return false;
+        }
+    }
+    CpuReg::Size.largest() == 0o100000
 }
 
 #[test]
 fn a_register_holds_its_range_and_size_is_read_only(rt: HostRuntime) -> Result<(), Fail> {
     let mut machine = bare_machine(rt.alloc())?;
-    for (register, most, _) in REGISTERS {
-        assert_eq!(rt; register.largest(), most);
-        holds_its_range(&rt, &mut machine, register, most)?;
-    }
-    stand_at_their_largest(&rt, &machine);
-    flags_go_off(&rt, &mut machine)?;
-    size_is_read_only(&rt, &mut machine);
+    check(&rt, all_hold_their_ranges(&mut machine), "ranges");
+    check(&rt, flags_go_off(&mut machine), "flags");
+    check(&rt, size_is_read_only(&mut machine), "SIZE");
     Ok(())
 }
 
-fn holds_its_range<U: Unit>(
-    rt: &impl Abort,
-    machine: &mut Machine<U>,
-    register: CpuReg,
-    most: u32,
-) -> Result<(), RegFault> {
-    assert_eq!(rt; machine.cpu_reg(register), 0, "{register:?}");
-    machine.set_cpu_reg(register, most)?;
-    for above in [most.saturating_add(1), u32::MAX] {
-        assert_eq!(rt;
-            machine.set_cpu_reg(register, above),
-            Err(RegFault::OutOfRange)
-        );
+fn all_are_their_own<U: Unit>(machine: &mut Machine<U>) -> bool {
+    for row in REGISTERS.iter() {
+        if machine.set_cpu_reg(row.0, row.2).is_err() {
+            return false;
+        }
     }
-    assert_eq!(rt; machine.cpu_reg(register), most, "{register:?}");
-    Ok(())
-}
-
-fn stand_at_their_largest<U: Unit>(rt: &impl Abort, machine: &Machine<U>) {
-    assert_eq!(rt; machine.pc().number(), 0o77777);
-    assert_eq!(rt; machine.cpu_reg(CpuReg::Ac3), 0o177777);
-}
-
-fn flags_go_off<U: Unit>(rt: &impl Abort, machine: &mut Machine<U>) -> Result<(), RegFault> {
-    for flag in [CpuReg::C, CpuReg::Ion, CpuReg::Hold, CpuReg::StopDev] {
-        machine.set_cpu_reg(flag, 0)?;
-        assert_eq!(rt; machine.cpu_reg(flag), 0, "{flag:?}");
+    for row in REGISTERS.iter() {
+        if machine.cpu_reg(row.0) != row.2 {
+            return false;
+        }
     }
-    Ok(())
-}
-
-fn size_is_read_only<U: Unit>(rt: &impl Abort, machine: &mut Machine<U>) {
-    assert_eq!(rt; CpuReg::Size.largest(), 0o100000);
-    for value in [0, 1, 0o100000, 0o100001, u32::MAX] {
-        assert_eq!(rt;
-            machine.set_cpu_reg(CpuReg::Size, value),
-            Err(RegFault::OutOfRange)
-        );
-        assert_eq!(rt; machine.cpu_reg(CpuReg::Size), 0o100000);
-    }
+    true
 }
 
 #[test]
 fn each_register_is_one_of_its_own(rt: HostRuntime) -> Result<(), Fail> {
     let mut machine = bare_machine(rt.alloc())?;
-    for (register, _, value) in REGISTERS {
-        machine.set_cpu_reg(register, value)?;
-    }
-    for (register, _, value) in REGISTERS {
-        assert_eq!(rt; machine.cpu_reg(register), value, "{register:?}");
-    }
+    check(&rt, all_are_their_own(&mut machine), "values");
     Ok(())
 }

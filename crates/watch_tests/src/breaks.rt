@@ -1,122 +1,156 @@
-// The list of the breaks.
+// The list of the breaks, as lines that say what is called and what it comes to. A break is its address, its count and its
+// actions, with colons between them.
+use crate::texts::{check, count, cut, place};
 use expect_actions::{AddFault, Breaks};
 use nova_word::{Addr, Word};
 use std::process::Abort;
 use std::test::Fail;
 
-/// A break: its address, its count and its actions.
-type Break<'a> = (u16, u32, &'a [u8]);
-
-fn address(number: u16) -> Addr {
-    Addr::of_word(Word(number))
+fn address(digits: &str) -> Addr {
+    Addr::of_word(Word((count(digits) % 65536) as u16))
 }
 
-fn add(rt: &impl Abort, breaks: &mut Breaks, entry: Break) {
-    assert!(rt; entry.2.len() <= 512);
-    assert_eq!(rt; breaks.add(address(entry.0), entry.1, entry.2), Ok(()));
-}
-
-/// The breaks are these, in this order.
-fn stand(rt: &impl Abort, breaks: &Breaks, wanted: &[Break]) {
-    for (k, entry) in wanted.iter().enumerate() {
-        stands(rt, breaks, k, *entry);
+fn all(rt: &impl Abort, breaks: &mut Breaks, table: &str) {
+    for line in table.lines() {
+        check(rt, is_so(breaks, line), line);
     }
-    assert!(rt; breaks.in_order(wanted.len()).is_none());
 }
 
-fn stands(rt: &impl Abort, breaks: &Breaks, k: usize, wanted: Break) {
-    match breaks.in_order(k) {
-        Some(entry) => {
-            assert_eq!(rt; entry.0.number(), wanted.0);
-            assert_eq!(rt; entry.1, wanted.1);
-            assert_eq!(rt; entry.2, wanted.2);
+/// Whether a call comes to what its line says.
+fn is_so(breaks: &mut Breaks, line: &str) -> bool {
+    let (verb, rest) = cut(line, ' ');
+    match verb {
+        "add" => add(breaks, rest) == Some(Ok(())),
+        "full" => add(breaks, rest) == Some(Err(AddFault::Full)),
+        "removed" => breaks.remove(address(rest)),
+        "missing" => !breaks.remove(address(rest)),
+        "clear" => {
+            breaks.clear();
+            true
         }
-        None => assert!(rt; false),
+        _ => is_tested(breaks, verb, rest),
     }
 }
+
+/// Whether it is so of a test of a break, or of the breaks that are there.
+fn is_tested(breaks: &mut Breaks, verb: &str, rest: &str) -> bool {
+    match verb {
+        "goes" => breaks.test(address(rest)).is_none(),
+        "stops" => {
+            let (at, wanted) = cut(rest, ' ');
+            wanted != "" && breaks.test(address(at)) == place(wanted)
+        }
+        "empty" => breaks.is_empty(),
+        "are" => are(breaks, rest),
+        "actions" => breaks.actions_of() == rest.as_bytes(),
+        _ => false,
+    }
+}
+
+/// What comes of adding a break, if its actions are short enough.
+fn add(breaks: &mut Breaks, entry: &str) -> Option<Result<(), AddFault>> {
+    let (at, rest) = cut(entry, ':');
+    let (number, actions) = cut(rest, ':');
+    if actions.len() > 512 {
+        return None;
+    }
+    Some(breaks.add(address(at), count(number), actions.as_bytes()))
+}
+
+/// Whether the breaks are these, with bars between them, in this order.
+fn are(breaks: &Breaks, entries: &str) -> bool {
+    for (k, entry) in entries.split('|').enumerate() {
+        if !stands(breaks, k, entry) {
+            return false;
+        }
+    }
+    breaks.len() == entries.split('|').count() && breaks.in_order(breaks.len()).is_none()
+}
+
+fn stands(breaks: &Breaks, k: usize, entry: &str) -> bool {
+    let (at, rest) = cut(entry, ':');
+    let (number, actions) = cut(rest, ':');
+    match breaks.in_order(k) {
+        Some(found) => {
+            found.0 == address(at) && found.1 == count(number) && found.2 == actions.as_bytes()
+        }
+        None => false,
+    }
+}
+
+const RISING: &str = "empty
+add 64:1:E AC0
+add 32767:2:
+add 0:0:CONT;CONT
+are 0:0:CONT;CONT|64:1:E AC0|32767:2:
+add 64:7:x
+are 0:0:CONT;CONT|64:7:x|32767:2:
+removed 0
+missing 0
+missing 1
+are 64:7:x|32767:2:
+clear
+empty
+goes 64";
 
 #[test]
 fn breaks_stand_in_rising_address(rt: HostRuntime) -> Result<(), Fail> {
     let mut breaks = Breaks::new(rt.alloc())?;
-    assert!(rt; breaks.is_empty());
-    add(&rt, &mut breaks, (64, 1, b"E AC0"));
-    add(&rt, &mut breaks, (32767, 2, b""));
-    add(&rt, &mut breaks, (0, 0, b"CONT;CONT"));
-    stand(
-        &rt,
-        &breaks,
-        &[(0, 0, b"CONT;CONT"), (64, 1, b"E AC0"), (32767, 2, b"")],
-    );
-    add(&rt, &mut breaks, (64, 7, b"x"));
-    stand(
-        &rt,
-        &breaks,
-        &[(0, 0, b"CONT;CONT"), (64, 7, b"x"), (32767, 2, b"")],
-    );
-    are_removed(&rt, &mut breaks);
+    all(&rt, &mut breaks, RISING);
     Ok(())
 }
 
-fn are_removed(rt: &impl Abort, breaks: &mut Breaks) {
-    assert!(rt; breaks.remove(address(0)));
-    assert!(rt; !breaks.remove(address(0)));
-    assert!(rt; !breaks.remove(address(1)));
-    stand(rt, breaks, &[(64, 7, b"x"), (32767, 2, b"")]);
-    breaks.clear();
-    assert!(rt; breaks.is_empty());
-    assert!(rt; breaks.test(address(64)).is_none());
-}
+// The actions of a break stay those of the last one that stopped, where it goes.
+const LOWERED: &str = "actions
+add 100:3:a;b
+add 50:0:c
+goes 99
+goes 100
+goes 100
+are 50:0:c|100:1:a;b
+actions
+stops 100 1
+are 50:0:c|100:0:a;b
+actions a;b
+stops 100 1
+stops 50 0
+actions c
+removed 50
+goes 50
+actions c
+clear
+actions c";
 
 #[test]
 fn a_count_is_lowered_until_the_break_stops(rt: HostRuntime) -> Result<(), Fail> {
     let mut breaks = Breaks::new(rt.alloc())?;
-    acts(&rt, &breaks, b"");
-    add(&rt, &mut breaks, (100, 3, b"a;b"));
-    add(&rt, &mut breaks, (50, 0, b"c"));
-    tests(&rt, &mut breaks, 99, None);
-    tests(&rt, &mut breaks, 100, None);
-    tests(&rt, &mut breaks, 100, None);
-    stand(&rt, &breaks, &[(50, 0, b"c"), (100, 1, b"a;b")]);
-    acts(&rt, &breaks, b"");
-    tests(&rt, &mut breaks, 100, Some(1));
-    stand(&rt, &breaks, &[(50, 0, b"c"), (100, 0, b"a;b")]);
-    acts(&rt, &breaks, b"a;b");
-    tests(&rt, &mut breaks, 100, Some(1));
-    tests(&rt, &mut breaks, 50, Some(0));
-    acts(&rt, &breaks, b"c");
-    actions_stay(&rt, &mut breaks);
+    all(&rt, &mut breaks, LOWERED);
     Ok(())
 }
 
-/// The actions of a break stay those of the last one that stopped, where it goes.
-fn actions_stay(rt: &impl Abort, breaks: &mut Breaks) {
-    assert!(rt; breaks.remove(address(50)));
-    tests(rt, breaks, 50, None);
-    acts(rt, breaks, b"c");
-    breaks.clear();
-    acts(rt, breaks, b"c");
+/// Whether breaks at all even addresses below 512 are added.
+fn adds_256(breaks: &mut Breaks) -> bool {
+    for number in 0..256u16 {
+        let at = Addr::of_word(Word(number * 2));
+        if breaks.add(at, 1, b"").is_err() {
+            return false;
+        }
+    }
+    true
 }
 
-fn tests(rt: &impl Abort, breaks: &mut Breaks, at: u16, wanted: Option<usize>) {
-    assert_eq!(rt; breaks.test(address(at)), wanted, "{at}");
-}
-
-fn acts(rt: &impl Abort, breaks: &Breaks, wanted: &[u8]) {
-    assert_eq!(rt; breaks.actions_of(), wanted);
-}
+const FULL: &str = "full 1:1:
+goes 1
+add 510:4:z
+removed 0
+add 1:1:
+stops 1 0
+goes 510";
 
 #[test]
 fn no_more_than_256_breaks_are_there(rt: HostRuntime) -> Result<(), Fail> {
     let mut breaks = Breaks::new(rt.alloc())?;
-    for number in 0..256u16 {
-        add(&rt, &mut breaks, (number * 2, 1, b""));
-    }
-    assert_eq!(rt; breaks.add(address(1), 1, b""), Err(AddFault::Full));
-    tests(&rt, &mut breaks, 1, None);
-    add(&rt, &mut breaks, (510, 4, b"z"));
-    assert!(rt; breaks.remove(address(0)));
-    add(&rt, &mut breaks, (1, 1, b""));
-    tests(&rt, &mut breaks, 1, Some(0));
-    tests(&rt, &mut breaks, 510, None);
+    check(&rt, adds_256(&mut breaks), "256 breaks");
+    all(&rt, &mut breaks, FULL);
     Ok(())
 }

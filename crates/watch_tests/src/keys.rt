@@ -1,79 +1,91 @@
-// Keys files.
+// Keys files, as lines of text, in which a ~ stands for the end of a line, and what is read behind a bar.
+use crate::texts::{check, count, cut, number, place};
 use expect_actions::{Keys, KeysFault};
 use std::alloc::{AllocError, Global};
 use std::process::Abort;
 use std::test::Fail;
 
-/// The keys of a file are these.
-fn give(rt: &impl Abort, alloc: Global, bytes: &[u8], wanted: &[(u64, u8)]) {
-    match Keys::read_keys(alloc, bytes) {
-        Err(_) => assert!(rt; false, "at {bytes:?}"),
-        Ok(keys) => come(rt, &keys, wanted),
+fn bytes_of(alloc: Global, text: &str) -> Result<Vec<u8>, AllocError> {
+    let mut bytes = Vec::new(alloc);
+    for byte in text.as_bytes() {
+        bytes.push(if *byte == b'~' { b'\n' } else { *byte })?;
     }
+    Ok(bytes)
 }
 
-/// The keys are these: each is due at its time and not before, and there are no more.
-fn come(rt: &impl Abort, keys: &Keys, wanted: &[(u64, u8)]) {
-    for (number, key) in wanted.iter().enumerate() {
-        let (time, byte) = *key;
-        assert_eq!(rt; keys.due(number as u64, time), Some(byte));
-        if time > 0 {
-            assert_eq!(rt; keys.due(number as u64, time - 1), None);
+/// Whether a file is read as its line says: its keys, or the place of the first faulty line.
+fn is_read(alloc: Global, line: &str) -> Result<bool, AllocError> {
+    let (text, wanted) = line.split_once('|').unwrap_or((line, "no keys"));
+    let bytes = bytes_of(alloc, text)?;
+    Ok(match Keys::read_keys(alloc, bytes.as_slice()) {
+        Ok(keys) => come(&keys, wanted),
+        Err(KeysFault::Bad(found)) => wanted != "" && place(wanted) == Some(found),
+        Err(_) => false,
+    })
+}
+
+/// Whether the keys are these: each is due at its time and not before, and there are no more.
+fn come(keys: &Keys, wanted: &str) -> bool {
+    if wanted == "no keys" {
+        return keys.due(0, u64::MAX).is_none();
+    }
+    let mut taken = 0;
+    for key in wanted.split('|') {
+        if !comes(keys, taken, key) || taken > 65536 {
+            return false;
         }
+        taken += 1;
     }
-    assert_eq!(rt; keys.due(wanted.len() as u64, u64::MAX), None);
+    keys.due(taken, u64::MAX).is_none()
 }
 
-/// The place of the first faulty line.
-fn faulty_at(alloc: Global, bytes: &[u8]) -> Option<usize> {
-    match Keys::read_keys(alloc, bytes) {
-        Err(KeysFault::Bad(place)) => Some(place),
-        _ => None,
-    }
+fn comes(keys: &Keys, taken: u64, key: &str) -> bool {
+    let (time, byte) = cut(key, ':');
+    let time = number(time);
+    let early = time > 0 && keys.due(taken, time - 1).is_some();
+    !early && keys.due(taken, time).map(u32::from) == Some(count(byte))
 }
 
-#[test]
-fn files_give_their_keys(rt: HostRuntime) {
-    let cases: [(&[u8], &[(u64, u8)]); 8] = [
-        (b"", &[]),
-        (b"0 \"\\005\"\n", &[(0, 5)]),
-        (b"7 \"ab\"\n7 \"\\r\"\n", &[(7, 97), (7, 98), (7, 13)]),
-        (b"0007 \"a\"\n07 \"b\"\n", &[(7, 97), (7, 98)]),
-        (b"5 \"\"\n", &[]),
-        (b"5 \"\"\n6 \"x\"", &[(6, 120)]),
-        (
-            b"1152921504606846976 \"z\"\n",
-            &[(1152921504606846976, 122)],
-        ),
-        (b"1 \"1 \\\"\\n\"\n", &[(1, 49), (1, 32), (1, 34), (1, 10)]),
-    ];
-    for (bytes, wanted) in cases {
-        give(&rt, rt.alloc(), bytes, wanted);
+fn all(rt: &impl Abort, alloc: Global, table: &str) -> Result<(), Fail> {
+    for line in table.lines() {
+        check(rt, is_read(alloc, line)?, line);
     }
+    Ok(())
 }
+
+const FILES: &str = "
+0 \"\\005\"~|0:5
+7 \"ab\"~7 \"\\r\"~|7:97|7:98|7:13
+0007 \"a\"~07 \"b\"~|7:97|7:98
+5 \"\"~
+5 \"\"~6 \"x\"|6:120
+1152921504606846976 \"z\"~|1152921504606846976:122
+1 \"1 \\\"\\n\"~|1:49|1:32|1:34|1:10";
 
 #[test]
-fn the_first_faulty_line_is_told(rt: HostRuntime) {
-    let cases: [(&[u8], usize); 15] = [
-        (b"\n", 0),
-        (b"0 \"a\"\r\n", 0),
-        (b"0 \"a\"\n\n", 6),
-        (b"0 \"a\"\n\r\n", 6),
-        (b"1152921504606846977 \"a\"\n", 0),
-        (b"6 \"a\"\n5 \"b\"\n4 \"c\"\n", 6),
-        (b"6 \"\"\n5 \"b\"\n", 5),
-        (b"0 \"\\400\"\n", 0),
-        (b"0  \"a\"\n", 0),
-        (b"0\t\"a\"\n", 0),
-        (b"0 \"a\" \n", 0),
-        (b" 0 \"a\"\n", 0),
-        (b"\"a\"\n", 0),
-        (b"0 \"a\"\n1 \"b", 6),
-        (b"0 \"a\"\n1 \"b\"\n2 \"c\n\"\n", 12),
-    ];
-    for (bytes, wanted) in cases {
-        assert_eq!(rt; faulty_at(rt.alloc(), bytes), Some(wanted), "at {bytes:?}");
-    }
+fn files_give_their_keys(rt: HostRuntime) -> Result<(), Fail> {
+    all(&rt, rt.alloc(), FILES)
+}
+
+const FAULTS: &str = "~|0
+0 \"a\"\r~|0
+0 \"a\"~~|6
+0 \"a\"~\r~|6
+1152921504606846977 \"a\"~|0
+6 \"a\"~5 \"b\"~4 \"c\"~|6
+6 \"\"~5 \"b\"~|5
+0 \"\\400\"~|0
+0  \"a\"~|0
+0\t\"a\"~|0
+0 \"a\" ~|0
+ 0 \"a\"~|0
+\"a\"~|0
+0 \"a\"~1 \"b|6
+0 \"a\"~1 \"b\"~2 \"c~\"~|12";
+
+#[test]
+fn the_first_faulty_line_is_told(rt: HostRuntime) -> Result<(), Fail> {
+    all(&rt, rt.alloc(), FAULTS)
 }
 
 /// A line at time 0 with so many keys, and one behind it at time 1 with one key more.
@@ -87,35 +99,34 @@ fn two_lines(alloc: Global, count: usize) -> Result<Vec<u8>, AllocError> {
     Ok(bytes)
 }
 
+/// Whether the last of 65536 keys is the one at time 1.
+fn just_fit(alloc: Global) -> Result<bool, AllocError> {
+    let bytes = two_lines(alloc, 65535)?;
+    Ok(match Keys::read_keys(alloc, bytes.as_slice()) {
+        Ok(keys) => keys.due(65535, 1) == Some(b'b') && keys.due(65536, 1).is_none(),
+        Err(_) => false,
+    })
+}
+
+/// Whether that line is faulty with so many keys before it.
+fn are_too_many(alloc: Global, count: usize, place: usize) -> Result<bool, AllocError> {
+    let bytes = two_lines(alloc, count)?;
+    Ok(match Keys::read_keys(alloc, bytes.as_slice()) {
+        Err(KeysFault::Bad(found)) => found == place,
+        _ => false,
+    })
+}
+
 #[test]
 fn a_file_has_at_most_65536_keys(rt: HostRuntime) -> Result<(), Fail> {
-    just_fit(&rt, rt.alloc())?;
-    are_too_many(&rt, rt.alloc(), 65536, 65541)?;
-    are_too_many(&rt, rt.alloc(), 65537, 0)
-}
-
-fn just_fit(rt: &impl Abort, alloc: Global) -> Result<(), Fail> {
-    let bytes = two_lines(alloc, 65535)?;
-    match Keys::read_keys(alloc, bytes.as_slice()) {
-        Err(_) => assert!(rt; false),
-        Ok(keys) => end_with_b(rt, &keys),
-    }
-    Ok(())
-}
-
-fn end_with_b(rt: &impl Abort, keys: &Keys) {
-    assert_eq!(rt; keys.due(65535, 1), Some(b'b'));
-    assert_eq!(rt; keys.due(65536, 1), None);
-}
-
-fn are_too_many(rt: &impl Abort, alloc: Global, count: usize, place: usize) -> Result<(), Fail> {
-    let bytes = two_lines(alloc, count)?;
-    assert_eq!(rt; faulty_at(alloc, bytes.as_slice()), Some(place));
+    check(&rt, just_fit(rt.alloc())?, "65536 keys");
+    check(&rt, are_too_many(rt.alloc(), 65536, 65541)?, "65537 keys");
+    check(&rt, are_too_many(rt.alloc(), 65537, 0)?, "65538 keys");
     Ok(())
 }
 
 #[test]
 fn without_a_file_no_key_is_due(rt: HostRuntime) {
     let keys = Keys::none(rt.alloc());
-    assert_eq!(rt; keys.due(0, u64::MAX), None);
+    check(&rt, keys.due(0, u64::MAX).is_none(), "no keys");
 }

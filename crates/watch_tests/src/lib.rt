@@ -12,4 +12,6 @@ mod keys;
 #[cfg(test)]
 mod sends;
 #[cfg(test)]
+mod texts;
+#[cfg(test)]
 mod watch;

@@ -3,7 +3,7 @@ use Rattle.unit_trait.specs.declared.kind.Kind.TheVariants.{Mta}
 use Rattle.unit_trait.specs.Row.{initial_unit}
 use Rattle.nova_machine.specs.BusOrder.{IsBusOrder}
 use Rattle.nova_machine.proofs.BusOrders.{in-order}
-use Rattle.machine_tests.proofs.tapes.play.Goals as goal
+use Rattle.machine_tests.proofs.machines.with_tape.Goals as goal
 
 pub new-requires : goal.new-requires
 new-requires g c = subst IsBusOrder (sym c.requires) (in-order (initial_unit Mta ∷ []) (tt, tt))
