@@ -1,6 +1,7 @@
 ghost use Rattle.std.specs.Prelude.{◌≡◌, ◌≤◌, ◌^◌, [], true, false, List, map, take, string_bytes, IsTrue, IfOk};
 ghost use Rattle.host_files.specs.State.{Opened};
 ghost use Rattle.unit_files.specs.Open.{AllOpen, Around};
+ghost use Rattle.expect_actions.specs.Watch.{forgotten};
 ghost use Rattle.fault_notes.specs.Notes.{notes_said};
 ghost use Rattle.scp_commands.specs.Live.{live_in};
 ghost use Rattle.scp_script.specs.Loop.{FinishCause, AreKept, KeptCause};
@@ -74,10 +75,17 @@ pub fn perform<U: Unit, C: Source, F: Files, S: Sink>(
     'lines: loop {
         match next_line(alloc, session, &mut lines, input, files, out) {
             // The actions of a stop wait now, or were refused.
-            Progress::GoesOn => session.watch.forget(),
+            Progress::GoesOn => rest(session),
             Progress::IsOver(finish) => return finish,
         }
     }
+}
+
+/// Lets go of the actions of the stop that came last.
+fn rest<U: Unit>(session: &mut Session<U>)
+    ensures { session.new ≡ record session.old { watch = forgotten session.old.watch } }
+{
+    session.watch.forget();
 }
 
 /// The texts of a session before the first one. Memory is taken for the script and its arguments, and the room for

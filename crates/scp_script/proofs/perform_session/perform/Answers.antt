@@ -1,10 +1,15 @@
-use Rattle.std.proofs.Common.{◌≡◌, true, [], refl, ap, ◌∙◌, arith}
-use Rattle.fault_notes.specs.Notes.{notes_said}
+use Rattle.std.proofs.Common.{◌≡◌, true, List, [], Option, refl, ap, sym, ◌∙◌, subst, arith}
+use Rattle.unit_files.specs.Attachments.{Held}
+use Rattle.unit_files.specs.Open.{AllOpen, Around}
+use Rattle.fault_notes.specs.declared.note.FaultNote.{FaultNote}
+use Rattle.fault_notes.specs.Notes.{Note, notes_said}
+use Rattle.scp_script.specs.Session.{Session}
 use Rattle.scp_script.specs.declared.progress.CommandLoop.{CommandLoop}
 use Rattle.scp_script.specs.Scripts.{first_script}
 use Rattle.scp_script.specs.Perform.{beginning, beginning_with}
-use Rattle.scp_script.specs.Loop.{session_of}
-use Rattle.scp_script.proofs.WholeLemmas.{begun, never-begun, further, over, kept-none, kept-both, causes-behind, kept-since}
+use Rattle.scp_commands.specs.Live.{CommandState}
+use Rattle.scp_script.specs.Loop.{AreKept, session_of}
+use Rattle.scp_script.proofs.WholeLemmas.{ComesSoFar, begun, never-begun, further, over, kept-none, kept-both, causes-behind, kept-since}
 use Rattle.scp_script.proofs.perform_session.perform.Goals as goal
 
 pub lines-init : goal.lines-init
@@ -29,27 +34,41 @@ lines-init g c =
       around = λ base around. around;
     }
 
+-- what the loop keeps, where the actions of the last stop were let go of
 pub lines-preserved : goal.lines-preserved
-lines-preserved g c = record {
-  enough = omega (arith, c.lines.invariant.enough, c.in-GoesOn.ensures.pays);
-  command = omega (arith, c.lines.invariant.command, c.in-GoesOn.ensures.command);
-  limit = c.in-GoesOn.ensures.limit ∙ c.lines.invariant.limit;
-  keys = c.in-GoesOn.ensures.keys ∙ c.lines.invariant.keys;
-  reads = c.in-GoesOn.ensures.reads ∙ c.lines.invariant.reads;
-  unread = λ off. c.in-GoesOn.ensures.unread (c.lines.invariant.reads ∙ off) ∙ c.lines.invariant.unread off;
-  told = λ source files sink. further (λ notes. beginning c.args.session.now (g.F.Files.state c.args.files.now).files c.args.opening.now (g.C.Source.left c.args.input.now) notes)
-      (session_of c.lines.session (g.F.Files.state c.lines.files).files c.lines.lines (g.C.Source.left c.lines.input))
-      (session_of c.next_line.new.session (g.F.Files.state c.next_line.new.files).files c.next_line.new.lines (g.C.Source.left c.next_line.new.input))
-      (g.S.Sink.written c.args.out.now) (g.S.Sink.written c.lines.out) (g.S.Sink.written c.next_line.new.out)
-      (notes_said c.args.session.now.notes) (notes_said c.lines.session.notes) (notes_said c.next_line.new.session.notes)
-      (c.lines.invariant.told source files sink) (c.in-GoesOn.ensures.told source files sink);
-  source = c.in-GoesOn.ensures.cause.1 ∙ c.lines.invariant.source;
-  sink = c.in-GoesOn.ensures.cause.0 ∙ c.lines.invariant.sink;
-  keeps = kept-both c.args.session.now.notes c.lines.session.notes c.next_line.new.session.notes (g.F.Files.state c.args.files.now) (g.F.Files.state c.lines.files)
-      (g.F.Files.state c.next_line.new.files) c.lines.invariant.keeps c.in-GoesOn.ensures.keeps;
-  is_open = c.in-GoesOn.ensures.«open»;
-  around = λ base around. c.in-GoesOn.ensures.around base (c.lines.invariant.around base around);
-}
+lines-preserved g c =
+    let done = c.next_line.new.session in
+    let is = c.rest.ensures in
+    let number : c.rest.new.session.command ≡ done.command = ap (λ (x : CommandState). x.command) is in
+    let notes_are : c.rest.new.session.notes ≡ done.notes = ap (λ (x : CommandState). x.notes) is in
+    let slots_are : c.rest.new.session.machine.slots ≡ done.machine.slots = ap (λ (x : CommandState). x.machine.slots) is in
+    let new = g.F.Files.state c.next_line.new.files in
+    record {
+      enough = omega (arith, c.lines.invariant.enough, c.in-GoesOn.ensures.pays);
+      command = omega (arith, c.lines.invariant.command, c.in-GoesOn.ensures.command, number);
+      limit = ap (λ (x : CommandState). x.limit) is ∙ c.in-GoesOn.ensures.limit ∙ c.lines.invariant.limit;
+      keys = ap (λ (x : CommandState). x.keys) is ∙ c.in-GoesOn.ensures.keys ∙ c.lines.invariant.keys;
+      reads = c.in-GoesOn.ensures.reads ∙ c.lines.invariant.reads;
+      unread = λ off. c.in-GoesOn.ensures.unread (c.lines.invariant.reads ∙ off) ∙ c.lines.invariant.unread off;
+      told = λ source files sink.
+          let start : List Note → Session = λ notes. beginning c.args.session.now (g.F.Files.state c.args.files.now).files c.args.opening.now (g.C.Source.left c.args.input.now) notes in
+          subst (λ (x : CommandState). ComesSoFar start (session_of x new.files c.next_line.new.lines (g.C.Source.left c.next_line.new.input))
+              (g.S.Sink.written c.args.out.now) (g.S.Sink.written c.next_line.new.out) (notes_said c.args.session.now.notes) (notes_said x.notes)) (sym is)
+          (further start
+          (session_of c.lines.session (g.F.Files.state c.lines.files).files c.lines.lines (g.C.Source.left c.lines.input))
+          (session_of done new.files c.next_line.new.lines (g.C.Source.left c.next_line.new.input))
+          (g.S.Sink.written c.args.out.now) (g.S.Sink.written c.lines.out) (g.S.Sink.written c.next_line.new.out)
+          (notes_said c.args.session.now.notes) (notes_said c.lines.session.notes) (notes_said done.notes)
+          (c.lines.invariant.told source files sink) (c.in-GoesOn.ensures.told source files sink));
+      source = c.in-GoesOn.ensures.cause.1 ∙ c.lines.invariant.source;
+      sink = c.in-GoesOn.ensures.cause.0 ∙ c.lines.invariant.sink;
+      keeps = subst (λ (kept : List FaultNote). AreKept c.args.session.now.notes kept (g.F.Files.state c.args.files.now) new) (sym notes_are)
+          (kept-both c.args.session.now.notes c.lines.session.notes done.notes (g.F.Files.state c.args.files.now) (g.F.Files.state c.lines.files) new
+          c.lines.invariant.keeps c.in-GoesOn.ensures.keeps);
+      is_open = subst (λ (slots : List (Option Held)). AllOpen slots new.opened) (sym slots_are) c.in-GoesOn.ensures.«open»;
+      around = λ base around. subst (λ (slots : List (Option Held)). Around slots base new.opened) (sym slots_are)
+          (c.in-GoesOn.ensures.around base (c.lines.invariant.around base around));
+    }
 
 pub returns-in-IsOver-clause-told : goal.returns-in-IsOver-clause-told
 returns-in-IsOver-clause-told g c = λ source files sink.
