@@ -12,9 +12,11 @@ ghost use Rattle.nova_top.specs.Standard.{IsStandard};
 ghost use Rattle.std.specs.Process.{exit_status};
 ghost use Rattle.nova_top.specs.Words.{options_of, texts_of};
 
+mod boxes;
 mod session;
 mod words;
 
+use boxes::{four, push_four};
 use clock_unit::Clk;
 use disk_unit::Dsk;
 use host_adapters::{PagedFiles, ReaderSource, RealFiles, WriterSink};
@@ -63,14 +65,21 @@ where
     ensures bad_words { options_of (texts_of words.now) ≡ None
         → IfOk result (λ code. (exit_status code ≡ 100) ⊎ (exit_status code ≡ 102)) }
 {
-    let disk: Box<dyn Unit> = Box::new(rt.alloc(), Dsk::new())?;
-    let tape: Box<dyn Unit> = Box::new(rt.alloc(), Mta::new())?;
-    let printer: Box<dyn Unit> = Box::new(rt.alloc(), Lpt::new())?;
-    let reader: Box<dyn Unit> = Box::new(rt.alloc(), Ptr::new())?;
-    let punch: Box<dyn Unit> = Box::new(rt.alloc(), Ptp::new())?;
-    let clock: Box<dyn Unit> = Box::new(rt.alloc(), Clk::new())?;
-    let keyboard: Box<dyn Unit> = Box::new(rt.alloc(), Tti::new())?;
-    let teleprinter: Box<dyn Unit> = Box::new(rt.alloc(), Tto::new())?;
+    let (disk, tape, printer, reader) = four(
+        rt.alloc(),
+        Dsk::new(),
+        Mta::new(),
+        Lpt::new(),
+        Ptr::new(),
+    )?;
+    let (punch, clock, keyboard, teleprinter) = four(
+        rt.alloc(),
+        Ptp::new(),
+        Clk::new(),
+        Tti::new(),
+        Tto::new(),
+    )?;
+    let disk: Box<dyn Unit> = disk;
     with_units(
         rt,
         words,
@@ -113,14 +122,8 @@ where
         → IfOk result (λ code. (exit_status code ≡ 100) ⊎ (exit_status code ≡ 102)) }
 {
     let mut units = Vec::new(rt.alloc());
-    units.push(disk)?;
-    units.push(tape)?;
-    units.push(printer)?;
-    units.push(reader)?;
-    units.push(punch)?;
-    units.push(clock)?;
-    units.push(keyboard)?;
-    units.push(teleprinter)?;
+    push_four(&mut units, disk, tape, printer, reader)?;
+    push_four(&mut units, punch, clock, keyboard, teleprinter)?;
     with_streams(rt, words, units)
 }
 
