@@ -19,7 +19,8 @@ fn scripts_are_read_and_labels_looked_for(rt: HostRuntime) -> Result<(), Fail> {
     let mut files = MemFiles::with_room(rt.alloc(), 64)?;
     check(&rt, files.add_file("s", SCRIPT).is_ok(), "s");
     check(&rt, files.add_file("empty", b"").is_ok(), "empty");
-    play(&rt, rt.alloc(), Nothing, &mut files, SCRIPTS, &[])
+    play(&rt, rt.alloc(), Nothing, &mut files, SCRIPTS, &[])?;
+    Ok(())
 }
 
 /// The tape of one word, 63077 at 100, that starts there.
