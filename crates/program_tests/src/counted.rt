@@ -1,16 +1,14 @@
 // That the machine calls the units that it is handed: each call is counted by a wrapper round the unit.
 ghost use Rattle.std.specs.Prelude.{◌≡◌};
-ghost use Rattle.unit_trait.specs.declared.kind.Kind.TheVariants.{Dsk as disks, Mta as tapes, Lpt as printers, Ptr as readers};
-ghost use Rattle.unit_trait.specs.declared.kind.Kind.TheVariants.{Ptp as punches, Clk as clocks, Tti as keyboards};
-ghost use Rattle.unit_trait.specs.declared.kind.Kind.TheVariants.{Tto as teleprinters};
-ghost use Rattle.unit_trait.specs.Row.{initial_unit};
 
-use crate::play::{agree, play};
+use crate::boxes::four;
+use crate::checked::holds;
+use crate::play::play;
 use crate::row::{Row, decimal, text};
 use clock_unit::Clk;
 use disk_unit::Dsk;
 use paper_tape::{Lpt, Ptp, Ptr};
-use std::alloc::Global;
+use std::alloc::{AllocError, Global};
 use std::cell::Cell;
 use std::process::Abort;
 use std::rc::Rc;
@@ -38,17 +36,6 @@ impl Calls {
             set_reg: Cell::new(0),
             reset: Cell::new(0),
         }
-    }
-
-    /// The numbers of `io`, `due`, `got`, `set_reg` and `reset`.
-    fn all(&self) -> [u64; 5] {
-        [
-            self.io.get(),
-            self.due.get(),
-            self.got.get(),
-            self.set_reg.get(),
-            self.reset.get(),
-        ]
     }
 }
 
@@ -109,12 +96,20 @@ impl<U: Unit> Unit for Counted<U> {
 }
 
 /// Plays a row with a counted clock and a counted printer, whose calls are those of its fields `clock` and `printer`.
-fn counts(rt: &impl Abort, alloc: Global, row: Row<'_>) -> Result<(), Fail> {
+fn counts(rt: &impl Abort, alloc: Global, row: Row<'_>) -> Result<(), AllocError> {
     let clock = Rc::new(alloc, Calls::new())?;
     let printer = Rc::new(alloc, Calls::new())?;
     play_counted(rt, alloc, &clock, &printer, row)?;
-    are_called(rt, &clock, text(row, "clock").unwrap_or(""));
-    are_called(rt, &printer, text(row, "printer").unwrap_or(""));
+    holds(
+        rt,
+        are_made(&clock, text(row, "clock").unwrap_or("")),
+        row.line,
+    );
+    holds(
+        rt,
+        are_made(&printer, text(row, "printer").unwrap_or("")),
+        row.line,
+    );
     Ok(())
 }
 
@@ -124,19 +119,25 @@ fn play_counted(
     clock: &Rc<Calls>,
     printer: &Rc<Calls>,
     row: Row<'_>,
-) -> Result<(), Fail> {
-    let disk: Box<dyn Unit> = Box::new(alloc, Dsk::new())?;
-    let tape: Box<dyn Unit> = Box::new(alloc, Mta::new())?;
-    let line_printer: Box<dyn Unit> = Box::new(alloc, Lpt::new())?;
-    let reader: Box<dyn Unit> = Box::new(alloc, Ptr::new())?;
-    let punch: Box<dyn Unit> = Box::new(alloc, Ptp::new())?;
-    let counted_clock: Box<dyn Unit> = Box::new(alloc, Counted::new(Clk::new(), clock.clone()?))?;
-    let keyboard: Box<dyn Unit> = Box::new(alloc, Tti::new())?;
-    let counted_printer: Box<dyn Unit> = Box::new(
+) -> Result<(), AllocError> {
+    let (disk, tape, line_printer, reader) = four(
         alloc,
-        Counted::new(Tto::new(), printer.clone()?),
+        Dsk::new(),
+        Mta::new(),
+        Lpt::new(),
+        Ptr::new(),
     )?;
-    play_with(
+    let counted_clock = Counted::new(Clk::new(), clock.clone()?);
+    let counted_printer = Counted::new(Tto::new(), printer.clone()?);
+    let (punch, counted_clock, keyboard, counted_printer) = four(
+        alloc,
+        Ptp::new(),
+        counted_clock,
+        Tti::new(),
+        counted_printer,
+    )?;
+    let disk: Box<dyn Unit> = disk;
+    play(
         rt,
         alloc,
         disk,
@@ -151,45 +152,20 @@ fn play_counted(
     )
 }
 
-/// Plays a row with these units, in bus order.
-fn play_with<U: Unit>(
-    rt: &impl Abort,
-    alloc: Global,
-    disk: U,
-    tape: U,
-    printer: U,
-    reader: U,
-    punch: U,
-    clock: U,
-    keyboard: U,
-    teleprinter: U,
-    row: Row<'_>,
-) -> Result<(), Fail>
-    requires disk { U.unit_state disk ≡ initial_unit disks }
-    requires tape { U.unit_state tape ≡ initial_unit tapes }
-    requires printer { U.unit_state printer ≡ initial_unit printers }
-    requires reader { U.unit_state reader ≡ initial_unit readers }
-    requires punch { U.unit_state punch ≡ initial_unit punches }
-    requires clock { U.unit_state clock ≡ initial_unit clocks }
-    requires keyboard { U.unit_state keyboard ≡ initial_unit keyboards }
-    requires teleprinter { U.unit_state teleprinter ≡ initial_unit teleprinters }
-{
-    let mut units = Vec::new(alloc);
-    units.push(disk)?;
-    units.push(tape)?;
-    units.push(printer)?;
-    units.push(reader)?;
-    units.push(punch)?;
-    units.push(clock)?;
-    units.push(keyboard)?;
-    units.push(teleprinter)?;
-    play(rt, alloc, units, row)
+/// Whether the calls were made as often as a text says: `io`, `due`, `got`, `set_reg` and `reset`.
+fn are_made(calls: &Calls, wanted: &str) -> bool {
+    let mut words = wanted.split_whitespace();
+    is_made(&calls.io, words.next())
+        && is_made(&calls.due, words.next())
+        && is_made(&calls.got, words.next())
+        && is_made(&calls.set_reg, words.next())
+        && is_made(&calls.reset, words.next())
 }
 
-fn are_called(rt: &impl Abort, calls: &Calls, wanted: &str) {
-    let mut words = wanted.split_whitespace();
-    for count in calls.all() {
-        agree(rt, count, decimal(words.next().unwrap_or("")), wanted);
+fn is_made(count: &Cell<u64>, wanted: Option<&str>) -> bool {
+    match wanted {
+        Some(digits) => count.get() == decimal(digits),
+        None => false,
     }
 }
 

@@ -2,6 +2,10 @@
 #![tactic(auto)]
 
 #[cfg(test)]
+mod boxes;
+#[cfg(test)]
+mod checked;
+#[cfg(test)]
 mod counted;
 #[cfg(test)]
 mod disk;
