@@ -90,7 +90,22 @@ fn play_with<U: Unit, F: Files>(
     requires keyboard { U.unit_state keyboard ≡ initial_unit keyboards }
     requires teleprinter { U.unit_state teleprinter ≡ initial_unit teleprinters }
 {
-    let mut session = session_of(alloc, reader, punch, keyboard, teleprinter)?;
+    let session = session_of(alloc, reader, punch, keyboard, teleprinter)?;
+    play_in(rt, alloc, session, watched, files, table, notes)
+}
+
+fn play_in<U: Unit, F: Files>(
+    rt: &impl Abort,
+    alloc: Global,
+    session: Session<U>,
+    watched: Watched,
+    files: &mut F,
+    table: &str,
+    notes: &[Note],
+) -> Result<(), AllocError>
+    requires { (opened : List Opened) → AllOpen session.machine.slots opened }
+{
+    let mut session = session;
     plays(rt, alloc, &mut session, watched, files, table, notes)
 }
 
