@@ -1,20 +1,19 @@
 // That the machine calls the units that it is handed: each call is counted by a wrapper round the unit.
 ghost use Rattle.std.specs.Prelude.{◌≡◌};
+ghost use Rattle.unit_trait.specs.declared.kind.Kind.TheVariants.{Dsk as disks, Mta as tapes, Lpt as printers, Ptr as readers};
+ghost use Rattle.unit_trait.specs.declared.kind.Kind.TheVariants.{Ptp as punches, Clk as clocks, Tti as keyboards};
+ghost use Rattle.unit_trait.specs.declared.kind.Kind.TheVariants.{Tto as teleprinters};
+ghost use Rattle.unit_trait.specs.Row.{initial_unit};
 
-use crate::boxes::four;
 use crate::checked::holds;
 use crate::play::play;
 use crate::row::{Row, decimal, text};
-use clock_unit::Clk;
-use disk_unit::Dsk;
-use paper_tape::{Lpt, Ptp, Ptr};
+use crate::units::{Purpose, with_new_units};
 use std::alloc::{AllocError, Global};
 use std::cell::Cell;
 use std::process::Abort;
 use std::rc::Rc;
 use std::test::Fail;
-use tape_unit::Mta;
-use tty_units::{Tti, Tto};
 use unit_trait::{After, Got, IoAnswer, IoOp, Kind, Pulse, Queue, RegFault, Unit, Want};
 
 /// How often each call of a unit was made.
@@ -43,15 +42,28 @@ fn count(cell: &Cell<u64>) {
     cell.set(cell.get().saturating_add(1));
 }
 
-/// A unit that passes each call on to another, and counts it.
+/// The calls of a clock and those of a printer.
+#[derive(Drop)]
+pub struct Counters {
+    clock: Rc<Calls>,
+    printer: Rc<Calls>,
+}
+
+fn new_counters(alloc: Global) -> Result<Counters, AllocError> {
+    let clock = Rc::new(alloc, Calls::new())?;
+    let printer = Rc::new(alloc, Calls::new())?;
+    Ok(Counters { clock, printer })
+}
+
+/// A unit that passes each call on to another, and may count it.
 #[derive(Drop)]
 struct Counted<U: Unit> {
     inner: U,
-    calls: Rc<Calls>,
+    calls: Option<Rc<Calls>>,
 }
 
 impl<U: Unit> Counted<U> {
-    fn new(inner: U, calls: Rc<Calls>) -> Counted<U>
+    fn new(inner: U, calls: Option<Rc<Calls>>) -> Counted<U>
         ensures { ⟦<Counted<U> as Unit>⟧.unit_state result ≡ U.unit_state inner }
     {
         Counted { inner, calls }
@@ -70,84 +82,95 @@ impl<U: Unit> Unit for Counted<U> {
     }
 
     fn set_reg(&mut self, i: u8, value: u32) -> Result<(), RegFault> {
-        count(&self.calls.set_reg);
+        if let Some(calls) = &self.calls {
+            count(&calls.set_reg);
+        }
         self.inner.set_reg(i, value)
     }
 
     fn io(&mut self, op: IoOp, pulse: Pulse, word: u16) -> IoAnswer {
-        count(&self.calls.io);
+        if let Some(calls) = &self.calls {
+            count(&calls.io);
+        }
         self.inner.io(op, pulse, word)
     }
 
     fn due(&mut self, unit: u8) -> Want {
-        count(&self.calls.due);
+        if let Some(calls) = &self.calls {
+            count(&calls.due);
+        }
         self.inner.due(unit)
     }
 
     fn got(&mut self, unit: u8, got: Got) -> After {
-        count(&self.calls.got);
+        if let Some(calls) = &self.calls {
+            count(&calls.got);
+        }
         self.inner.got(unit, got)
     }
 
     fn reset(&mut self) -> Queue {
-        count(&self.calls.reset);
+        if let Some(calls) = &self.calls {
+            count(&calls.reset);
+        }
         self.inner.reset()
     }
 }
 
 /// Plays a row with a counted clock and a counted printer, whose calls are those of its fields `clock` and `printer`.
 fn counts(rt: &impl Abort, alloc: Global, row: Row<'_>) -> Result<(), AllocError> {
-    let clock = Rc::new(alloc, Calls::new())?;
-    let printer = Rc::new(alloc, Calls::new())?;
-    play_counted(rt, alloc, &clock, &printer, row)?;
+    let counters = new_counters(alloc)?;
+    with_new_units(rt, alloc, Purpose::Count(&counters), row)?;
     holds(
         rt,
-        are_made(&clock, text(row, "clock").unwrap_or("")),
+        are_made(&counters.clock, text(row, "clock").unwrap_or("")),
         row.line,
     );
     holds(
         rt,
-        are_made(&printer, text(row, "printer").unwrap_or("")),
+        are_made(&counters.printer, text(row, "printer").unwrap_or("")),
         row.line,
     );
     Ok(())
 }
 
-fn play_counted(
+/// Plays a row with these units, in bus order, of which the clock and the printer are counted.
+pub fn play_counted<U: Unit>(
     rt: &impl Abort,
     alloc: Global,
-    clock: &Rc<Calls>,
-    printer: &Rc<Calls>,
+    disk: U,
+    tape: U,
+    printer: U,
+    reader: U,
+    punch: U,
+    clock: U,
+    keyboard: U,
+    teleprinter: U,
+    counters: &Counters,
     row: Row<'_>,
-) -> Result<(), AllocError> {
-    let (disk, tape, line_printer, reader) = four(
-        alloc,
-        Dsk::new(),
-        Mta::new(),
-        Lpt::new(),
-        Ptr::new(),
-    )?;
-    let counted_clock = Counted::new(Clk::new(), clock.clone()?);
-    let counted_printer = Counted::new(Tto::new(), printer.clone()?);
-    let (punch, counted_clock, keyboard, counted_printer) = four(
-        alloc,
-        Ptp::new(),
-        counted_clock,
-        Tti::new(),
-        counted_printer,
-    )?;
-    let disk: Box<dyn Unit> = disk;
+) -> Result<(), AllocError>
+    requires disk { U.unit_state disk ≡ initial_unit disks }
+    requires tape { U.unit_state tape ≡ initial_unit tapes }
+    requires printer { U.unit_state printer ≡ initial_unit printers }
+    requires reader { U.unit_state reader ≡ initial_unit readers }
+    requires punch { U.unit_state punch ≡ initial_unit punches }
+    requires clock { U.unit_state clock ≡ initial_unit clocks }
+    requires keyboard { U.unit_state keyboard ≡ initial_unit keyboards }
+    requires teleprinter { U.unit_state teleprinter ≡ initial_unit teleprinters }
+{
+    let clock_calls = counters.clock.clone()?;
+    let printer_calls = counters.printer.clone()?;
     play(
         rt,
         alloc,
-        disk,
-        tape,
-        line_printer,
-        reader,
-        punch,
-        counted_clock,
-        keyboard,
-        counted_printer,
+        Counted::new(disk, None),
+        Counted::new(tape, None),
+        Counted::new(printer, None),
+        Counted::new(reader, None),
+        Counted::new(punch, None),
+        Counted::new(clock, Some(clock_calls)),
+        Counted::new(keyboard, None),
+        Counted::new(teleprinter, Some(printer_calls)),
         row,
     )
 }

@@ -22,4 +22,6 @@ mod standard;
 #[cfg(test)]
 mod tapes;
 #[cfg(test)]
+mod units;
+#[cfg(test)]
 mod words;

@@ -10,63 +10,28 @@ ghost use Rattle.unit_trait.specs.declared.kind.Kind.TheVariants.{Tto as telepri
 ghost use Rattle.unit_trait.specs.Row.{initial_unit};
 ghost use Rattle.nova_top.specs.Standard.{IsStandard};
 
-use crate::boxes::{four, push_four};
+use crate::boxes::push_four;
 use crate::checked::holds;
 use crate::row::{Row, add, bytes, decimal, number, text};
-use clock_unit::Clk;
-use disk_unit::Dsk;
+use crate::units::{Purpose, with_new_units};
 use fault_notes::{FaultNote, Subject};
 use host_files::{ByteSink, ByteSource, FileCall, Files, MemFiles, Sink, Source, next_byte};
 use nova_machine::Machine;
 use nova_top::{Ending, simulate};
 use nova_word::{Addr, Word, read_octal};
-use paper_tape::{Lpt, Ptp, Ptr};
 use std::alloc::{AllocError, Global};
 use std::process::Abort;
 use std::test::Fail;
-use tape_unit::Mta;
-use tty_units::{Tti, Tto};
 use unit_trait::{Kind, Unit, UnitName};
 
 /// Plays each line of a table with the standard units, but comments, which begin with a semicolon.
 pub fn all(rt: &impl Abort, alloc: Global, base: &str, table: &str) -> Result<(), Fail> {
     for line in table.lines() {
         if !line.starts_with(';') {
-            comes(rt, alloc, Row { base, line })?;
+            with_new_units(rt, alloc, Purpose::Play, Row { base, line })?;
         }
     }
     Ok(())
-}
-
-fn comes(rt: &impl Abort, alloc: Global, row: Row<'_>) -> Result<(), AllocError> {
-    let (disk, tape, printer, reader) = four(
-        alloc,
-        Dsk::new(),
-        Mta::new(),
-        Lpt::new(),
-        Ptr::new(),
-    )?;
-    let (punch, clock, keyboard, teleprinter) = four(
-        alloc,
-        Ptp::new(),
-        Clk::new(),
-        Tti::new(),
-        Tto::new(),
-    )?;
-    let disk: Box<dyn Unit> = disk;
-    play(
-        rt,
-        alloc,
-        disk,
-        tape,
-        printer,
-        reader,
-        punch,
-        clock,
-        keyboard,
-        teleprinter,
-        row,
-    )
 }
 
 /// Plays a row with these units, in bus order.

@@ -1,13 +1,11 @@
-use crate::boxes::{four, push_four};
+use crate::boxes::push_four;
 use crate::checked::holds;
-use clock_unit::Clk;
-use disk_unit::Dsk;
+use crate::row::Row;
+use crate::units::{Purpose, with_new_units};
 use nova_top::is_standard;
-use paper_tape::{Lpt, Ptp, Ptr};
 use std::alloc::{AllocError, Global};
+use std::process::Abort;
 use std::test::Fail;
-use tape_unit::Mta;
-use tty_units::{Tti, Tto};
 use unit_trait::Unit;
 
 /// Sets register 2 of the first unit to 1. Answers whether the units are standard ones then.
@@ -40,7 +38,9 @@ fn are_standard_in_order<U: Unit>(units: &mut [U]) -> bool {
     !swapped && is_standard(units)
 }
 
-fn are_told<U: Unit>(
+/// Ends the test where these units, in bus order, are not told from others.
+pub fn tell<U: Unit>(
+    rt: &impl Abort,
     alloc: Global,
     disk: U,
     tape: U,
@@ -50,46 +50,25 @@ fn are_told<U: Unit>(
     clock: U,
     keyboard: U,
     teleprinter: U,
-) -> Result<bool, AllocError> {
+    line: &str,
+) -> Result<(), AllocError> {
     let mut units = Vec::new(alloc);
     push_four(&mut units, disk, tape, printer, reader)?;
     push_four(&mut units, punch, clock, keyboard, teleprinter)?;
-    let units = units.as_mut_slice();
-    Ok(are_standard_together(units) && are_standard_in_order(units) && !stay_standard(units))
+    holds(rt, are_told(units.as_mut_slice()), line);
+    Ok(())
 }
 
-fn are_all_told(alloc: Global) -> Result<bool, AllocError> {
-    let (disk, tape, printer, reader) = four(
-        alloc,
-        Dsk::new(),
-        Mta::new(),
-        Lpt::new(),
-        Ptr::new(),
-    )?;
-    let (punch, clock, keyboard, teleprinter) = four(
-        alloc,
-        Ptp::new(),
-        Clk::new(),
-        Tti::new(),
-        Tto::new(),
-    )?;
-    let disk: Box<dyn Unit> = disk;
-    are_told(
-        alloc,
-        disk,
-        tape,
-        printer,
-        reader,
-        punch,
-        clock,
-        keyboard,
-        teleprinter,
-    )
+fn are_told<U: Unit>(units: &mut [U]) -> bool {
+    are_standard_together(units) && are_standard_in_order(units) && !stay_standard(units)
 }
 
 #[test]
 fn standard_units_are_told_by_their_kinds_and_registers(rt: HostRuntime) -> Result<(), Fail> {
-    let told = are_all_told(rt.alloc())?;
-    holds(&rt, told, "standard units");
+    let row = Row {
+        base: "",
+        line: "standard units",
+    };
+    with_new_units(&rt, rt.alloc(), Purpose::Tell, row)?;
     Ok(())
 }
