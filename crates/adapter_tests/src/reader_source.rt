@@ -1,4 +1,5 @@
 // A source over a reader that does what a test writes down.
+use crate::checked::holds;
 use host_adapters::ReaderSource;
 use host_files::{Source, next_byte};
 use std::alloc::Global;
@@ -111,7 +112,7 @@ fn comes(alloc: Global, steps: &'static [Step], wanted: &[u8], faults: u64) -> b
 #[test]
 fn bytes_ends_and_errors_come_in_the_readers_order(rt: HostRuntime) {
     for row in CASES.iter() {
-        assert!(rt; comes(rt.alloc(), row.0, row.1, row.2), "{:?}", row.1);
+        holds(&rt, comes(rt.alloc(), row.0, row.1, row.2), "a reader");
     }
 }
 
@@ -119,6 +120,10 @@ fn bytes_ends_and_errors_come_in_the_readers_order(rt: HostRuntime) {
 fn an_empty_buffer_asks_for_nothing(rt: HostRuntime) -> Result<(), Fail> {
     let reader = Scripted::new(&[Step::Fail(BROKEN, 1), Step::Give(b"a")]);
     let mut source = ReaderSource::new(rt.alloc(), reader)?;
-    assert!(rt; source.read(&mut []) == Ok(0) && gives(&mut source, b"!a", 1));
+    holds(
+        &rt,
+        source.read(&mut []) == Ok(0) && gives(&mut source, b"!a", 1),
+        "an empty buffer",
+    );
     Ok(())
 }

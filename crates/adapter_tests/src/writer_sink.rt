@@ -1,6 +1,7 @@
 ghost use Rattle.std.specs.Prelude.{◌≤◌, length, IfOk};
 
 // A sink over a writer that does what a test writes down.
+use crate::checked::holds;
 use host_adapters::WriterSink;
 use host_files::{Failed, Sink, put_all};
 use std::alloc::Global;
@@ -113,7 +114,7 @@ fn arrives(alloc: Global, row: &(&'static [Step], bool, bool, &[u8], u64)) -> bo
 #[test]
 fn pieces_and_errors_arrive_in_order(rt: HostRuntime) {
     for row in CASES.iter() {
-        assert!(rt; arrives(rt.alloc(), row), "{:?}", row.3);
+        holds(&rt, arrives(rt.alloc(), row), "a writer");
     }
 }
 
@@ -121,5 +122,9 @@ fn pieces_and_errors_arrive_in_order(rt: HostRuntime) {
 fn an_empty_piece_is_not_handed_on(rt: HostRuntime) {
     let writer = Scripted::new(rt.alloc(), &[Step::Fail(ErrorKind::Other, 1)]);
     let mut sink = WriterSink::new(writer);
-    assert!(rt; sink.write(b"") == Ok(0) && sink.write(b"a") == Err(Failed));
+    holds(
+        &rt,
+        sink.write(b"") == Ok(0) && sink.write(b"a") == Err(Failed),
+        "an empty piece",
+    );
 }
