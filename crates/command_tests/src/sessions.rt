@@ -58,6 +58,7 @@ pub fn play<F: Files>(
         Tti::new(),
         Tto::new(),
     )?;
+    // The others become such boxes too, since they go into one list with it.
     let reader: Box<dyn Unit> = reader;
     play_with(
         rt,

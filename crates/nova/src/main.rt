@@ -68,6 +68,7 @@ where
     let (disk, tape, printer, reader, punch, clock, keyboard, teleprinter) = boxed_units(
         rt.alloc(),
     )?;
+    // The others become such boxes too, since they go into one list with it.
     let disk: Box<dyn Unit> = disk;
     with_units(
         rt,
