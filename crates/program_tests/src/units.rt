@@ -27,6 +27,7 @@ pub enum Purpose<'a> {
     Tell,
 }
 
+/// Makes the units for that purpose.
 pub fn with_new_units(
     rt: &impl Abort,
     alloc: Global,
@@ -47,6 +48,7 @@ pub fn with_new_units(
         Tti::new(),
         Tto::new(),
     )?;
+    // The others become such boxes too, since they go into one list with it.
     let disk: Box<dyn Unit> = disk;
     with_units(
         rt,
