@@ -4,6 +4,8 @@
 #[cfg(test)]
 mod calls;
 #[cfg(test)]
+mod checked;
+#[cfg(test)]
 mod paged_files;
 #[cfg(test)]
 mod reader_source;

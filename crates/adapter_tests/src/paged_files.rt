@@ -3,6 +3,7 @@ ghost use Rattle.std.specs.Prelude.{◌≡◌};
 ghost use Rattle.host_files.specs.State.{IsOpen, IsWritable};
 
 use crate::calls::{fails, gives_byte, is_cut, takes};
+use crate::checked::holds;
 use host_adapters::PagedFiles;
 use host_files::{FileId, Files, MemFiles, OpenMode};
 use std::alloc::Global;
@@ -53,7 +54,7 @@ fn bytes_are_read_in_two_calls_and_the_third_fails(rt: HostRuntime) -> Result<()
         Ok(file) => is_read_to_its_end(&mut files, file),
         Err(_) => false,
     };
-    assert!(rt; is_read);
+    holds(&rt, is_read, "a long file");
     Ok(())
 }
 
@@ -101,6 +102,6 @@ fn what_another_id_changes_is_read_at_once(rt: HostRuntime) -> Result<(), Fail> 
         }
         Err(_) => false,
     };
-    assert!(rt; is_seen);
+    holds(&rt, is_seen, "two ids of one file");
     Ok(())
 }

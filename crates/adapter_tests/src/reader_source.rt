@@ -1,4 +1,5 @@
 // A source over a reader that does what a test writes down.
+use crate::checked::holds;
 use host_adapters::ReaderSource;
 use host_files::{Source, next_byte};
 use std::alloc::Global;
@@ -59,23 +60,23 @@ const BROKEN: ErrorKind = ErrorKind::Other;
 /// What a reader does; what each call of its source gives, where `!` is one that failed, and `.` one at the end; and the
 /// source's faults then. The reader gives away bytes that don't fit its caller's buffer, so they come only where they
 /// were read ahead.
-const CASES: [(&[Step], &[u8], u64); 8] = [
-    (&[], b"..", 0),
-    (&[Step::Give(b"abc"), Step::Give(b"d")], b"abcd..", 0),
+const CASES: [(&[Step], &str, u64); 8] = [
+    (&[], "..", 0),
+    (&[Step::Give(b"abc"), Step::Give(b"d")], "abcd..", 0),
     (
         &[Step::Give(b"ab"), Step::End, Step::Give(b"c")],
-        b"ab.c.",
+        "ab.c.",
         0,
     ),
     (
         &[Step::Give(b"ab"), Step::Fail(BROKEN, 1), Step::Give(b"c")],
-        b"ab!c.",
+        "ab!c.",
         1,
     ),
-    (&[Step::Fail(BROKEN, 2), Step::Give(b"a")], b"!!a.", 2),
-    (&[Step::Fail(INTERRUPTED, 3), Step::Give(b"a")], b"a.", 0),
-    (&[Step::Fail(INTERRUPTED, 64), Step::Give(b"a")], b"a.", 0),
-    (&[Step::Fail(INTERRUPTED, 65), Step::Give(b"a")], b"!a.", 1),
+    (&[Step::Fail(BROKEN, 2), Step::Give(b"a")], "!!a.", 2),
+    (&[Step::Fail(INTERRUPTED, 3), Step::Give(b"a")], "a.", 0),
+    (&[Step::Fail(INTERRUPTED, 64), Step::Give(b"a")], "a.", 0),
+    (&[Step::Fail(INTERRUPTED, 65), Step::Give(b"a")], "!a.", 1),
 ];
 
 /// What one call gives, in that writing.
@@ -98,11 +99,11 @@ fn gives<S: Source>(source: &mut S, wanted: &[u8], faults: u64) -> bool {
 }
 
 /// Whether a source over a reader that does these steps gives that; memory is ample.
-fn comes(alloc: Global, steps: &'static [Step], wanted: &[u8], faults: u64) -> bool {
+fn comes(alloc: Global, steps: &'static [Step], wanted: &str, faults: u64) -> bool {
     match ReaderSource::new(alloc, Scripted::new(steps)) {
         Ok(source) => {
             let mut source = source;
-            gives(&mut source, wanted, faults)
+            gives(&mut source, wanted.as_bytes(), faults)
         }
         Err(_) => false,
     }
@@ -111,7 +112,7 @@ fn comes(alloc: Global, steps: &'static [Step], wanted: &[u8], faults: u64) -> b
 #[test]
 fn bytes_ends_and_errors_come_in_the_readers_order(rt: HostRuntime) {
     for row in CASES.iter() {
-        assert!(rt; comes(rt.alloc(), row.0, row.1, row.2), "{:?}", row.1);
+        holds(&rt, comes(rt.alloc(), row.0, row.1, row.2), row.1);
     }
 }
 
@@ -119,6 +120,10 @@ fn bytes_ends_and_errors_come_in_the_readers_order(rt: HostRuntime) {
 fn an_empty_buffer_asks_for_nothing(rt: HostRuntime) -> Result<(), Fail> {
     let reader = Scripted::new(&[Step::Fail(BROKEN, 1), Step::Give(b"a")]);
     let mut source = ReaderSource::new(rt.alloc(), reader)?;
-    assert!(rt; source.read(&mut []) == Ok(0) && gives(&mut source, b"!a", 1));
+    holds(
+        &rt,
+        source.read(&mut []) == Ok(0) && gives(&mut source, b"!a", 1),
+        "an empty buffer",
+    );
     Ok(())
 }

@@ -1,12 +1,11 @@
 // Files of the system, over real files and over a system that does what a test writes down.
-ghost use Rattle.std.specs.Prelude.{◌≡◌};
-ghost use Rattle.host_files.specs.State.{IsOpen, IsWritable};
-
+mod jobs;
 mod scripted;
 
-use crate::calls::{gives, is_cut, is_long, takes};
+use crate::checked::holds;
 use host_adapters::RealFiles;
-use host_files::{FileId, Files, OpenFault, OpenMode};
+use host_files::{FileId, OpenFault, OpenMode};
+use jobs::{Job, is_done};
 use scripted::{Scripted, Step};
 use std::io::ErrorKind;
 use std::path::PathBuf;
@@ -40,63 +39,31 @@ fn is_removed(rt: &HostRuntime, path: &str) -> bool {
     fs::remove_file(rt, path).is_ok()
 }
 
-/// Whether an open file that is empty is written and read at its places.
-fn is_written_and_read<F: Files>(files: &mut F, file: FileId) -> bool
-    requires open { IsOpen (F.state files.old) file.0 }
-    requires writable { IsWritable (F.state files.old) file.0 }
-    ensures { (F.state files.new).opened ≡ (F.state files.old).opened }
-{
-    takes(files, file, 3, b"tape")
-        && takes(files, file, 0, b"old")
-        && is_long(files, file, Some(7))
-        && gives(files, file, 1, 6, b"ldtape..")
-        && gives(files, file, 7, 0, b"........")
-        && files.faults(file) == 0
+/// Whether a job is done on a file of the system.
+fn works(rt: &HostRuntime, path: &str, job: Job) -> bool {
+    let mut files = RealFiles::new(rt.alloc(), rt);
+    is_done(rt.alloc(), &mut files, path, job)
 }
 
-fn is_made(rt: &HostRuntime, path: &str) -> bool {
-    let mut files = RealFiles::new(rt.alloc(), rt);
-    match files.open_file(rt.alloc(), path, OpenMode::Create) {
-        Ok(file) => {
-            let well = file == FileId(0) && is_written_and_read(&mut files, file);
-            well && files.close_file(file).is_ok()
-        }
-        Err(_) => false,
-    }
+/// Whether a job is done on a file of a system that does what a test writes down.
+fn works_on(rt: &HostRuntime, system: Scripted, job: Job) -> bool {
+    let mut files = RealFiles::new(rt.alloc(), system);
+    is_done(rt.alloc(), &mut files, "tape", job)
 }
 
 #[test]
 fn a_file_of_the_system_is_made_written_and_read(rt: HostRuntime) -> Result<(), Fail> {
     let path = path_of(&rt, "written")?;
-    let well = is_made(&rt, path.as_str()) && has_text(&rt, path.as_str(), "oldtape");
-    assert!(rt; well && is_removed(&rt, path.as_str()));
+    let well = works(&rt, path.as_str(), Job::Make) && has_text(&rt, path.as_str(), "oldtape");
+    holds(&rt, well && is_removed(&rt, path.as_str()), path.as_str());
     Ok(())
-}
-
-/// Whether a file of six bytes is cut to two and filled up behind that.
-fn has_gaps<F: Files>(files: &mut F, file: FileId) -> bool
-    requires open { IsOpen (F.state files.old) file.0 }
-    requires writable { IsWritable (F.state files.old) file.0 }
-{
-    is_cut(files, file, 2)
-        && takes(files, file, 4, b"!")
-        && is_cut(files, file, 7)
-        && gives(files, file, 0, 7, b"ab\0\0!\0\0.")
-}
-
-fn is_cut_and_filled(rt: &HostRuntime, path: &str) -> bool {
-    let mut files = RealFiles::new(rt.alloc(), rt);
-    match files.open_file(rt.alloc(), path, OpenMode::Update) {
-        Ok(file) => has_gaps(&mut files, file),
-        Err(_) => false,
-    }
 }
 
 #[test]
 fn a_gap_and_a_new_length_are_zero_bytes(rt: HostRuntime) -> Result<(), Fail> {
     let path = path_of(&rt, "cut")?;
-    let well = is_filled(&rt, path.as_str(), "abcdef") && is_cut_and_filled(&rt, path.as_str());
-    assert!(rt; well && is_removed(&rt, path.as_str()));
+    let well = is_filled(&rt, path.as_str(), "abcdef") && works(&rt, path.as_str(), Job::Cut);
+    holds(&rt, well && is_removed(&rt, path.as_str()), path.as_str());
     Ok(())
 }
 
@@ -108,8 +75,7 @@ fn opens(
     wanted: Result<FileId, OpenFault>,
     faults: u64,
 ) -> bool {
-    let mut files = RealFiles::new(rt.alloc(), rt);
-    files.open_file(rt.alloc(), path, mode) == wanted && files.open_faults() == faults
+    works(rt, path, Job::Open(mode, wanted, faults))
 }
 
 fn is_missing(rt: &HostRuntime, path: &str) -> bool {
@@ -132,7 +98,11 @@ fn each_mode_opens_as_it_says(rt: HostRuntime) -> Result<(), Fail> {
         && is_opened(&rt, name, OpenMode::Update)
         && has_text(&rt, name, "old");
     let emptied = is_opened(&rt, name, OpenMode::Create) && has_text(&rt, name, "");
-    assert!(rt; missing && kept && emptied && is_removed(&rt, name));
+    holds(
+        &rt,
+        missing && kept && emptied && is_removed(&rt, name),
+        name,
+    );
     Ok(())
 }
 
@@ -142,29 +112,25 @@ fn is_refused(rt: &HostRuntime, path: &str, mode: OpenMode) -> bool {
 
 #[test]
 fn a_folder_is_not_opened(rt: HostRuntime) {
-    assert!(rt; is_refused(&rt, "/", OpenMode::Read) && is_refused(&rt, "/", OpenMode::Update));
-    assert!(rt;
-        is_refused(&rt, "/", OpenMode::Create) && is_refused(&rt, "/a\0b", OpenMode::Create)
+    holds(&rt, is_refused(&rt, "/", OpenMode::Read), "to be read");
+    holds(&rt, is_refused(&rt, "/", OpenMode::Update), "to be updated");
+    holds(&rt, is_refused(&rt, "/", OpenMode::Create), "to be made");
+    holds(
+        &rt,
+        is_refused(&rt, "/a\0b", OpenMode::Create),
+        "a name with a byte of 0",
     );
 }
 
-/// Whether the length of a path of the system that is opened so is that, and a call on it has failed where there is none.
-fn has_length(rt: &HostRuntime, path: &str, mode: OpenMode, wanted: Option<u64>) -> bool {
-    let mut files = RealFiles::new(rt.alloc(), rt);
-    match files.open_file(rt.alloc(), path, mode) {
-        Ok(file) => {
-            is_long(&mut files, file, wanted) && files.faults(file) == u64::from(wanted.is_none())
-        }
-        Err(_) => false,
-    }
+fn is_no_file(rt: &HostRuntime, path: &str) -> bool {
+    works(rt, path, Job::Measure(OpenMode::Read, None))
+        && works(rt, path, Job::Measure(OpenMode::Update, Some(0)))
 }
 
 #[test]
 fn a_device_that_is_only_read_has_no_length(rt: HostRuntime) {
-    for path in ["/dev/null", "/dev/zero"].iter() {
-        assert!(rt; has_length(&rt, path, OpenMode::Read, None), "{path}");
-        assert!(rt; has_length(&rt, path, OpenMode::Update, Some(0)), "{path}");
-    }
+    holds(&rt, is_no_file(&rt, "/dev/null"), "/dev/null");
+    holds(&rt, is_no_file(&rt, "/dev/zero"), "/dev/zero");
 }
 
 const END: Step = Step::End;
@@ -200,29 +166,19 @@ fn is_counted(
         is_folder: row.1,
         ..PLAIN
     };
-    let mut files = RealFiles::new(rt.alloc(), system);
-    files.open_file(rt.alloc(), "tape", OpenMode::Read) == row.2 && files.open_faults() == row.3
+    works_on(rt, system, Job::Open(OpenMode::Read, row.2, row.3))
 }
 
 #[test]
 fn an_opening_that_fails_is_counted(rt: HostRuntime) {
     for row in OPENINGS.iter() {
-        assert!(rt; is_counted(&rt, row), "{:?} {}", row.0, row.1);
+        holds(&rt, is_counted(&rt, row), "an opening");
     }
 }
 
 /// What a read of four bytes at place 5 answers where the file does these steps, and the bytes; the file's faults then.
 fn reads(rt: &HostRuntime, steps: [Step; 3], wanted: Option<usize>, bytes: [u8; 4]) -> bool {
-    let mut buf = [0; 4];
-    let mut files = RealFiles::new(rt.alloc(), Scripted { steps, ..PLAIN });
-    match files.open_file(rt.alloc(), "tape", OpenMode::Read) {
-        Ok(file) => {
-            let answer = files.read_at(file, 5, &mut buf).ok();
-            let counted = files.faults(file) == u64::from(wanted.is_none());
-            answer == wanted && counted && (answer.is_none() || buf == bytes)
-        }
-        Err(_) => false,
-    }
+    works_on(rt, Scripted { steps, ..PLAIN }, Job::Read(wanted, bytes))
 }
 
 const INTERRUPTED: ErrorKind = ErrorKind::Interrupted;
@@ -255,7 +211,7 @@ const READS: [([Step; 3], usize, [u8; 4]); 6] = [
 #[test]
 fn a_read_goes_on_until_the_buffer_is_full_or_the_file_ends(rt: HostRuntime) {
     for row in READS.iter() {
-        assert!(rt; reads(&rt, row.0, Some(row.1), row.2));
+        holds(&rt, reads(&rt, row.0, Some(row.1), row.2), "a read");
     }
 }
 
@@ -273,23 +229,13 @@ const FAILED_READS: [[Step; 3]; 4] = [
 #[test]
 fn a_read_that_fails_is_counted_once(rt: HostRuntime) {
     for steps in FAILED_READS.iter() {
-        assert!(rt; reads(&rt, *steps, None, [0; 4]));
+        holds(&rt, reads(&rt, *steps, None, [0; 4]), "a read that fails");
     }
 }
 
 /// What a write of four bytes at place 5 has written where the file does these steps: all, or so many with a fault.
 fn writes(rt: &HostRuntime, steps: [Step; 3], failed: Option<usize>) -> bool {
-    let mut files = RealFiles::new(rt.alloc(), Scripted { steps, ..PLAIN });
-    match files.open_file(rt.alloc(), "tape", OpenMode::Update) {
-        Ok(file) => {
-            let done = files
-                .write_at(file, 5, b"abcd")
-                .err()
-                .map(|fault| fault.done);
-            done == failed && files.faults(file) == u64::from(failed.is_some())
-        }
-        Err(_) => false,
-    }
+    works_on(rt, Scripted { steps, ..PLAIN }, Job::Write(failed))
 }
 
 const WRITES: [[Step; 3]; 3] = [
@@ -305,7 +251,7 @@ const WRITES: [[Step; 3]; 3] = [
 #[test]
 fn a_write_goes_on_until_all_is_taken(rt: HostRuntime) {
     for steps in WRITES.iter() {
-        assert!(rt; writes(&rt, *steps, None));
+        holds(&rt, writes(&rt, *steps, None), "a write");
     }
 }
 
@@ -326,20 +272,8 @@ const FAILED_WRITES: [([Step; 3], usize); 4] = [
 #[test]
 fn a_write_that_fails_says_how_much_was_taken(rt: HostRuntime) {
     for row in FAILED_WRITES.iter() {
-        assert!(rt; writes(&rt, row.0, Some(row.1)));
+        holds(&rt, writes(&rt, row.0, Some(row.1)), "a write that fails");
     }
-}
-
-/// Whether the length is not told, a new one is set, and another is not.
-fn counts_lengths<F: Files>(files: &mut F, file: FileId) -> bool
-    requires open { IsOpen (F.state files.old) file.0 }
-    requires writable { IsWritable (F.state files.old) file.0 }
-    ensures { (F.state files.new).opened ≡ (F.state files.old).opened }
-{
-    is_long(files, file, None)
-        && is_cut(files, file, 9)
-        && !is_cut(files, file, 8)
-        && files.faults(file) == 2
 }
 
 fn are_lengths_counted(rt: &HostRuntime) -> bool {
@@ -348,17 +282,10 @@ fn are_lengths_counted(rt: &HostRuntime) -> bool {
         steps: [Step::Take(9, 0), Step::Fail(8, ErrorKind::Other, 1), END],
         ..PLAIN
     };
-    let mut files = RealFiles::new(rt.alloc(), system);
-    match files.open_file(rt.alloc(), "tape", OpenMode::Update) {
-        Ok(file) => {
-            let well = counts_lengths(&mut files, file);
-            well && files.close_file(file).is_ok() && files.faults(file) == 2
-        }
-        Err(_) => false,
-    }
+    works_on(rt, system, Job::Resize)
 }
 
 #[test]
 fn a_length_that_is_not_told_or_not_set_is_counted(rt: HostRuntime) {
-    assert!(rt; are_lengths_counted(&rt));
+    holds(&rt, are_lengths_counted(&rt), "lengths");
 }

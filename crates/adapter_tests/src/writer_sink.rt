@@ -1,6 +1,7 @@
 ghost use Rattle.std.specs.Prelude.{◌≤◌, length, IfOk};
 
 // A sink over a writer that does what a test writes down.
+use crate::checked::holds;
 use host_adapters::WriterSink;
 use host_files::{Failed, Sink, put_all};
 use std::alloc::Global;
@@ -72,25 +73,25 @@ const FULL: ErrorKind = ErrorKind::StorageFull;
 
 /// What a writer does where the text `abcd` is put twice; whether each was written whole, the bytes that arrived, and the
 /// faults.
-const CASES: [(&[Step], bool, bool, &[u8], u64); 8] = [
-    (&[], true, true, b"abcdabcd", 0),
-    (&[Step::Take(1), Step::Take(2)], true, true, b"abcdabcd", 0),
+const CASES: [(&[Step], bool, bool, &str, u64); 8] = [
+    (&[], true, true, "abcdabcd", 0),
+    (&[Step::Take(1), Step::Take(2)], true, true, "abcdabcd", 0),
     (
         &[Step::Take(3), Step::Fail(FULL, 1)],
         false,
         true,
-        b"abcabcd",
+        "abcabcd",
         1,
     ),
-    (&[Step::Take(1), Step::Take(0)], false, true, b"aabcd", 1),
-    (&[Step::Fail(FULL, 2)], false, false, b"", 2),
-    (&[Step::Fail(INTERRUPTED, 3)], true, true, b"abcdabcd", 0),
-    (&[Step::Fail(INTERRUPTED, 64)], true, true, b"abcdabcd", 0),
+    (&[Step::Take(1), Step::Take(0)], false, true, "aabcd", 1),
+    (&[Step::Fail(FULL, 2)], false, false, "", 2),
+    (&[Step::Fail(INTERRUPTED, 3)], true, true, "abcdabcd", 0),
+    (&[Step::Fail(INTERRUPTED, 64)], true, true, "abcdabcd", 0),
     (
         &[Step::Take(2), Step::Fail(INTERRUPTED, 65)],
         false,
         true,
-        b"ababcd",
+        "ababcd",
         1,
     ),
 ];
@@ -105,15 +106,15 @@ fn puts_twice(writer: &mut Scripted, first: bool, second: bool, faults: u64) -> 
     puts(&mut sink, first) && puts(&mut sink, second) && sink.faults() == faults
 }
 
-fn arrives(alloc: Global, row: &(&'static [Step], bool, bool, &[u8], u64)) -> bool {
+fn arrives(alloc: Global, row: &(&'static [Step], bool, bool, &str, u64)) -> bool {
     let mut writer = Scripted::new(alloc, row.0);
-    puts_twice(&mut writer, row.1, row.2, row.4) && writer.bytes.as_slice() == row.3
+    puts_twice(&mut writer, row.1, row.2, row.4) && writer.bytes.as_slice() == row.3.as_bytes()
 }
 
 #[test]
 fn pieces_and_errors_arrive_in_order(rt: HostRuntime) {
     for row in CASES.iter() {
-        assert!(rt; arrives(rt.alloc(), row), "{:?}", row.3);
+        holds(&rt, arrives(rt.alloc(), row), row.3);
     }
 }
 
@@ -121,5 +122,9 @@ fn pieces_and_errors_arrive_in_order(rt: HostRuntime) {
 fn an_empty_piece_is_not_handed_on(rt: HostRuntime) {
     let writer = Scripted::new(rt.alloc(), &[Step::Fail(ErrorKind::Other, 1)]);
     let mut sink = WriterSink::new(writer);
-    assert!(rt; sink.write(b"") == Ok(0) && sink.write(b"a") == Err(Failed));
+    holds(
+        &rt,
+        sink.write(b"") == Ok(0) && sink.write(b"a") == Err(Failed),
+        "an empty piece",
+    );
 }

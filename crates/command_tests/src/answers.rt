@@ -55,6 +55,8 @@ fn status_named(wanted: &str) -> Option<u8> {
 fn fault_named(wanted: &str) -> Option<CommandFault> {
     match wanted {
         "OutOfRange" => Some(CommandFault::OutOfRange),
+        "ReadOnlyName" => Some(CommandFault::ReadOnlyName),
+        "AssertFailed" => Some(CommandFault::AssertFailed),
         "NoFile" => Some(CommandFault::NoFile),
         "Full" => Some(CommandFault::Full),
         "Console" => Some(CommandFault::Console),

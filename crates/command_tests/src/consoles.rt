@@ -1,6 +1,5 @@
 use crate::sessions::Watched::Nothing;
-use crate::sessions::play;
-use host_files::MemFiles;
+use crate::sessions::play_bare;
 use std::test::Fail;
 
 const COMMANDS: &str = "D 0 7|0 Go|
@@ -27,8 +26,8 @@ SHOW PTR|100 Go|PTR, not attached$";
 
 #[test]
 fn a_refused_byte_ends_a_command_and_an_exit_detaches(rt: HostRuntime) -> Result<(), Fail> {
-    let mut files = MemFiles::with_room(rt.alloc(), 0)?;
-    play(&rt, rt.alloc(), Nothing, &mut files, COMMANDS, &[])
+    play_bare(&rt, rt.alloc(), Nothing, COMMANDS)?;
+    Ok(())
 }
 
 const RUNS: &str = "D 100 61111|0 Go|
@@ -43,6 +42,6 @@ SHOW TIME|100 Go|Time: 203$";
 
 #[test]
 fn a_refused_byte_ends_a_run_where_it_was_to_be_printed(rt: HostRuntime) -> Result<(), Fail> {
-    let mut files = MemFiles::with_room(rt.alloc(), 0)?;
-    play(&rt, rt.alloc(), Nothing, &mut files, RUNS, &[])
+    play_bare(&rt, rt.alloc(), Nothing, RUNS)?;
+    Ok(())
 }

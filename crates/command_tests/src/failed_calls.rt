@@ -3,7 +3,7 @@ use crate::checked::check;
 use crate::sessions::Watched::Nothing;
 use crate::sessions::play;
 use host_files::{FileCall, MemFiles};
-use std::alloc::Global;
+use std::alloc::{AllocError, Global};
 use std::process::Abort;
 use std::test::Fail;
 
@@ -18,7 +18,7 @@ GO 100|100 Anything|$File error on PTP, PC: 00102 (000777)$
 E PTP BUSY,POS|100 Go|BUSY:\t1$POS:\t000000002$";
 
 /// The third write fails behind that many bytes.
-fn punch(rt: &impl Abort, alloc: Global, done: usize, punched: &[u8]) -> Result<(), Fail> {
+fn punch(rt: &impl Abort, alloc: Global, done: usize, punched: &[u8]) -> Result<(), AllocError> {
     let mut files = MemFiles::with_room(alloc, 8)?;
     check(rt, files.fail_call(5, done).is_ok(), "a failing write");
     let notes = [(606, FileCall::Write, done as u64)];
@@ -30,7 +30,8 @@ fn punch(rt: &impl Abort, alloc: Global, done: usize, punched: &[u8]) -> Result<
 #[test]
 fn a_failed_write_stops_the_run_and_is_noted(rt: HostRuntime) -> Result<(), Fail> {
     punch(&rt, rt.alloc(), 0, b"AA")?;
-    punch(&rt, rt.alloc(), 1, b"AAA")
+    punch(&rt, rt.alloc(), 1, b"AAA")?;
+    Ok(())
 }
 
 const OPENING: &str = "ATTACH -N PTP out|0 Anything|
@@ -47,7 +48,7 @@ fn fails(
     number: u64,
     call: FileCall,
     table: &str,
-) -> Result<(), Fail> {
+) -> Result<(), AllocError> {
     let mut files = MemFiles::with_room(alloc, 64)?;
     check(rt, files.add_file("s", SCRIPT).is_ok(), "s");
     check(rt, files.fail_call(number, 0).is_ok(), "a failing call");
@@ -57,7 +58,8 @@ fn fails(
 #[test]
 fn a_failed_opening_and_a_failed_closing_are_noted(rt: HostRuntime) -> Result<(), Fail> {
     fails(&rt, rt.alloc(), 0, FileCall::Opening, OPENING)?;
-    fails(&rt, rt.alloc(), 2, FileCall::Closing, CLOSING)
+    fails(&rt, rt.alloc(), 2, FileCall::Closing, CLOSING)?;
+    Ok(())
 }
 
 const REFUSED: &str = "DO s|0 ScriptFailed|
@@ -71,5 +73,6 @@ fn each_failed_call_on_a_script_is_noted(rt: HostRuntime) -> Result<(), Fail> {
     fails(&rt, rt.alloc(), 0, FileCall::Opening, REFUSED)?;
     fails(&rt, rt.alloc(), 1, FileCall::Length, REFUSED)?;
     fails(&rt, rt.alloc(), 2, FileCall::Read, REFUSED)?;
-    fails(&rt, rt.alloc(), 3, FileCall::Closing, READ)
+    fails(&rt, rt.alloc(), 3, FileCall::Closing, READ)?;
+    Ok(())
 }

@@ -4,6 +4,8 @@
 #[cfg(test)]
 mod answers;
 #[cfg(test)]
+mod boxes;
+#[cfg(test)]
 mod built_lines;
 #[cfg(test)]
 mod checked;

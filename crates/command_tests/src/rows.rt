@@ -4,13 +4,12 @@ ghost use Rattle.unit_files.specs.Open.{AllOpen};
 
 use crate::answers::is_wanted;
 use crate::checked::check;
-use host_files::{ByteSink, Files};
+use host_files::{ByteSink, Files, Sink};
 use nova_word::read_decimal;
 use scp_commands::{CommandFault, Next, Session, execute};
 use scp_parser::{Command, read_command};
-use std::alloc::Global;
+use std::alloc::{AllocError, Global};
 use std::process::Abort;
-use std::test::Fail;
 use unit_trait::Unit;
 
 /// What a command is to come to.
@@ -29,7 +28,7 @@ pub fn all<U: Unit, F: Files>(
     session: &mut Session<U>,
     files: &mut F,
     table: &str,
-) -> Result<(), Fail>
+) -> Result<(), AllocError>
     requires open { AllOpen session.old.machine.slots (F.state files.old).opened }
 {
     for row in table.lines() {
@@ -56,7 +55,7 @@ fn does<U: Unit, F: Files>(
     session: &mut Session<U>,
     files: &mut F,
     row: Row,
-) -> Result<(), Fail>
+) -> Result<(), AllocError>
     requires open { AllOpen session.old.machine.slots (F.state files.old).opened }
     ensures open { AllOpen session.new.machine.slots (F.state files.new).opened }
 {
@@ -76,7 +75,7 @@ fn answers<U: Unit, F: Files>(
     command: &Command,
     files: &mut F,
     row: Row,
-) -> Result<(), Fail>
+) -> Result<(), AllocError>
     requires open { AllOpen session.old.machine.slots (F.state files.old).opened }
     ensures open { AllOpen session.new.machine.slots (F.state files.new).opened }
 {
@@ -91,10 +90,26 @@ fn answered(rt: &impl Abort, answer: &Result<Next, CommandFault>, row: Row) {
     check(rt, is_wanted(answer, row.answer), row.line);
 }
 
+/// The console took that text, and refused a byte where the answer says so.
 fn printed(rt: &impl Abort, out: &ByteSink, row: Row) {
-    check(rt, out.bytes().len() == row.text.len(), row.line);
-    for (byte, wanted) in out.bytes().iter().zip(row.text.as_bytes().iter()) {
-        let wanted = if *wanted == b'$' { b'\n' } else { *wanted };
-        check(rt, *byte == wanted, row.line);
+    check(
+        rt,
+        out.faults() == u64::from(row.answer == "Console"),
+        row.line,
+    );
+    check(rt, is_text(out.bytes(), row.text.as_bytes()), row.line);
+}
+
+/// Whether these bytes are that text.
+fn is_text(bytes: &[u8], text: &[u8]) -> bool {
+    if bytes.len() != text.len() {
+        return false;
     }
+    for (byte, wanted) in bytes.iter().zip(text.iter()) {
+        let wanted = if *wanted == b'$' { b'\n' } else { *wanted };
+        if *byte != wanted {
+            return false;
+        }
+    }
+    true
 }

@@ -1,19 +1,21 @@
 // A session with a paper tape reader, a punch and a teletype.
-ghost use Rattle.std.specs.Prelude.{◌≡◌, [], ◌∷◌, map};
-ghost use Rattle.unit_trait.specs.declared.kind.Kind.TheVariants.{Ptr as reader, Ptp as punch, Tti as keyboard, Tto as teleprinter};
+ghost use Rattle.std.specs.Prelude.{◌≡◌, [], ◌∷◌, List, IfOk, map};
+ghost use Rattle.host_files.specs.State.{Opened};
+ghost use Rattle.unit_files.specs.Open.{AllOpen};
+ghost use Rattle.unit_trait.specs.declared.kind.Kind.TheVariants.{Ptr as readers, Ptp as punches, Tti as keyboards, Tto as teleprinters};
 ghost use Rattle.unit_trait.specs.Row.{initial_unit};
 
+use crate::boxes::{four, push_four};
 use crate::checked::check;
 use crate::rows::all;
-use expect_actions::{Keys, Watch};
+use expect_actions::{Breaks, Expects, Keys, Sends, Watch};
 use fault_notes::FaultNote;
-use host_files::{FileCall, Files};
+use host_files::{FileCall, Files, MemFiles};
 use nova_word::{Addr, Word};
 use paper_tape::{Ptp, Ptr};
 use scp_commands::Session;
-use std::alloc::Global;
+use std::alloc::{AllocError, Global};
 use std::process::Abort;
-use std::test::Fail;
 use tty_units::{Tti, Tto};
 use unit_trait::Unit;
 
@@ -29,6 +31,17 @@ pub enum Watched {
     All,
 }
 
+/// Plays a table in a new session over no files, which keeps no notes.
+pub fn play_bare(
+    rt: &impl Abort,
+    alloc: Global,
+    watched: Watched,
+    table: &str,
+) -> Result<(), AllocError> {
+    let mut files = MemFiles::with_room(alloc, 0)?;
+    play(rt, alloc, watched, &mut files, table, &[])
+}
+
 /// Plays a table in a new session, and compares the notes that it keeps.
 pub fn play<F: Files>(
     rt: &impl Abort,
@@ -37,56 +50,148 @@ pub fn play<F: Files>(
     files: &mut F,
     table: &str,
     notes: &[Note],
-) -> Result<(), Fail> {
-    let mut units: Vec<Box<dyn Unit>> = Vec::new(alloc);
-    units.push(Box::new(alloc, Ptr::new())?)?;
-    units.push(Box::new(alloc, Ptp::new())?)?;
-    units.push(Box::new(alloc, Tti::new())?)?;
-    units.push(Box::new(alloc, Tto::new())?)?;
-    play_with(rt, alloc, units, watched, files, table, notes)
+) -> Result<(), AllocError> {
+    let (reader, punch, keyboard, teleprinter) = four(
+        alloc,
+        Ptr::new(),
+        Ptp::new(),
+        Tti::new(),
+        Tto::new(),
+    )?;
+    // The others become such boxes too, since they go into one list with it.
+    let reader: Box<dyn Unit> = reader;
+    play_with(
+        rt,
+        alloc,
+        reader,
+        punch,
+        keyboard,
+        teleprinter,
+        watched,
+        files,
+        table,
+        notes,
+    )
 }
 
 fn play_with<U: Unit, F: Files>(
     rt: &impl Abort,
     alloc: Global,
-    units: Vec<U>,
+    reader: U,
+    punch: U,
+    keyboard: U,
+    teleprinter: U,
     watched: Watched,
     files: &mut F,
     table: &str,
     notes: &[Note],
-) -> Result<(), Fail>
-    requires { map U.unit_state units.items ≡ map initial_unit (reader ∷ punch ∷ keyboard ∷ teleprinter ∷ []) }
+) -> Result<(), AllocError>
+    requires reader { U.unit_state reader ≡ initial_unit readers }
+    requires punch { U.unit_state punch ≡ initial_unit punches }
+    requires keyboard { U.unit_state keyboard ≡ initial_unit keyboards }
+    requires teleprinter { U.unit_state teleprinter ≡ initial_unit teleprinters }
 {
-    let mut session = Session::new(alloc, units, Keys::none(alloc), 1 << 48)?;
+    let session = session_of(alloc, reader, punch, keyboard, teleprinter)?;
+    play_in(rt, alloc, session, watched, files, table, notes)
+}
+
+fn play_in<U: Unit, F: Files>(
+    rt: &impl Abort,
+    alloc: Global,
+    session: Session<U>,
+    watched: Watched,
+    files: &mut F,
+    table: &str,
+    notes: &[Note],
+) -> Result<(), AllocError>
+    requires { (opened : List Opened) → AllOpen session.machine.slots opened }
+{
+    let mut session = session;
+    plays(rt, alloc, &mut session, watched, files, table, notes)
+}
+
+/// A session with these units.
+fn session_of<U: Unit>(
+    alloc: Global,
+    reader: U,
+    punch: U,
+    keyboard: U,
+    teleprinter: U,
+) -> Result<Session<U>, AllocError>
+    requires reader { U.unit_state reader ≡ initial_unit readers }
+    requires punch { U.unit_state punch ≡ initial_unit punches }
+    requires keyboard { U.unit_state keyboard ≡ initial_unit keyboards }
+    requires teleprinter { U.unit_state teleprinter ≡ initial_unit teleprinters }
+    ensures { IfOk result (λ s. (opened : List Opened) → AllOpen s.machine.slots opened) }
+{
+    let mut units = Vec::new(alloc);
+    push_four(&mut units, reader, punch, keyboard, teleprinter)?;
+    opened(alloc, units)
+}
+
+fn opened<U: Unit>(alloc: Global, units: Vec<U>) -> Result<Session<U>, AllocError>
+    requires { map U.unit_state units.items ≡ map initial_unit (readers ∷ punches ∷ keyboards ∷ teleprinters ∷ []) }
+    ensures { IfOk result (λ s. (opened : List Opened) → AllOpen s.machine.slots opened) }
+{
+    Session::new(alloc, units, Keys::none(alloc), 1 << 48)
+}
+
+fn plays<U: Unit, F: Files>(
+    rt: &impl Abort,
+    alloc: Global,
+    session: &mut Session<U>,
+    watched: Watched,
+    files: &mut F,
+    table: &str,
+    notes: &[Note],
+) -> Result<(), AllocError>
+    requires { AllOpen session.old.machine.slots (F.state files.old).opened }
+{
     session.command = 7;
-    fill(&mut session.watch, watched)?;
-    all(rt, alloc, &mut session, files, table)?;
+    fill(&mut session.watch, watched);
+    all(rt, alloc, session, files, table)?;
     noted(rt, session.notes.as_slice(), notes);
     Ok(())
 }
 
-fn fill(watch: &mut Watch, watched: Watched) -> Result<(), Fail> {
+fn fill(watch: &mut Watch, watched: Watched) {
     match watched {
-        Watched::Nothing => Ok(()),
+        Watched::Nothing => (),
         Watched::All => {
-            for k in 0..256u16 {
-                let _ = watch.breaks.add(Addr::of_word(Word(k)), 1, b"");
-            }
-            for _ in 0..64 {
-                let _ = watch.expects.add(1, b"x", b"");
-            }
-            for _ in 0..63 {
-                let _ = watch.sends.add(0, 0, 0, &[b'k'; 65]);
-            }
-            Ok(())
+            fill_breaks(&mut watch.breaks);
+            fill_expects(&mut watch.expects);
+            fill_sends(&mut watch.sends);
         }
+    }
+}
+
+fn fill_breaks(breaks: &mut Breaks) {
+    for k in 0..256u16 {
+        let _ = breaks.add(Addr::of_word(Word(k)), 1, b"");
+    }
+}
+
+fn fill_expects(expects: &mut Expects) {
+    for _ in 0..64 {
+        let _ = expects.add(1, b"x", b"");
+    }
+}
+
+fn fill_sends(sends: &mut Sends) {
+    const BYTES: &[u8] = b"kkkkkkkkkkkkkkkkkkkkkkkkkkkkkkkkkkkkkkkkkkkkkkkkkkkkkkkkkkkkkkkkk";
+    for _ in 0..63 {
+        let _ = sends.add(0, 0, 0, BYTES);
     }
 }
 
 fn noted(rt: &impl Abort, kept: &[FaultNote], notes: &[Note]) {
     check(rt, kept.len() == notes.len(), "the number of notes");
     for (kept, note) in kept.iter().zip(notes.iter()) {
-        check(rt, (kept.time, kept.call, kept.done) == *note, "a note");
-        check(rt, kept.command == 7, "the number of a note");
+        check(rt, is_note(kept, note), "a note");
     }
+}
+
+/// Whether that note was kept, for the command with the number 7.
+fn is_note(kept: &FaultNote, note: &Note) -> bool {
+    kept.time == note.0 && kept.call == note.1 && kept.done == note.2 && kept.command == 7
 }

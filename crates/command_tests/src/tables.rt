@@ -1,6 +1,5 @@
 use crate::sessions::Watched::All;
-use crate::sessions::play;
-use host_files::MemFiles;
+use crate::sessions::play_bare;
 use std::test::Fail;
 
 const FULL: &str = "BREAK 400|0 Full|
@@ -24,6 +23,6 @@ SEND \"ab\"|0 Go|";
 
 #[test]
 fn full_tables_take_no_more(rt: HostRuntime) -> Result<(), Fail> {
-    let mut files = MemFiles::with_room(rt.alloc(), 0)?;
-    play(&rt, rt.alloc(), All, &mut files, FULL, &[])
+    play_bare(&rt, rt.alloc(), All, FULL)?;
+    Ok(())
 }

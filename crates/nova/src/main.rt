@@ -12,16 +12,18 @@ ghost use Rattle.nova_top.specs.Standard.{IsStandard};
 ghost use Rattle.std.specs.Process.{exit_status};
 ghost use Rattle.nova_top.specs.Words.{options_of, texts_of};
 
+mod boxes;
 mod session;
 mod words;
 
+use boxes::{four, push_four};
 use clock_unit::Clk;
 use disk_unit::Dsk;
 use host_adapters::{PagedFiles, ReaderSource, RealFiles, WriterSink};
 use host_files::{Sink, Source};
 use paper_tape::{Lpt, Ptp, Ptr};
 use session::session;
-use std::alloc::AllocError as OutOfMemory;
+use std::alloc::{AllocError as OutOfMemory, Global};
 use std::env::Env;
 use std::io;
 use std::os::unix::fs::FileExt;
@@ -64,14 +66,11 @@ where
     ensures bad_words { options_of (texts_of words.now) ≡ None
         → IfOk result (λ code. (exit_status code ≡ 100) ⊎ (exit_status code ≡ 102)) }
 {
-    let disk: Box<dyn Unit> = Box::new(rt.alloc(), Dsk::new())?;
-    let tape: Box<dyn Unit> = Box::new(rt.alloc(), Mta::new())?;
-    let printer: Box<dyn Unit> = Box::new(rt.alloc(), Lpt::new())?;
-    let reader: Box<dyn Unit> = Box::new(rt.alloc(), Ptr::new())?;
-    let punch: Box<dyn Unit> = Box::new(rt.alloc(), Ptp::new())?;
-    let clock: Box<dyn Unit> = Box::new(rt.alloc(), Clk::new())?;
-    let keyboard: Box<dyn Unit> = Box::new(rt.alloc(), Tti::new())?;
-    let teleprinter: Box<dyn Unit> = Box::new(rt.alloc(), Tto::new())?;
+    let (disk, tape, printer, reader, punch, clock, keyboard, teleprinter) = boxed_units(
+        rt.alloc(),
+    )?;
+    // The others become such boxes too, since they go into one list with it.
+    let disk: Box<dyn Unit> = disk;
     with_units(
         rt,
         words,
@@ -84,6 +83,55 @@ where
         keyboard,
         teleprinter,
     )
+}
+
+/// A box of each kind of unit that is built, in bus order.
+type Boxes = (
+    Box<Dsk>,
+    Box<Mta>,
+    Box<Lpt>,
+    Box<Ptr>,
+    Box<Ptp>,
+    Box<Clk>,
+    Box<Tti>,
+    Box<Tto>,
+);
+
+/// A new unit of each kind that is built.
+fn boxed_units(alloc: Global) -> Result<Boxes, OutOfMemory>
+    ensures disk { IfOk result (λ b. ⟦<Dsk as Unit>⟧.unit_state b.0.value ≡ initial_unit disks) }
+    ensures tape { IfOk result (λ b. ⟦<Mta as Unit>⟧.unit_state b.1.value ≡ initial_unit tapes) }
+    ensures printer { IfOk result (λ b. ⟦<Lpt as Unit>⟧.unit_state b.2.value ≡ initial_unit printers) }
+    ensures reader { IfOk result (λ b. ⟦<Ptr as Unit>⟧.unit_state b.3.value ≡ initial_unit readers) }
+    ensures punch { IfOk result (λ b. ⟦<Ptp as Unit>⟧.unit_state b.4.value ≡ initial_unit punches) }
+    ensures clock { IfOk result (λ b. ⟦<Clk as Unit>⟧.unit_state b.5.value ≡ initial_unit clocks) }
+    ensures keyboard { IfOk result (λ b. ⟦<Tti as Unit>⟧.unit_state b.6.value ≡ initial_unit keyboards) }
+    ensures teleprinter { IfOk result (λ b. ⟦<Tto as Unit>⟧.unit_state b.7.value ≡ initial_unit teleprinters) }
+{
+    let (disk, tape, printer, reader) = four(
+        alloc,
+        Dsk::new(),
+        Mta::new(),
+        Lpt::new(),
+        Ptr::new(),
+    )?;
+    let (punch, clock, keyboard, teleprinter) = four(
+        alloc,
+        Ptp::new(),
+        Clk::new(),
+        Tti::new(),
+        Tto::new(),
+    )?;
+    Ok((
+        disk,
+        tape,
+        printer,
+        reader,
+        punch,
+        clock,
+        keyboard,
+        teleprinter,
+    ))
 }
 
 /// Runs a session with these units, in bus order.
@@ -114,14 +162,8 @@ where
         → IfOk result (λ code. (exit_status code ≡ 100) ⊎ (exit_status code ≡ 102)) }
 {
     let mut units = Vec::new(rt.alloc());
-    units.push(disk)?;
-    units.push(tape)?;
-    units.push(printer)?;
-    units.push(reader)?;
-    units.push(punch)?;
-    units.push(clock)?;
-    units.push(keyboard)?;
-    units.push(teleprinter)?;
+    push_four(&mut units, disk, tape, printer, reader)?;
+    push_four(&mut units, punch, clock, keyboard, teleprinter)?;
     with_streams(rt, words, units)
 }
 

@@ -48,6 +48,3 @@ pub fn session<U: Unit, C: Source, S: Sink, F: Files>(
     let ending = simulate(alloc, words, units, input, output, files);
     ExitCode::from(ending.status)
 }
-
-#[cfg(test)]
-mod tests;

@@ -28,6 +28,3 @@ fn one_empty_word(alloc: Global) -> Result<Vec<String>, OutOfMemory>
     words.push(String::new(alloc))?;
     Ok(words)
 }
-
-#[cfg(test)]
-mod tests;

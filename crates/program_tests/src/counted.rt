@@ -5,18 +5,15 @@ ghost use Rattle.unit_trait.specs.declared.kind.Kind.TheVariants.{Ptp as punches
 ghost use Rattle.unit_trait.specs.declared.kind.Kind.TheVariants.{Tto as teleprinters};
 ghost use Rattle.unit_trait.specs.Row.{initial_unit};
 
-use crate::play::{agree, play};
+use crate::checked::holds;
+use crate::play::play;
 use crate::row::{Row, decimal, text};
-use clock_unit::Clk;
-use disk_unit::Dsk;
-use paper_tape::{Lpt, Ptp, Ptr};
-use std::alloc::Global;
+use crate::units::{Purpose, with_new_units};
+use std::alloc::{AllocError, Global};
 use std::cell::Cell;
 use std::process::Abort;
 use std::rc::Rc;
 use std::test::Fail;
-use tape_unit::Mta;
-use tty_units::{Tti, Tto};
 use unit_trait::{After, Got, IoAnswer, IoOp, Kind, Pulse, Queue, RegFault, Unit, Want};
 
 /// How often each call of a unit was made.
@@ -39,32 +36,34 @@ impl Calls {
             reset: Cell::new(0),
         }
     }
-
-    /// The numbers of `io`, `due`, `got`, `set_reg` and `reset`.
-    fn all(&self) -> [u64; 5] {
-        [
-            self.io.get(),
-            self.due.get(),
-            self.got.get(),
-            self.set_reg.get(),
-            self.reset.get(),
-        ]
-    }
 }
 
 fn count(cell: &Cell<u64>) {
     cell.set(cell.get().saturating_add(1));
 }
 
-/// A unit that passes each call on to another, and counts it.
+/// The calls of a clock and those of a printer.
+#[derive(Drop)]
+pub struct Counters {
+    clock: Rc<Calls>,
+    printer: Rc<Calls>,
+}
+
+fn new_counters(alloc: Global) -> Result<Counters, AllocError> {
+    let clock = Rc::new(alloc, Calls::new())?;
+    let printer = Rc::new(alloc, Calls::new())?;
+    Ok(Counters { clock, printer })
+}
+
+/// A unit that passes each call on to another, and may count it.
 #[derive(Drop)]
 struct Counted<U: Unit> {
     inner: U,
-    calls: Rc<Calls>,
+    calls: Option<Rc<Calls>>,
 }
 
 impl<U: Unit> Counted<U> {
-    fn new(inner: U, calls: Rc<Calls>) -> Counted<U>
+    fn new(inner: U, calls: Option<Rc<Calls>>) -> Counted<U>
         ensures { ⟦<Counted<U> as Unit>⟧.unit_state result ≡ U.unit_state inner }
     {
         Counted { inner, calls }
@@ -83,76 +82,60 @@ impl<U: Unit> Unit for Counted<U> {
     }
 
     fn set_reg(&mut self, i: u8, value: u32) -> Result<(), RegFault> {
-        count(&self.calls.set_reg);
+        if let Some(calls) = &self.calls {
+            count(&calls.set_reg);
+        }
         self.inner.set_reg(i, value)
     }
 
     fn io(&mut self, op: IoOp, pulse: Pulse, word: u16) -> IoAnswer {
-        count(&self.calls.io);
+        if let Some(calls) = &self.calls {
+            count(&calls.io);
+        }
         self.inner.io(op, pulse, word)
     }
 
     fn due(&mut self, unit: u8) -> Want {
-        count(&self.calls.due);
+        if let Some(calls) = &self.calls {
+            count(&calls.due);
+        }
         self.inner.due(unit)
     }
 
     fn got(&mut self, unit: u8, got: Got) -> After {
-        count(&self.calls.got);
+        if let Some(calls) = &self.calls {
+            count(&calls.got);
+        }
         self.inner.got(unit, got)
     }
 
     fn reset(&mut self) -> Queue {
-        count(&self.calls.reset);
+        if let Some(calls) = &self.calls {
+            count(&calls.reset);
+        }
         self.inner.reset()
     }
 }
 
 /// Plays a row with a counted clock and a counted printer, whose calls are those of its fields `clock` and `printer`.
-fn counts(rt: &impl Abort, alloc: Global, row: Row<'_>) -> Result<(), Fail> {
-    let clock = Rc::new(alloc, Calls::new())?;
-    let printer = Rc::new(alloc, Calls::new())?;
-    play_counted(rt, alloc, &clock, &printer, row)?;
-    are_called(rt, &clock, text(row, "clock").unwrap_or(""));
-    are_called(rt, &printer, text(row, "printer").unwrap_or(""));
+fn counts(rt: &impl Abort, alloc: Global, row: Row<'_>) -> Result<(), AllocError> {
+    let counters = new_counters(alloc)?;
+    with_new_units(rt, alloc, Purpose::Count(&counters), row)?;
+    holds(
+        rt,
+        are_made(&counters.clock, text(row, "clock").unwrap_or("")),
+        row.line,
+    );
+    holds(
+        rt,
+        are_made(&counters.printer, text(row, "printer").unwrap_or("")),
+        row.line,
+    );
     Ok(())
 }
 
-fn play_counted(
-    rt: &impl Abort,
-    alloc: Global,
-    clock: &Rc<Calls>,
-    printer: &Rc<Calls>,
-    row: Row<'_>,
-) -> Result<(), Fail> {
-    let disk: Box<dyn Unit> = Box::new(alloc, Dsk::new())?;
-    let tape: Box<dyn Unit> = Box::new(alloc, Mta::new())?;
-    let line_printer: Box<dyn Unit> = Box::new(alloc, Lpt::new())?;
-    let reader: Box<dyn Unit> = Box::new(alloc, Ptr::new())?;
-    let punch: Box<dyn Unit> = Box::new(alloc, Ptp::new())?;
-    let counted_clock: Box<dyn Unit> = Box::new(alloc, Counted::new(Clk::new(), clock.clone()?))?;
-    let keyboard: Box<dyn Unit> = Box::new(alloc, Tti::new())?;
-    let counted_printer: Box<dyn Unit> = Box::new(
-        alloc,
-        Counted::new(Tto::new(), printer.clone()?),
-    )?;
-    play_with(
-        rt,
-        alloc,
-        disk,
-        tape,
-        line_printer,
-        reader,
-        punch,
-        counted_clock,
-        keyboard,
-        counted_printer,
-        row,
-    )
-}
-
-/// Plays a row with these units, in bus order.
-fn play_with<U: Unit>(
+/// Plays a row with these units, in bus order, of which the clock and the printer are counted.
+pub fn play_counted<U: Unit>(
     rt: &impl Abort,
     alloc: Global,
     disk: U,
@@ -163,8 +146,9 @@ fn play_with<U: Unit>(
     clock: U,
     keyboard: U,
     teleprinter: U,
+    counters: &Counters,
     row: Row<'_>,
-) -> Result<(), Fail>
+) -> Result<(), AllocError>
     requires disk { U.unit_state disk ≡ initial_unit disks }
     requires tape { U.unit_state tape ≡ initial_unit tapes }
     requires printer { U.unit_state printer ≡ initial_unit printers }
@@ -174,22 +158,37 @@ fn play_with<U: Unit>(
     requires keyboard { U.unit_state keyboard ≡ initial_unit keyboards }
     requires teleprinter { U.unit_state teleprinter ≡ initial_unit teleprinters }
 {
-    let mut units = Vec::new(alloc);
-    units.push(disk)?;
-    units.push(tape)?;
-    units.push(printer)?;
-    units.push(reader)?;
-    units.push(punch)?;
-    units.push(clock)?;
-    units.push(keyboard)?;
-    units.push(teleprinter)?;
-    play(rt, alloc, units, row)
+    let clock_calls = counters.clock.clone()?;
+    let printer_calls = counters.printer.clone()?;
+    play(
+        rt,
+        alloc,
+        Counted::new(disk, None),
+        Counted::new(tape, None),
+        Counted::new(printer, None),
+        Counted::new(reader, None),
+        Counted::new(punch, None),
+        Counted::new(clock, Some(clock_calls)),
+        Counted::new(keyboard, None),
+        Counted::new(teleprinter, Some(printer_calls)),
+        row,
+    )
 }
 
-fn are_called(rt: &impl Abort, calls: &Calls, wanted: &str) {
+/// Whether the calls were made as often as a text says: `io`, `due`, `got`, `set_reg` and `reset`.
+fn are_made(calls: &Calls, wanted: &str) -> bool {
     let mut words = wanted.split_whitespace();
-    for count in calls.all() {
-        agree(rt, count, decimal(words.next().unwrap_or("")), wanted);
+    is_made(&calls.io, words.next())
+        && is_made(&calls.due, words.next())
+        && is_made(&calls.got, words.next())
+        && is_made(&calls.set_reg, words.next())
+        && is_made(&calls.reset, words.next())
+}
+
+fn is_made(count: &Cell<u64>, wanted: Option<&str>) -> bool {
+    match wanted {
+        Some(digits) => count.get() == decimal(digits),
+        None => false,
     }
 }
 

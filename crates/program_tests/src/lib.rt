@@ -2,6 +2,10 @@
 #![tactic(auto)]
 
 #[cfg(test)]
+mod boxes;
+#[cfg(test)]
+mod checked;
+#[cfg(test)]
 mod counted;
 #[cfg(test)]
 mod disk;
@@ -17,5 +21,7 @@ mod sessions;
 mod standard;
 #[cfg(test)]
 mod tapes;
+#[cfg(test)]
+mod units;
 #[cfg(test)]
 mod words;

@@ -3,55 +3,72 @@
 // input (`lines` and `more`); and then what is printed (`prints` and `then`, as far as there is room), the status, the note
 // of the failed call (`note`), what is left of the input (`left`), files behind it (`after`), words of memory (`cells`) and
 // that there is no machine (`machine=none`).
-ghost use Rattle.std.specs.Prelude.{map};
+ghost use Rattle.std.specs.Prelude.{◌≡◌, map};
+ghost use Rattle.unit_trait.specs.declared.kind.Kind.TheVariants.{Dsk as disks, Mta as tapes, Lpt as printers, Ptr as readers};
+ghost use Rattle.unit_trait.specs.declared.kind.Kind.TheVariants.{Ptp as punches, Clk as clocks, Tti as keyboards};
+ghost use Rattle.unit_trait.specs.declared.kind.Kind.TheVariants.{Tto as teleprinters};
+ghost use Rattle.unit_trait.specs.Row.{initial_unit};
 ghost use Rattle.nova_top.specs.Standard.{IsStandard};
 
+use crate::boxes::push_four;
+use crate::checked::holds;
 use crate::row::{Row, add, bytes, decimal, number, text};
-use clock_unit::Clk;
-use disk_unit::Dsk;
+use crate::units::{Purpose, with_new_units};
 use fault_notes::{FaultNote, Subject};
-use host_files::{ByteSink, ByteSource, FileCall, Files, MemFiles, Sink, Source};
+use host_files::{ByteSink, ByteSource, FileCall, Files, MemFiles, Sink, Source, next_byte};
 use nova_machine::Machine;
 use nova_top::{Ending, simulate};
 use nova_word::{Addr, Word, read_octal};
-use paper_tape::{Lpt, Ptp, Ptr};
 use std::alloc::{AllocError, Global};
 use std::process::Abort;
 use std::test::Fail;
-use tape_unit::Mta;
-use tty_units::{Tti, Tto};
 use unit_trait::{Kind, Unit, UnitName};
 
 /// Plays each line of a table with the standard units, but comments, which begin with a semicolon.
 pub fn all(rt: &impl Abort, alloc: Global, base: &str, table: &str) -> Result<(), Fail> {
     for line in table.lines() {
         if !line.starts_with(';') {
-            comes(rt, alloc, Row { base, line })?;
+            with_new_units(rt, alloc, Purpose::Play, Row { base, line })?;
         }
     }
     Ok(())
 }
 
-fn comes(rt: &impl Abort, alloc: Global, row: Row<'_>) -> Result<(), Fail> {
-    let mut units: Vec<Box<dyn Unit>> = Vec::new(alloc);
-    units.push(Box::new(alloc, Dsk::new())?)?;
-    units.push(Box::new(alloc, Mta::new())?)?;
-    units.push(Box::new(alloc, Lpt::new())?)?;
-    units.push(Box::new(alloc, Ptr::new())?)?;
-    units.push(Box::new(alloc, Ptp::new())?)?;
-    units.push(Box::new(alloc, Clk::new())?)?;
-    units.push(Box::new(alloc, Tti::new())?)?;
-    units.push(Box::new(alloc, Tto::new())?)?;
-    play(rt, alloc, units, row)
+/// Plays a row with these units, in bus order.
+pub fn play<U: Unit>(
+    rt: &impl Abort,
+    alloc: Global,
+    disk: U,
+    tape: U,
+    printer: U,
+    reader: U,
+    punch: U,
+    clock: U,
+    keyboard: U,
+    teleprinter: U,
+    row: Row<'_>,
+) -> Result<(), AllocError>
+    requires disk { U.unit_state disk ≡ initial_unit disks }
+    requires tape { U.unit_state tape ≡ initial_unit tapes }
+    requires printer { U.unit_state printer ≡ initial_unit printers }
+    requires reader { U.unit_state reader ≡ initial_unit readers }
+    requires punch { U.unit_state punch ≡ initial_unit punches }
+    requires clock { U.unit_state clock ≡ initial_unit clocks }
+    requires keyboard { U.unit_state keyboard ≡ initial_unit keyboards }
+    requires teleprinter { U.unit_state teleprinter ≡ initial_unit teleprinters }
+{
+    let mut units = Vec::new(alloc);
+    push_four(&mut units, disk, tape, printer, reader)?;
+    push_four(&mut units, punch, clock, keyboard, teleprinter)?;
+    with_units(rt, alloc, units, row)
 }
 
-/// Plays a row with these units.
-pub fn play<U: Unit>(
+fn with_units<U: Unit>(
     rt: &impl Abort,
     alloc: Global,
     units: Vec<U>,
     row: Row<'_>,
-) -> Result<(), Fail>
+) -> Result<(), AllocError>
     requires { IsStandard (map U.unit_state units.items) }
 {
     let mut files = files_of(rt, alloc, row)?;
@@ -65,7 +82,7 @@ fn with_files<U: Unit, F: Files>(
     units: Vec<U>,
     files: &mut F,
     row: Row<'_>,
-) -> Result<(), Fail>
+) -> Result<(), AllocError>
     requires { IsStandard (map U.unit_state units.items) }
 {
     let mut console = ByteSink::with_room(alloc, room(row))?;
@@ -80,7 +97,7 @@ fn with_console<U: Unit, F: Files, S: Sink>(
     files: &mut F,
     console: &mut S,
     row: Row<'_>,
-) -> Result<(), Fail>
+) -> Result<(), AllocError>
     requires { IsStandard (map U.unit_state units.items) }
 {
     let mut input = input_of(alloc, row)?;
@@ -96,7 +113,7 @@ fn with_input<U: Unit, F: Files, S: Sink, C: Source>(
     console: &mut S,
     input: &mut C,
     row: Row<'_>,
-) -> Result<(), Fail>
+) -> Result<(), AllocError>
     requires { IsStandard (map U.unit_state units.items) }
 {
     let words = words_of(alloc, row)?;
@@ -127,19 +144,6 @@ fn with_words<U: Unit, F: Files, S: Sink, C: Source>(
 {
     let ending = simulate(alloc, words, units, input, console, files);
     ends(rt, &ending, row);
-}
-
-/// Two numbers are the same.
-pub fn agree(rt: &impl Abort, found: u64, wanted: u64, line: &str) {
-    assert_eq!(rt; found, wanted, "{line}");
-}
-
-fn holds(rt: &impl Abort, found: bool, line: &str) {
-    assert!(rt; found, "{line}");
-}
-
-fn bytes_agree(rt: &impl Abort, found: &[u8], wanted: &[u8], line: &str) {
-    assert_eq!(rt; found, wanted, "{line}");
 }
 
 /// The words of a row, of which each blank parts two. A ␣ is a blank in a word, and a ∅ a word without letters.
@@ -175,7 +179,7 @@ fn input_of(alloc: Global, row: Row<'_>) -> Result<ByteSource, AllocError> {
 }
 
 /// The files that are there before. Those of a row stand between &, each as its name, a colon and its bytes.
-fn files_of(rt: &impl Abort, alloc: Global, row: Row<'_>) -> Result<MemFiles, Fail> {
+fn files_of(rt: &impl Abort, alloc: Global, row: Row<'_>) -> Result<MemFiles, AllocError> {
     let mut files = MemFiles::with_room(alloc, 2048)?;
     put_all(rt, alloc, &mut files, row)?;
     fail(&mut files, row)?;
@@ -214,7 +218,12 @@ fn put(rt: &impl Abort, alloc: Global, files: &mut MemFiles, file: &str) -> Resu
 }
 
 /// Files are as the row says: with these bytes, or not there where it has no colon.
-fn files_stand(rt: &impl Abort, alloc: Global, files: &MemFiles, row: Row<'_>) -> Result<(), Fail> {
+fn files_stand(
+    rt: &impl Abort,
+    alloc: Global,
+    files: &MemFiles,
+    row: Row<'_>,
+) -> Result<(), AllocError> {
     if let Some(text) = text(row, "after") {
         for file in text.split(" & ") {
             match file.split_once(':') {
@@ -233,11 +242,11 @@ fn has(
     name: &str,
     text: &str,
     row: Row<'_>,
-) -> Result<(), Fail> {
+) -> Result<(), AllocError> {
     let mut bytes = Vec::new(alloc);
     add(&mut bytes, text)?;
     match files.file_bytes(name) {
-        Some(found) => bytes_agree(rt, found, bytes.as_slice(), row.line),
+        Some(found) => holds(rt, found == bytes.as_slice(), row.line),
         None => holds(rt, false, row.line),
     }
     Ok(())
@@ -248,31 +257,56 @@ fn room(row: Row<'_>) -> usize {
 }
 
 /// The console has what is to be printed, or the first part of it for which there was room.
-fn prints(rt: &impl Abort, alloc: Global, console: &ByteSink, row: Row<'_>) -> Result<(), Fail> {
+fn prints(
+    rt: &impl Abort,
+    alloc: Global,
+    console: &ByteSink,
+    row: Row<'_>,
+) -> Result<(), AllocError> {
     let mut wanted = bytes(alloc, row, "prints", "then")?;
     wanted.truncate(room(row));
-    bytes_agree(rt, console.bytes(), wanted.as_slice(), row.line);
+    holds(rt, console.bytes() == wanted.as_slice(), row.line);
     Ok(())
 }
 
 /// What is left of the input: all of it where the words or their files were refused.
-fn is_left(
+fn is_left<C: Source>(
     rt: &impl Abort,
     alloc: Global,
-    input: &mut ByteSource,
+    input: &mut C,
     row: Row<'_>,
-) -> Result<(), Fail> {
-    let wanted = if is_refused(row) {
-        bytes(alloc, row, "lines", "more")?
+) -> Result<(), AllocError> {
+    if is_refused(row) {
+        rests(rt, alloc, input, row, "lines", "more")
     } else if text(row, "left").is_some() {
-        bytes(alloc, row, "left", "")?
+        rests(rt, alloc, input, row, "left", "")
     } else {
-        return Ok(());
-    };
-    let mut rest = [0; 4096];
-    let count = input.read(&mut rest).unwrap_or(0).min(4096);
-    bytes_agree(rt, &rest[..count], wanted.as_slice(), row.line);
+        Ok(())
+    }
+}
+
+/// The rest of the input is in these fields.
+fn rests<C: Source>(
+    rt: &impl Abort,
+    alloc: Global,
+    input: &mut C,
+    row: Row<'_>,
+    first: &str,
+    second: &str,
+) -> Result<(), AllocError> {
+    let wanted = bytes(alloc, row, first, second)?;
+    holds(rt, gives(input, wanted.as_slice()), row.line);
     Ok(())
+}
+
+/// Whether an input gives these bytes and then is at its end.
+fn gives<C: Source>(input: &mut C, wanted: &[u8]) -> bool {
+    for byte in wanted.iter() {
+        if next_byte(input) != Ok(Some(*byte)) {
+            return false;
+        }
+    }
+    next_byte(input) == Ok(None)
 }
 
 /// Whether the session does not begin, since the words or their files are refused.
@@ -281,10 +315,9 @@ fn is_refused(row: Row<'_>) -> bool {
 }
 
 fn ends<U: Unit>(rt: &impl Abort, ending: &Ending<U>, row: Row<'_>) {
-    agree(
+    holds(
         rt,
-        u64::from(ending.status),
-        number(row, "status", 0),
+        u64::from(ending.status) == number(row, "status", 0),
         row.line,
     );
     let is_none = is_refused(row) || text(row, "machine").is_some();
@@ -300,7 +333,7 @@ fn cells_stand<U: Unit>(rt: &impl Abort, machine: &Machine<U>, row: Row<'_>) {
     for cell in text(row, "cells").unwrap_or("").split_whitespace() {
         let (at, value) = cell.split_once(':').unwrap_or((cell, ""));
         let word = machine.memory().read(Addr::of_word(Word(octal(at))));
-        agree(rt, u64::from(word.0), u64::from(octal(value)), cell);
+        holds(rt, word.0 == octal(value), cell);
     }
 }
 
@@ -312,23 +345,27 @@ fn octal(digits: &str) -> u16 {
 fn are_noted(rt: &impl Abort, faults: &[FaultNote], row: Row<'_>) {
     match text(row, "note") {
         Some(text) => {
-            agree(rt, faults.len() as u64, 1, row.line);
+            holds(rt, faults.len() == 1, row.line);
             for fault in faults {
                 is_noted(rt, *fault, text);
             }
         }
-        None => agree(rt, faults.len() as u64, 0, row.line),
+        None => holds(rt, faults.is_empty(), row.line),
     }
 }
 
 /// A note is this one: its command, its time, its call, how many bytes that wrote, and perhaps for whom it was made.
 fn is_noted(rt: &impl Abort, fault: FaultNote, text: &str) {
     let mut words = text.split_whitespace();
-    agree(rt, fault.command, decimal(words.next().unwrap_or("")), text);
-    agree(rt, fault.time, decimal(words.next().unwrap_or("")), text);
+    holds(
+        rt,
+        fault.command == decimal(words.next().unwrap_or("")),
+        text,
+    );
+    holds(rt, fault.time == decimal(words.next().unwrap_or("")), text);
     let call = call_of(words.next().unwrap_or(""));
     holds(rt, call == Some(fault.call), text);
-    agree(rt, fault.done, decimal(words.next().unwrap_or("")), text);
+    holds(rt, fault.done == decimal(words.next().unwrap_or("")), text);
     if let Some(word) = words.next() {
         holds(rt, subject_of(word) == Some(fault.subject), text);
     }

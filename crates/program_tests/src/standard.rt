@@ -1,10 +1,11 @@
-use clock_unit::Clk;
-use disk_unit::Dsk;
+use crate::boxes::push_four;
+use crate::checked::holds;
+use crate::row::Row;
+use crate::units::{Purpose, with_new_units};
 use nova_top::is_standard;
-use paper_tape::{Lpt, Ptp, Ptr};
+use std::alloc::{AllocError, Global};
+use std::process::Abort;
 use std::test::Fail;
-use tape_unit::Mta;
-use tty_units::{Tti, Tto};
 use unit_trait::Unit;
 
 /// Sets register 2 of the first unit to 1. Answers whether the units are standard ones then.
@@ -18,23 +19,56 @@ fn stay_standard<U: Unit>(units: &mut [U]) -> bool {
     is_standard(units)
 }
 
+/// Whether these units are standard ones, and were not without the last one.
+fn are_standard_together<U: Unit>(units: &[U]) -> bool {
+    match units.split_last() {
+        Some((_, others)) => !is_standard(others) && is_standard(units),
+        None => false,
+    }
+}
+
+/// Whether the last two units are standard ones in their order alone.
+fn are_standard_in_order<U: Unit>(units: &mut [U]) -> bool {
+    if units.len() != 8 {
+        return false;
+    }
+    units.swap(6, 7);
+    let swapped = is_standard(units);
+    units.swap(6, 7);
+    !swapped && is_standard(units)
+}
+
+/// Ends the test where these units, in bus order, are not told from others.
+pub fn tell<U: Unit>(
+    rt: &impl Abort,
+    alloc: Global,
+    disk: U,
+    tape: U,
+    printer: U,
+    reader: U,
+    punch: U,
+    clock: U,
+    keyboard: U,
+    teleprinter: U,
+    line: &str,
+) -> Result<(), AllocError> {
+    let mut units = Vec::new(alloc);
+    push_four(&mut units, disk, tape, printer, reader)?;
+    push_four(&mut units, punch, clock, keyboard, teleprinter)?;
+    holds(rt, are_told(units.as_mut_slice()), line);
+    Ok(())
+}
+
+fn are_told<U: Unit>(units: &mut [U]) -> bool {
+    are_standard_together(units) && are_standard_in_order(units) && !stay_standard(units)
+}
+
 #[test]
 fn standard_units_are_told_by_their_kinds_and_registers(rt: HostRuntime) -> Result<(), Fail> {
-    let mut units: Vec<Box<dyn Unit>> = Vec::new(rt.alloc());
-    units.push(Box::new(rt.alloc(), Dsk::new())?)?;
-    units.push(Box::new(rt.alloc(), Mta::new())?)?;
-    units.push(Box::new(rt.alloc(), Lpt::new())?)?;
-    units.push(Box::new(rt.alloc(), Ptr::new())?)?;
-    units.push(Box::new(rt.alloc(), Ptp::new())?)?;
-    units.push(Box::new(rt.alloc(), Clk::new())?)?;
-    units.push(Box::new(rt.alloc(), Tti::new())?)?;
-    assert!(rt; !is_standard(units.as_slice()));
-    units.push(Box::new(rt.alloc(), Tto::new())?)?;
-    assert!(rt; is_standard(units.as_slice()));
-    units.swap(6, 7);
-    assert!(rt; !is_standard(units.as_slice()));
-    units.swap(6, 7);
-    assert!(rt; is_standard(units.as_slice()));
-    assert!(rt; !stay_standard(units.as_mut_slice()));
+    let row = Row {
+        base: "",
+        line: "standard units",
+    };
+    with_new_units(&rt, rt.alloc(), Purpose::Tell, row)?;
     Ok(())
 }

@@ -3,7 +3,7 @@ use Rattle.unit_trait.specs.declared.kind.Kind.TheVariants.{Ptr, Ptp, Tti, Tto}
 use Rattle.unit_trait.specs.Row.{initial_unit}
 use Rattle.nova_machine.specs.BusOrder.{IsBusOrder}
 use Rattle.nova_machine.proofs.BusOrders.{in-order}
-use Rattle.command_tests.proofs.sessions.play_with.Goals as goal
+use Rattle.command_tests.proofs.sessions.opened.Goals as goal
 
 pub new-requires : goal.new-requires
 new-requires g c =
