@@ -1,5 +1,5 @@
 // The answers of commands in words.
-use fault_notes::Subject;
+use file_commands::Subject;
 use nova_machine::Stop;
 use scp_commands::{CommandFault, DoFile, Next};
 

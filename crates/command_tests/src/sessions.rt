@@ -9,7 +9,7 @@ use crate::boxes::{four, push_four};
 use crate::checked::check;
 use crate::rows::all;
 use expect_actions::{Breaks, Expects, Keys, Sends, Watch};
-use fault_notes::FaultNote;
+use file_commands::FaultNote;
 use host_files::{FileCall, Files, MemFiles};
 use nova_word::{Addr, Word};
 use paper_tape::{Ptp, Ptr};

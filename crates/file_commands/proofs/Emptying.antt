@@ -14,14 +14,14 @@ use Rattle.unit_files.specs.Causes.{DetachCause}
 use Rattle.unit_files.specs.Buffer.{AttachedFiles}
 use Rattle.unit_files.specs.Acts.{Failure, DetachSaid, HadNone, StillHeld, Detached, detached_by, buffer_left, flush_files}
 use Rattle.unit_files.specs.Answers.{failure_in, said_of_detach}
-use Rattle.fault_notes.specs.declared.note.Subject.{Subject}
-use Rattle.fault_notes.specs.declared.note.Subject.TheVariants as subject
-use Rattle.fault_notes.specs.declared.note.FaultNote.{FaultNote}
-use Rattle.fault_notes.specs.Notes.{CommandNote, Note, same_subject, failure_now, notes_said, said_of}
-use Rattle.fault_notes.specs.Counts.{AreCounted}
-use Rattle.fault_notes.proofs.Adding.{counted-both, counted-none}
+use Rattle.file_commands.specs.declared.note.Subject.{Subject}
+use Rattle.file_commands.specs.declared.note.Subject.TheVariants as subject
+use Rattle.file_commands.specs.declared.note.FaultNote.{FaultNote}
+use Rattle.file_commands.specs.Notes.{CommandNote, Note, same_subject, failure_now, notes_said, said_of}
+use Rattle.file_commands.specs.Counts.{AreCounted}
+use Rattle.file_commands.proofs.Adding.{counted-both, counted-none}
 use Rattle.file_commands.specs.declared.stamp.Stamp.{Stamp}
-use Rattle.file_commands.specs.Notes.{fault_note, fault_of_detach, kept_of, own_of, own_note}
+use Rattle.file_commands.specs.Kept.{fault_note, fault_of_detach, kept_of, own_of, own_note}
 use Rattle.file_commands.specs.AllUnits.{AreApart, Filed, Emptied, more_used, emptied_as, said_in, written_in, without_file, emptied, flush_fault, is_one_of, Empties, IsUnwritten}
 
 said-append : (first second : List FaultNote) → notes_said (first ++ second) ≡ notes_said first ++ notes_said second

@@ -1,2 +1,5 @@
+pub mod Handing
+pub mod Adding
+pub mod Causes
 pub mod Own
 pub mod Emptying

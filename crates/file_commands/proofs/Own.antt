@@ -6,9 +6,9 @@ use Rattle.unit_trait.specs.Kinds.{same_unit}
 use Rattle.unit_files.specs.declared.faults.UnitFault.{UnitFault}
 use Rattle.unit_files.specs.Acts.{Failure}
 use Rattle.unit_files.specs.Answers.{failure_in}
-use Rattle.fault_notes.specs.declared.note.Subject.TheVariants as subject
-use Rattle.fault_notes.specs.Notes.{failure_now}
-use Rattle.file_commands.specs.Notes.{own_of}
+use Rattle.file_commands.specs.declared.note.Subject.TheVariants as subject
+use Rattle.file_commands.specs.Notes.{failure_now}
+use Rattle.file_commands.specs.Kept.{own_of}
 
 same-self : (u : UnitName) → same_unit u u ≡ true
 same-self u = grind (arith, nat_tests)

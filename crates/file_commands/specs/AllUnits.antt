@@ -17,10 +17,10 @@ use Rattle.unit_files.specs.declared.faults.DetachFault.TheVariants as detach
 use Rattle.unit_files.specs.Attachments.{Attachment, Held, attachments_of, attachment_at, held_at, is_disk}
 use Rattle.unit_files.specs.Buffer.{Buffer, AttachedFiles}
 use Rattle.unit_files.specs.Acts.{Failure, DetachSaid, HadNone, StillHeld, Detached, detach_said, detached, buffer_left, flush_files}
-use Rattle.fault_notes.specs.declared.note.Subject.TheVariants as subject
-use Rattle.fault_notes.specs.declared.note.FaultNote.{FaultNote}
-use Rattle.fault_notes.specs.Notes.{CommandNote, same_subject, numbered, failure_now, notes_said}
-use Rattle.fault_notes.specs.Counts.{AreCounted}
+use Rattle.file_commands.specs.declared.note.Subject.TheVariants as subject
+use Rattle.file_commands.specs.declared.note.FaultNote.{FaultNote}
+use Rattle.file_commands.specs.Notes.{CommandNote, same_subject, numbered, failure_now, notes_said}
+use Rattle.file_commands.specs.Counts.{AreCounted}
 
 -- the units whose files are attached, in bus order
 abbrev pub attachable : List UnitName

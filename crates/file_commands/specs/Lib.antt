@@ -1,2 +1,5 @@
 pub mod Notes
+pub mod Counts
+pub mod Laws
+pub mod Kept
 pub mod AllUnits

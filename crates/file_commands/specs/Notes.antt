@@ -1,60 +1,55 @@
--- The notes that commands on the files of units keep.
-use Rattle.std.specs.Prelude.{◌≡◌, ◌⊎◌, ℕ, Bool, IsTrue, List, [], ◌∷◌, Option, Some, None, Result, Ok, Err}
-use Rattle.fault_counts.specs.Faults.{Rose}
-use Rattle.host_files.specs.declared.files.FileCall.TheVariants.{Opening, Length, Read}
-use Rattle.host_files.specs.State.{FileState}
-use Rattle.unit_trait.specs.declared.kind.UnitName.{UnitName}
-use Rattle.unit_files.specs.declared.faults.UnitFault.{UnitFault}
-use Rattle.unit_files.specs.declared.faults.AttachFault.{AttachFault}
-use Rattle.unit_files.specs.declared.faults.AttachFault.TheVariants as attach
-use Rattle.unit_files.specs.declared.faults.DetachFault.{DetachFault}
-use Rattle.unit_files.specs.declared.faults.DetachFault.TheVariants as detach
-use Rattle.unit_files.specs.Attachments.{is_disk}
-use Rattle.unit_files.specs.Answers.{failure_in}
-use Rattle.fault_notes.specs.declared.note.Subject.TheVariants as subject
-use Rattle.fault_notes.specs.declared.note.FaultNote.{FaultNote}
-use Rattle.fault_notes.specs.Notes.{CommandNote}
-use Rattle.file_commands.specs.declared.stamp.Stamp.{Stamp}
+-- The calls on files that fail in a session, and how its commands take them. The numbers of open files are no part of this.
+use Rattle.std.specs.Prelude.{ℕ, ◌<◌, ◌==◌, ◌&&◌, Bool, true, false, List, [], ◌∷◌, map, Option, Some, None, if◌then◌else◌}
+use Rattle.unit_trait.specs.Kinds.{same_unit}
+use Rattle.unit_files.specs.Acts.{Failure}
+use Rattle.file_commands.specs.declared.note.Subject.{Subject}
+use Rattle.file_commands.specs.declared.note.Subject.TheVariants.{Script, Keys, State, Load, Dump}
+use Rattle.file_commands.specs.declared.note.Subject.TheVariants as subject
+use Rattle.file_commands.specs.declared.note.FaultNote.{FaultNote}
 
--- the note of a failed call on a unit's file
-abbrev pub fault_note : Stamp → UnitFault → FaultNote
-fault_note stamp f = record { command = stamp.command; time = stamp.time; subject = subject.Unit f.unit; file = f.file; call = f.call; done = f.done }
+-- a failing call of a command: its time, for whom it was, and the call
+pub record CommandNote : Type 0 where
+  pub time : ℕ
+  pub subject : Subject
+  pub failure : Failure
 
--- the same as a command's own
-abbrev pub own_note : ℕ → UnitFault → CommandNote
-own_note time f = record { time = time; subject = subject.Unit f.unit; failure = failure_in f }
+-- the same with the number of the command
+pub record Note : Type 0 where
+  pub command : ℕ
+  pub note : CommandNote
 
--- the fault that an attaching answers, and that of a detaching
-abbrev pub fault_of_attach : Result ℕ AttachFault → Option UnitFault
-fault_of_attach (Err (attach.Failed f)) = Some f
-fault_of_attach result = None
+-- whether two subjects are one
+abbrev pub same_subject : Subject → Subject → Bool
+same_subject (subject.Unit a) (subject.Unit b) = same_unit a b
+same_subject Script Script = true
+same_subject Keys Keys = true
+same_subject State State = true
+same_subject Load Load = true
+same_subject Dump Dump = true
+same_subject a b = false
 
-abbrev pub fault_of_detach : Result (Option UnitFault) DetachFault → Option UnitFault
-fault_of_detach (Ok fault) = fault
-fault_of_detach (Err (detach.Failed f)) = Some f
-fault_of_detach (Err detach.NotAttached) = None
+-- the notes of the command with that number
+abbrev pub numbered : ℕ → List CommandNote → List Note
+numbered number notes = map (λ (n : CommandNote). record { command = number; note = n }) notes
 
--- the notes that are kept for it
-abbrev pub kept_of : Stamp → Option UnitFault → List FaultNote
-kept_of stamp None = []
-kept_of stamp (Some f) = fault_note stamp f ∷ []
+-- the leading notes that have this number, without it
+abbrev pub handed : ℕ → List Note → List CommandNote
+handed number [] = []
+handed number (n ∷ notes) = if n.command == number then n.note ∷ handed number notes else []
 
-abbrev pub own_of : ℕ → Option UnitFault → List CommandNote
-own_of time None = []
-own_of time (Some f) = own_note time f ∷ []
+-- the first of these notes, if there is one, has a greater number
+abbrev pub Follow : ℕ → List Note → Type 0
+Follow number [] = Unit {0}
+Follow number (n ∷ notes) = number < n.command
 
--- A call that fails while a file is attached is that unit's, and it is an opening, or it asks for the length; or it is
--- a read of the disk's.
-pub record IsAttachFault (unit : UnitName) (f : UnitFault) : Type 0 where
-  pub unit_is : f.unit ≡ unit
-  pub call_is : (f.call ≡ Opening) ⊎ (f.call ≡ Length) ⊎ ((f.call ≡ Read) × IsTrue (is_disk unit.kind))
+-- the first of a command's notes, where it is of this time and subject, is what fails of an act
+abbrev pub failure_now : ℕ → Subject → List CommandNote → Option Failure
+failure_now time subject [] = None
+failure_now time subject (n ∷ notes) = if (n.time == time) && same_subject n.subject subject then Some n.failure else None
 
--- where names are not told, a file is missing only where the count of openings rose
-abbrev pub MissingCause : Bool → Result ℕ AttachFault → FileState → FileState → Type 0
-MissingCause tells (Err attach.NoFile) old new = (IsTrue tells → ⊥) → Rose old.open_faults new.open_faults
-MissingCause tells result old new = Unit {0}
+-- what a kept note says
+abbrev pub said_of : FaultNote → Note
+said_of n = record { command = n.command; note = record { time = n.time; subject = n.subject; failure = record { call = n.call; done = n.done } } }
 
--- a unit that holds nothing of its file has none that could fail to be written
-abbrev pub HoldsNothing : Result (Option UnitFault) DetachFault → Type 0
-HoldsNothing (Err (detach.Failed f)) = ⊥
-HoldsNothing result = Unit {0}
+abbrev pub notes_said : List FaultNote → List Note
+notes_said notes = map said_of notes

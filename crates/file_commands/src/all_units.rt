@@ -6,7 +6,7 @@ ghost use Rattle.file_commands.specs.AllUnits.{AreApart, attachable, Empties, Is
 
 use crate::one_unit::detach_unit;
 use crate::stamp::Stamp;
-use fault_notes::FaultNote;
+use crate::FaultNote;
 use host_files::Files;
 use unit_files::{Attached, DetachFault, UnitFault};
 use unit_trait::{Kind, UnitName};

@@ -7,13 +7,13 @@ ghost use Rattle.unit_files.specs.Acts.{detach_said, detached_by, buffer_left, f
 ghost use Rattle.unit_files.specs.Causes.{DetachCause};
 ghost use Rattle.unit_files.specs.Answers.{said_of_attach, said_of_detach, first_refusal, IfNoMemory};
 ghost use Rattle.unit_files.specs.Open.{AllOpen, Around};
-ghost use Rattle.fault_notes.specs.declared.note.Subject.TheVariants as subjects;
-ghost use Rattle.fault_notes.specs.Notes.{failure_now};
-ghost use Rattle.fault_notes.specs.Counts.{AreCounted};
-ghost use Rattle.file_commands.specs.Notes.{IsAttachFault, MissingCause, HoldsNothing, fault_of_attach, fault_of_detach, kept_of, own_of};
+ghost use Rattle.file_commands.specs.declared.note.Subject.TheVariants as subjects;
+ghost use Rattle.file_commands.specs.Notes.{failure_now};
+ghost use Rattle.file_commands.specs.Counts.{AreCounted};
+ghost use Rattle.file_commands.specs.Kept.{IsAttachFault, MissingCause, HoldsNothing, fault_of_attach, fault_of_detach, kept_of, own_of};
 
 use crate::stamp::{Stamp, note_of};
-use fault_notes::{FaultNote, keep};
+use crate::{FaultNote, keep};
 use host_files::Files;
 use std::alloc::Global;
 use unit_files::{AttachFault, AttachMode, Attached, DetachFault, UnitFault};

@@ -1,7 +1,7 @@
 ghost use Rattle.std.specs.Prelude.{◌≡◌};
-ghost use Rattle.file_commands.specs.Notes.{fault_note};
+ghost use Rattle.file_commands.specs.Kept.{fault_note};
 
-use fault_notes::{FaultNote, Subject};
+use crate::{FaultNote, Subject};
 use unit_files::UnitFault;
 
 /// What stands on each note of a command.

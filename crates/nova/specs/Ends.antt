@@ -1,7 +1,7 @@
 -- What is said of a machine and of notes that the program lets go at its end.
 use Rattle.std.specs.Prelude.{List, Option}
-use Rattle.fault_notes.specs.declared.note.FaultNote.{FaultNote}
-use Rattle.fault_notes.specs.Notes.{Note}
+use Rattle.file_commands.specs.declared.note.FaultNote.{FaultNote}
+use Rattle.file_commands.specs.Notes.{Note}
 use Rattle.nova_machine.specs.Machine.{MachineState}
 
 abbrev pub OfSomeEnd : (Option MachineState → List Note → Type 0) → Type 0

@@ -4,7 +4,7 @@ use Rattle.std.proofs.lemmas.Bool.{ne_eqb}
 use Rattle.std.proofs.lemmas.List.{append-nil}
 use Rattle.std.proofs.lemmas.List.Elements.{All-head}
 use Rattle.nova_word.specs.Numbers.{IsNumber, IsDigit}
-use Rattle.line_words.specs.Words.{past_blanks}
+use Rattle.line_text.specs.Words.{past_blanks}
 use Rattle.nova_symbols.specs.declared.fault.SymbolFault.{SymbolFault}
 use Rattle.nova_symbols.specs.declared.fault.SymbolFault.TheVariants.{BadField}
 use Rattle.nova_symbols.specs.Operands.{◌>>=◌, is_separator, operand_at, after_comma, index_found, is_octal, number, index_at, negative, relative, signed, indexed, not_indexed, absolute, address, indirect, target_at}

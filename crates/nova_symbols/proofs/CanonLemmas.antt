@@ -8,7 +8,7 @@ use Rattle.std.proofs.Common.{drop, take, ◌≡◌, ℕ, ◌+◌, ◌-◌, ◌*
 use Rattle.std.proofs.lemmas.Bool.{eqb-true, eqb-false, ltb-true, ltb-false}
 use Rattle.std.proofs.lemmas.Slice.Eq.{bytes_eq-Decides}
 use Rattle.std.specs.Str.{bytes_eq}
-use Rattle.line_words.specs.Words.{is_blank, word_at, past_blanks}
+use Rattle.line_text.specs.Words.{is_blank, word_at, past_blanks}
 use Rattle.nova_symbols.specs.declared.fault.SymbolFault.{SymbolFault}
 use Rattle.nova_symbols.specs.declared.names.Shape.{Shape}
 use Rattle.nova_symbols.specs.declared.names.Shape.TheVariants.{Alone, Processor, Memory, Load, Arithmetic, Transfer, Device}

@@ -1,7 +1,7 @@
 -- The faults of addresses.
 use Rattle.std.proofs.Common.{◌≡◌, ℕ, ◌+◌, ◌*◌, true, false, eqb, Option, Some, None, Result, Ok, Err, List, [], ◌∷◌, ◌++◌, length, refl, ap, sym, subst, ◌∙◌, ◌⊎◌, inl, inr, arith}
 use Rattle.std.proofs.lemmas.Bool.{eqb-true, eqb-false, eq-eqb, ne_eqb, cases_Bool, false_from_ne_true, false≢true}
-use Rattle.line_words.specs.Words.{past_blanks}
+use Rattle.line_text.specs.Words.{past_blanks}
 use Rattle.nova_symbols.specs.declared.fault.SymbolFault.{SymbolFault}
 use Rattle.nova_symbols.specs.declared.fault.SymbolFault.TheVariants.{BadField}
 use Rattle.nova_symbols.specs.Operands.{◌>>=◌, is_separator, operand_at, after_comma, comma_found, comma_at, index_at, negative, signed, indexed, not_indexed, index_found, absolute, address, indirect, target_at, ended}

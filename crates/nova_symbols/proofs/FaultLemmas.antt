@@ -2,7 +2,7 @@
 use Rattle.std.proofs.Common.{◌≡◌, ◌↔◌, ℕ, ◌+◌, ◌-◌, ◌*◌, ◌<◌, Option, Some, None, Result, Ok, Err, List, [], ◌∷◌, ◌++◌, length, take, drop, All, refl, ap, sym, subst, ◌∙◌, inl, inr, arith, length-append}
 use Rattle.std.specs.List.{position_or_len}
 use Rattle.std.proofs.lemmas.List.{take-append-drop}
-use Rattle.line_words.specs.Words.{is_blank, word_at, past_blanks, IsBlank, StartsIn}
+use Rattle.line_text.specs.Words.{is_blank, word_at, past_blanks, IsBlank, StartsIn}
 use Rattle.nova_symbols.specs.declared.fault.SymbolFault.{SymbolFault}
 use Rattle.nova_symbols.specs.declared.fault.SymbolFault.TheVariants.{UnknownName, Extra}
 use Rattle.nova_symbols.specs.declared.names.Shape.{Shape}

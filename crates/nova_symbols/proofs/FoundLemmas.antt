@@ -10,7 +10,7 @@ use Rattle.std.proofs.lemmas.List.Quantifiers.{position-Some}
 use Rattle.std.proofs.lemmas.List.Sums.{prefix_len-le-length, prefix_len_passes}
 use Rattle.std.proofs.lemmas.Slice.Eq.{bytes_eq-Decides}
 use Rattle.nova_word.specs.Numbers.{IsNumber, IsDigit, value_of}
-use Rattle.line_words.specs.Words.{is_blank, past_blanks, IsBlank, IsBlanks}
+use Rattle.line_text.specs.Words.{is_blank, past_blanks, IsBlank, IsBlanks}
 use Rattle.nova_symbols.specs.declared.fault.SymbolFault.{SymbolFault}
 use Rattle.nova_symbols.specs.declared.fault.SymbolFault.TheVariants.{BadField, OutOfRange}
 use Rattle.nova_symbols.specs.Names.{entry, skip_names, device_names, device_codes}

@@ -6,8 +6,8 @@ use Rattle.std.specs.List.{position}
 use Rattle.std.specs.Str.{bytes_eq, str_to_ascii_uppercase}
 use Rattle.std.proofs.lemmas.Bool.{eqb-true, and_parts}
 use Rattle.std.proofs.lemmas.List.{take-map, drop-map, map-append}
-use Rattle.line_words.specs.Words.{is_blank}
-use Rattle.line_words.proofs.SpellingLemmas.{capitals_twice}
+use Rattle.line_text.specs.Words.{is_blank}
+use Rattle.line_text.proofs.SpellingLemmas.{capitals_twice}
 use Rattle.nova_symbols.specs.declared.names.Shape.{Shape}
 use Rattle.nova_symbols.specs.declared.names.Shape.TheVariants.{Alone, Processor, Memory, Load, Arithmetic, Transfer, Device}
 use Rattle.nova_symbols.specs.declared.names.Naming.{Naming}

@@ -9,7 +9,7 @@ use Rattle.std.proofs.lemmas.Bool.Decides.{nat_tests}
 use Rattle.std.proofs.lemmas.List.{take_at, drop_at}
 use Rattle.std.proofs.lemmas.List.Elements.{All-head, All-tail}
 use Rattle.nova_word.specs.Numbers.{IsNumber, IsDigit}
-use Rattle.line_words.specs.Words.{is_blank, word_at, past_blanks, IsBlank, IsBlanks}
+use Rattle.line_text.specs.Words.{is_blank, word_at, past_blanks, IsBlank, IsBlanks}
 use Rattle.nova_symbols.specs.Names.{entry}
 use Rattle.nova_symbols.specs.Naming.{name_place}
 use Rattle.nova_symbols.specs.Operands.{is_separator, operand_at, behind_comma, after_comma, number}

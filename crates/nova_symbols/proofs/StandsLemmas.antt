@@ -4,7 +4,7 @@ use Rattle.std.proofs.Common.{◌≡◌, ℕ, ◌+◌, ◌<◌, suc, Bool, true,
 use Rattle.std.specs.List.{position_or_len}
 use Rattle.std.proofs.lemmas.Bool.{and_parts, not-true, eqb-true, eq-eqb, ne_eqb, or_cases, or_right, and_from, not_from_false, false_from_ne_true, false≢true}
 use Rattle.std.proofs.lemmas.List.Elements.{All-cons, All-nil, All-head, All-tail}
-use Rattle.line_words.specs.Words.{is_blank, past_blanks, IsBlank, IsBlanks, StartsIn}
+use Rattle.line_text.specs.Words.{is_blank, past_blanks, IsBlank, IsBlanks, StartsIn}
 use Rattle.nova_symbols.specs.declared.fault.SymbolFault.{SymbolFault}
 use Rattle.nova_symbols.specs.declared.fault.SymbolFault.TheVariants.{BadField, OutOfRange, Extra}
 use Rattle.nova_symbols.specs.Operands.{◌>>=◌, is_separator, operand_at, behind_comma, after_comma, comma_found, comma_at, ended}

@@ -2,7 +2,7 @@
 -- A fault of an operand is said by how many bytes of the text are left at its place.
 use Rattle.std.specs.Prelude.{◌≡◌, ℕ, ◌+◌, ◌<◌, ◌⊎◌, All, List, [], ◌∷◌, ◌++◌, length}
 use Rattle.nova_word.specs.Numbers.{IsNumber}
-use Rattle.line_words.specs.Words.{IsBlank, IsBlanks, StartsIn}
+use Rattle.line_text.specs.Words.{IsBlank, IsBlanks, StartsIn}
 use Rattle.nova_symbols.specs.declared.fault.SymbolFault.{SymbolFault}
 use Rattle.nova_symbols.specs.declared.fault.SymbolFault.TheVariants.{UnknownName, BadField, OutOfRange, Extra}
 use Rattle.nova_symbols.specs.declared.names.Shape.{Shape}

@@ -1,7 +1,7 @@
 -- The texts of each word, form by form: a name with its letters, and operands behind blanks, with a comma
 -- between two operands. This says nothing of how a text is read or printed.
 use Rattle.std.specs.Prelude.{◌≡◌, ℕ, ◌+◌, ◌-◌, ◌*◌, ◌%◌, ◌<◌, ◌≤◌, ◌⊎◌, List, [], ◌∷◌, ◌++◌, length, slice_index}
-use Rattle.line_words.specs.Words.{IsBlanks, IsSpelled}
+use Rattle.line_text.specs.Words.{IsBlanks, IsSpelled}
 use Rattle.nova_word.specs.Numbers.{IsNumber}
 use Rattle.nova_symbols.specs.declared.names.Shape.{Shape}
 use Rattle.nova_symbols.specs.declared.names.Shape.TheVariants.{Alone, Processor, Memory, Load, Arithmetic, Transfer, Device}

@@ -2,7 +2,7 @@
 -- left at its place.
 use Rattle.std.specs.Prelude.{◌≡◌, ℕ, ◌+◌, ◌-◌, ◌*◌, ◌%◌, ◌==◌, Bool, ◌||◌, ◌&&◌, Option, Some, None, Result, Ok, Err, List, [], ◌∷◌, length, take, drop, nat_lt, nat_le, if◌then◌else◌}
 use Rattle.std.specs.List.{position_or_len, list_all}
-use Rattle.line_words.specs.Words.{is_blank, past_blanks}
+use Rattle.line_text.specs.Words.{is_blank, past_blanks}
 use Rattle.nova_word.specs.Numbers.{value_of}
 use Rattle.nova_symbols.specs.declared.fault.SymbolFault.{SymbolFault}
 use Rattle.nova_symbols.specs.declared.fault.SymbolFault.TheVariants.{BadField, OutOfRange, Extra}

@@ -1,6 +1,6 @@
 -- Which word a text stands for, or its leftmost fault.
 use Rattle.std.specs.Prelude.{ℕ, ◌+◌, ◌-◌, ◌*◌, Option, Some, None, Result, Ok, Err, List, length}
-use Rattle.line_words.specs.Words.{word_at, past_blanks}
+use Rattle.line_text.specs.Words.{word_at, past_blanks}
 use Rattle.nova_symbols.specs.declared.fault.SymbolFault.{SymbolFault}
 use Rattle.nova_symbols.specs.declared.fault.SymbolFault.TheVariants.{UnknownName, BadField, OutOfRange, Extra}
 use Rattle.nova_symbols.specs.declared.names.Shape.{Shape}

@@ -1,12 +1,12 @@
 ghost use Rattle.std.specs.Prelude.{◌≡◌, ℕ, ◌+◌, ◌<◌, ◌≤◌, ◌^◌, ◌++◌, length, map, nat_le, IsTrue, IfSome, take, drop};
 ghost use Rattle.std.specs.List.{list_all, position};
-ghost use Rattle.line_words.specs.Words.{is_spelled};
+ghost use Rattle.line_text.specs.Words.{is_spelled};
 ghost use Rattle.nova_word.specs.Numbers.{octal_digits};
 ghost use Rattle.nova_symbols.specs.Names.{entry};
 ghost use Rattle.nova_symbols.specs.Naming.{name_place, letter};
 
 use line_text::Text;
-use line_words::is_spelled;
+use line_text::is_spelled;
 
 /// Which operands follow a name.
 #[derive(Clone, Copy, Debug, PartialEq, Eq)]

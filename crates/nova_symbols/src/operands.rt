@@ -2,13 +2,13 @@
 
 ghost use Rattle.std.specs.Prelude.{◌≡◌, ◌+◌, ◌<◌, ◌≤◌, ◌^◌, length, IfOk, IfSome, not, option_map, take, drop};
 ghost use Rattle.std.specs.List.{position_or_len, position};
-ghost use Rattle.line_words.specs.Words.{is_blank, word_at, past_blanks};
+ghost use Rattle.line_text.specs.Words.{is_blank, word_at, past_blanks};
 ghost use Rattle.nova_symbols.specs.Operands.{Gives, is_separator, operand_at, after_comma, comma_at, number};
 ghost use Rattle.nova_symbols.specs.Operands.{accumulator_at, index_at, device_number_at, negative, relative, signed};
 ghost use Rattle.nova_symbols.specs.Operands.{indexed, not_indexed, absolute, address, indirect, target_at, ended};
 
 use crate::fault::SymbolFault;
-use line_words::{is_blank, past_blanks};
+use line_text::{is_blank, past_blanks};
 use nova_word::{NumberFault, read_octal};
 
 fn is_separator(b: u8) -> bool
@@ -25,7 +25,7 @@ fn separator_place(text: &[u8]) -> Option<usize>
 }
 
 // The first blank or comma, or the end.
-#[tactic(auto, using(line_words::proofs::PlaceLemmas::place_or_length))]
+#[tactic(auto, using(line_text::proofs::PlaceLemmas::place_or_length))]
 fn first_separator(text: &[u8]) -> usize
     ensures place { result ≡ position_or_len is_separator text.now }
     ensures within { result ≤ length text.now }

@@ -15,7 +15,7 @@ use crate::input_output::{device_at, special_named, transfer_named};
 use crate::memory_reference::memory_named;
 use crate::names::{Naming, Shape};
 use crate::operands::{accumulator_at, after_comma, comma_at, ended, operand_at, target_at};
-use line_words::{past_blanks, word_at};
+use line_text::{past_blanks, word_at};
 use nova_word::Word;
 
 /// The word of a symbolic text, or the leftmost fault of the text.

@@ -4,7 +4,7 @@ use Rattle.host_files.specs.Lists.{NamedBytes}
 use Rattle.observations.specs.Observations.{text_of, Trace}
 use Rattle.observations.specs.Cut.{ends, cut_trace, map_outcome}
 use Rattle.observations.proofs.CutLemmas.{cut-printed, cut-refused, cut-map, more-room, first-part, whole}
-use Rattle.fault_notes.specs.Notes.{Note}
+use Rattle.file_commands.specs.Notes.{Note}
 use Rattle.expect_actions.specs.KeysFile.{Key}
 use Rattle.nova_machine.specs.Machine.{MachineState}
 use Rattle.nova_machine.specs.Seen.{seen, beside}

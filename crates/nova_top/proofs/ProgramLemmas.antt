@@ -13,10 +13,10 @@ use Rattle.unit_trait.specs.declared.kind.UnitName.{UnitName}
 use Rattle.unit_trait.specs.Calls.{UnitState}
 use Rattle.unit_files.specs.Attachments.{Attachment, Held, attachment_at, file_place, file_units}
 use Rattle.unit_files.specs.Open.{AllOpen, Around}
-use Rattle.fault_notes.specs.declared.note.FaultNote.{FaultNote}
-use Rattle.fault_notes.specs.Notes.{CommandNote, Note, numbered, Follow, notes_said}
-use Rattle.fault_notes.specs.Counts.{one_if, is_of, is_opening, noted, openings_noted, RoseBy, AreCounted}
-use Rattle.fault_notes.proofs.Adding.{counted-both}
+use Rattle.file_commands.specs.declared.note.FaultNote.{FaultNote}
+use Rattle.file_commands.specs.Notes.{CommandNote, Note, numbered, Follow, notes_said}
+use Rattle.file_commands.specs.Counts.{one_if, is_of, is_opening, noted, openings_noted, RoseBy, AreCounted}
+use Rattle.file_commands.proofs.Adding.{counted-both}
 use Rattle.file_commands.specs.AllUnits.{IsUnwritten}
 use Rattle.file_commands.proofs.Emptying.{unwritten-since}
 use Rattle.expect_actions.specs.KeysFile.{Key}

@@ -9,14 +9,14 @@ use Rattle.host_files.specs.declared.files.FileCall.TheVariants.{Opening, Length
 use Rattle.host_files.specs.declared.files.FileId.{FileId}
 use Rattle.host_files.specs.Lists.{NamedBytes}
 use Rattle.host_files.specs.State.{FileState}
-use Rattle.fault_notes.specs.declared.note.FaultNote.{FaultNote}
-use Rattle.fault_notes.specs.declared.note.Subject.{Subject}
-use Rattle.fault_notes.specs.declared.note.Subject.TheVariants as subject
-use Rattle.fault_notes.specs.Notes.{Note, said_of, notes_said}
-use Rattle.fault_notes.specs.Counts.{one_if, noted, openings_noted, RoseBy, AreCounted}
-use Rattle.fault_notes.specs.Counts as counts
-use Rattle.fault_notes.proofs.Adding.{noted-append, openings-append, rose-both, rose-none, counted-both}
-use Rattle.fault_notes.proofs.Causes.{rose-one}
+use Rattle.file_commands.specs.declared.note.FaultNote.{FaultNote}
+use Rattle.file_commands.specs.declared.note.Subject.{Subject}
+use Rattle.file_commands.specs.declared.note.Subject.TheVariants as subject
+use Rattle.file_commands.specs.Notes.{Note, said_of, notes_said}
+use Rattle.file_commands.specs.Counts.{one_if, noted, openings_noted, RoseBy, AreCounted}
+use Rattle.file_commands.specs.Counts as counts
+use Rattle.file_commands.proofs.Adding.{noted-append, openings-append, rose-both, rose-none, counted-both}
+use Rattle.file_commands.proofs.Causes.{rose-one}
 use Rattle.whole_files.specs.declared.whole.FailedCall.{FailedCall}
 use Rattle.whole_files.specs.declared.whole.Whole.{Whole}
 use Rattle.whole_files.specs.declared.whole.WholeFault.{WholeFault}

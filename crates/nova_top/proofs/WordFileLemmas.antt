@@ -7,11 +7,11 @@ use Rattle.std.proofs.lemmas.List.{length-map, get_or-map}
 use Rattle.std.proofs.Math.Seq.{drop-append_seam}
 use Rattle.host_files.specs.declared.files.FileCall.{FileCall}
 use Rattle.host_files.specs.Lists.{NamedBytes}
-use Rattle.fault_notes.specs.declared.note.FaultNote.{FaultNote}
-use Rattle.fault_notes.specs.declared.note.Subject.{Subject}
-use Rattle.fault_notes.specs.declared.note.Subject.TheVariants as subject
-use Rattle.fault_notes.specs.Notes.{CommandNote, Note, same_subject, handed, Follow, notes_said}
-use Rattle.fault_notes.proofs.Handing.{handed-none}
+use Rattle.file_commands.specs.declared.note.FaultNote.{FaultNote}
+use Rattle.file_commands.specs.declared.note.Subject.{Subject}
+use Rattle.file_commands.specs.declared.note.Subject.TheVariants as subject
+use Rattle.file_commands.specs.Notes.{CommandNote, Note, same_subject, handed, Follow, notes_said}
+use Rattle.file_commands.proofs.Handing.{handed-none}
 use Rattle.whole_files.specs.declared.whole.WholeFault.{WholeFault}
 use Rattle.whole_files.specs.Whole.{WholeSaid, whole_act}
 use Rattle.whole_files.specs.Claims.{said_of_bytes}

@@ -4,9 +4,9 @@ use Rattle.observations.specs.Observations.{Prints, Trace, map_trace}
 use Rattle.observations.specs.Cut.{Outcome, cut_trace}
 use Rattle.host_files.specs.declared.files.FileCall.{FileCall}
 use Rattle.host_files.specs.Lists.{NamedBytes}
-use Rattle.fault_notes.specs.declared.note.Subject.{Subject}
-use Rattle.fault_notes.specs.declared.note.Subject.TheVariants as subject
-use Rattle.fault_notes.specs.Notes.{CommandNote, Note, same_subject, handed}
+use Rattle.file_commands.specs.declared.note.Subject.{Subject}
+use Rattle.file_commands.specs.declared.note.Subject.TheVariants as subject
+use Rattle.file_commands.specs.Notes.{CommandNote, Note, same_subject, handed}
 use Rattle.whole_files.specs.Whole.{WholeSaid, WholeIs, whole_act}
 use Rattle.expect_actions.specs.KeysFile.{Key, keys_read}
 use Rattle.expect_actions.specs.Watch.{empty_watch}

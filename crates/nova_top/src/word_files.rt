@@ -1,8 +1,8 @@
 // The files that the words name: the keys file and the script.
 ghost use Rattle.std.specs.Prelude.{◌≡◌, ◌+◌, ◌<◌, ◌≤◌, ◌++◌, ℕ, List, [], IsTrue, IfOk, IfErr, IfSome, option_map, is_none};
 ghost use Rattle.std.specs.Prelude.{string_bytes, length, get_or, vec_len, vec_capacity};
-ghost use Rattle.fault_notes.specs.Notes.{notes_said};
-ghost use Rattle.fault_notes.specs.declared.note.Subject.TheVariants as subject;
+ghost use Rattle.file_commands.specs.Notes.{notes_said};
+ghost use Rattle.file_commands.specs.declared.note.Subject.TheVariants as subject;
 ghost use Rattle.whole_files.specs.Whole.{longest_file};
 ghost use Rattle.whole_files.specs.Claims.{said_of_bytes};
 ghost use Rattle.scp_script.specs.Loop.{AreKept};
@@ -15,7 +15,7 @@ ghost use Rattle.nova_top.specs.Workload.{first_text};
 use crate::options::Options;
 use crate::workload::first_text;
 use expect_actions::{Keys, KeysFault};
-use fault_notes::{FaultNote, Subject, keep};
+use file_commands::{FaultNote, Subject, keep};
 use host_files::Files;
 use scp_commands::{DoFile, ScriptText};
 use scp_script::Opening;

@@ -14,12 +14,12 @@ use Rattle.operand_forms.specs.declared.listing.Name.{Name}
 use Rattle.operand_forms.specs.declared.listing.Name.TheVariants.{Cpu, Device}
 use Rattle.operand_forms.specs.declared.listing.Item.{Item}
 use Rattle.operand_forms.specs.declared.listing.Item.TheVariants.{At, Range, Count, All as AllWords, Reg, State, Unknown}
-use Rattle.line_words.specs.Words.{IsSpelled, is_spelled}
+use Rattle.line_text.specs.Words.{IsSpelled, is_spelled}
 use Rattle.operand_forms.specs.Names.{register_names}
 use Rattle.operand_forms.specs.Forms.{IsOctal, IsDecimal, IsLetter, IsName, IsRegister, IsItem, at, range, count, all_words, state, register, unknown, AreItems, last, more, IsList}
 use Rattle.operand_forms.specs.Operands.{or_else, both, octal, decimal, is_letter, is_name_byte, is_name, register_named, unknown_name, named_item, front, behind, range_of, count_of, numbered_item, item_of, has_mark, items_up_to, items_of}
 use Rattle.operand_forms.proofs.ChoiceLemmas.{chosen, same_some, none_from, either_answer, first_answer, second_answer, mapped, two_answers, put_together}
-use Rattle.line_words.proofs.SpellingLemmas.{spelled_is, is_spelled_so, spelled_alike}
+use Rattle.line_text.proofs.SpellingLemmas.{spelled_is, is_spelled_so, spelled_alike}
 use Rattle.operand_forms.proofs.SpellingLemmas.{starts_digit, spelled_starts, lacks, spelled_lacks}
 use Rattle.operand_forms.proofs.NumberLemmas.{octal_found, octal_reads, decimal_found, decimal_reads, number_lacks, number_starts}
 use Rattle.operand_forms.proofs.ListLemmas.{are_apart, place_found, place_is}

@@ -6,7 +6,7 @@ use Rattle.std.proofs.lemmas.Option.{slice_get_cases, get_or_from_slice_get}
 use Rattle.std.proofs.lemmas.Bool.Decides.{nat_tests}
 use borrow.Author.Count.{below_more}
 use Rattle.operand_forms.specs.declared.listing.Name.{Name}
-use Rattle.line_words.specs.Words.{is_spelled}
+use Rattle.line_text.specs.Words.{is_spelled}
 use Rattle.operand_forms.specs.Names.{register_names}
 use Rattle.operand_forms.specs.Operands.{register_named}
 

@@ -6,7 +6,7 @@ use Rattle.std.specs.Str.{str_to_ascii_uppercase}
 use Rattle.std.specs.List.{list_all}
 use Rattle.std.proofs.lemmas.Bool.Decides.{nat_tests}
 use Rattle.nova_word.specs.Numbers.{is_digit}
-use Rattle.line_words.specs.Words.{IsSpelled}
+use Rattle.line_text.specs.Words.{IsSpelled}
 
 -- a text that begins with a decimal digit
 abbrev pub starts_digit : List ℕ → Bool

@@ -11,12 +11,12 @@ use Rattle.unit_trait.specs.declared.kind.Kind.{Kind}
 use Rattle.unit_trait.specs.declared.kind.Kind.TheVariants.{Dsk, Mta, Lpt, Ptr, Ptp, Clk, Tti, Tto, Tti1, Tto1, Qty}
 use Rattle.unit_trait.specs.declared.kind.UnitName.{UnitName}
 use Rattle.unit_trait.specs.Kinds.{kind_name}
-use Rattle.line_words.specs.Words.{IsSpelled, is_spelled}
+use Rattle.line_text.specs.Words.{IsSpelled, is_spelled}
 use Rattle.operand_forms.specs.Names.{device_kinds, unit_kinds}
 use Rattle.operand_forms.specs.Forms.{IsKind, IsDevice, IsUnit, alone, drive}
 use Rattle.operand_forms.specs.Operands.{kind_named, device_of, unit_alone, drive_at, drive_of, unit_of}
 use Rattle.operand_forms.proofs.ChoiceLemmas.{chosen, same_some, none_from, either_answer, first_answer, second_answer, mapped}
-use Rattle.line_words.proofs.SpellingLemmas.{spelled_is, is_spelled_so, spelled_alike}
+use Rattle.line_text.proofs.SpellingLemmas.{spelled_is, is_spelled_so, spelled_alike}
 use Rattle.operand_forms.proofs.ListLemmas.{are_apart, first_found, first_is}
 
 -- kinds

@@ -11,7 +11,7 @@ use Rattle.operand_forms.specs.declared.listing.Rel.TheVariants.{Eq, Ne, Lt, Le,
 use Rattle.operand_forms.specs.declared.listing.Condition.{Condition}
 use Rattle.operand_forms.specs.declared.listing.Item.{Item}
 use Rattle.operand_forms.specs.declared.listing.Item.TheVariants.{At, Range, Count, All as AllWords, Reg, State, Unknown}
-use Rattle.line_words.specs.Words.{IsSpelled}
+use Rattle.line_text.specs.Words.{IsSpelled}
 use Rattle.operand_forms.specs.Names.{device_kinds, unit_kinds, register_names}
 
 -- a number above the largest of its reader is held as this one

@@ -14,7 +14,7 @@ use Rattle.operand_forms.specs.declared.listing.Rel.TheVariants.{Eq, Ne, Lt, Le,
 use Rattle.operand_forms.specs.declared.listing.Condition.{Condition}
 use Rattle.operand_forms.specs.declared.listing.Item.{Item}
 use Rattle.operand_forms.specs.declared.listing.Item.TheVariants.{At, Range, Count, All, Reg, State, Unknown}
-use Rattle.line_words.specs.Words.{is_spelled}
+use Rattle.line_text.specs.Words.{is_spelled}
 use Rattle.operand_forms.specs.Names.{device_kinds, unit_kinds, register_names, first_of}
 use Rattle.operand_forms.specs.Forms.{too_large, largest_octal, largest_decimal}
 

@@ -53,7 +53,7 @@ fn first_rel_byte(text: &[u8]) -> Option<usize>
 }
 
 /// The place of the first byte of a comparison, or the end.
-#[tactic(auto, using(line_words::proofs::PlaceLemmas::place_or_length, line_words::proofs::PlaceLemmas::place_le_length))]
+#[tactic(auto, using(line_text::proofs::PlaceLemmas::place_or_length, line_text::proofs::PlaceLemmas::place_le_length))]
 pub fn rel_place(text: &[u8]) -> usize
     ensures place { result ≡ position_or_len is_rel_byte text.now }
     ensures within { result ≤ length text.now }

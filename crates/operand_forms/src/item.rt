@@ -7,7 +7,7 @@ ghost use Rattle.operand_forms.specs.Views.{some_behind};
 use crate::listing::{Item, Items, MOST_ITEMS, Name};
 use crate::number::{decimal, octal};
 use crate::registers::register_named;
-use line_words::is_spelled;
+use line_text::is_spelled;
 
 /// The items of a list, with commas between them: 1 to 16.
 #[tactic(auto, unfolding(crate::specs::Operands::items_of))]

@@ -4,7 +4,7 @@ ghost use Rattle.operand_forms.specs.Names.{register_names};
 ghost use Rattle.operand_forms.specs.Operands.{register_named};
 
 use crate::listing::Name;
-use line_words::is_spelled;
+use line_text::is_spelled;
 use unit_trait::{CpuReg, reg_name};
 
 /// The name of a register of the processor or of a device, by its number in order from 0; none past the last one.

@@ -1,7 +1,7 @@
 ghost use Rattle.std.specs.Prelude.{◌≡◌, ◌∷◌, []};
 ghost use Rattle.operand_forms.specs.Operands.{device_of, kind_named, drive_at, drive_of, unit_of};
 
-use line_words::is_spelled;
+use line_text::is_spelled;
 use unit_trait::{Kind, UnitName};
 
 // The kinds whose registers can be named.

@@ -14,7 +14,7 @@ use crate::boxes::push_four;
 use crate::checked::holds;
 use crate::row::{Row, add, bytes, decimal, number, text};
 use crate::units::{Purpose, with_new_units};
-use fault_notes::{FaultNote, Subject};
+use file_commands::{FaultNote, Subject};
 use host_files::{ByteSink, ByteSource, FileCall, Files, MemFiles, Sink, Source, next_byte};
 use nova_machine::Machine;
 use nova_top::{Ending, simulate};

@@ -21,13 +21,13 @@ use Rattle.unit_files.specs.Acts.{Failure, AttachSaid, Attached, UnitHasFile, On
 use Rattle.unit_files.specs.Buffer.{AttachedFiles}
 use Rattle.unit_files.specs.Acts.{measured, measured_as, read_whole, opened_said, opening_said, said_unless, attach_said, files_unless_opening, files_unless, attach_files, attached_by, buffer_by}
 use Rattle.unit_files.specs.Answers.{failure_in, said_of_attach}
-use Rattle.fault_notes.specs.declared.note.Subject.{Subject}
-use Rattle.fault_notes.specs.declared.note.Subject.TheVariants as subject
-use Rattle.fault_notes.specs.declared.note.FaultNote.{FaultNote}
-use Rattle.fault_notes.specs.Notes.{CommandNote, Note, same_subject, numbered, failure_now, notes_said}
-use Rattle.fault_notes.specs.Counts.{AreCounted}
+use Rattle.file_commands.specs.declared.note.Subject.{Subject}
+use Rattle.file_commands.specs.declared.note.Subject.TheVariants as subject
+use Rattle.file_commands.specs.declared.note.FaultNote.{FaultNote}
+use Rattle.file_commands.specs.Notes.{CommandNote, Note, same_subject, numbered, failure_now, notes_said}
+use Rattle.file_commands.specs.Counts.{AreCounted}
 use Rattle.file_commands.specs.declared.stamp.Stamp.{Stamp}
-use Rattle.file_commands.specs.Notes.{IsAttachFault, MissingCause, fault_of_attach, kept_of, own_of, own_note}
+use Rattle.file_commands.specs.Kept.{IsAttachFault, MissingCause, fault_of_attach, kept_of, own_of, own_note}
 use Rattle.expect_actions.specs.Watch.{WatchState}
 use Rattle.nova_machine.specs.Machine.{MachineState, attached_files, with_attached_files}
 use Rattle.nova_machine.specs.Seen.{erased, seen, beside, attached_in}

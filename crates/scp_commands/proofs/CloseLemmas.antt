@@ -15,10 +15,10 @@ use Rattle.unit_trait.proofs.Codes.{same-code}
 use Rattle.unit_files.specs.Attachments.{Attachment, Held, attachments_of, file_place, attachment_at, is_disk}
 use Rattle.unit_files.specs.Buffer.{AttachedFiles}
 use Rattle.unit_files.specs.Acts.{Failure, DetachSaid, HadNone, StillHeld, Detached, same_call, detached, detach_said_of, closing_said, flush_failure, is_due_back}
-use Rattle.fault_notes.specs.declared.note.Subject.{Subject}
-use Rattle.fault_notes.specs.declared.note.Subject.TheVariants as subject
-use Rattle.fault_notes.specs.declared.note.FaultNote.{FaultNote}
-use Rattle.fault_notes.specs.Notes.{CommandNote, Note, same_subject, numbered, failure_now, notes_said, said_of}
+use Rattle.file_commands.specs.declared.note.Subject.{Subject}
+use Rattle.file_commands.specs.declared.note.Subject.TheVariants as subject
+use Rattle.file_commands.specs.declared.note.FaultNote.{FaultNote}
+use Rattle.file_commands.specs.Notes.{CommandNote, Note, same_subject, numbered, failure_now, notes_said, said_of}
 use Rattle.file_commands.specs.AllUnits.{attachable, Filed, Emptied, emptied_as, said_in, written_in, without_file, filed_of, emptied, Empties}
 use Rattle.file_commands.proofs.Emptying.{emptied-nothing, emptied-more}
 use Rattle.expect_actions.specs.Watch.{WatchState}

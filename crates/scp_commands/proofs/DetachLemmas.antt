@@ -8,7 +8,7 @@ use Rattle.host_files.specs.declared.files.FileCall.{FileCall}
 use Rattle.host_files.specs.declared.files.FileCall.TheVariants.{Opening, Length, Read, Write, SetLength, Closing}
 use Rattle.host_files.specs.State.{FileState}
 use Rattle.unit_trait.specs.Kinds.{same_unit}
-use Rattle.fault_notes.specs.Counts.{AreCounted}
+use Rattle.file_commands.specs.Counts.{AreCounted}
 use Rattle.host_files.specs.Lists.{NamedBytes}
 use Rattle.unit_trait.specs.declared.kind.UnitName.{UnitName}
 use Rattle.unit_files.specs.declared.faults.UnitFault.{UnitFault}
@@ -19,11 +19,11 @@ use Rattle.unit_files.specs.Buffer.{Buffer, AttachedFiles}
 use Rattle.unit_files.specs.Acts.{Failure, DetachSaid, HadNone, StillHeld, Detached, same_call, detach_said, detach_said_of, closing_said, flush_failure, flush_files}
 use Rattle.unit_files.specs.Acts.{is_due_back, detached, detached_by, buffer_left}
 use Rattle.unit_files.specs.Answers.{failure_in, said_of_detach}
-use Rattle.fault_notes.specs.declared.note.Subject.TheVariants as subject
-use Rattle.fault_notes.specs.declared.note.FaultNote.{FaultNote}
-use Rattle.fault_notes.specs.Notes.{CommandNote, Note, numbered, failure_now, notes_said}
+use Rattle.file_commands.specs.declared.note.Subject.TheVariants as subject
+use Rattle.file_commands.specs.declared.note.FaultNote.{FaultNote}
+use Rattle.file_commands.specs.Notes.{CommandNote, Note, numbered, failure_now, notes_said}
 use Rattle.file_commands.specs.declared.stamp.Stamp.{Stamp}
-use Rattle.file_commands.specs.Notes.{fault_of_detach, kept_of, own_of}
+use Rattle.file_commands.specs.Kept.{fault_of_detach, kept_of, own_of}
 use Rattle.expect_actions.specs.Watch.{WatchState}
 use Rattle.nova_machine.specs.Machine.{MachineState, attached_files, with_attached_files}
 use Rattle.nova_machine.specs.Seen.{erased, seen, beside, attached_in}

@@ -1,6 +1,6 @@
 -- A command that keeps no note was done, whatever comes behind it.
 use Rattle.std.proofs.Common.{◌≡◌, ℕ, Bool, List, [], Err, refl, sym, subst, ◌∙◌, append-nil}
-use Rattle.fault_notes.specs.Notes.{CommandNote, Note}
+use Rattle.file_commands.specs.Notes.{CommandNote, Note}
 use Rattle.scp_commands.specs.declared.fault.CommandFault.{CommandFault}
 use Rattle.scp_commands.specs.declared.fault.CommandFault.TheVariants.{Console, OutOfMemory}
 use Rattle.scp_commands.specs.Live.{Live, standing}

@@ -1,8 +1,8 @@
 -- What DO comes to, and why.
 use Rattle.std.proofs.Common.{◌≡◌, ℕ, Bool, List, ◌++◌, length, Option, Some, None, IfSome}
-use Rattle.fault_notes.specs.declared.note.Subject.TheVariants as subject
-use Rattle.fault_notes.specs.declared.note.FaultNote.{FaultNote}
-use Rattle.fault_notes.specs.Notes.{CommandNote, notes_said}
+use Rattle.file_commands.specs.declared.note.Subject.TheVariants as subject
+use Rattle.file_commands.specs.declared.note.FaultNote.{FaultNote}
+use Rattle.file_commands.specs.Notes.{CommandNote, notes_said}
 use Rattle.whole_files.specs.declared.whole.Whole.{Whole}
 use Rattle.whole_files.specs.Whole.{WholeSaid, whole_act}
 use Rattle.whole_files.specs.Claims.{said_of, claimed}

@@ -12,10 +12,10 @@ use Rattle.unit_files.specs.Acts.{AttachSaid, Attached, UnitHasFile, OnlyWrites,
 use Rattle.host_files.specs.Lists.{NamedBytes, bytes_of, changed}
 use Rattle.unit_files.specs.Acts.{Failure, DetachSaid, HadNone, StillHeld, Detached, attach_said, attach_files, detach_said, detach_said_of}
 use Rattle.unit_files.specs.Acts.{closing_said, flush_failure, flush_files, is_due_back, written_back}
-use Rattle.fault_notes.specs.declared.note.Subject.TheVariants as subject
+use Rattle.file_commands.specs.declared.note.Subject.TheVariants as subject
 use Rattle.whole_files.specs.Whole.{WholeSaid, WholeIs, whole_act}
 use Rattle.whole_files.specs.Whole as whole
-use Rattle.fault_notes.specs.Notes.{CommandNote, failure_now}
+use Rattle.file_commands.specs.Notes.{CommandNote, failure_now}
 use Rattle.nova_memory.specs.Memory.{fits_size}
 use Rattle.nova_machine.specs.Seen.{attached_in}
 use Rattle.nova_machine.specs.Run.{run}

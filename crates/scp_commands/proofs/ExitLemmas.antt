@@ -1,7 +1,7 @@
 -- What EXIT answers, by its status.
 use Rattle.std.proofs.Common.{◌≡◌, ℕ, ◌<◌, ◌≤◌, nat_le, true, false, List, Option, unwrap_or, refl, ap, sym, ◌∙◌, subst, Err, Bool, if◌then◌else◌, arith}
 use Rattle.std.proofs.lemmas.Bool.Decides.{nat_tests}
-use Rattle.fault_notes.specs.Notes.{CommandNote, Note}
+use Rattle.file_commands.specs.Notes.{CommandNote, Note}
 use Rattle.scp_commands.specs.declared.next.Next.TheVariants.{Exit}
 use Rattle.scp_commands.specs.declared.fault.CommandFault.TheVariants.{OutOfRange}
 use Rattle.scp_commands.specs.Live.{Live}

@@ -2,9 +2,9 @@
 use Rattle.std.proofs.Common.{◌≡◌, ℕ, ◌<◌, Bool, true, false, List, [], ◌+◌, length, nat_le, nat_lt, not, ◌==◌, ◌&&◌, Option, Some, None, Result, Ok, Err, refl, ap, sym, ◌∙◌, subst, append-nil, if◌then◌else◌, arith}
 use Rattle.host_files.specs.State.{FileState}
 use Rattle.unit_trait.specs.declared.kind.UnitName.{UnitName}
-use Rattle.fault_notes.specs.declared.note.FaultNote.{FaultNote}
-use Rattle.fault_notes.specs.Notes.{CommandNote, Note}
-use Rattle.fault_notes.proofs.Adding.{counted-none}
+use Rattle.file_commands.specs.declared.note.FaultNote.{FaultNote}
+use Rattle.file_commands.specs.Notes.{CommandNote, Note}
+use Rattle.file_commands.proofs.Adding.{counted-none}
 use Rattle.nova_memory.specs.Memory.{fits_size}
 use Rattle.nova_machine.specs.declared.machine.Stop.TheVariants.{ConsoleFault, FileFault}
 use Rattle.nova_machine.specs.Machine.{MachineState, reset_devices, reset_machine}

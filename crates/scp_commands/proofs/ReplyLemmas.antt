@@ -4,7 +4,7 @@ use Rattle.host_files.specs.Streams.{AddsPart, Puts}
 use Rattle.observations.specs.Observations.{Observation, Prints, text_of}
 use Rattle.observations.proofs.MadeLemmas.{text_of-append, stands-behind}
 use Rattle.observations.proofs.CutLemmas.{breaks-behind, breaks-here}
-use Rattle.fault_notes.specs.Notes.{CommandNote, Note}
+use Rattle.file_commands.specs.Notes.{CommandNote, Note}
 use Rattle.scp_commands.specs.declared.next.Next.TheVariants.{Go, Ran}
 use Rattle.scp_commands.specs.declared.fault.CommandFault.{CommandFault}
 use Rattle.scp_commands.specs.declared.fault.CommandFault.TheVariants.{Console, OutOfMemory}

@@ -18,7 +18,7 @@ use Rattle.unit_trait.specs.Teleprinter.{teleprinter_row}
 use Rattle.event_queue.specs.EventList.{Event, waits, placed, activated, wished}
 use Rattle.unit_list.specs.Bus.{unit_at}
 use Rattle.unit_list.specs.Reset.{first_unit, reset_events}
-use Rattle.fault_notes.specs.Notes.{CommandNote}
+use Rattle.file_commands.specs.Notes.{CommandNote}
 use Rattle.nova_machine.specs.Machine.{MachineState, reset_devices, reset_machine}
 use Rattle.scp_parser.specs.Command as request
 use Rattle.scp_commands.specs.Live.{Live, with_machine}

@@ -18,14 +18,14 @@ use Rattle.unit_files.specs.Attachments.{Held}
 use Rattle.unit_files.specs.Acts.{Failure}
 use Rattle.unit_files.specs.Answers.{failure_in}
 use Rattle.unit_files.specs.Causes.{IsFaultOf}
-use Rattle.fault_notes.specs.declared.note.Subject.{Subject}
-use Rattle.fault_notes.specs.declared.note.Subject.TheVariants as subject
-use Rattle.fault_notes.specs.declared.note.FaultNote.{FaultNote}
-use Rattle.fault_notes.specs.Notes.{CommandNote, Note, numbered, said_of, notes_said}
-use Rattle.fault_notes.specs.Counts.{is_of, one_if, openings_noted, RoseBy, AreCounted}
-use Rattle.fault_notes.proofs.Causes.{rose-one, counted-quiet}
+use Rattle.file_commands.specs.declared.note.Subject.{Subject}
+use Rattle.file_commands.specs.declared.note.Subject.TheVariants as subject
+use Rattle.file_commands.specs.declared.note.FaultNote.{FaultNote}
+use Rattle.file_commands.specs.Notes.{CommandNote, Note, numbered, said_of, notes_said}
+use Rattle.file_commands.specs.Counts.{is_of, one_if, openings_noted, RoseBy, AreCounted}
+use Rattle.file_commands.proofs.Causes.{rose-one, counted-quiet}
 use Rattle.file_commands.specs.declared.stamp.Stamp.{Stamp}
-use Rattle.file_commands.specs.Notes.{fault_note, own_note}
+use Rattle.file_commands.specs.Kept.{fault_note, own_note}
 use Rattle.nova_machine.specs.declared.machine.Stop.{Stop}
 use Rattle.nova_machine.specs.declared.machine.Stop.TheVariants.{ConsoleFault, FileFault}
 use Rattle.nova_machine.specs.Notes.{RunNote, run_note}

@@ -1,7 +1,7 @@
 -- What stands before a run, and RESET.
 use Rattle.std.proofs.Common.{◌≡◌, ◌∙◌, ℕ, ◌&&◌, ◌^◌, nat_le, Bool, true, false, List, Option, Some, None, Ok, refl, ap, sym, subst, if◌then◌else◌}
 use Rattle.host_files.specs.Lists.{NamedBytes}
-use Rattle.fault_notes.specs.Notes.{CommandNote, Note, notes_said}
+use Rattle.file_commands.specs.Notes.{CommandNote, Note, notes_said}
 use Rattle.expect_actions.specs.Watch.{WatchState}
 use Rattle.nova_machine.specs.Machine.{MachineState, reset_machine, reset_devices}
 use Rattle.nova_machine.specs.Seen.{erased, seen, beside}

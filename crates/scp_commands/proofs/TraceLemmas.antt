@@ -11,7 +11,7 @@ use Rattle.unit_files.specs.Attachments.{Attachment, attachment_at, is_disk, lon
 use Rattle.unit_files.specs.Acts.{Failure, AttachSaid, Attached, UnitHasFile, OnlyWrites, NotThere, TooLong, CallFailed, failure_at, refused_first, opened_files}
 use Rattle.unit_files.specs.Acts.{measured_as, reading_failure, read_whole, opened_said, opening_said, said_unless, attach_said, files_where, files_unless_opening, files_unless, attach_files}
 use Rattle.scp_parser.specs.Command as request
-use Rattle.fault_notes.specs.declared.note.Subject.TheVariants as subject
+use Rattle.file_commands.specs.declared.note.Subject.TheVariants as subject
 use Rattle.scp_commands.specs.declared.fault.CommandFault.{CommandFault}
 use Rattle.scp_commands.specs.declared.fault.CommandFault.TheVariants.{FileFailed}
 use Rattle.scp_commands.specs.FileEffects.{attach_answer}

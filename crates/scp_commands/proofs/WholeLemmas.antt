@@ -14,12 +14,12 @@ use Rattle.host_files.specs.declared.files.FileId.{FileId}
 use Rattle.host_files.specs.Lists.{NamedBytes}
 use Rattle.host_files.specs.State.{FileState}
 use Rattle.unit_trait.specs.declared.kind.UnitName.{UnitName}
-use Rattle.fault_notes.specs.declared.note.Subject.{Subject}
-use Rattle.fault_notes.specs.declared.note.Subject.TheVariants as subject
-use Rattle.fault_notes.specs.declared.note.FaultNote.{FaultNote}
-use Rattle.fault_notes.specs.Notes.{CommandNote, Note, same_subject, numbered, notes_said}
-use Rattle.fault_notes.specs.Counts.{is_of, is_opening, one_if, noted, openings_noted, RoseBy, AreCounted}
-use Rattle.fault_notes.proofs.Causes.{rose-one}
+use Rattle.file_commands.specs.declared.note.Subject.{Subject}
+use Rattle.file_commands.specs.declared.note.Subject.TheVariants as subject
+use Rattle.file_commands.specs.declared.note.FaultNote.{FaultNote}
+use Rattle.file_commands.specs.Notes.{CommandNote, Note, same_subject, numbered, notes_said}
+use Rattle.file_commands.specs.Counts.{is_of, is_opening, one_if, noted, openings_noted, RoseBy, AreCounted}
+use Rattle.file_commands.proofs.Causes.{rose-one}
 use Rattle.file_commands.specs.declared.stamp.Stamp.{Stamp}
 use Rattle.whole_files.specs.declared.whole.FailedCall.{FailedCall}
 use Rattle.whole_files.specs.declared.whole.Whole.{Whole}

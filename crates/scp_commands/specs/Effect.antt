@@ -1,6 +1,6 @@
 -- What each command does.
 use Rattle.std.specs.Prelude.{ℕ, List, unwrap_or, true, false, Result, Ok, Err, if◌then◌else◌}
-use Rattle.fault_notes.specs.Notes.{CommandNote}
+use Rattle.file_commands.specs.Notes.{CommandNote}
 use Rattle.scp_parser.specs.declared.fault.ParseFault.{ParseFault}
 use Rattle.scp_parser.specs.Command.{Request, Nothing, Examine, Deposit, Run, Go, Cont, Step, Reset, Break, NoBreak, Expect, NoExpect, Send, NoSend}
 use Rattle.scp_parser.specs.Command.{Attach, Detach, SetSize, Show, Do, Goto, Assert, Echo, Exit, Load, Dump}

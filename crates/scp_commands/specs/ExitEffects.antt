@@ -1,6 +1,6 @@
 -- EXIT, QUIT and BYE.
 use Rattle.std.specs.Prelude.{ℕ, nat_le, List, Option, unwrap_or, if◌then◌else◌}
-use Rattle.fault_notes.specs.Notes.{CommandNote}
+use Rattle.file_commands.specs.Notes.{CommandNote}
 use Rattle.scp_commands.specs.declared.next.Next.TheVariants.{Exit}
 use Rattle.scp_commands.specs.declared.fault.CommandFault.TheVariants.{OutOfRange}
 use Rattle.scp_commands.specs.Live.{Live}

@@ -13,8 +13,8 @@ use Rattle.unit_files.specs.declared.faults.AttachFault.{AttachFault}
 use Rattle.unit_files.specs.declared.faults.AttachFault.TheVariants as attach
 use Rattle.unit_files.specs.declared.faults.DetachFault.{DetachFault}
 use Rattle.unit_files.specs.declared.faults.DetachFault.TheVariants as detach
-use Rattle.fault_notes.specs.declared.note.Subject.{Subject}
-use Rattle.fault_notes.specs.declared.note.Subject.TheVariants as subject
+use Rattle.file_commands.specs.declared.note.Subject.{Subject}
+use Rattle.file_commands.specs.declared.note.Subject.TheVariants as subject
 use Rattle.scp_examine.specs.declared.fault.ExamineFault.{ExamineFault}
 use Rattle.scp_examine.specs.declared.fault.ExamineFault.TheVariants as list
 use Rattle.scp_commands.specs.declared.fault.CommandFault.{CommandFault}

@@ -5,7 +5,7 @@ use Rattle.unit_trait.specs.Kinds.{code_of}
 use Rattle.event_queue.specs.EventList.{waits}
 use Rattle.unit_list.specs.Bus.{unit_at}
 use Rattle.unit_list.specs.Reset.{first_unit, reset_units, reset_events}
-use Rattle.fault_notes.specs.Notes.{CommandNote}
+use Rattle.file_commands.specs.Notes.{CommandNote}
 use Rattle.nova_interrupts.specs.Interrupts.{no_interrupts}
 use Rattle.nova_memory.specs.Memory.{IsMemory, fits_size, get}
 use Rattle.nova_machine.specs.Machine.{MachineState}

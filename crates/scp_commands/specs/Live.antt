@@ -3,7 +3,7 @@
 use Rattle.std.specs.Prelude.{ℕ, List, map, option_map, Option}
 use Rattle.host_files.specs.Lists.{NamedBytes}
 use Rattle.unit_files.specs.Attachments.{Attachment, Held}
-use Rattle.fault_notes.specs.declared.note.FaultNote.{FaultNote}
+use Rattle.file_commands.specs.declared.note.FaultNote.{FaultNote}
 use Rattle.expect_actions.specs.Watch.{WatchState}
 use Rattle.nova_machine.specs.Machine.{MachineState}
 use Rattle.nova_machine.specs.Seen.{Seen, seen, beside}

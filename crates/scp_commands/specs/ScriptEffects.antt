@@ -1,7 +1,7 @@
 -- DO, GOTO, ECHO and ASSERT (SIMH Users' Guide, "Executing Command Files").
 use Rattle.std.specs.Prelude.{ℕ, Bool, true, false, List, [], ◌∷◌, ◌++◌, Result, Ok, Err, if◌then◌else◌}
-use Rattle.fault_notes.specs.declared.note.Subject.TheVariants as subject
-use Rattle.fault_notes.specs.Notes.{CommandNote}
+use Rattle.file_commands.specs.declared.note.Subject.TheVariants as subject
+use Rattle.file_commands.specs.Notes.{CommandNote}
 use Rattle.whole_files.specs.Whole.{WholeSaid, whole_act}
 use Rattle.nova_machine.specs.Machine.{MachineState}
 use Rattle.operand_forms.specs.declared.listing.Test.{Test}

@@ -4,9 +4,9 @@ use Rattle.std.specs.Prelude.{ℕ, ◌==◌, ◌&&◌, Bool, List, [], ◌∷◌
 use Rattle.std.specs.Prelude.{Result, Ok, Err}
 use Rattle.std.specs.Global.{Vec}
 use Rattle.host_files.specs.declared.files.FileCall.{FileCall}
-use Rattle.fault_notes.specs.declared.note.Subject.{Subject}
-use Rattle.fault_notes.specs.declared.note.FaultNote.{FaultNote}
-use Rattle.fault_notes.specs.Notes.{CommandNote, same_subject}
+use Rattle.file_commands.specs.declared.note.Subject.{Subject}
+use Rattle.file_commands.specs.declared.note.FaultNote.{FaultNote}
+use Rattle.file_commands.specs.Notes.{CommandNote, same_subject}
 use Rattle.file_commands.specs.declared.stamp.Stamp.{Stamp}
 use Rattle.whole_files.specs.declared.whole.FailedCall.{FailedCall}
 use Rattle.whole_files.specs.declared.whole.Whole.{Whole}

@@ -3,7 +3,7 @@ ghost use Rattle.std.specs.Prelude.{◌≡◌, not};
 ghost use Rattle.scp_parser.specs.Reading.{begins_with_mark, next_word};
 ghost use Rattle.scp_commands.specs.Unbuilt.{is_unbuilt, names_unbuilt};
 
-use line_words::{past_blanks, word_at};
+use line_text::{past_blanks, word_at};
 use scp_parser::{CommandName, LONGEST_LINE, command_named};
 
 /// Whether a line is to be read.

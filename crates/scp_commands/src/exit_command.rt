@@ -2,7 +2,7 @@
 ghost use Rattle.std.specs.Prelude.{◌≡◌, ◌≤◌, ℕ, Bool, List};
 ghost use Rattle.host_files.specs.State.{Opened};
 ghost use Rattle.unit_files.specs.Open.{AllOpen, Around};
-ghost use Rattle.fault_notes.specs.Notes.{notes_said};
+ghost use Rattle.file_commands.specs.Notes.{notes_said};
 ghost use Rattle.scp_commands.specs.Live.{live_in};
 ghost use Rattle.scp_commands.specs.ExitEffects.{exit_reply};
 ghost use Rattle.scp_commands.specs.Doing.{Did, Keeps, IsPlain, IsExitAnswer};

@@ -7,7 +7,7 @@ ghost use Rattle.scp_commands.specs.FaultText.{parse_words, parse_detail, fault_
 
 use binary_load::LoadFault;
 use expect_actions::AddFault;
-use fault_notes::Subject;
+use file_commands::Subject;
 use host_files::{Failed, Sink, put_pieces};
 use itoa::Buffer;
 use line_text::Text;

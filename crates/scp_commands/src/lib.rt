@@ -31,7 +31,7 @@ pub use counts::{MOST_INSTRUCTIONS, is_count};
 pub use do_file::{DoFile, ScriptText};
 pub use execute_command::execute;
 pub use fault::CommandFault;
-pub use fault_notes::{FaultNote, Subject};
+pub use file_commands::{FaultNote, Subject};
 pub use laws::{
     quoted_texts_read_back, refusals_change_nothing, resets_leave_the_program,
     set_cpu_leaves_the_rest,

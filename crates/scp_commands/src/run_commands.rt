@@ -2,7 +2,7 @@
 ghost use Rattle.std.specs.Prelude.{◌≡◌, ◌≢◌, ◌≤◌, ◌++◌, ℕ, Bool, List, true, false, IsTrue};
 ghost use Rattle.host_files.specs.Lists.{NamedBytes};
 ghost use Rattle.unit_files.specs.Open.{AllOpen};
-ghost use Rattle.fault_notes.specs.Notes.{notes_said};
+ghost use Rattle.file_commands.specs.Notes.{notes_said};
 ghost use Rattle.nova_machine.specs.Comes.{AreTold};
 ghost use Rattle.nova_machine.specs.Run.{run};
 ghost use Rattle.nova_machine.specs.declared.machine.Stop.TheVariants.{ConsoleFault};
@@ -19,7 +19,7 @@ use crate::next::{Next, told_or_console};
 use crate::session::Session;
 use crate::stop_line::put_stop;
 use crate::unit_commands::stamp_of;
-use fault_notes::keep;
+use file_commands::keep;
 use file_commands::note_of;
 use host_files::{Files, Sink};
 use nova_machine::{CpuReg, Machine, RunLimit, Stop};

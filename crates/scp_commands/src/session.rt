@@ -1,13 +1,13 @@
 ghost use Rattle.std.specs.Prelude.{◌≡◌, ◌≤◌, ◌<◌, ◌+◌, List, [], map, IfOk, OnOk, OnErr};
 ghost use Rattle.host_files.specs.State.{Opened};
 ghost use Rattle.unit_files.specs.Open.{AllOpen, Around};
-ghost use Rattle.fault_notes.specs.Notes.{notes_said};
+ghost use Rattle.file_commands.specs.Notes.{notes_said};
 ghost use Rattle.expect_actions.specs.Watch.{empty_watch};
 ghost use Rattle.nova_machine.specs.BusOrder.{IsBusOrder};
 ghost use Rattle.nova_machine.specs.Machine.{new_machine};
 
 use expect_actions::{Keys, Watch};
-use fault_notes::{FaultNote, take_room};
+use file_commands::{FaultNote, take_room};
 use file_commands::{Stamp, detach_all};
 use host_files::Files;
 use nova_machine::{Machine, OutOfMemory};

@@ -5,7 +5,7 @@ ghost use Rattle.unit_trait.specs.Kinds.{units_of, code_of};
 ghost use Rattle.unit_list.specs.Bus.{unit_at};
 ghost use Rattle.unit_files.specs.Attachments.{IsFileName, is_paper};
 ghost use Rattle.unit_files.specs.Open.{AllOpen, Around};
-ghost use Rattle.fault_notes.specs.Notes.{notes_said};
+ghost use Rattle.file_commands.specs.Notes.{notes_said};
 ghost use Rattle.scp_commands.specs.declared.fault.CommandFault.TheVariants.{OutOfMemory};
 ghost use Rattle.scp_commands.specs.Live.{live_in};
 ghost use Rattle.scp_commands.specs.FileEffects.{lacks_unit, mode_of, first_place, positioned};

@@ -2,7 +2,7 @@
 ghost use Rattle.std.specs.Prelude.{◌≡◌, ◌≤◌, ◌+◌, ◌++◌, vec_len, vec_capacity};
 ghost use Rattle.scp_commands.specs.WholeCalls.{call_notes, read_notes, write_notes};
 
-use fault_notes::{FaultNote, Subject, keep};
+use file_commands::{FaultNote, Subject, keep};
 use file_commands::Stamp;
 use whole_files::{FailedCall, Whole, WholeFault, Written};
 

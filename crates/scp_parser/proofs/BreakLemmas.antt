@@ -1,7 +1,7 @@
 -- What BREAK asks for, by the operands behind its name.
 use Rattle.std.proofs.Common.{◌≡◌, inl, inr, ℕ, ◌<◌, Bool, true, cond, ◌==◌, Result, Ok, Err, List, [], ◌∷◌, length, refl, ap, sym, subst, ◌∙◌, arith}
 use Rattle.std.proofs.lemmas.Bool.{cases_Bool, eqb-true, eq-eqb, ne_eqb, false≢true}
-use Rattle.line_words.specs.Words.{IsBlanks, StartsIn, past_blanks}
+use Rattle.line_text.specs.Words.{IsBlanks, StartsIn, past_blanks}
 use Rattle.scp_parser.specs.declared.command.Piece.{Piece}
 use Rattle.scp_parser.specs.declared.command.Verb.{Verb}
 use Rattle.scp_parser.specs.declared.command.Verb.TheVariants as verb

@@ -6,8 +6,8 @@ use Rattle.std.specs.Option.{option_map}
 use Rattle.std.proofs.lemmas.Bool.{and_parts, and_from, leb-true, le-leb}
 use Rattle.std.proofs.lemmas.Bool.Decides.{nat_tests}
 use Rattle.std.proofs.lemmas.List.{take-map, take-take}
-use Rattle.line_words.specs.Words.{IsSpelled, is_spelled}
-use Rattle.line_words.proofs.SpellingLemmas.{spelled_is, is_spelled_so, spelled_alike}
+use Rattle.line_text.specs.Words.{IsSpelled, is_spelled}
+use Rattle.line_text.proofs.SpellingLemmas.{spelled_is, is_spelled_so, spelled_alike}
 use Rattle.scp_parser.specs.declared.names.CommandName.{CommandName}
 use Rattle.operand_forms.specs.Names.{first_of}
 use Rattle.scp_parser.specs.Names.{CommandRow, command_rows, IsRowName, IsCommandName, is_row_name, command_named}

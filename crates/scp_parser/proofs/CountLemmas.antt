@@ -9,7 +9,7 @@ use Rattle.std.proofs.lemmas.List.{take-append-drop, take_at, drop_at}
 use Rattle.std.proofs.lemmas.List.Sums.{list_all-from_AllPass}
 use Rattle.std.proofs.lemmas.List.Folds.{list_all-append}
 use Rattle.nova_word.specs.Numbers.{IsDigit}
-use Rattle.line_words.specs.Words.{IsBlank, StartsIn, is_blank, past_blanks}
+use Rattle.line_text.specs.Words.{IsBlank, StartsIn, is_blank, past_blanks}
 use Rattle.operand_forms.specs.Forms.{IsOctal, IsDecimal}
 use Rattle.operand_forms.specs.Operands.{both, octal, decimal}
 use Rattle.scp_parser.specs.Forms.{IsCount, bracketed, IsBreak, once, counted, IsPoint}

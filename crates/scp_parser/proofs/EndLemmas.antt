@@ -1,7 +1,7 @@
 -- The texts that stand at the end of a line.
 use Rattle.std.proofs.Common.{◌≡◌, ℕ, Option, List, ◌++◌, ap, sym, ◌∙◌}
 use Rattle.std.proofs.lemmas.List.{append_assoc}
-use Rattle.line_words.specs.Words.{Begins}
+use Rattle.line_text.specs.Words.{Begins}
 use Rattle.scp_parser.specs.Grammar.{MayBegin, there, not_there}
 
 -- the text stands at the end of the line

@@ -4,8 +4,8 @@ use Rattle.std.proofs.Common.{◌≡◌, inl, inr, ℕ, ◌<◌, Bool, true, fal
 use Rattle.std.specs.Option.{option_map}
 use Rattle.std.proofs.lemmas.Bool.{both_ways, false_from_ne_true}
 use Rattle.unit_trait.specs.declared.kind.Kind.TheVariants.{Tti1}
-use Rattle.line_words.specs.Words.{IsSpelled, is_spelled}
-use Rattle.line_words.proofs.SpellingLemmas.{spelled_is, is_spelled_so}
+use Rattle.line_text.specs.Words.{IsSpelled, is_spelled}
+use Rattle.line_text.proofs.SpellingLemmas.{spelled_is, is_spelled_so}
 use Rattle.operand_forms.specs.declared.listing.Name.{Name}
 use Rattle.operand_forms.specs.declared.listing.Name.TheVariants as whose
 use Rattle.operand_forms.specs.Forms.{IsOctal}

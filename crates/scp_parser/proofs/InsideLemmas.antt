@@ -6,7 +6,7 @@ use Rattle.std.proofs.lemmas.Bool.{cases_lt}
 use Rattle.std.proofs.lemmas.List.{take-append-drop, take_at, drop_at, get_or-take, get_or-drop, get_or-reverse, get_or_append_left, get_or-append-add, length-take-le, length-drop, length-reverse, get_or_default}
 use Rattle.std.proofs.Math.Nat.{add-zero}
 use Rattle.std.proofs.lemmas.List.Sums.{suffix_len-le-length, suffix_len_is, prefix_len_passes, prefix_len_stops}
-use Rattle.line_words.specs.Words.{IsBlank, IsBlanks, is_blank, past_blanks, trimmed}
+use Rattle.line_text.specs.Words.{IsBlank, IsBlanks, is_blank, past_blanks, trimmed}
 use Rattle.scp_parser.specs.Grammar.{EndsWithoutBlank, IsInside}
 use Rattle.scp_parser.specs.Reading.{inside_of}
 use Rattle.scp_parser.proofs.WordLemmas.{blank_is, blank_passes, not_blank, not_blank_is, IsBare, past_blanks_split, past_is_bare, blanked, past_of_blanks, blanks_from_past}

@@ -19,7 +19,7 @@ use Rattle.scp_parser.specs.Command.{IsNamedUnit, IsFileUnit, IsAttachOption, Sh
 use Rattle.operand_forms.specs.Forms.{IsUnit}
 use Rattle.scp_parser.specs.Forms.{IsOption, existing, new, read_only, IsTarget}
 use Rattle.scp_parser.specs.Grammar.{MayBegin, there, not_there, Takes, option_letter}
-use Rattle.line_words.specs.Words.{is_spelled}
+use Rattle.line_text.specs.Words.{is_spelled}
 use Rattle.operand_forms.specs.Names.{unit_kinds, first_of}
 use Rattle.scp_parser.specs.Names.{command_named}
 use Rattle.operand_forms.specs.Operands.{or_else, unit_alone, drive_at, drive_of, kind_named, octal, decimal, unit_of}

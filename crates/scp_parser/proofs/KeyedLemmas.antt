@@ -3,8 +3,8 @@ use Rattle.std.proofs.Common.{◌≡◌, inl, inr, ℕ, Bool, true, false, cond,
 use Rattle.std.specs.Char.{to_ascii_uppercase}
 use Rattle.std.proofs.lemmas.List.{take-append-drop, take_at, drop_at, length-map}
 use Rattle.std.proofs.Math.Seq.{drop-nil}
-use Rattle.line_words.specs.Words.{IsSpelled, is_spelled}
-use Rattle.line_words.proofs.SpellingLemmas.{spelled_is, is_spelled_so}
+use Rattle.line_text.specs.Words.{IsSpelled, is_spelled}
+use Rattle.line_text.proofs.SpellingLemmas.{spelled_is, is_spelled_so}
 use Rattle.operand_forms.specs.Operands.{decimal}
 use Rattle.scp_parser.specs.Forms.{IsKeyed}
 use Rattle.scp_parser.specs.Operands.{keyed_of}

@@ -1,7 +1,7 @@
 -- A number that may be left out at the end of a line.
 use Rattle.std.proofs.Common.{◌≡◌, ℕ, true, eqb, Option, Some, None, Result, Ok, Err, List, [], length, refl, ap, sym, subst, ◌∙◌, inl, inr, arith, length-append}
 use Rattle.std.proofs.lemmas.Bool.{eq-eqb, ne_eqb, cond-true, cond-false}
-use Rattle.line_words.specs.Words.{IsBlanks, Begins, past_blanks}
+use Rattle.line_text.specs.Words.{IsBlanks, Begins, past_blanks}
 use Rattle.scp_parser.specs.declared.fault.ParseFault.{ParseFault}
 use Rattle.scp_parser.specs.Command.{Request}
 use Rattle.scp_parser.specs.Grammar.{Takes, Ends, HasNumber, IsLastNumber, left_out, given as given_form}

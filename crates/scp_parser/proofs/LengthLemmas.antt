@@ -2,7 +2,7 @@
 use Rattle.std.proofs.Common.{ℕ, ◌≤◌, Option, Some, None, List, length, arith, length-drop}
 use Rattle.std.specs.List.{position_or_len}
 use Rattle.std.specs.Prelude.{not}
-use Rattle.line_words.specs.Words.{is_blank, past_blanks, word_at}
+use Rattle.line_text.specs.Words.{is_blank, past_blanks, word_at}
 use Rattle.scp_parser.specs.Reading.{next_word, maybe_found, maybe}
 
 pub past_within : (text : List ℕ) → length (past_blanks text) ≤ length text

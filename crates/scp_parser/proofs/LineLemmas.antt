@@ -7,7 +7,7 @@ use Rattle.std.proofs.lemmas.Bool.{leb-true, eqb-true, eq-eqb, le-leb, lt-leb, c
 use Rattle.std.proofs.lemmas.List.{nil_from_length}
 use Rattle.std.proofs.lemmas.List.Elements.{All-nil, All-contains}
 use Rattle.std.proofs.lemmas.List.Sums.{AllPass-from_list_all}
-use Rattle.line_words.specs.Words.{IsBlank, Begins, past_blanks}
+use Rattle.line_text.specs.Words.{IsBlank, Begins, past_blanks}
 use Rattle.scp_parser.specs.declared.command.Verb.{Verb}
 use Rattle.scp_parser.specs.declared.command.Verb.TheVariants as verb
 use Rattle.scp_parser.specs.declared.fault.ParseFault.{ParseFault}

@@ -1,7 +1,7 @@
 -- One operand: one that may be left out, one that must be there, and the end of a line.
 use Rattle.std.proofs.Common.{◌≡◌, ℕ, ◌<◌, Bool, true, false, cond, eqb, Option, Some, None, Ok, Err, List, [], ◌∷◌, ◌++◌, length, refl, ap, sym, subst, ◌∙◌, inl, inr, arith, length-append}
 use Rattle.std.proofs.lemmas.Bool.{eq-eqb, ne_eqb, cond-true, cond-false}
-use Rattle.line_words.specs.Words.{IsBlanks, Begins, past_blanks}
+use Rattle.line_text.specs.Words.{IsBlanks, Begins, past_blanks}
 use Rattle.scp_parser.specs.declared.fault.ParseFault.{ParseFault}
 use Rattle.scp_parser.specs.declared.fault.ParseFault.TheVariants.{Missing, Extra}
 use Rattle.scp_parser.specs.Command.{Request}

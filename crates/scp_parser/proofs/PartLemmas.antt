@@ -1,6 +1,6 @@
 -- An operand that is more, or less, than a word.
 use Rattle.std.proofs.Common.{◌≡◌, ◌⊎◌, ℕ, ◌<◌, Bool, Option, Some, None, Result, Ok, Err, List, [], ◌∷◌, ◌++◌, length, refl, ap, sym, subst, ◌∙◌, inl, inr, arith}
-use Rattle.line_words.specs.Words.{IsBlanks, past_blanks}
+use Rattle.line_text.specs.Words.{IsBlanks, past_blanks}
 use Rattle.scp_parser.specs.declared.fault.ParseFault.{ParseFault}
 use Rattle.scp_parser.specs.declared.fault.ParseFault.TheVariants.{Missing}
 use Rattle.scp_parser.specs.Grammar.{BeginsAt, TakesAt}

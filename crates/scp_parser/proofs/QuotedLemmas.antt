@@ -2,7 +2,7 @@
 use Rattle.std.proofs.Common.{◌≡◌, inl, inr, ℕ, ◌-◌, Bool, true, false, cond, Option, Some, None, Ok, List, [], ◌∷◌, ◌++◌, length, take, refl, ap, sym, subst, ◌∙◌, arith, length-append}
 use Rattle.std.specs.Option.{option_and_then}
 use Rattle.std.proofs.lemmas.List.{append_assoc, take_at}
-use Rattle.line_words.specs.Words.{IsBlank, StartsIn, past_blanks}
+use Rattle.line_text.specs.Words.{IsBlank, StartsIn, past_blanks}
 use Rattle.nova_word.specs.Quoted.{BeginsQuoted, quoted_read}
 use Rattle.nova_word.proofs.QuotedReadLemmas.{quoted_is_computed}
 use Rattle.scp_parser.specs.Forms.{IsTextAt}

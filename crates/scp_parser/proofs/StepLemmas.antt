@@ -2,7 +2,7 @@
 use Rattle.std.proofs.Common.{◌≡◌, eqb, length, ℕ, Bool, true, false, cond, Option, Some, None, Result, Ok, Err, List, [], ◌∷◌, refl, ap, subst}
 use Rattle.scp_parser.specs.declared.command.Verb.{Verb}
 use Rattle.scp_parser.specs.declared.fault.ParseFault.{ParseFault}
-use Rattle.line_words.specs.Words.{past_blanks}
+use Rattle.line_text.specs.Words.{past_blanks}
 use Rattle.scp_parser.specs.Grammar.{Takes}
 use Rattle.scp_parser.specs.Faults.{WordFaults}
 use Rattle.scp_parser.specs.Reading.{◌>>=◌, needed, needed_found, ended}

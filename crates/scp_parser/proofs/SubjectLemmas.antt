@@ -8,13 +8,13 @@ use Rattle.unit_trait.specs.declared.kind.UnitName.{UnitName}
 use Rattle.unit_trait.specs.Kinds.{kind_name}
 use Rattle.scp_parser.specs.declared.command.Shown.{Shown}
 use Rattle.scp_parser.specs.declared.command.Shown.TheVariants.{Time, Cpu, Queue, Break, Expect, Send, Version, Unit as AUnit}
-use Rattle.line_words.specs.Words.{IsSpelled, is_spelled}
+use Rattle.line_text.specs.Words.{IsSpelled, is_spelled}
 use Rattle.operand_forms.specs.Forms.{IsUnit, alone, drive}
 use Rattle.scp_parser.specs.Forms.{IsSubject, time, cpu, queue, breaks, expects, sends, version, unit, IsSymbolic}
 use Rattle.operand_forms.specs.Operands.{unit_of}
 use Rattle.scp_parser.specs.Operands.{subject_of, symbolic_of}
 use Rattle.operand_forms.proofs.ChoiceLemmas.{chosen, same_some, mapped}
-use Rattle.line_words.proofs.SpellingLemmas.{spelled_is, is_spelled_so}
+use Rattle.line_text.proofs.SpellingLemmas.{spelled_is, is_spelled_so}
 use Rattle.operand_forms.proofs.UnitLemmas.{drive_name, unit_found, unit_reads}
 
 -- subjects

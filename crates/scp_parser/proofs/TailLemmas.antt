@@ -1,7 +1,7 @@
 -- The rest of a line without the blanks round it, and its place in the line.
 use Rattle.std.proofs.Common.{◌≡◌, ℕ, List, [], ◌++◌, length, ap, sym, subst, ◌∙◌, inl, inr}
 use Rattle.std.proofs.lemmas.List.{append-nil}
-use Rattle.line_words.specs.Words.{IsBlanks}
+use Rattle.line_text.specs.Words.{IsBlanks}
 use Rattle.scp_parser.specs.Command.{IsPiece, piece_of}
 use Rattle.scp_parser.specs.Grammar.{IsInside, IsTail, nothing_left, some_left}
 use Rattle.scp_parser.specs.Reading.{inside_of, piece_before, tail_piece}

@@ -6,8 +6,8 @@ use Rattle.unit_trait.specs.declared.kind.Kind.{Kind}
 use Rattle.unit_trait.specs.declared.kind.Kind.TheVariants.{Dsk, Mta, Lpt, Ptr, Ptp, Clk, Tti, Tto, Tti1, Tto1, Qty}
 use Rattle.unit_trait.specs.declared.kind.UnitName.{UnitName}
 use Rattle.unit_trait.specs.Kinds.{kind_name, takes_file, TakesFile}
-use Rattle.line_words.specs.Words.{IsSpelled, is_spelled}
-use Rattle.line_words.proofs.SpellingLemmas.{spelled_is}
+use Rattle.line_text.specs.Words.{IsSpelled, is_spelled}
+use Rattle.line_text.proofs.SpellingLemmas.{spelled_is}
 use Rattle.operand_forms.specs.Forms.{IsUnit, alone, drive}
 use Rattle.scp_parser.specs.Forms.{IsOption, existing, new, read_only, IsTarget, IsDetached, every, one}
 use Rattle.operand_forms.specs.Operands.{kind_named, drive_of, unit_of}

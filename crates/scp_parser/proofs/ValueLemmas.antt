@@ -1,6 +1,6 @@
 -- The value of a DEPOSIT as symbolic text, which goes up to the end of the line.
 use Rattle.std.proofs.Common.{◌≡◌, ℕ, ◌<◌, Result, Ok, Err, List, [], ◌∷◌, ◌++◌, length, drop, refl, ap, sym, subst, ◌∙◌, arith, length-append}
-use Rattle.line_words.specs.Words.{past_blanks, trimmed}
+use Rattle.line_text.specs.Words.{past_blanks, trimmed}
 use Rattle.nova_symbols.specs.declared.fault.SymbolFault.{SymbolFault}
 use Rattle.nova_symbols.specs.Reading as symbols
 use Rattle.nova_symbols.specs.Forms.{Reads}

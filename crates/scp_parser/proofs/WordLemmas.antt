@@ -6,7 +6,7 @@ use Rattle.std.proofs.lemmas.Bool.{eqb-true, or_cases, not-true, not-false, not_
 use Rattle.std.proofs.lemmas.List.{take-append-drop, take_at, drop_at, append-nil, get_or-take, length-take-le}
 use Rattle.std.proofs.lemmas.List.Elements.{All-head, All-tail, All-same}
 use Rattle.std.proofs.lemmas.List.Sums.{prefix_len-le-length, fails_before_first}
-use Rattle.line_words.specs.Words.{IsBlank, IsBlanks, StartsIn, IsWord, Begins, is_blank, past_blanks, word_at}
+use Rattle.line_text.specs.Words.{IsBlank, IsBlanks, StartsIn, IsWord, Begins, is_blank, past_blanks, word_at}
 use Rattle.scp_parser.specs.Reading.{next_word}
 
 -- blanks, and the bytes that are none

@@ -2,7 +2,7 @@
 -- grammar wants it is at fault. A place is said by how many bytes of the line are left there.
 use Rattle.std.specs.Prelude.{◌≡◌, ◌⊎◌, ℕ, ◌-◌, ◌<◌, ◌≤◌, Bool, true, false, ◌||◌, List, [], ◌∷◌, ◌++◌, length, codes, Option, if◌then◌else◌}
 use Rattle.unit_trait.specs.Kinds.{takes_file}
-use Rattle.line_words.specs.Words.{IsBlanks, StartsIn, Begins}
+use Rattle.line_text.specs.Words.{IsBlanks, StartsIn, Begins}
 use Rattle.nova_word.specs.Numbers.{is_digit}
 use Rattle.nova_symbols.specs.Forms.{Reads}
 use Rattle.operand_forms.specs.declared.listing.Name.{Name}

@@ -6,7 +6,7 @@ use Rattle.unit_trait.specs.declared.kind.UnitName.{UnitName}
 use Rattle.unit_trait.specs.Kinds.{TakesFile}
 use Rattle.scp_parser.specs.declared.command.Shown.{Shown}
 use Rattle.scp_parser.specs.declared.command.Shown.TheVariants.{Time, Cpu, Queue, Break, Expect, Send, Version, Unit as AUnit}
-use Rattle.line_words.specs.Words.{IsBlank, StartsIn, IsSpelled}
+use Rattle.line_text.specs.Words.{IsBlank, StartsIn, IsSpelled}
 use Rattle.operand_forms.specs.declared.listing.Name.{Name}
 use Rattle.operand_forms.specs.declared.listing.Name.TheVariants as whose
 use Rattle.operand_forms.specs.declared.listing.Item.{Item}

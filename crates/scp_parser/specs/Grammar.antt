@@ -4,7 +4,7 @@ use Rattle.unit_trait.specs.declared.kind.Kind.{Kind}
 use Rattle.unit_trait.specs.declared.kind.Kind.TheVariants.{Tti1}
 use Rattle.unit_trait.specs.declared.kind.UnitName.{UnitName}
 use Rattle.unit_trait.specs.Kinds.{takes_file}
-use Rattle.line_words.specs.Words.{IsBlank, IsBlanks, StartsIn, Begins}
+use Rattle.line_text.specs.Words.{IsBlank, IsBlanks, StartsIn, Begins}
 use Rattle.nova_symbols.specs.Forms.{Reads}
 use Rattle.operand_forms.specs.declared.listing.Name.{Name}
 use Rattle.operand_forms.specs.declared.listing.Name.TheVariants as whose

@@ -1,7 +1,7 @@
 -- The names of commands (SIMH Users' Guide, "Commands"; the abbreviations are this
 -- project's own). Names are read in either case.
 use Rattle.std.specs.Prelude.{◌≡◌, ℕ, ◌≤◌, Bool, ◌&&◌, List, [], ◌∷◌, length, take, codes, nat_le, Option, option_map, Contains}
-use Rattle.line_words.specs.Words.{IsSpelled, is_spelled}
+use Rattle.line_text.specs.Words.{IsSpelled, is_spelled}
 use Rattle.operand_forms.specs.Names.{first_of}
 use Rattle.scp_parser.specs.declared.names.CommandName.{CommandName}
 use Rattle.scp_parser.specs.declared.names.CommandName.TheVariants.{Examine, Deposit, Run, Go, Cont, Reset, NoExpect, NoSend, Step, Break, NoBreak, Expect, Send, Attach, Detach, Load, Save, Dump, Restore, Set, Show, Do, Goto, Assert, Echo, Exit}

@@ -6,7 +6,7 @@ use Rattle.unit_trait.specs.declared.kind.UnitName.{UnitName}
 use Rattle.unit_trait.specs.Kinds.{takes_file}
 use Rattle.scp_parser.specs.declared.command.Shown.{Shown}
 use Rattle.scp_parser.specs.declared.command.Shown.TheVariants.{Time, Cpu, Queue, Break, Expect, Send, Version, Unit as AUnit}
-use Rattle.line_words.specs.Words.{is_spelled, is_blank}
+use Rattle.line_text.specs.Words.{is_spelled, is_blank}
 use Rattle.nova_word.specs.Quoted.{quoted_read}
 use Rattle.unit_trait.specs.declared.kind.Kind.TheVariants.{Tti1}
 use Rattle.operand_forms.specs.declared.listing.Name.{Name}

@@ -10,7 +10,7 @@ use crate::command::Verb;
 use crate::fault::ParseFault;
 use crate::operands::{bad_operand, ended, needed_decimal, next_word};
 use crate::tail::{last_name, piece_before};
-use line_words::is_spelled;
+use line_text::is_spelled;
 use operand_forms::unit_of;
 use unit_trait::{Kind, UnitName, takes_file};
 

@@ -1,8 +1,8 @@
 ghost use Rattle.std.specs.Prelude.{◌≡◌, take, map};
-ghost use Rattle.line_words.specs.Words.{is_spelled};
+ghost use Rattle.line_text.specs.Words.{is_spelled};
 ghost use Rattle.scp_parser.specs.Names.{row, abbreviates, command_in, command_named};
 
-use line_words::is_spelled;
+use line_text::is_spelled;
 
 /// The commands. Some have several names.
 #[derive(Clone, Copy, Debug, PartialEq, Eq)]

@@ -9,7 +9,7 @@ ghost use Rattle.scp_parser.specs.Views.{Gives, bad_operand, maybe_symbolic, may
 use crate::command::{Shown, Verb};
 use crate::fault::ParseFault;
 use crate::subject::subject_of;
-use line_words::{is_spelled, past_blanks, trimmed, word_at};
+use line_text::{is_spelled, past_blanks, trimmed, word_at};
 use nova_symbols::read;
 use operand_forms::{
     Condition, Items, Listing, Name, condition_of, decimal, device_of, items_of, octal,

@@ -18,7 +18,7 @@ use crate::operands::{
 use crate::script_commands::{assert, do_file, echo, goto};
 use crate::settings::set;
 use crate::watches::{break_at, expect, no_break, send};
-use line_words::past_blanks;
+use line_text::past_blanks;
 
 /// Reads a line as a command.
 ///

@@ -9,7 +9,7 @@ ghost use Rattle.unit_trait.specs.declared.kind.Kind.TheVariants.{Tti1};
 use crate::command::Verb;
 use crate::fault::ParseFault;
 use crate::operands::{bad_operand, ended, next_word};
-use line_words::is_spelled;
+use line_text::is_spelled;
 use operand_forms::{Name, decimal};
 use unit_trait::Kind;
 

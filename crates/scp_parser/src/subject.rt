@@ -2,7 +2,7 @@ ghost use Rattle.std.specs.Prelude.{◌≡◌};
 ghost use Rattle.scp_parser.specs.Operands.{subject_of};
 
 use crate::command::Shown;
-use line_words::is_spelled;
+use line_text::is_spelled;
 use operand_forms::unit_of;
 
 /// What SHOW shows, by its name.

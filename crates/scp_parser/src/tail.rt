@@ -8,7 +8,7 @@ ghost use Rattle.scp_parser.specs.Views.{Gives};
 use crate::command::{LONGEST_FILE_NAME, Piece};
 use crate::fault::ParseFault;
 use crate::operands::bad_operand;
-use line_words::{past_blanks, trimmed};
+use line_text::{past_blanks, trimmed};
 use std::str::from_utf8;
 
 // Whether a file can have that name: 1 to 255 bytes in UTF-8.

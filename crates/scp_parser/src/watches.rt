@@ -11,7 +11,7 @@ use crate::command::{LONGEST_LINE, Piece, Verb};
 use crate::fault::ParseFault;
 use crate::operands::{bad_operand, ended, next_word};
 use crate::tail::{piece_before, tail_piece};
-use line_words::{is_blank, is_spelled, past_blanks};
+use line_text::{is_blank, is_spelled, past_blanks};
 use nova_word::read_quoted;
 use operand_forms::{decimal, octal};
 
@@ -34,7 +34,7 @@ fn first_bracket(word: &[u8]) -> Option<usize>
 }
 
 // The place of the bracket before a count, or the end.
-#[tactic(auto, using(line_words::proofs::PlaceLemmas::place_or_length, line_words::proofs::PlaceLemmas::place_le_length))]
+#[tactic(auto, using(line_text::proofs::PlaceLemmas::place_or_length, line_text::proofs::PlaceLemmas::place_le_length))]
 fn bracket_place(word: &[u8]) -> usize
     ensures place { result ≡ position_or_len (λ b. b == 91) word.now }
     ensures within { result ≤ length word.now }
@@ -69,7 +69,7 @@ fn first_end(text: &[u8]) -> Option<usize>
 }
 
 // The place of the first blank or `;`, or the end.
-#[tactic(auto, using(line_words::proofs::PlaceLemmas::place_or_length, line_words::proofs::PlaceLemmas::place_le_length))]
+#[tactic(auto, using(line_text::proofs::PlaceLemmas::place_or_length, line_text::proofs::PlaceLemmas::place_le_length))]
 fn point_place(text: &[u8]) -> usize
     ensures place { result ≡ position_or_len ends_point text.now }
     ensures within { result ≤ length text.now }

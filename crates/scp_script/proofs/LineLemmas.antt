@@ -6,8 +6,8 @@ use Rattle.observations.specs.Observations.{Observation, Prints, Reads, text_of,
 use Rattle.observations.specs.Cut.{ends, cut, cut_trace, BreaksOff}
 use Rattle.observations.proofs.CutLemmas.{cut-refused, cut-failed-after, cut-whole, breaks-before, breaks-behind, breaks-map, before-reads, behind-reads, breaks-reads}
 use Rattle.observations.proofs.MadeLemmas.{text_of-append, reads_of-append, text_of-map, reads_of-map}
-use Rattle.fault_notes.specs.declared.note.FaultNote.{FaultNote}
-use Rattle.fault_notes.specs.Notes.{Note, handed}
+use Rattle.file_commands.specs.declared.note.FaultNote.{FaultNote}
+use Rattle.file_commands.specs.Notes.{Note, handed}
 use Rattle.scp_commands.specs.declared.next.Next.TheVariants.{Go, Ran, Do, Goto, Exit as ExitNext}
 use Rattle.scp_commands.specs.Live.{Standing, standing}
 use Rattle.scp_commands.specs.Reply.{Answer, Reply}

@@ -7,9 +7,9 @@ use Rattle.observations.specs.Observations.{Observation, Trace, text_of, reads_o
 use Rattle.host_files.specs.Lists.{NamedBytes}
 use Rattle.host_files.specs.State.{FileState}
 use Rattle.unit_files.specs.Attachments.{Held}
-use Rattle.fault_notes.specs.declared.note.FaultNote.{FaultNote}
-use Rattle.fault_notes.specs.Notes.{CommandNote, Note, notes_said, numbered, handed, Follow}
-use Rattle.fault_notes.proofs.Handing.{handed-own, dropped}
+use Rattle.file_commands.specs.declared.note.FaultNote.{FaultNote}
+use Rattle.file_commands.specs.Notes.{CommandNote, Note, notes_said, numbered, handed, Follow}
+use Rattle.file_commands.proofs.Handing.{handed-own, dropped}
 use Rattle.scp_commands.specs.Live.{Live, standing, CommandState}
 use Rattle.scp_commands.specs.Effect.{Asked, asked}
 use Rattle.unit_trait.specs.declared.kind.UnitName.{UnitName}

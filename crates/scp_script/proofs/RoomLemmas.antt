@@ -1,7 +1,7 @@
 -- A command has a script next only where it is a DO.
 use Rattle.std.proofs.Common.{ℕ, ◌+◌, ◌<◌, ◌==◌, Bool, not, true, false, List, length, sym, subst, Option, Some, None, Result, Ok, Err, if◌then◌else◌, nat_le, nat_lt, ◌&&◌, ◌^◌, min, unwrap_or}
-use Rattle.fault_notes.specs.declared.note.Subject.TheVariants as subject
-use Rattle.fault_notes.specs.Notes.{CommandNote, failure_now}
+use Rattle.file_commands.specs.declared.note.Subject.TheVariants as subject
+use Rattle.file_commands.specs.Notes.{CommandNote, failure_now}
 use Rattle.unit_trait.specs.declared.kind.UnitName.{UnitName}
 use Rattle.unit_files.specs.Acts.{AttachSaid, Attached, UnitHasFile, OnlyWrites, NotThere, TooLong, CallFailed, DetachSaid, HadNone, StillHeld, Detached}
 use Rattle.unit_files.specs.Acts.{attach_said, detach_said}

@@ -3,7 +3,7 @@ use Rattle.std.proofs.Common.{◌≡◌, ℕ, zero, suc, ◌-◌, ◌<◌, ◌�
 use Rattle.std.proofs.lemmas.Bool.{leb-true, le-leb, lt-leb, lt-ltb, cond_both}
 use Rattle.observations.specs.Observations.{Observation, Prints, Ended, after_made}
 use Rattle.scp_commands.specs.declared.next.Next.TheVariants.{Go, Ran, Do, Goto, Exit}
-use Rattle.fault_notes.specs.Notes.{handed}
+use Rattle.file_commands.specs.Notes.{handed}
 use Rattle.scp_commands.specs.Reply.{Answer}
 use Rattle.scp_commands.specs.Effect.{Asked, asked}
 use Rattle.script_text.specs.Lines.{line_cost, first_line, command_line}

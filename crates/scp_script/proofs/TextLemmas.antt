@@ -6,7 +6,7 @@ use Rattle.observations.proofs.MadeLemmas.{text_of-append, reads_of-append, stan
 use Rattle.nova_machine.specs.declared.machine.Stop.{Stop}
 use Rattle.nova_machine.specs.declared.machine.Stop.TheVariants.{Halt, ChainLimit, UnknownDevice, Break, Expect, Stepped, Limit, UnitEnd, UnitNone, BadImage, Wru, FileFault, ConsoleFault}
 use Rattle.unit_files.specs.Attachments.{Held}
-use Rattle.fault_notes.specs.Notes.{CommandNote, Note}
+use Rattle.file_commands.specs.Notes.{CommandNote, Note}
 use Rattle.script_text.specs.Lines.{lines_of}
 use Rattle.script_text.specs.Labels.{label_place}
 use Rattle.scp_parser.specs.Command.{Request, Attach}

@@ -9,12 +9,12 @@ use Rattle.observations.specs.Observations.{Observation, after_made, text_of, re
 use Rattle.observations.specs.Cut.{behind, ends, cut, cut_trace}
 use Rattle.observations.proofs.CutLemmas.{cut-after}
 use Rattle.observations.proofs.MadeLemmas.{text_of-append, reads_of-append, after_made-append}
-use Rattle.fault_notes.specs.declared.note.FaultNote.{FaultNote}
-use Rattle.fault_notes.specs.Notes.{CommandNote, Note}
+use Rattle.file_commands.specs.declared.note.FaultNote.{FaultNote}
+use Rattle.file_commands.specs.Notes.{CommandNote, Note}
 use Rattle.expect_actions.specs.Watch.{WatchState}
 use Rattle.scp_commands.specs.Live.{Live}
 use Rattle.scp_commands.specs.Doing.{ComeBehind}
-use Rattle.fault_notes.proofs.Adding.{counted-both, counted-none}
+use Rattle.file_commands.proofs.Adding.{counted-both, counted-none}
 use Rattle.scp_script.specs.declared.progress.Progress.TheVariants.{GoesOn, IsOver}
 use Rattle.scp_script.specs.declared.progress.Finish.{Finish}
 use Rattle.scp_script.specs.declared.progress.Finish.TheVariants.{Exit, EndOfInput, FlushFailed, Commands, Console, Input, OutOfMemory}

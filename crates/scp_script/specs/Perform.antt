@@ -1,7 +1,7 @@
 -- What a whole session comes to, from its opening on.
 use Rattle.std.specs.Prelude.{◌≡◌, ℕ, ◌≤◌, Bool, true, List, [], ◌++◌, ◌+◌, drop}
 use Rattle.host_files.specs.Lists.{NamedBytes}
-use Rattle.fault_notes.specs.Notes.{Note}
+use Rattle.file_commands.specs.Notes.{Note}
 use Rattle.scp_commands.specs.Live.{Live, CommandState, live_in}
 use Rattle.scp_script.specs.declared.perform_session.Opening.{Opening}
 use Rattle.scp_script.specs.declared.progress.Finish.{Finish}

@@ -1,7 +1,7 @@
 -- A session: one text after another, to EXIT, the end of the input, or the end of the budget.
 use Rattle.std.specs.Prelude.{◌≡◌, ℕ, zero, suc, ◌+◌, ◌-◌, nat_le, Bool, List, [], ◌∷◌, ◌++◌, length, drop, codes, Option, Some, None, Ok, Err, if◌then◌else◌}
 use Rattle.observations.specs.Observations.{Observation, Prints, Reads, Trace, after_made, map_made}
-use Rattle.fault_notes.specs.Notes.{CommandNote, Note, handed}
+use Rattle.file_commands.specs.Notes.{CommandNote, Note, handed}
 use Rattle.scp_commands.specs.declared.next.Next.TheVariants.{Exit, Ran}
 use Rattle.scp_commands.specs.Live.{Live, Standing}
 use Rattle.scp_commands.specs.Reply.{Answer, Reply}

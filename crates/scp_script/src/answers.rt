@@ -2,7 +2,7 @@ ghost use Rattle.std.specs.Prelude.{◌≡◌, ◌≢◌, ◌≤◌, List, lengt
 ghost use Rattle.host_files.specs.Lists.{NamedBytes};
 ghost use Rattle.host_files.specs.State.{Opened};
 ghost use Rattle.unit_files.specs.Open.{AllOpen, Around};
-ghost use Rattle.fault_notes.specs.Notes.{CommandNote, notes_said};
+ghost use Rattle.file_commands.specs.Notes.{CommandNote, notes_said};
 ghost use Rattle.scp_commands.specs.Live.{live_in, standing};
 ghost use Rattle.scp_commands.specs.Effect.{Asked, asked};
 ghost use Rattle.scp_commands.specs.Doing.{IsExitAnswer};

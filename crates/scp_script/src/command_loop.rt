@@ -3,7 +3,7 @@ ghost use Rattle.fault_counts.specs.Faults.{CountsFault, raised};
 ghost use Rattle.host_files.specs.State.{Opened};
 ghost use Rattle.host_files.specs.Streams.{Puts};
 ghost use Rattle.unit_files.specs.Open.{AllOpen, Around};
-ghost use Rattle.fault_notes.specs.Notes.{notes_said};
+ghost use Rattle.file_commands.specs.Notes.{notes_said};
 ghost use Rattle.scp_script.specs.Reading.{IsReading, Pays};
 ghost use Rattle.scp_script.specs.Scripts.{cost_of_line};
 ghost use Rattle.scp_script.specs.Session.{prompt_text};

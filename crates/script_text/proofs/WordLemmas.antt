@@ -6,7 +6,7 @@ use Rattle.std.specs.List.{position_or_len}
 use Rattle.std.proofs.lemmas.List.{append_assoc, append-nil, take_all, take_at, length_push, length-drop}
 use Rattle.std.proofs.lemmas.List.{nil_from_length}
 use Rattle.std.proofs.lemmas.Bool.Decides.{nat_tests}
-use Rattle.line_words.specs.Words.{is_blank, past_blanks, word_at}
+use Rattle.line_text.specs.Words.{is_blank, past_blanks, word_at}
 use Rattle.script_text.specs.Lines.{with_front}
 use Rattle.script_text.specs.Arguments.{ends_word, words_of}
 

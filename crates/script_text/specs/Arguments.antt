@@ -1,6 +1,6 @@
 -- The arguments of a script as the words of a text.
 use Rattle.std.specs.Prelude.{ℕ, Bool, true, if◌then◌else◌, List, [], ◌∷◌}
-use Rattle.line_words.specs.Words.{is_blank}
+use Rattle.line_text.specs.Words.{is_blank}
 use Rattle.script_text.specs.Lines.{with_front}
 
 -- a text that is empty or begins with a blank

@@ -2,7 +2,7 @@ ghost use Rattle.std.specs.Prelude.{◌≡◌, ◌<◌, ◌≤◌, ◌↔◌, []
 ghost use Rattle.std.specs.Prelude.{OnOk, OnErr, IfOk};
 ghost use Rattle.script_text.specs.Arguments.{words_of};
 
-use line_words::{past_blanks, word_at};
+use line_text::{past_blanks, word_at};
 use std::alloc::{AllocError, Global};
 use std::marker::Model;
 

@@ -1,6 +1,6 @@
 // The words of a line.
 use crate::checked::holds;
-use line_words::{is_spelled, past_blanks, trimmed, word_at};
+use line_text::{is_spelled, past_blanks, trimmed, word_at};
 
 /// A text, its first word, and what follows that.
 const FIRST: [(&str, &str, &str); 6] = [

@@ -1,5 +1,5 @@
 use Rattle.std.proofs.Common.{refl, ap, sym, ◌∙◌, subst, List, Option}
-use Rattle.fault_notes.specs.declared.note.FaultNote.{FaultNote}
+use Rattle.file_commands.specs.declared.note.FaultNote.{FaultNote}
 use Rattle.scp_script.specs.Loop.{KeptCause}
 use Rattle.unit_files.specs.Open.{AllOpen, Around}
 use Rattle.unit_files.specs.Attachments.{Held}

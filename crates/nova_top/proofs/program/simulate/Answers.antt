@@ -1,8 +1,8 @@
 use Rattle.std.proofs.Common.{List, [], map, refl, sym, ◌∙◌, subst, arith}
-use Rattle.fault_notes.specs.declared.note.FaultNote.{FaultNote}
-use Rattle.fault_notes.specs.Notes.{notes_said}
-use Rattle.fault_notes.specs.Counts.{AreCounted}
-use Rattle.fault_notes.proofs.Adding.{counted-none}
+use Rattle.file_commands.specs.declared.note.FaultNote.{FaultNote}
+use Rattle.file_commands.specs.Notes.{notes_said}
+use Rattle.file_commands.specs.Counts.{AreCounted}
+use Rattle.file_commands.proofs.Adding.{counted-none}
 use Rattle.scp_commands.specs.Live.{CommandState}
 use Rattle.scp_script.specs.Loop.{AreKept}
 use Rattle.nova_top.specs.Words.{texts_of}

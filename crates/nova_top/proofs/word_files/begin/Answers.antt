@@ -1,7 +1,7 @@
 use Rattle.std.proofs.Common.{List, ◌≡◌, subst, Ok, Err, rules}
 use Rattle.host_files.specs.Lists.{NamedBytes}
-use Rattle.fault_notes.specs.Notes.{notes_said}
-use Rattle.fault_notes.specs.declared.note.Subject.TheVariants as subject
+use Rattle.file_commands.specs.Notes.{notes_said}
+use Rattle.file_commands.specs.declared.note.Subject.TheVariants as subject
 use Rattle.nova_top.specs.Words.{texts_of, script_name}
 use Rattle.nova_top.specs.Outside.{taken_script}
 use Rattle.nova_top.specs.Workload.{first_text}

@@ -1,7 +1,7 @@
 use Rattle.std.proofs.Common.{◌≡◌, ◌<◌, Some, false, length, sym, arith}
 use Rattle.std.proofs.lemmas.Option.{slice_get_within}
 use Rattle.std.specs.List.{slice_get}
-use Rattle.line_words.specs.Words.{is_spelled}
+use Rattle.line_text.specs.Words.{is_spelled}
 use Rattle.operand_forms.specs.Names.{register_names}
 use Rattle.operand_forms.proofs.RegisterLemmas.{register_past, register_not}
 use Rattle.operand_forms.proofs.registers.register_named.Goals as goal

@@ -1,5 +1,5 @@
 use Rattle.std.proofs.Common.{◌≡◌, ℕ, ◌<◌, ◌≤◌, false, [], length, get_or}
-use Rattle.line_words.specs.Words.{is_spelled}
+use Rattle.line_text.specs.Words.{is_spelled}
 use Rattle.operand_forms.specs.Names.{register_names}
 use Rattle.operand_forms.proofs.registers.register_named.Given as goal
 

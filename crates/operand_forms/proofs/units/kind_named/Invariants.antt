@@ -1,6 +1,6 @@
 use Rattle.std.proofs.Common.{◌≡◌, drop}
 use Rattle.unit_trait.specs.Kinds.{kind_name}
-use Rattle.line_words.specs.Words.{is_spelled}
+use Rattle.line_text.specs.Words.{is_spelled}
 use Rattle.operand_forms.specs.Names.{first_of}
 use Rattle.operand_forms.proofs.units.kind_named.Given as goal
 

@@ -1,6 +1,6 @@
 use Rattle.std.proofs.Common.{◌≡◌, Err, refl, ap, sym, ◌∙◌}
-use Rattle.fault_notes.specs.declared.note.Subject.TheVariants as subject
-use Rattle.fault_notes.specs.Notes.{notes_said}
+use Rattle.file_commands.specs.declared.note.Subject.TheVariants as subject
+use Rattle.file_commands.specs.Notes.{notes_said}
 use Rattle.whole_files.specs.Writing.{write_act}
 use Rattle.binary_load.specs.Dump.{dumped}
 use Rattle.scp_commands.specs.declared.fault.CommandFault.TheVariants.{OutOfRange, OutOfMemory}

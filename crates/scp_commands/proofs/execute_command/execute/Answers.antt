@@ -1,5 +1,5 @@
 use Rattle.std.proofs.Common.{ap}
-use Rattle.fault_notes.specs.Notes.{notes_said}
+use Rattle.file_commands.specs.Notes.{notes_said}
 use Rattle.scp_commands.specs.Live.{CommandState, live_in}
 use Rattle.scp_commands.specs.Effect.{effect}
 use Rattle.scp_commands.proofs.DidLemmas.{did-want}

@@ -1,5 +1,5 @@
 use Rattle.std.proofs.Common.{refl, ap, sym, ◌∙◌, subst}
-use Rattle.fault_notes.specs.Notes.{notes_said}
+use Rattle.file_commands.specs.Notes.{notes_said}
 use Rattle.scp_parser.specs.Command.{Examine, Deposit, request_of}
 use Rattle.scp_commands.specs.Live.{CommandState, live_in}
 use Rattle.scp_commands.specs.ListEffects.{examine_reply, deposit_reply}

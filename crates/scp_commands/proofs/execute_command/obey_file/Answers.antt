@@ -1,5 +1,5 @@
 use Rattle.std.proofs.Common.{Err, ◌≡◌, refl, ap, sym, ◌∙◌, subst}
-use Rattle.fault_notes.specs.Notes.{notes_said}
+use Rattle.file_commands.specs.Notes.{notes_said}
 use Rattle.scp_parser.specs.Command.{Request, Attach, Detach, Do, Exit, Load, Dump, request_of, file_name_of}
 use Rattle.scp_commands.specs.declared.fault.CommandFault.TheVariants.{NotBuilt}
 use Rattle.scp_commands.specs.Live.{live_in}

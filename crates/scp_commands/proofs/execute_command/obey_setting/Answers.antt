@@ -1,6 +1,6 @@
 use Rattle.std.proofs.Common.{Ok, ◌≡◌, refl, ap, sym, ◌∙◌, subst}
 use Rattle.unit_files.specs.Open.{AllOpen, Around}
-use Rattle.fault_notes.specs.Notes.{notes_said}
+use Rattle.file_commands.specs.Notes.{notes_said}
 use Rattle.scp_parser.specs.Command.{Nothing, Reset, SetSize, Show, Assert, Echo, request_of, given_text}
 use Rattle.scp_commands.specs.declared.next.Next.TheVariants.{Go}
 use Rattle.scp_commands.specs.declared.next.Next.TheVariants as next

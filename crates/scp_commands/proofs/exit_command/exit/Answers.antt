@@ -1,9 +1,9 @@
 use Rattle.std.proofs.Common.{Some, None, Err, List, ap, sym, subst, arith}
-use Rattle.fault_notes.specs.Notes.{CommandNote}
+use Rattle.file_commands.specs.Notes.{CommandNote}
 use Rattle.scp_commands.specs.Reply.{Answer}
 use Rattle.scp_commands.specs.ExitEffects.{exit_reply}
 use Rattle.scp_commands.specs.Doing.{Did}
-use Rattle.fault_notes.specs.Notes.{notes_said}
+use Rattle.file_commands.specs.Notes.{notes_said}
 use Rattle.scp_commands.specs.Live.{live_in}
 use Rattle.scp_commands.proofs.ExitLemmas.{exit-did, exit-refused}
 use Rattle.scp_commands.proofs.exit_command.exit.Goals as goal

@@ -1,8 +1,8 @@
 use Rattle.std.proofs.Common.{◌≡◌, ◌++◌, ℕ, List, refl, ap, sym, ◌∙◌, subst, append-nil}
 use Rattle.host_files.specs.State.{Opened}
 use Rattle.unit_files.specs.Open.{AllOpen, Around}
-use Rattle.fault_notes.specs.declared.note.Subject.TheVariants as subject
-use Rattle.fault_notes.specs.declared.note.FaultNote.{FaultNote}
+use Rattle.file_commands.specs.declared.note.Subject.TheVariants as subject
+use Rattle.file_commands.specs.declared.note.FaultNote.{FaultNote}
 use Rattle.file_commands.specs.declared.stamp.Stamp.{Stamp}
 use Rattle.nova_machine.specs.Machine.{MachineState}
 use Rattle.scp_commands.specs.Live.{CommandState}

@@ -1,7 +1,7 @@
 use Rattle.std.proofs.Common.{◌∙◌, List, Option, Err, refl, ap, sym, subst}
 use Rattle.unit_files.specs.Attachments.{Held}
 use Rattle.unit_files.specs.Open.{AllOpen}
-use Rattle.fault_notes.specs.Notes.{notes_said}
+use Rattle.file_commands.specs.Notes.{notes_said}
 use Rattle.nova_machine.specs.Comes.{AreTold}
 use Rattle.scp_commands.specs.declared.fault.CommandFault.TheVariants.{OutOfRange}
 use Rattle.scp_commands.specs.Live.{CommandState, live_in}

@@ -1,6 +1,6 @@
 use Rattle.std.proofs.Common.{◌≡◌, ◌∙◌, ℕ, List, ap, sym, subst}
 use Rattle.host_files.specs.Streams.{Puts}
-use Rattle.fault_notes.specs.Notes.{notes_said}
+use Rattle.file_commands.specs.Notes.{notes_said}
 use Rattle.nova_machine.specs.Run.{run}
 use Rattle.nova_machine.specs.Seen.{seen, beside}
 use Rattle.scp_commands.specs.Live.{Live, CommandState, live_in}

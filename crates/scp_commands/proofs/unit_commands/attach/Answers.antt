@@ -1,6 +1,6 @@
 use Rattle.std.proofs.Common.{Ok, Err, ◌≡◌, ℕ, refl, ap, sym, ◌∙◌, subst, ◌≤◌, ◌^◌}
 use Rattle.unit_files.specs.Attachments.{attachments_of}
-use Rattle.fault_notes.specs.Notes.{notes_said}
+use Rattle.file_commands.specs.Notes.{notes_said}
 use Rattle.unit_files.specs.Buffer.{AttachedFiles}
 use Rattle.nova_machine.specs.Machine.{MachineState, with_attached_files}
 use Rattle.nova_machine.specs.Seen.{seen, beside}

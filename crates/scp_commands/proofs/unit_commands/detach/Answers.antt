@@ -1,6 +1,6 @@
 use Rattle.std.proofs.Common.{Err, ◌≡◌, ap, sym, ◌∙◌}
 use Rattle.unit_files.specs.Attachments.{attachments_of}
-use Rattle.fault_notes.specs.Notes.{notes_said}
+use Rattle.file_commands.specs.Notes.{notes_said}
 use Rattle.unit_files.specs.Buffer.{AttachedFiles}
 use Rattle.nova_machine.specs.Machine.{with_attached_files}
 use Rattle.nova_machine.specs.Seen.{seen, beside}

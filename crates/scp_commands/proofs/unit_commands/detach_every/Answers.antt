@@ -1,6 +1,6 @@
 use Rattle.std.proofs.Common.{Some, None, Err, List, refl, ap, sym, subst}
-use Rattle.fault_notes.specs.Notes.{notes_said}
-use Rattle.fault_notes.specs.Notes.{CommandNote}
+use Rattle.file_commands.specs.Notes.{notes_said}
+use Rattle.file_commands.specs.Notes.{CommandNote}
 use Rattle.scp_commands.specs.declared.next.Next.TheVariants.{Go}
 use Rattle.scp_commands.specs.Live.{live_in}
 use Rattle.scp_commands.specs.Reply.{Answer}

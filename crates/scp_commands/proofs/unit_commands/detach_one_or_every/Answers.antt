@@ -1,5 +1,5 @@
 use Rattle.std.proofs.Common.{ap}
-use Rattle.fault_notes.specs.Notes.{notes_said}
+use Rattle.file_commands.specs.Notes.{notes_said}
 use Rattle.scp_commands.specs.Live.{live_in}
 use Rattle.scp_commands.specs.FileEffects.{detach_reply, detach_all_reply, detach_one_or_all}
 use Rattle.scp_commands.proofs.DidLemmas.{did-as}

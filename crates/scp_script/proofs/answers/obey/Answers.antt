@@ -1,5 +1,5 @@
 use Rattle.std.proofs.Common.{Ok, Err, ap, sym}
-use Rattle.fault_notes.specs.Notes.{notes_said}
+use Rattle.file_commands.specs.Notes.{notes_said}
 use Rattle.scp_commands.specs.Live.{CommandState, live_in, standing}
 use Rattle.scp_commands.specs.Effect.{effect}
 use Rattle.scp_script.specs.declared.progress.Progress.TheVariants.{IsOver}

@@ -1,6 +1,6 @@
 use Rattle.std.proofs.Common.{Some, None, ◌≡◌, ◌<◌, [], Err, refl, ap, sym, ◌∙◌, subst, arith}
 use Rattle.unit_files.specs.Open.{Around}
-use Rattle.fault_notes.specs.Notes.{notes_said}
+use Rattle.file_commands.specs.Notes.{notes_said}
 use Rattle.scp_parser.specs.declared.fault.ParseFault.TheVariants.{TooLong}
 use Rattle.scp_commands.specs.declared.fault.CommandFault.TheVariants.{Parse}
 use Rattle.scp_commands.specs.Live.{CommandState, live_in}

@@ -1,8 +1,8 @@
 use Rattle.std.proofs.Common.{◌≡◌, drop, get_or, arith}
 use Rattle.std.specs.Char.{to_ascii_uppercase}
 use Rattle.std.specs.Str.{bytes_eq, str_to_ascii_uppercase}
-use Rattle.line_words.proofs.SpellingLemmas.{same_name-drop, letter_differs, letter_agrees}
-use Rattle.line_words.proofs.words.is_spelled.Goals as goal
+use Rattle.line_text.proofs.SpellingLemmas.{same_name-drop, letter_differs, letter_agrees}
+use Rattle.line_text.proofs.words.is_spelled.Goals as goal
 
 pub returns-then-letter-to_ascii_uppercase : goal.returns-then-letter-to_ascii_uppercase
 returns-then-letter-to_ascii_uppercase c =

@@ -1,7 +1,7 @@
 use Rattle.std.proofs.Common.{◌≡◌, ◌≤◌, length, take, ◌+◌, ◌-◌}
 use Rattle.std.specs.List.{suffix_len}
-use Rattle.line_words.specs.Words.{is_blank}
-use Rattle.line_words.proofs.words.trimmed.Given as goal
+use Rattle.line_text.specs.Words.{is_blank}
+use Rattle.line_text.proofs.words.trimmed.Given as goal
 
 abbrev pub invariant-loop-end : goal.invariant-loop-end
 invariant-loop-end l = record {

@@ -2,7 +2,7 @@
 use Rattle.std.specs.Prelude.{◌⊎◌, ℕ, ◌+◌, ◌-◌, ◌^◌, ◌≤◌, ◌==◌, Bool, true, false, List, [], ◌∷◌, Option, Some, None}
 use Rattle.host_files.specs.declared.files.FileId.{FileId}
 use Rattle.host_files.specs.State.{FileState}
-use Rattle.fault_notes.specs.declared.note.FaultNote.{FaultNote}
+use Rattle.file_commands.specs.declared.note.FaultNote.{FaultNote}
 
 -- whether a note is of that file
 abbrev pub is_of : ℕ → Option FileId → Bool

@@ -1,9 +1,9 @@
 -- What holds of the notes of every session, in a reader's words.
 use Rattle.std.specs.Prelude.{◌≡◌, ℕ, List, [], ◌++◌, length, drop}
 use Rattle.host_files.specs.State.{FileState}
-use Rattle.fault_notes.specs.declared.note.FaultNote.{FaultNote}
-use Rattle.fault_notes.specs.Notes.{CommandNote, Note, numbered, handed, Follow}
-use Rattle.fault_notes.specs.Counts.{AreCounted}
+use Rattle.file_commands.specs.declared.note.FaultNote.{FaultNote}
+use Rattle.file_commands.specs.Notes.{CommandNote, Note, numbered, handed, Follow}
+use Rattle.file_commands.specs.Counts.{AreCounted}
 
 -- A command is handed the notes that have its number and no others, in order; and once it has used all of them, those of
 -- later commands are left.

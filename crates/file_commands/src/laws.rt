@@ -1,4 +1,4 @@
-ghost use Rattle.fault_notes.specs.Laws.{CommandsTakeTheirNotes, CountsAddUp};
+ghost use Rattle.file_commands.specs.Laws.{CommandsTakeTheirNotes, CountsAddUp};
 
 /// The law that a command is handed exactly the notes that have its number, where the next one has a greater number;
 /// and that those are then gone, and the others left.

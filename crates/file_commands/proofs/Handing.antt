@@ -1,8 +1,8 @@
 -- Which notes a command is handed.
 use Rattle.std.proofs.Common.{◌≡◌, ℕ, ◌==◌, Bool, true, false, List, [], ◌∷◌, ◌++◌, length, drop, refl, ap, ◌∙◌, arith, if◌then◌else◌}
 use Rattle.std.proofs.lemmas.Bool.Decides.{nat_tests}
-use Rattle.fault_notes.specs.Notes.{CommandNote, Note, numbered, handed, Follow}
-use Rattle.fault_notes.specs.Laws.{CommandsTakeTheirNotes}
+use Rattle.file_commands.specs.Notes.{CommandNote, Note, numbered, handed, Follow}
+use Rattle.file_commands.specs.Laws.{CommandsTakeTheirNotes}
 
 taken-if : (b : Bool) (x y : List CommandNote) → b ≡ true → (if b then x else y) ≡ x
 taken-if true x y is = refl

@@ -4,7 +4,7 @@ use Rattle.std.proofs.lemmas.Bool.Decides.{nat_tests}
 use Rattle.fault_counts.specs.Faults.{Rose}
 use Rattle.host_files.specs.State.{FileState}
 use Rattle.unit_files.specs.Causes.{IsQuiet, OnlyNewCounts}
-use Rattle.fault_notes.specs.Counts.{RoseBy, AreCounted}
+use Rattle.file_commands.specs.Counts.{RoseBy, AreCounted}
 
 same-rose : (before now : ℕ) → now ≡ before → RoseBy 0 before now
 same-rose before now same = (omega (arith, same), inl (omega (arith, same)))

@@ -1,6 +1,6 @@
 ghost use Rattle.std.specs.Prelude.{◌≡◌, ◌≤◌, not, length, take, drop};
 ghost use Rattle.std.specs.List.{position, position_or_len};
-ghost use Rattle.line_words.specs.Words.{is_blank, past_blanks, word_at, trimmed, is_spelled};
+ghost use Rattle.line_text.specs.Words.{is_blank, past_blanks, word_at, trimmed, is_spelled};
 
 /// Whether a byte is a space or a tab.
 pub fn is_blank(b: u8) -> bool

@@ -6,7 +6,7 @@ use Rattle.std.proofs.lemmas.List.{at_drop_more, get_or-map, length-map}
 use Rattle.std.proofs.lemmas.Bool.{eqb-true}
 use Rattle.std.proofs.lemmas.Bool.Decides.{nat_tests}
 use Rattle.std.proofs.lemmas.Slice.Eq.{bytes_eq-Decides}
-use Rattle.line_words.specs.Words.{IsSpelled, is_spelled}
+use Rattle.line_text.specs.Words.{IsSpelled, is_spelled}
 
 -- the test decides whether a word is a name
 

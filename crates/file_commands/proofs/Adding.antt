@@ -1,9 +1,9 @@
 -- Counts over two spans.
 use Rattle.std.proofs.Common.{◌≡◌, inl, inr, ℕ, ◌+◌, List, [], ◌∷◌, ◌++◌, sym, subst, arith}
 use Rattle.host_files.specs.State.{FileState}
-use Rattle.fault_notes.specs.declared.note.FaultNote.{FaultNote}
-use Rattle.fault_notes.specs.Counts.{noted, openings_noted, RoseBy, AreCounted}
-use Rattle.fault_notes.specs.Laws.{CountsAddUp}
+use Rattle.file_commands.specs.declared.note.FaultNote.{FaultNote}
+use Rattle.file_commands.specs.Counts.{noted, openings_noted, RoseBy, AreCounted}
+use Rattle.file_commands.specs.Laws.{CountsAddUp}
 
 pub noted-append : (file : ℕ) (first second : List FaultNote) → noted file (first ++ second) ≡ noted file first + noted file second
 noted-append file [] second = omega arith
