@@ -4,9 +4,9 @@ ghost use Rattle.unit_files.specs.Attachments.{takes_attachment};
 ghost use Rattle.unit_files.specs.Open.{AllOpen, Around};
 ghost use Rattle.file_commands.specs.AllUnits.{AreApart, attachable, Empties, IsUnwritten, keeper, filed_of, flush_fault};
 
+use crate::FaultNote;
 use crate::one_unit::detach_unit;
 use crate::stamp::Stamp;
-use crate::FaultNote;
 use host_files::Files;
 use unit_files::{Attached, DetachFault, UnitFault};
 use unit_trait::{Kind, UnitName};

@@ -1,6 +1,6 @@
 //! What ATTACH and DETACH do with the files of units, and the notes of a session: one for each call on a file that
-//! failed, in order. Each says in which command it failed, when, for whom, which file and which call it was, and how many
-//! bytes a write had written.
+//! failed, in order. Each says in which command it failed, when, for whom, which file and which call it was, and how
+//! many bytes a write had written.
 #![tactic(auto)]
 
 pub mod all_units;

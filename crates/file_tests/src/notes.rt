@@ -7,8 +7,10 @@ ghost use Rattle.unit_files.specs.Open.{AllOpen};
 use crate::images::with_file;
 use crate::texts::{Call, call_of, columns_of, file_call, holds, number};
 use crate::units::{detach_answer, file_of, mode_of, unit_of};
-use file_commands::{FaultNote, NOTES_OF_A_COMMAND, Subject, keep, take_room};
-use file_commands::{Stamp, attach_unit, detach_all, detach_unit};
+use file_commands::{
+    FaultNote, NOTES_OF_A_COMMAND, Stamp, Subject, attach_unit, detach_all, detach_unit, keep,
+    take_room,
+};
 use host_files::{FileCall, FileId, Files};
 use std::alloc::{AllocError, Global};
 use std::process::Abort;

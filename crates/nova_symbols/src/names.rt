@@ -5,8 +5,7 @@ ghost use Rattle.nova_word.specs.Numbers.{octal_digits};
 ghost use Rattle.nova_symbols.specs.Names.{entry};
 ghost use Rattle.nova_symbols.specs.Naming.{name_place, letter};
 
-use line_text::Text;
-use line_text::is_spelled;
+use line_text::{Text, is_spelled};
 
 /// Which operands follow a name.
 #[derive(Clone, Copy, Debug, PartialEq, Eq)]

@@ -59,4 +59,3 @@ no-end es k low none =
     let d = event (record { kind = Clk; unit = 0 }) 0 in
     let here = none ∙ ap (λ (o : Option Event). option_map (λ e. (e.unit, e.remaining)) o) (slice_get-get_or es k d low) in
     cc
-

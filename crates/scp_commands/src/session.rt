@@ -7,8 +7,7 @@ ghost use Rattle.nova_machine.specs.BusOrder.{IsBusOrder};
 ghost use Rattle.nova_machine.specs.Machine.{new_machine};
 
 use expect_actions::{Keys, Watch};
-use file_commands::{FaultNote, take_room};
-use file_commands::{Stamp, detach_all};
+use file_commands::{FaultNote, Stamp, detach_all, take_room};
 use host_files::Files;
 use nova_machine::{Machine, OutOfMemory};
 use std::alloc::Global;

@@ -2,8 +2,7 @@
 ghost use Rattle.std.specs.Prelude.{◌≡◌, ◌≤◌, ◌+◌, ◌++◌, vec_len, vec_capacity};
 ghost use Rattle.scp_commands.specs.WholeCalls.{call_notes, read_notes, write_notes};
 
-use file_commands::{FaultNote, Subject, keep};
-use file_commands::Stamp;
+use file_commands::{FaultNote, Stamp, Subject, keep};
 use whole_files::{FailedCall, Whole, WholeFault, Written};
 
 /// Notes the calls of a reading that failed, but where memory ran out.

@@ -177,7 +177,7 @@ pub further : (start now next : List Note → Session) (before mid after : List 
     → Stepped now GoesOn next mid after notes' notes'' → ComesSoFar start (λ n. rested (next n)) before after notes notes''
 further start now next before mid after notes notes' notes'' s st =
     let follows : (more : List Note) → MayFollow (next []).spent (rested (next [])).live more → MayFollow (next []).spent (next []).live more =
-        λ more follow. follow-rested (next []).spent (next []).live (rested (next [])).live.watch more follow in
+    λ more follow. follow-rested (next []).spent (next []).live (rested (next [])).live.watch more follow in
     record {
       own = s.own ++ st.own;
       kept = st.kept ∙ ap (λ l. l ++ st.own) s.kept ∙ append_assoc notes s.own st.own;

@@ -53,7 +53,7 @@ lines-preserved g c =
       told = λ source files sink.
           let start : List Note → Session = λ notes. beginning c.args.session.now (g.F.Files.state c.args.files.now).files c.args.opening.now (g.C.Source.left c.args.input.now) notes in
           subst (λ (x : CommandState). ComesSoFar start (session_of x new.files c.next_line.new.lines (g.C.Source.left c.next_line.new.input))
-              (g.S.Sink.written c.args.out.now) (g.S.Sink.written c.next_line.new.out) (notes_said c.args.session.now.notes) (notes_said x.notes)) (sym is)
+          (g.S.Sink.written c.args.out.now) (g.S.Sink.written c.next_line.new.out) (notes_said c.args.session.now.notes) (notes_said x.notes)) (sym is)
           (further start
           (session_of c.lines.session (g.F.Files.state c.lines.files).files c.lines.lines (g.C.Source.left c.lines.input))
           (session_of done new.files c.next_line.new.lines (g.C.Source.left c.next_line.new.input))
