@@ -9,6 +9,8 @@ ghost use Rattle.scp_commands.specs.declared.fault.CommandFault.TheVariants.{Out
 ghost use Rattle.scp_commands.specs.Live.{live_in};
 ghost use Rattle.scp_commands.specs.WholeCalls.{write_calls, written_answer};
 ghost use Rattle.scp_commands.specs.TapeEffects.{can_dump, dump_after, dump_reply};
+ghost use Rattle.scp_parser.specs.Command.{Dump};
+ghost use Rattle.scp_commands.specs.Refusals.{IsUnrefused};
 ghost use Rattle.scp_commands.specs.Doing.{Did, Keeps, IsUndone, IsOwn, IsExitAnswer};
 
 use crate::fault::CommandFault;
@@ -49,6 +51,8 @@ pub fn dump_file<U: Unit, F: Files>(
         (notes_said session.old.notes) (notes_said session.new.notes) }
     ensures undone { (text : List ℕ) → result ≡ Err OutOfMemory
         → IsUndone true session.old session.new text text (F.state files.old) (F.state files.new) }
+    ensures unrefused { result ≡ Err OutOfMemory
+        → IsUnrefused (Dump from to name.now) session.old.machine session.old.watch }
     ensures keeps { Keeps session.old.command session.new.machine.time F.tells result session.old.notes
         session.new.notes (F.state files.old) (F.state files.new) }
     ensures own { IsOwn result }

@@ -8,6 +8,7 @@ ghost use Rattle.scp_commands.specs.declared.fault.CommandFault.TheVariants.{Out
 ghost use Rattle.scp_commands.specs.Live.{live_in};
 ghost use Rattle.scp_commands.specs.Effect.{effect};
 ghost use Rattle.scp_commands.specs.Parts.{IsPastRuns, IsPastSettings, IsPastWatches};
+ghost use Rattle.scp_commands.specs.Refusals.{IsUnrefused};
 ghost use Rattle.scp_commands.specs.Doing.{Did, IsTold, Keeps, ConsoleCounts, MayWant, IsUndone, says_files, IsExitAnswer};
 
 use crate::do_command::do_script;
@@ -53,6 +54,8 @@ pub fn execute<U: Unit, F: Files, S: Sink>(
     ensures undone { result ≡ Err OutOfMemory → IsUndone (says_files F.tells command.now) session.old session.new
         (S.written out.old) (S.written out.new) (F.state files.old) (F.state files.new) }
     ensures want { result ≡ Err OutOfMemory → MayWant session.old.spare command.now }
+    ensures unrefused { result ≡ Err OutOfMemory → 16 ≤ session.old.spare
+        → IsUnrefused command.now session.old.machine session.old.watch }
     ensures keeps { Keeps session.old.command session.new.machine.time F.tells result session.old.notes
         session.new.notes (F.state files.old) (F.state files.new) }
     ensures keys { session.new.keys ≡ session.old.keys }
@@ -89,6 +92,8 @@ fn obey<U: Unit, F: Files, S: Sink>(
     ensures undone { result ≡ Err OutOfMemory → IsUndone (says_files F.tells command.now) session.old session.new
         (S.written out.old) (S.written out.new) (F.state files.old) (F.state files.new) }
     ensures want { result ≡ Err OutOfMemory → MayWant 16 command.now }
+    ensures unrefused { result ≡ Err OutOfMemory
+        → IsUnrefused command.now session.old.machine session.old.watch }
     ensures keeps { Keeps session.old.command session.new.machine.time F.tells result session.old.notes
         session.new.notes (F.state files.old) (F.state files.new) }
     ensures keys { session.new.keys ≡ session.old.keys }
@@ -131,6 +136,8 @@ fn obey_setting<U: Unit, F: Files, S: Sink>(
     ensures undone { result ≡ Err OutOfMemory → IsUndone (says_files F.tells command.now) session.old session.new
         (S.written out.old) (S.written out.new) (F.state files.old) (F.state files.new) }
     ensures want { result ≡ Err OutOfMemory → MayWant 16 command.now }
+    ensures unrefused { result ≡ Err OutOfMemory
+        → IsUnrefused command.now session.old.machine session.old.watch }
     ensures keeps { Keeps session.old.command session.new.machine.time F.tells result session.old.notes
         session.new.notes (F.state files.old) (F.state files.new) }
     ensures keys { session.new.keys ≡ session.old.keys }
@@ -174,6 +181,8 @@ fn obey_watch<U: Unit, F: Files, S: Sink>(
     ensures undone { result ≡ Err OutOfMemory → IsUndone (says_files F.tells command.now) session.old session.new
         (S.written out.old) (S.written out.new) (F.state files.old) (F.state files.new) }
     ensures want { result ≡ Err OutOfMemory → MayWant 16 command.now }
+    ensures unrefused { result ≡ Err OutOfMemory
+        → IsUnrefused command.now session.old.machine session.old.watch }
     ensures keeps { Keeps session.old.command session.new.machine.time F.tells result session.old.notes
         session.new.notes (F.state files.old) (F.state files.new) }
     ensures keys { session.new.keys ≡ session.old.keys }
@@ -218,6 +227,8 @@ fn obey_file<U: Unit, F: Files, S: Sink>(
     ensures undone { result ≡ Err OutOfMemory → IsUndone (says_files F.tells command.now) session.old session.new
         (S.written out.old) (S.written out.new) (F.state files.old) (F.state files.new) }
     ensures want { result ≡ Err OutOfMemory → MayWant 16 command.now }
+    ensures unrefused { result ≡ Err OutOfMemory
+        → IsUnrefused command.now session.old.machine session.old.watch }
     ensures keeps { Keeps session.old.command session.new.machine.time F.tells result session.old.notes
         session.new.notes (F.state files.old) (F.state files.new) }
     ensures keys { session.new.keys ≡ session.old.keys }

@@ -10,6 +10,8 @@ ghost use Rattle.scp_commands.specs.declared.fault.CommandFault.TheVariants.{Out
 ghost use Rattle.scp_commands.specs.Live.{live_in};
 ghost use Rattle.scp_commands.specs.FileEffects.{lacks_unit, mode_of, first_place, positioned};
 ghost use Rattle.scp_commands.specs.FileEffects.{attach_reply, detach_reply, detach_all_reply, detach_one_or_all};
+ghost use Rattle.scp_parser.specs.Command.{Attach};
+ghost use Rattle.scp_commands.specs.Refusals.{IsUnrefused};
 ghost use Rattle.scp_commands.specs.Doing.{Did, Keeps, IsUndone, IsOwn, IsPlain, IsExitAnswer};
 
 use crate::fault::CommandFault;
@@ -48,6 +50,8 @@ pub fn attach<U: Unit, F: Files>(
         (notes_said session.old.notes) (notes_said session.new.notes) }
     ensures undone { (text : List ℕ) → result ≡ Err OutOfMemory
         → IsUndone true session.old session.new text text (F.state files.old) (F.state files.new) }
+    ensures unrefused { result ≡ Err OutOfMemory
+        → IsUnrefused (Attach option unit name.now) session.old.machine session.old.watch }
     ensures keeps { Keeps session.old.command session.new.machine.time F.tells result session.old.notes
         session.new.notes (F.state files.old) (F.state files.new) }
     ensures own { IsOwn result }

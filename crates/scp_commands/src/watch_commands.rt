@@ -6,6 +6,8 @@ ghost use Rattle.scp_commands.specs.Live.{standing, live_in};
 ghost use Rattle.scp_commands.specs.RunEffects.{last_address};
 ghost use Rattle.scp_commands.specs.WatchEffects.{largest_count, text_of_quoted, added_answer, can_be_expected};
 ghost use Rattle.scp_commands.specs.WatchEffects.{break_reply, no_break_reply, expect_reply, no_expect_reply, send_reply, no_send_reply};
+ghost use Rattle.scp_parser.specs.Command.{Break, Expect};
+ghost use Rattle.scp_commands.specs.Refusals.{IsUnrefused};
 ghost use Rattle.scp_commands.specs.Doing.{Does, IsOwn, IsPlain, IsExitAnswer};
 
 use crate::fault::CommandFault;
@@ -40,6 +42,8 @@ pub fn add_break<U: Unit>(
     ensures told { (files : List NamedBytes) (tells : Bool) (text : List ℕ)
         → Does (break_reply (live_in session.old files) at count actions.now) result
         (standing 0 (live_in session.new files)) tells text text }
+    ensures unrefused { result ≡ Err OutOfMemory
+        → IsUnrefused (Break at count actions.now) session.old.machine session.old.watch }
     ensures undone { result ≡ Err OutOfMemory → session.new ≡ session.old }
     ensures own { IsOwn result }
     ensures exit { IsExitAnswer result }
@@ -119,6 +123,8 @@ pub fn add_expect<U: Unit>(
     ensures told { (files : List NamedBytes) (tells : Bool) (text : List ℕ)
         → Does (expect_reply (live_in session.old files) count quoted.now actions.now) result
         (standing 0 (live_in session.new files)) tells text text }
+    ensures unrefused { result ≡ Err OutOfMemory
+        → IsUnrefused (Expect count quoted.now actions.now) session.old.machine session.old.watch }
     ensures undone { result ≡ Err OutOfMemory → session.new ≡ session.old }
     ensures own { IsOwn result }
     ensures exit { IsExitAnswer result }

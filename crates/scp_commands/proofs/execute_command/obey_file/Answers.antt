@@ -137,6 +137,7 @@ returns-in_default g c =
           (sym c.command.view_is) (λ own. other-is s.limit own live _ v past others) refl (refused-does NotBuilt live g.S.Sink.tells text tt);
       undone = λ is. absurd (cc);
       want = λ is. absurd (cc);
+      unrefused = λ is. absurd (cc);
       keeps = keeps-none s.command s.machine.time g.F.Files.tells (Err NotBuilt) s.notes s.notes state refl tt;
       keys = refl;
       limit = refl;

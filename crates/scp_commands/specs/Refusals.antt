@@ -1,0 +1,26 @@
+-- What a command is refused for before it wants any memory.
+use Rattle.std.specs.Prelude.{◌≡◌, ◌==◌, ◌&&◌, nat_le, true, false, None, length}
+use Rattle.unit_files.specs.Attachments.{attachment_at}
+use Rattle.unit_files.specs.Acts.{refused_first}
+use Rattle.expect_actions.specs.Expects.{most_expects}
+use Rattle.expect_actions.specs.Watch.{WatchState}
+use Rattle.nova_machine.specs.Machine.{MachineState}
+use Rattle.nova_machine.specs.Seen.{attached_in}
+use Rattle.scp_parser.specs.Command.{Request, Break, Expect, Attach, Dump}
+use Rattle.scp_commands.specs.RunEffects.{last_address}
+use Rattle.scp_commands.specs.WatchEffects.{largest_count, lacks_room_for_break, can_be_expected, text_of_quoted}
+use Rattle.scp_commands.specs.FileEffects.{lacks_unit, mode_of}
+use Rattle.scp_commands.specs.TapeEffects.{can_dump}
+
+-- The command is refused for nothing that can be seen before memory is wanted: a number out of range or a full table of BREAK
+-- and EXPECT; a unit of ATTACH that is not built, has a file already, or only writes where its file is only to be read;
+-- addresses of DUMP that the memory does not have.
+abbrev pub IsUnrefused : Request → MachineState → WatchState → Type 0
+IsUnrefused (Break at count actions) m w =
+    ((nat_le at last_address && nat_le count largest_count) ≡ true) × (lacks_room_for_break at w.breaks.list ≡ false)
+IsUnrefused (Expect count quoted actions) m w =
+    (can_be_expected count (text_of_quoted quoted) ≡ true) × ((length w.expects.list == most_expects) ≡ false)
+IsUnrefused (Attach option unit name) m w =
+    (lacks_unit m unit ≡ false) × (refused_first (attachment_at (attached_in m) unit) unit (mode_of option) ≡ None)
+IsUnrefused (Dump from to name) m w = can_dump m from to ≡ true
+IsUnrefused request m w = Unit {0}
