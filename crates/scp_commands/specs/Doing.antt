@@ -1,5 +1,5 @@
 -- What a call comes to that does a command: on a console that had and has these bytes, and with the notes that it kept.
-use Rattle.std.specs.Prelude.{◌≡◌, ◌⊎◌, ℕ, ◌≤◌, ◌<◌, Bool, true, IsTrue, List, [], ◌∷◌, ◌++◌, length, Option, is_some, Result, Ok, Err, false, if◌then◌else◌}
+use Rattle.std.specs.Prelude.{◌≡◌, ◌⊎◌, ℕ, ◌≤◌, ◌<◌, Bool, true, IsTrue, List, [], ◌∷◌, ◌++◌, length, Option, is_some, Result, Ok, Err, false, if◌then◌else◌, Some, None}
 use Rattle.std.specs.List.{AllByRecursion, list_any}
 use Rattle.fault_counts.specs.Faults.{raised, Rose}
 use Rattle.observations.specs.Observations.{text_of, StandsAt}
@@ -21,9 +21,10 @@ use Rattle.file_commands.specs.Kept.{fault_note}
 use Rattle.file_commands.specs.AllUnits.{attachable}
 use Rattle.nova_machine.specs.declared.machine.Stop.{Stop}
 use Rattle.nova_machine.specs.declared.machine.Stop.TheVariants.{ConsoleFault, FileFault}
-use Rattle.nova_machine.specs.Comes.{AreFree}
+use Rattle.nova_machine.specs.Comes.{AreFree, FileCause as StopCause}
+use Rattle.nova_machine.specs.Wants.{HasUnit}
 use Rattle.nova_machine.specs.Seen.{attached_in}
-use Rattle.scp_parser.specs.Command.{Request}
+use Rattle.scp_parser.specs.Command.{Request, Detach, Exit as ExitRequest}
 use Rattle.scp_commands.specs.declared.next.Next.{Next}
 use Rattle.scp_commands.specs.declared.next.Next.TheVariants.{Exit, Ran}
 use Rattle.scp_commands.specs.declared.fault.CommandFault.TheVariants.{Console, OutOfMemory, NoFile, FileTooLong, FileFailed}
@@ -183,6 +184,28 @@ IsRunAnswer (Ok (Ran ConsoleFault)) = ⊥
 IsRunAnswer (Ok (Exit status)) = ⊥
 IsRunAnswer (Err OutOfMemory) = ⊥
 IsRunAnswer answer = Unit {0}
+
+-- a command was refused; that the console refused a byte is no refusal
+abbrev pub IsRefused : Answer → Type 0
+IsRefused (Err Console) = ⊥
+IsRefused (Err fault) = Unit {0}
+IsRefused (Ok next) = ⊥
+
+-- the same, but for a DETACH ALL and an EXIT of which a write failed: units before the disk may have lost their files
+abbrev pub IsKept : Answer → Type 0
+IsKept (Err (FileFailed who)) = ⊥
+IsKept answer = IsRefused answer
+
+abbrev pub IsRefusal : Request → Answer → Type 0
+IsRefusal (Detach None) answer = IsKept answer
+IsRefusal (ExitRequest status) answer = IsKept answer
+IsRefusal request answer = IsRefused answer
+
+-- A run that stopped for a failing call names the unit, the file that is attached to it, and a call that a run makes there,
+-- with what a write had written; and the count of that very file rose by one, and no other.
+abbrev pub RunCause : Answer → List (Option Held) → FileState → FileState → Type 0
+RunCause (Ok (Ran stop)) slots old new = HasUnit stop × StopCause (Some stop) slots old new
+RunCause answer slots old new = Unit {0}
 
 -- ---- want of memory
 

@@ -8,7 +8,7 @@ ghost use Rattle.scp_commands.specs.declared.fault.CommandFault.TheVariants.{Out
 ghost use Rattle.scp_commands.specs.Live.{live_in};
 ghost use Rattle.scp_commands.specs.ScriptEffects.{script_of, do_reply};
 ghost use Rattle.scp_commands.specs.WholeCalls.{whole_answer};
-ghost use Rattle.scp_commands.specs.Doing.{Did, Keeps, IsUndone, IsOwn, IsExitAnswer};
+ghost use Rattle.scp_commands.specs.Doing.{Did, Keeps, IsUndone, IsOwn, IsExitAnswer, IsRefused};
 
 use crate::do_file::{DoFile, ScriptText};
 use crate::fault::CommandFault;
@@ -38,6 +38,8 @@ pub fn do_script<U: Unit, F: Files>(
 ) -> Result<Next, CommandFault>
     requires room { 16 ≤ session.old.spare }
     requires open { AllOpen session.old.machine.slots (F.state files.old).opened }
+    ensures refused { IsRefused result
+        → (session.new.machine ≡ session.old.machine) × (session.new.watch ≡ session.old.watch) }
     ensures told { (tells : Bool) (text : List ℕ) → IsTrue F.tells
         → Did (λ notes. do_reply notes (live_in session.old (F.state files.old).files) echo strict name.now)
         session.old.command result (live_in session.new (F.state files.new).files) tells text text

@@ -11,7 +11,7 @@ ghost use Rattle.scp_commands.specs.WholeCalls.{write_calls, written_answer};
 ghost use Rattle.scp_commands.specs.TapeEffects.{can_dump, dump_after, dump_reply};
 ghost use Rattle.scp_parser.specs.Command.{Dump};
 ghost use Rattle.scp_commands.specs.Refusals.{IsUnrefused};
-ghost use Rattle.scp_commands.specs.Doing.{Did, Keeps, IsUndone, IsOwn, IsExitAnswer};
+ghost use Rattle.scp_commands.specs.Doing.{Did, Keeps, IsUndone, IsOwn, IsExitAnswer, IsRefused};
 
 use crate::fault::CommandFault;
 use crate::next::Next;
@@ -45,6 +45,8 @@ pub fn dump_file<U: Unit, F: Files>(
 ) -> Result<Next, CommandFault>
     requires room { 16 ≤ session.old.spare }
     requires open { AllOpen session.old.machine.slots (F.state files.old).opened }
+    ensures refused { IsRefused result
+        → (session.new.machine ≡ session.old.machine) × (session.new.watch ≡ session.old.watch) }
     ensures told { (tells : Bool) (text : List ℕ) → IsTrue F.tells
         → Did (λ notes. dump_reply notes (live_in session.old (F.state files.old).files) from to name.now)
         session.old.command result (live_in session.new (F.state files.new).files) tells text text
@@ -105,6 +107,8 @@ fn write_tape<U: Unit, F: Files>(
 ) -> Result<Next, CommandFault>
     requires room { 16 ≤ session.old.spare }
     requires open { AllOpen session.old.machine.slots (F.state files.old).opened }
+    ensures refused { IsRefused result
+        → (session.new.machine ≡ session.old.machine) × (session.new.watch ≡ session.old.watch) }
     ensures told { (tells : Bool) (text : List ℕ) → IsTrue F.tells
         → Did (λ notes. dump_after (write_act (write_calls of_dump session.old.machine.time notes) name.now tape.now
         (F.state files.old).files) (live_in session.old (F.state files.old).files))

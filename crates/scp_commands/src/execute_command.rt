@@ -9,7 +9,7 @@ ghost use Rattle.scp_commands.specs.Live.{live_in};
 ghost use Rattle.scp_commands.specs.Effect.{effect};
 ghost use Rattle.scp_commands.specs.Parts.{IsPastRuns, IsPastSettings, IsPastWatches};
 ghost use Rattle.scp_commands.specs.Refusals.{IsUnrefused};
-ghost use Rattle.scp_commands.specs.Doing.{Did, IsTold, Keeps, ConsoleCounts, MayWant, IsUndone, says_files, IsExitAnswer};
+ghost use Rattle.scp_commands.specs.Doing.{Did, IsTold, Keeps, ConsoleCounts, MayWant, IsUndone, says_files, IsExitAnswer, RunCause, IsRefusal};
 
 use crate::do_command::do_script;
 use crate::dump_command::dump_file;
@@ -47,6 +47,8 @@ pub fn execute<U: Unit, F: Files, S: Sink>(
     out: &mut S,
 ) -> Result<Next, CommandFault>
     requires open { AllOpen session.old.machine.slots (F.state files.old).opened }
+    ensures refused { IsRefusal command.now result
+        → (session.new.machine ≡ session.old.machine) × (session.new.watch ≡ session.old.watch) }
     ensures told { IsTold F.tells session.old.machine.slots command.now
         → Did (λ notes. effect session.old.limit notes (live_in session.old (F.state files.old).files) command.now)
         session.old.command result (live_in session.new (F.state files.new).files) S.tells (S.written out.old)
@@ -62,6 +64,7 @@ pub fn execute<U: Unit, F: Files, S: Sink>(
     ensures limit { session.new.limit ≡ session.old.limit }
     ensures command { session.new.command ≡ session.old.command }
     ensures counts { ConsoleCounts result (S.fault_count out.old) (S.fault_count out.new) }
+    ensures ran { RunCause result session.old.machine.slots (F.state files.old) (F.state files.new) }
     ensures stop { result ≢ Ok (Ran ConsoleFault) }
     ensures exit { IsExitAnswer result }
     ensures open { AllOpen session.new.machine.slots (F.state files.new).opened }
@@ -85,6 +88,8 @@ fn obey<U: Unit, F: Files, S: Sink>(
 ) -> Result<Next, CommandFault>
     requires room { 16 ≤ session.old.spare }
     requires open { AllOpen session.old.machine.slots (F.state files.old).opened }
+    ensures refused { IsRefusal command.now result
+        → (session.new.machine ≡ session.old.machine) × (session.new.watch ≡ session.old.watch) }
     ensures told { IsTold F.tells session.old.machine.slots command.now
         → Did (λ notes. effect session.old.limit notes (live_in session.old (F.state files.old).files) command.now)
         session.old.command result (live_in session.new (F.state files.new).files) S.tells (S.written out.old)
@@ -100,6 +105,7 @@ fn obey<U: Unit, F: Files, S: Sink>(
     ensures limit { session.new.limit ≡ session.old.limit }
     ensures command { session.new.command ≡ session.old.command }
     ensures counts { ConsoleCounts result (S.fault_count out.old) (S.fault_count out.new) }
+    ensures ran { RunCause result session.old.machine.slots (F.state files.old) (F.state files.new) }
     ensures stop { result ≢ Ok (Ran ConsoleFault) }
     ensures exit { IsExitAnswer result }
     ensures open { AllOpen session.new.machine.slots (F.state files.new).opened }
@@ -129,6 +135,8 @@ fn obey_setting<U: Unit, F: Files, S: Sink>(
     requires room { 16 ≤ session.old.spare }
     requires open { AllOpen session.old.machine.slots (F.state files.old).opened }
     requires part { IsPastRuns command.now }
+    ensures refused { IsRefusal command.now result
+        → (session.new.machine ≡ session.old.machine) × (session.new.watch ≡ session.old.watch) }
     ensures told { IsTold F.tells session.old.machine.slots command.now
         → Did (λ notes. effect session.old.limit notes (live_in session.old (F.state files.old).files) command.now)
         session.old.command result (live_in session.new (F.state files.new).files) S.tells (S.written out.old)
@@ -144,6 +152,7 @@ fn obey_setting<U: Unit, F: Files, S: Sink>(
     ensures limit { session.new.limit ≡ session.old.limit }
     ensures command { session.new.command ≡ session.old.command }
     ensures counts { ConsoleCounts result (S.fault_count out.old) (S.fault_count out.new) }
+    ensures ran { RunCause result session.old.machine.slots (F.state files.old) (F.state files.new) }
     ensures stop { result ≢ Ok (Ran ConsoleFault) }
     ensures exit { IsExitAnswer result }
     ensures open { AllOpen session.new.machine.slots (F.state files.new).opened }
@@ -174,6 +183,8 @@ fn obey_watch<U: Unit, F: Files, S: Sink>(
     requires room { 16 ≤ session.old.spare }
     requires open { AllOpen session.old.machine.slots (F.state files.old).opened }
     requires part { IsPastSettings command.now }
+    ensures refused { IsRefusal command.now result
+        → (session.new.machine ≡ session.old.machine) × (session.new.watch ≡ session.old.watch) }
     ensures told { IsTold F.tells session.old.machine.slots command.now
         → Did (λ notes. effect session.old.limit notes (live_in session.old (F.state files.old).files) command.now)
         session.old.command result (live_in session.new (F.state files.new).files) S.tells (S.written out.old)
@@ -189,6 +200,7 @@ fn obey_watch<U: Unit, F: Files, S: Sink>(
     ensures limit { session.new.limit ≡ session.old.limit }
     ensures command { session.new.command ≡ session.old.command }
     ensures counts { ConsoleCounts result (S.fault_count out.old) (S.fault_count out.new) }
+    ensures ran { RunCause result session.old.machine.slots (F.state files.old) (F.state files.new) }
     ensures stop { result ≢ Ok (Ran ConsoleFault) }
     ensures exit { IsExitAnswer result }
     ensures open { AllOpen session.new.machine.slots (F.state files.new).opened }
@@ -220,6 +232,8 @@ fn obey_file<U: Unit, F: Files, S: Sink>(
     requires room { 16 ≤ session.old.spare }
     requires open { AllOpen session.old.machine.slots (F.state files.old).opened }
     requires part { IsPastWatches command.now }
+    ensures refused { IsRefusal command.now result
+        → (session.new.machine ≡ session.old.machine) × (session.new.watch ≡ session.old.watch) }
     ensures told { IsTold F.tells session.old.machine.slots command.now
         → Did (λ notes. effect session.old.limit notes (live_in session.old (F.state files.old).files) command.now)
         session.old.command result (live_in session.new (F.state files.new).files) S.tells (S.written out.old)
@@ -235,6 +249,7 @@ fn obey_file<U: Unit, F: Files, S: Sink>(
     ensures limit { session.new.limit ≡ session.old.limit }
     ensures command { session.new.command ≡ session.old.command }
     ensures counts { ConsoleCounts result (S.fault_count out.old) (S.fault_count out.new) }
+    ensures ran { RunCause result session.old.machine.slots (F.state files.old) (F.state files.new) }
     ensures stop { result ≢ Ok (Ran ConsoleFault) }
     ensures exit { IsExitAnswer result }
     ensures open { AllOpen session.new.machine.slots (F.state files.new).opened }

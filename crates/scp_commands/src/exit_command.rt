@@ -5,7 +5,7 @@ ghost use Rattle.unit_files.specs.Open.{AllOpen, Around};
 ghost use Rattle.file_commands.specs.Notes.{notes_said};
 ghost use Rattle.scp_commands.specs.Live.{live_in};
 ghost use Rattle.scp_commands.specs.ExitEffects.{exit_reply};
-ghost use Rattle.scp_commands.specs.Doing.{Did, Keeps, IsPlain, IsExitAnswer};
+ghost use Rattle.scp_commands.specs.Doing.{Did, Keeps, IsPlain, IsExitAnswer, IsKept};
 
 use crate::fault::CommandFault;
 use crate::next::Next;
@@ -24,6 +24,8 @@ pub fn exit<U: Unit, F: Files>(
 ) -> Result<Next, CommandFault>
     requires room { 16 ≤ session.old.spare }
     requires open { AllOpen session.old.machine.slots (F.state files.old).opened }
+    ensures refused { IsKept result
+        → (session.new.machine ≡ session.old.machine) × (session.new.watch ≡ session.old.watch) }
     ensures told { (tells : Bool) (text : List ℕ)
         → Did (λ notes. exit_reply notes (live_in session.old (F.state files.old).files) status)
         session.old.command result (live_in session.new (F.state files.new).files) tells text text

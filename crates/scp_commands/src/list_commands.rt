@@ -3,7 +3,7 @@ ghost use Rattle.std.specs.Prelude.{◌≡◌, ℕ, Bool, List, []};
 ghost use Rattle.host_files.specs.Lists.{NamedBytes};
 ghost use Rattle.scp_commands.specs.Live.{standing, live_in};
 ghost use Rattle.scp_commands.specs.ListEffects.{lacks_device, examine_reply, handed, deposit_reply};
-ghost use Rattle.scp_commands.specs.Doing.{Does, ConsoleCounts, IsShown, IsPlain, IsExitAnswer};
+ghost use Rattle.scp_commands.specs.Doing.{Does, ConsoleCounts, IsShown, IsPlain, IsExitAnswer, IsRefused};
 
 use crate::fault::CommandFault;
 use crate::next::Next;
@@ -42,6 +42,8 @@ pub fn deposit_list<U: Unit>(
     listing: &Listing,
     value: u64,
 ) -> Result<Next, CommandFault>
+    ensures refused { IsRefused result
+        → (session.new.machine ≡ session.old.machine) × (session.new.watch ≡ session.old.watch) }
     ensures told { (files : List NamedBytes) (tells : Bool) (text : List ℕ)
         → Does (deposit_reply (live_in session.old files) listing.now value) result
         (standing 0 (live_in session.new files)) tells text text }
@@ -65,6 +67,8 @@ fn fill_list<U: Unit>(
     ensures after { (files : List NamedBytes) → standing 0 (live_in session.new files)
         ≡ (deposit_reply (live_in session.old files) listing.now value).after }
     ensures exit { IsExitAnswer result }
+    ensures refused { IsRefused result
+        → (session.new.machine ≡ session.old.machine) × (session.new.watch ≡ session.old.watch) }
     ensures silent { (files : List NamedBytes)
         → (deposit_reply (live_in session.old files) listing.now value).made ≡ [] }
     ensures rest { session.new ≡ record session.old { machine = session.new.machine } }

@@ -9,7 +9,7 @@ ghost use Rattle.scp_commands.specs.Live.{live_in};
 ghost use Rattle.scp_commands.specs.RunEffects.{starting_at};
 ghost use Rattle.scp_commands.specs.WholeCalls.{whole_answer};
 ghost use Rattle.scp_commands.specs.TapeEffects.{tape_in, tape_answer, tape_machine, read_machine, load_reply};
-ghost use Rattle.scp_commands.specs.Doing.{Did, Keeps, IsUndone, IsOwn, IsExitAnswer};
+ghost use Rattle.scp_commands.specs.Doing.{Did, Keeps, IsUndone, IsOwn, IsExitAnswer, IsRefused};
 
 use crate::fault::CommandFault;
 use crate::next::Next;
@@ -40,6 +40,8 @@ pub fn load_file<U: Unit, F: Files>(
 ) -> Result<Next, CommandFault>
     requires room { 16 ≤ session.old.spare }
     requires open { AllOpen session.old.machine.slots (F.state files.old).opened }
+    ensures refused { IsRefused result
+        → (session.new.machine ≡ session.old.machine) × (session.new.watch ≡ session.old.watch) }
     ensures told { (tells : Bool) (text : List ℕ) → IsTrue F.tells
         → Did (λ notes. load_reply notes (live_in session.old (F.state files.old).files) name.now)
         session.old.command result (live_in session.new (F.state files.new).files) tells text text

@@ -10,7 +10,7 @@ ghost use Rattle.nova_machine.specs.Machine.{reset_machine};
 ghost use Rattle.scp_commands.specs.Live.{live_in, standing};
 ghost use Rattle.scp_commands.specs.RunEffects.{address_fits, starting_at, reset_where, running, run_from};
 ghost use Rattle.scp_commands.specs.RunEffects.{stepped, step_of, run_failure, ran, reset_reply};
-ghost use Rattle.scp_commands.specs.Doing.{Did, Does, Keeps, ConsoleCounts};
+ghost use Rattle.scp_commands.specs.Doing.{Did, Does, Keeps, ConsoleCounts, RunCause, IsRefused};
 ghost use Rattle.scp_commands.specs.Doing.{IsPlain, IsRunAnswer, IsExitAnswer, stop_notes};
 
 use crate::counts::is_count;
@@ -38,6 +38,8 @@ pub fn run_from<U: Unit, F: Files, S: Sink>(
 ) -> Result<Next, CommandFault>
     requires room { 16 ≤ session.old.spare }
     requires open { AllOpen session.old.machine.slots (F.state files.old).opened }
+    ensures refused { IsRefused result
+        → (session.new.machine ≡ session.old.machine) × (session.new.watch ≡ session.old.watch) }
     ensures told { AreTold F.tells session.old.machine.slots → Did
         (λ notes. run_from session.old.limit notes resets address (live_in session.old (F.state files.old).files))
         session.old.command result (live_in session.new (F.state files.new).files) S.tells (S.written out.old)
@@ -50,6 +52,7 @@ pub fn run_from<U: Unit, F: Files, S: Sink>(
     ensures slots { session.new.machine.slots ≡ session.old.machine.slots }
     ensures opened { (F.state files.new).opened ≡ (F.state files.old).opened }
     ensures counts { ConsoleCounts result (S.fault_count out.old) (S.fault_count out.new) }
+    ensures ran { RunCause result session.old.machine.slots (F.state files.old) (F.state files.new) }
     ensures own { IsRunAnswer result }
     ensures exit { IsExitAnswer result }
 {
@@ -108,6 +111,7 @@ pub fn run<U: Unit, F: Files, S: Sink>(
 ) -> Result<Next, CommandFault>
     requires room { 16 ≤ session.old.spare }
     requires open { AllOpen session.old.machine.slots (F.state files.old).opened }
+    ensures never { IsRefused result → ⊥ }
     ensures told { AreTold F.tells session.old.machine.slots → Did
         (λ notes. running session.old.limit notes (live_in session.old (F.state files.old).files))
         session.old.command result (live_in session.new (F.state files.new).files) S.tells (S.written out.old)
@@ -120,6 +124,7 @@ pub fn run<U: Unit, F: Files, S: Sink>(
     ensures slots { session.new.machine.slots ≡ session.old.machine.slots }
     ensures opened { (F.state files.new).opened ≡ (F.state files.old).opened }
     ensures counts { ConsoleCounts result (S.fault_count out.old) (S.fault_count out.new) }
+    ensures ran { RunCause result session.old.machine.slots (F.state files.old) (F.state files.new) }
     ensures own { IsRunAnswer result }
     ensures exit { IsExitAnswer result }
 {
@@ -140,6 +145,8 @@ pub fn step<U: Unit, F: Files, S: Sink>(
 ) -> Result<Next, CommandFault>
     requires room { 16 ≤ session.old.spare }
     requires open { AllOpen session.old.machine.slots (F.state files.old).opened }
+    ensures refused { IsRefused result
+        → (session.new.machine ≡ session.old.machine) × (session.new.watch ≡ session.old.watch) }
     ensures told { AreTold F.tells session.old.machine.slots → Did
         (λ notes. step_of session.old.limit notes count (live_in session.old (F.state files.old).files))
         session.old.command result (live_in session.new (F.state files.new).files) S.tells (S.written out.old)
@@ -152,6 +159,7 @@ pub fn step<U: Unit, F: Files, S: Sink>(
     ensures slots { session.new.machine.slots ≡ session.old.machine.slots }
     ensures opened { (F.state files.new).opened ≡ (F.state files.old).opened }
     ensures counts { ConsoleCounts result (S.fault_count out.old) (S.fault_count out.new) }
+    ensures ran { RunCause result session.old.machine.slots (F.state files.old) (F.state files.new) }
     ensures own { IsRunAnswer result }
     ensures exit { IsExitAnswer result }
 {
@@ -171,6 +179,7 @@ fn step_by<U: Unit, F: Files, S: Sink>(
 ) -> Result<Next, CommandFault>
     requires room { 16 ≤ session.old.spare }
     requires open { AllOpen session.old.machine.slots (F.state files.old).opened }
+    ensures never { IsRefused result → ⊥ }
     ensures told { AreTold F.tells session.old.machine.slots → Did
         (λ notes. stepped session.old.limit notes count (live_in session.old (F.state files.old).files))
         session.old.command result (live_in session.new (F.state files.new).files) S.tells (S.written out.old)
@@ -183,6 +192,7 @@ fn step_by<U: Unit, F: Files, S: Sink>(
     ensures slots { session.new.machine.slots ≡ session.old.machine.slots }
     ensures opened { (F.state files.new).opened ≡ (F.state files.old).opened }
     ensures counts { ConsoleCounts result (S.fault_count out.old) (S.fault_count out.new) }
+    ensures ran { RunCause result session.old.machine.slots (F.state files.old) (F.state files.new) }
     ensures own { IsRunAnswer result }
     ensures exit { IsExitAnswer result }
 {
@@ -203,6 +213,7 @@ fn run_up_to<U: Unit, F: Files, S: Sink>(
 ) -> Result<Next, CommandFault>
     requires room { 16 ≤ session.old.spare }
     requires open { AllOpen session.old.machine.slots (F.state files.old).opened }
+    ensures never { IsRefused result → ⊥ }
     ensures told { AreTold F.tells session.old.machine.slots → Did
         (λ notes. ran (run (run_failure notes) limit.step limit.count (live_in session.old (F.state files.old).files)))
         session.old.command result (live_in session.new (F.state files.new).files) S.tells (S.written out.old)
@@ -215,6 +226,7 @@ fn run_up_to<U: Unit, F: Files, S: Sink>(
     ensures slots { session.new.machine.slots ≡ session.old.machine.slots }
     ensures opened { (F.state files.new).opened ≡ (F.state files.old).opened }
     ensures counts { ConsoleCounts result (S.fault_count out.old) (S.fault_count out.new) }
+    ensures ran { RunCause result session.old.machine.slots (F.state files.old) (F.state files.new) }
     ensures own { IsRunAnswer result }
     ensures exit { IsExitAnswer result }
 {
@@ -258,6 +270,7 @@ fn is_console_fault(stop: Stop) -> bool
 pub fn reset<U: Unit>(session: &mut Session<U>) -> Result<Next, CommandFault>
     ensures told { (files : List NamedBytes) (tells : Bool) (text : List ℕ)
         → Does (reset_reply (live_in session.old files)) result (standing 0 (live_in session.new files)) tells text text }
+    ensures never { IsRefused result → ⊥ }
     ensures own { IsPlain result }
     ensures exit { IsExitAnswer result }
     ensures rest { session.new ≡ record session.old { machine = reset_machine session.old.machine } }

@@ -4,7 +4,7 @@ ghost use Rattle.host_files.specs.Lists.{NamedBytes};
 ghost use Rattle.nova_memory.specs.Memory.{IsSize};
 ghost use Rattle.scp_commands.specs.Live.{standing, live_in};
 ghost use Rattle.scp_commands.specs.SetEffects.{sized, set_size_reply};
-ghost use Rattle.scp_commands.specs.Doing.{Does, IsPlain, IsExitAnswer};
+ghost use Rattle.scp_commands.specs.Doing.{Does, IsPlain, IsExitAnswer, IsRefused};
 
 use crate::fault::CommandFault;
 use crate::next::Next;
@@ -16,6 +16,8 @@ use unit_trait::Unit;
 /// SET CPU gives the machine that many K of memory, each of 1024 words: 4, 8 and so on up to 32. The words below that
 /// stay, and all others are 0 from then on. It prints nothing.
 pub fn set_size<U: Unit>(session: &mut Session<U>, k: u64) -> Result<Next, CommandFault>
+    ensures refused { IsRefused result
+        → (session.new.machine ≡ session.old.machine) × (session.new.watch ≡ session.old.watch) }
     ensures told { (files : List NamedBytes) (tells : Bool) (text : List ℕ)
         → Does (set_size_reply (live_in session.old files) k) result (standing 0 (live_in session.new files)) tells
         text text }

@@ -10,9 +10,9 @@ ghost use Rattle.scp_commands.specs.declared.fault.CommandFault.TheVariants.{Out
 ghost use Rattle.scp_commands.specs.Live.{live_in};
 ghost use Rattle.scp_commands.specs.FileEffects.{lacks_unit, mode_of, first_place, positioned};
 ghost use Rattle.scp_commands.specs.FileEffects.{attach_reply, detach_reply, detach_all_reply, detach_one_or_all};
-ghost use Rattle.scp_parser.specs.Command.{Attach};
+ghost use Rattle.scp_parser.specs.Command.{Attach, Detach};
 ghost use Rattle.scp_commands.specs.Refusals.{IsUnrefused};
-ghost use Rattle.scp_commands.specs.Doing.{Did, Keeps, IsUndone, IsOwn, IsPlain, IsExitAnswer};
+ghost use Rattle.scp_commands.specs.Doing.{Did, Keeps, IsUndone, IsOwn, IsPlain, IsExitAnswer, IsRefused, IsKept, IsRefusal};
 
 use crate::fault::CommandFault;
 use crate::next::Next;
@@ -44,6 +44,8 @@ pub fn attach<U: Unit, F: Files>(
     requires unit { unit.unit < units_of unit.kind }
     requires name { IsFileName name.now }
     requires open { AllOpen session.old.machine.slots (F.state files.old).opened }
+    ensures refused { IsRefused result
+        → (session.new.machine ≡ session.old.machine) × (session.new.watch ≡ session.old.watch) }
     ensures told { (tells : Bool) (text : List ℕ) → IsTrue F.tells
         → Did (λ notes. attach_reply notes (live_in session.old (F.state files.old).files) option unit name.now)
         session.old.command result (live_in session.new (F.state files.new).files) tells text text
@@ -96,6 +98,8 @@ pub fn detach_one_or_every<U: Unit, F: Files>(
     requires room { 16 ≤ session.old.spare }
     requires unit { IfSome unit (λ u. u.unit < units_of u.kind) }
     requires open { AllOpen session.old.machine.slots (F.state files.old).opened }
+    ensures refused { IsRefusal (Detach unit) result
+        → (session.new.machine ≡ session.old.machine) × (session.new.watch ≡ session.old.watch) }
     ensures told { (tells : Bool) (text : List ℕ)
         → Did (λ notes. detach_one_or_all notes (live_in session.old (F.state files.old).files) unit)
         session.old.command result (live_in session.new (F.state files.new).files) tells text text
@@ -128,6 +132,8 @@ fn detach<U: Unit, F: Files>(
     requires room { 16 ≤ session.old.spare }
     requires unit { unit.unit < units_of unit.kind }
     requires open { AllOpen session.old.machine.slots (F.state files.old).opened }
+    ensures refused { IsRefused result
+        → (session.new.machine ≡ session.old.machine) × (session.new.watch ≡ session.old.watch) }
     ensures told { (tells : Bool) (text : List ℕ)
         → Did (λ notes. detach_reply notes (live_in session.old (F.state files.old).files) unit)
         session.old.command result (live_in session.new (F.state files.new).files) tells text text
@@ -168,6 +174,8 @@ fn detach_every<U: Unit, F: Files>(
 ) -> Result<Next, CommandFault>
     requires room { 16 ≤ session.old.spare }
     requires open { AllOpen session.old.machine.slots (F.state files.old).opened }
+    ensures refused { IsKept result
+        → (session.new.machine ≡ session.old.machine) × (session.new.watch ≡ session.old.watch) }
     ensures told { (tells : Bool) (text : List ℕ)
         → Did (λ notes. detach_all_reply notes (live_in session.old (F.state files.old).files))
         session.old.command result (live_in session.new (F.state files.new).files) tells text text

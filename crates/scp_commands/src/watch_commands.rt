@@ -8,7 +8,7 @@ ghost use Rattle.scp_commands.specs.WatchEffects.{largest_count, text_of_quoted,
 ghost use Rattle.scp_commands.specs.WatchEffects.{break_reply, no_break_reply, expect_reply, no_expect_reply, send_reply, no_send_reply};
 ghost use Rattle.scp_parser.specs.Command.{Break, Expect};
 ghost use Rattle.scp_commands.specs.Refusals.{IsUnrefused};
-ghost use Rattle.scp_commands.specs.Doing.{Does, IsOwn, IsPlain, IsExitAnswer};
+ghost use Rattle.scp_commands.specs.Doing.{Does, IsOwn, IsPlain, IsExitAnswer, IsRefused};
 
 use crate::fault::CommandFault;
 use crate::next::Next;
@@ -39,6 +39,8 @@ pub fn add_break<U: Unit>(
     actions: &[u8],
 ) -> Result<Next, CommandFault>
     requires { length actions.now ≤ 512 }
+    ensures refused { IsRefused result
+        → (session.new.machine ≡ session.old.machine) × (session.new.watch ≡ session.old.watch) }
     ensures told { (files : List NamedBytes) (tells : Bool) (text : List ℕ)
         → Does (break_reply (live_in session.old files) at count actions.now) result
         (standing 0 (live_in session.new files)) tells text text }
@@ -88,6 +90,8 @@ pub fn remove_breaks<U: Unit>(
     session: &mut Session<U>,
     at: Option<u64>,
 ) -> Result<Next, CommandFault>
+    ensures refused { IsRefused result
+        → (session.new.machine ≡ session.old.machine) × (session.new.watch ≡ session.old.watch) }
     ensures told { (files : List NamedBytes) (tells : Bool) (text : List ℕ)
         → Does (no_break_reply (live_in session.old files) at) result (standing 0 (live_in session.new files)) tells
         text text }
@@ -120,6 +124,8 @@ pub fn add_expect<U: Unit>(
 ) -> Result<Next, CommandFault>
     requires short { length quoted.now ≤ 512 }
     requires actions { length actions.now ≤ 512 }
+    ensures refused { IsRefused result
+        → (session.new.machine ≡ session.old.machine) × (session.new.watch ≡ session.old.watch) }
     ensures told { (files : List NamedBytes) (tells : Bool) (text : List ℕ)
         → Does (expect_reply (live_in session.old files) count quoted.now actions.now) result
         (standing 0 (live_in session.new files)) tells text text }
@@ -161,6 +167,8 @@ fn read_text(quoted: &[u8], out: &mut [u8; LONGEST_LINE]) -> usize
 /// NOEXPECT waits for no text any more. The bytes that were printed stay. It prints nothing.
 #[tactic(auto, unfolding(crate::specs::WatchEffects::no_expect_reply))]
 pub fn remove_expects<U: Unit>(session: &mut Session<U>) -> Result<Next, CommandFault>
+    ensures refused { IsRefused result
+        → (session.new.machine ≡ session.old.machine) × (session.new.watch ≡ session.old.watch) }
     ensures told { (files : List NamedBytes) (tells : Bool) (text : List ℕ)
         → Does (no_expect_reply (live_in session.old files)) result (standing 0 (live_in session.new files)) tells
         text text }
@@ -185,6 +193,8 @@ pub fn send<U: Unit>(
     quoted: &[u8],
 ) -> Result<Next, CommandFault>
     requires { length quoted.now ≤ 512 }
+    ensures refused { IsRefused result
+        → (session.new.machine ≡ session.old.machine) × (session.new.watch ≡ session.old.watch) }
     ensures told { (files : List NamedBytes) (tells : Bool) (text : List ℕ)
         → Does (send_reply (live_in session.old files) after delay quoted.now) result
         (standing 0 (live_in session.new files)) tells text text }
@@ -211,6 +221,8 @@ pub fn send<U: Unit>(
 /// NOSEND removes the bytes that wait for the keyboard. It prints nothing.
 #[tactic(auto, unfolding(crate::specs::WatchEffects::no_send_reply))]
 pub fn remove_sends<U: Unit>(session: &mut Session<U>) -> Result<Next, CommandFault>
+    ensures refused { IsRefused result
+        → (session.new.machine ≡ session.old.machine) × (session.new.watch ≡ session.old.watch) }
     ensures told { (files : List NamedBytes) (tells : Bool) (text : List ℕ)
         → Does (no_send_reply (live_in session.old files)) result (standing 0 (live_in session.new files)) tells
         text text }

@@ -6,6 +6,7 @@ use Rattle.nova_machine.specs.Comes.{AreTold}
 use Rattle.scp_commands.specs.declared.fault.CommandFault.TheVariants.{OutOfRange}
 use Rattle.scp_commands.specs.Live.{CommandState, live_in}
 use Rattle.scp_commands.specs.Reply.{refused}
+use Rattle.scp_commands.specs.Doing.{RunCause}
 use Rattle.scp_commands.specs.RunEffects.{run_from}
 use Rattle.scp_commands.proofs.ReplyLemmas.{did-without, refused-said}
 use Rattle.scp_commands.proofs.StartLemmas.{started-slots, started-did, run_from-refused}
@@ -36,3 +37,11 @@ returns-clause-told g c = λ told.
 pub returns-clause-slots : goal.returns-clause-slots
 returns-clause-slots g c =
     c.run.ensures.slots ∙ ap (λ (s : CommandState). s.machine.slots) c.start.ensures ∙ started-slots c.args.resets c.args.address c.args.session.now.machine
+
+pub returns-clause-ran : goal.returns-clause-ran
+returns-clause-ran g c =
+    let slots_are = ap (λ (s : CommandState). s.machine.slots) c.start.ensures ∙ started-slots c.args.resets c.args.address c.args.session.now.machine in
+    subst (λ (slots : List (Option Held)). RunCause c.run.result slots (g.F.Files.state c.args.files.now) (g.F.Files.state c.run.new.files)) slots_are c.run.ensures.ran
+
+pub returns-clause-refused : goal.returns-clause-refused
+returns-clause-refused g c = λ is. absurd (c.run.ensures.never is)
