@@ -37,7 +37,8 @@ use Rattle.scp_commands.specs.SetEffects.{set_size_reply}
 use Rattle.scp_commands.specs.ScriptEffects.{test_answer, echo_reply, assert_reply, goto_reply}
 use Rattle.scp_commands.specs.Effect.{effect}
 use Rattle.scp_commands.specs.Parts.{IsPastRuns, IsPastSettings, IsPastWatches}
-use Rattle.scp_commands.specs.Doing.{Does, Did, FileCause, Keeps, MayWant}
+use Rattle.file_commands.specs.declared.stamp.Stamp.{Stamp}
+use Rattle.scp_commands.specs.Doing.{Does, Did, FileCause, Keeps, MayWant, AttachNote}
 use Rattle.scp_commands.proofs.DidLemmas.{did-of}
 
 -- a request that keeps no note
@@ -362,3 +363,8 @@ other-is limit own live line (verb.Exit status) past o = absurd (o.exit status r
 other-is limit own live line (verb.Load name) past o = absurd (o.load name refl)
 other-is limit own live line (verb.Dump from to name) past o = absurd (o.dump from to name refl)
 other-is limit own live line v past o = refl
+
+-- a command that is not built attaches nothing
+pub no-note : (r : Request) (stamp : Stamp) (notes notes' : List FaultNote) (old new : FileState) → AttachNote r (Err NotBuilt) stamp notes notes' old new
+no-note (Attach option unit name) stamp notes notes' old new = tt
+no-note r stamp notes notes' old new = tt

@@ -10,6 +10,8 @@ use Rattle.host_files.specs.State.{FileState}
 use Rattle.unit_trait.specs.declared.kind.Kind.{Kind}
 use Rattle.unit_trait.specs.declared.kind.UnitName.{UnitName}
 use Rattle.unit_trait.specs.Kinds.{same_unit}
+use Rattle.unit_files.specs.declared.faults.UnitFault.{UnitFault}
+use Rattle.unit_files.specs.Causes.{IsNewFault}
 use Rattle.unit_files.specs.Attachments.{Held, attachment_at, is_disk}
 use Rattle.file_commands.specs.declared.note.Subject.{Subject}
 use Rattle.file_commands.specs.declared.note.Subject.TheVariants as subject
@@ -24,7 +26,7 @@ use Rattle.nova_machine.specs.declared.machine.Stop.TheVariants.{ConsoleFault, F
 use Rattle.nova_machine.specs.Comes.{AreFree, FileCause as StopCause}
 use Rattle.nova_machine.specs.Wants.{HasUnit}
 use Rattle.nova_machine.specs.Seen.{attached_in}
-use Rattle.scp_parser.specs.Command.{Request, Detach, Exit as ExitRequest}
+use Rattle.scp_parser.specs.Command.{Request, Attach, Detach, Exit as ExitRequest}
 use Rattle.scp_commands.specs.declared.next.Next.{Next}
 use Rattle.scp_commands.specs.declared.next.Next.TheVariants.{Exit, Ran}
 use Rattle.scp_commands.specs.declared.fault.CommandFault.TheVariants.{Console, OutOfMemory, NoFile, FileTooLong, FileFailed}
@@ -206,6 +208,13 @@ IsRefusal request answer = IsRefused answer
 abbrev pub RunCause : Answer → List (Option Held) → FileState → FileState → Type 0
 RunCause (Ok (Ran stop)) slots old new = HasUnit stop × StopCause (Some stop) slots old new
 RunCause answer slots old new = Unit {0}
+
+-- A failing call of an ATTACH is of openings, with no file, or of the very file that it opened, whose count rose; its note is
+-- the one that is kept.
+abbrev pub AttachNote : Request → Answer → Stamp → List FaultNote → List FaultNote → FileState → FileState → Type 0
+AttachNote (Attach option unit name) (Err (FileFailed who)) stamp notes notes' old new =
+    (f : UnitFault) × (who ≡ subject.Unit unit) × (notes' ≡ notes ++ fault_note stamp f ∷ []) × IsNewFault f unit old new
+AttachNote request answer stamp notes notes' old new = Unit {0}
 
 -- ---- want of memory
 

@@ -9,7 +9,7 @@ ghost use Rattle.scp_commands.specs.Live.{live_in};
 ghost use Rattle.scp_commands.specs.Effect.{effect};
 ghost use Rattle.scp_commands.specs.Parts.{IsPastRuns, IsPastSettings, IsPastWatches};
 ghost use Rattle.scp_commands.specs.Refusals.{IsUnrefused};
-ghost use Rattle.scp_commands.specs.Doing.{Did, IsTold, Keeps, ConsoleCounts, MayWant, IsUndone, says_files, IsExitAnswer, RunCause, IsRefusal};
+ghost use Rattle.scp_commands.specs.Doing.{Did, IsTold, Keeps, ConsoleCounts, MayWant, IsUndone, says_files, IsExitAnswer, RunCause, IsRefusal, AttachNote};
 
 use crate::do_command::do_script;
 use crate::dump_command::dump_file;
@@ -65,6 +65,9 @@ pub fn execute<U: Unit, F: Files, S: Sink>(
     ensures command { session.new.command ≡ session.old.command }
     ensures counts { ConsoleCounts result (S.fault_count out.old) (S.fault_count out.new) }
     ensures ran { RunCause result session.old.machine.slots (F.state files.old) (F.state files.new) }
+    ensures attach_note { AttachNote command.now result
+        (record { command = session.old.command; time = session.old.machine.time }) session.old.notes session.new.notes
+        (F.state files.old) (F.state files.new) }
     ensures stop { result ≢ Ok (Ran ConsoleFault) }
     ensures exit { IsExitAnswer result }
     ensures open { AllOpen session.new.machine.slots (F.state files.new).opened }
@@ -106,6 +109,9 @@ fn obey<U: Unit, F: Files, S: Sink>(
     ensures command { session.new.command ≡ session.old.command }
     ensures counts { ConsoleCounts result (S.fault_count out.old) (S.fault_count out.new) }
     ensures ran { RunCause result session.old.machine.slots (F.state files.old) (F.state files.new) }
+    ensures attach_note { AttachNote command.now result
+        (record { command = session.old.command; time = session.old.machine.time }) session.old.notes session.new.notes
+        (F.state files.old) (F.state files.new) }
     ensures stop { result ≢ Ok (Ran ConsoleFault) }
     ensures exit { IsExitAnswer result }
     ensures open { AllOpen session.new.machine.slots (F.state files.new).opened }
@@ -153,6 +159,9 @@ fn obey_setting<U: Unit, F: Files, S: Sink>(
     ensures command { session.new.command ≡ session.old.command }
     ensures counts { ConsoleCounts result (S.fault_count out.old) (S.fault_count out.new) }
     ensures ran { RunCause result session.old.machine.slots (F.state files.old) (F.state files.new) }
+    ensures attach_note { AttachNote command.now result
+        (record { command = session.old.command; time = session.old.machine.time }) session.old.notes session.new.notes
+        (F.state files.old) (F.state files.new) }
     ensures stop { result ≢ Ok (Ran ConsoleFault) }
     ensures exit { IsExitAnswer result }
     ensures open { AllOpen session.new.machine.slots (F.state files.new).opened }
@@ -201,6 +210,9 @@ fn obey_watch<U: Unit, F: Files, S: Sink>(
     ensures command { session.new.command ≡ session.old.command }
     ensures counts { ConsoleCounts result (S.fault_count out.old) (S.fault_count out.new) }
     ensures ran { RunCause result session.old.machine.slots (F.state files.old) (F.state files.new) }
+    ensures attach_note { AttachNote command.now result
+        (record { command = session.old.command; time = session.old.machine.time }) session.old.notes session.new.notes
+        (F.state files.old) (F.state files.new) }
     ensures stop { result ≢ Ok (Ran ConsoleFault) }
     ensures exit { IsExitAnswer result }
     ensures open { AllOpen session.new.machine.slots (F.state files.new).opened }
@@ -250,6 +262,9 @@ fn obey_file<U: Unit, F: Files, S: Sink>(
     ensures command { session.new.command ≡ session.old.command }
     ensures counts { ConsoleCounts result (S.fault_count out.old) (S.fault_count out.new) }
     ensures ran { RunCause result session.old.machine.slots (F.state files.old) (F.state files.new) }
+    ensures attach_note { AttachNote command.now result
+        (record { command = session.old.command; time = session.old.machine.time }) session.old.notes session.new.notes
+        (F.state files.old) (F.state files.new) }
     ensures stop { result ≢ Ok (Ran ConsoleFault) }
     ensures exit { IsExitAnswer result }
     ensures open { AllOpen session.new.machine.slots (F.state files.new).opened }

@@ -12,7 +12,7 @@ ghost use Rattle.scp_commands.specs.FileEffects.{lacks_unit, mode_of, first_plac
 ghost use Rattle.scp_commands.specs.FileEffects.{attach_reply, detach_reply, detach_all_reply, detach_one_or_all};
 ghost use Rattle.scp_parser.specs.Command.{Attach, Detach};
 ghost use Rattle.scp_commands.specs.Refusals.{IsUnrefused};
-ghost use Rattle.scp_commands.specs.Doing.{Did, Keeps, IsUndone, IsOwn, IsPlain, IsExitAnswer, IsRefused, IsKept, IsRefusal};
+ghost use Rattle.scp_commands.specs.Doing.{Did, Keeps, IsUndone, IsOwn, IsPlain, IsExitAnswer, IsRefused, IsKept, IsRefusal, AttachNote};
 
 use crate::fault::CommandFault;
 use crate::next::Next;
@@ -56,6 +56,9 @@ pub fn attach<U: Unit, F: Files>(
         → IsUnrefused (Attach option unit name.now) session.old.machine session.old.watch }
     ensures keeps { Keeps session.old.command session.new.machine.time F.tells result session.old.notes
         session.new.notes (F.state files.old) (F.state files.new) }
+    ensures note { AttachNote (Attach option unit name.now) result
+        (record { command = session.old.command; time = session.old.machine.time }) session.old.notes session.new.notes
+        (F.state files.old) (F.state files.new) }
     ensures own { IsOwn result }
     ensures exit { IsExitAnswer result }
     ensures watch { session.new.watch ≡ session.old.watch }

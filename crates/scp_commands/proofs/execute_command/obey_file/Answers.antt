@@ -11,7 +11,7 @@ use Rattle.scp_commands.specs.ScriptEffects.{do_reply}
 use Rattle.scp_commands.specs.Effect.{effect}
 use Rattle.scp_commands.specs.Parts.{IsPastWatches}
 use Rattle.scp_commands.specs.Doing.{IsTold, says_files}
-use Rattle.scp_commands.proofs.ObeyLemmas.{plain-did, noted-did, do-named, load-named, dump-named, keeps-none, IsNoFile, other-is}
+use Rattle.scp_commands.proofs.ObeyLemmas.{plain-did, noted-did, do-named, load-named, dump-named, keeps-none, IsNoFile, other-is, no-note}
 use Rattle.scp_commands.proofs.DidLemmas.{refused-does}
 use Rattle.scp_commands.proofs.execute_command.obey_file.Goals as goal
 
@@ -139,6 +139,7 @@ returns-in_default g c =
       want = λ is. absurd (cc);
       unrefused = λ is. absurd (cc);
       ran = tt;
+      attach_note = no-note c.args.command.now (record { command = s.command; time = s.machine.time }) s.notes s.notes state state;
       refused = λ is. (refl, refl);
       keeps = keeps-none s.command s.machine.time g.F.Files.tells (Err NotBuilt) s.notes s.notes state refl tt;
       keys = refl;
