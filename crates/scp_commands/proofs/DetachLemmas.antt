@@ -1,8 +1,7 @@
 -- A unit's file is closed: what DETACH comes to.
-use Rattle.std.proofs.Common.{◌≡◌, ℕ, ◌≤◌, ◌&&◌, Bool, true, false, List, [], ◌++◌, length, Option, Some, None, IfSome, Result, Ok, Err, OnErr}
-use Rattle.std.proofs.Common.{refl, ap, sym, ◌∙◌, subst, if◌then◌else◌, append-nil, arith}
+use Rattle.std.proofs.Common.{◌≡◌, ℕ, ◌&&◌, Bool, true, false, List, [], ◌++◌, length, Option, Some, None, IfSome, Result, Ok, Err, OnErr}
+use Rattle.std.proofs.Common.{refl, ap, sym, ◌∙◌, subst, if◌then◌else◌, append-nil}
 use Rattle.std.proofs.lemmas.Bool.{eq-eqb}
-use Rattle.std.specs.List.{AllByRecursion}
 use Rattle.std.proofs.Math.Path.{subst₃}
 use Rattle.host_files.specs.declared.files.FileCall.{FileCall}
 use Rattle.host_files.specs.declared.files.FileCall.TheVariants.{Opening, Length, Read, Write, SetLength, Closing}
@@ -33,7 +32,7 @@ use Rattle.scp_commands.specs.Live.{Live, standing}
 use Rattle.scp_commands.specs.Reply.{Answer, Reply, refused}
 use Rattle.scp_commands.specs.FaultText.{detach_fault}
 use Rattle.scp_commands.specs.FileEffects.{lacks_unit, detach_answer, detach_used, detached_machine, flushed_files, detach_with, detach_reply}
-use Rattle.scp_commands.specs.Doing.{Does, Did, ComeBehind, IsStamped, FileCause, Keeps}
+use Rattle.scp_commands.specs.Doing.{Does, Did, ComeBehind, FileCause, Keeps}
 use Rattle.scp_commands.proofs.SeenLemmas.{attached-erased, attached-with, seen-with, same-with}
 use Rattle.scp_commands.proofs.CloseLemmas.{same-self, closing-call, detached-none}
 use Rattle.scp_commands.proofs.DidLemmas.{refused-did}

@@ -1,6 +1,6 @@
 -- What is printed of a list, a line for each of its entries.
-use Rattle.std.proofs.Common.{◌≡◌, ℕ, ◌+◌, ◌<◌, ◌≤◌, subst, List, [], ◌∷◌, ◌++◌, length, take, drop, slice_get, Some, ap, sym, ◌∙◌, add-one, append_assoc, append-nil, length-append, arith}
-use Rattle.std.proofs.Math.Seq.{take-suc, take-append-add, take-append-le}
+use Rattle.std.proofs.Common.{◌≡◌, ℕ, ◌+◌, subst, List, [], ◌∷◌, ◌++◌, take, drop, slice_get, Some, ap, sym, ◌∙◌, add-one, append_assoc, append-nil}
+use Rattle.std.proofs.Math.Seq.{take-suc}
 use Rattle.std.proofs.lemmas.List.{take-append-drop}
 use Rattle.std.proofs.lemmas.Option.{slice_get_within, get_or_from_slice_get}
 use Rattle.host_files.specs.Streams.{AddsPart}

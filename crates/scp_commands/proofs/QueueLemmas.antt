@@ -1,14 +1,12 @@
 -- What is printed of events one behind another.
-use Rattle.std.proofs.Common.{◌≡◌, ℕ, ◌+◌, ◌<◌, ◌≤◌, List, [], ◌∷◌, ◌++◌, length, get_or, take, drop, slice_get, option_map, Option, Some, None, ap, sym, ◌∙◌, refl, add-one, append_assoc, length-append, arith}
-use Rattle.std.proofs.Math.Seq.{take-suc, take-append-add, take-append-le}
+use Rattle.std.proofs.Common.{◌≡◌, ℕ, ◌+◌, ◌<◌, List, [], ◌∷◌, ◌++◌, length, get_or, take, drop, slice_get, option_map, Option, Some, None, ap, sym, ◌∙◌, refl, add-one, append_assoc}
+use Rattle.std.proofs.Math.Seq.{take-suc}
 use Rattle.std.proofs.lemmas.List.{take-append-drop, append-nil}
 use Rattle.std.proofs.lemmas.Option.{slice_get-get_or}
-use Rattle.host_files.specs.Streams.{AddsPart}
 use Rattle.unit_trait.specs.declared.kind.Kind.TheVariants.{Clk}
 use Rattle.unit_trait.specs.declared.kind.UnitName.{UnitName}
 use Rattle.event_queue.specs.EventList.{Event, event}
 use Rattle.scp_commands.specs.ShowEffects.{event_line, queue_text}
-use Rattle.scp_examine.proofs.ShowLemmas.{part_behind as part-behind}
 
 queue-append : (xs ys : List Event) → queue_text (xs ++ ys) ≡ queue_text xs ++ queue_text ys
 unfolding queue_text

@@ -9,7 +9,7 @@ use Rattle.script_text.specs.Lines.{first_line, line_cost}
 use Rattle.scp_script.specs.Lines.{Arrival, InputEnds, Unpaid, LineComes, arrival}
 use Rattle.scp_script.specs.Scripts.{Script, still_open, cost_of_line, text_of_line, echo_text}
 use Rattle.scp_script.specs.Actions.{texts_of}
-use Rattle.scp_script.specs.Session.{State, Session, input_end, emptied_in, SessionEnd, AllDone, BudgetSpent, Upcoming, Ends, Comes, Going, rested, state_of, asking_in, asking, behind_line, behind_script_line, behind_action, upcoming_in, upcoming, Step, step, ComesTo}
+use Rattle.scp_script.specs.Session.{State, Session, input_end, emptied_in, AllDone, BudgetSpent, Upcoming, Ends, Comes, Going, rested, state_of, asking_in, asking, behind_line, behind_script_line, behind_action, upcoming_in, upcoming, Step, step, ComesTo}
 use Rattle.scp_script.specs.Laws.{lines_size, lines_cost, AreBehind, IsBehindLines, OnlyInput, LinesAreConsumed, AreForgotten, ActionsAreForgotten, EndedScriptsDoNotMatter}
 use Rattle.scp_script.proofs.SessionLemmas.{arrival-paid, following-is, step-comes, step-over, upcoming-input, upcoming-done, upcoming-lines, asking-lines, upcoming-action, action-unpaid, asking-action, closing, step-still, course-still}
 use Rattle.scp_script.proofs.LineLemmas.{reply_in, left_by, text-made, text-next, made-reads, asking-reads, comes-reads}

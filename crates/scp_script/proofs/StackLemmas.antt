@@ -1,7 +1,6 @@
 -- The innermost of the scripts that are open.
 use Rattle.std.proofs.Common.{◌≡◌, ◌||◌, Bool, true, false, nat_lt, List, [], ◌∷◌, length, ap, ◌∙◌, if◌then◌else◌}
 use Rattle.scp_script.specs.Scripts.{Script, still_open, behind_failure}
-use Rattle.scp_script.proofs.SessionLemmas.{still-none as still-nil}
 
 -- where its last line was done it is closed
 pub still-closed : (scripts : List Script) (script : Script) (outer : List Script) → scripts ≡ script ∷ outer → nat_lt script.place (length script.text) ≡ false
