@@ -24,7 +24,7 @@ use Rattle.nova_machine.specs.Turned.{Turned, goes_on, stops, still, begun, tick
 use Rattle.nova_processor.specs.Instruction.{memory_reference, arithmetic}
 use Rattle.nova_processor.specs.InputOutput.{multiply_divide}
 use Rattle.nova_machine.specs.Transfer.{transfer}
-use Rattle.nova_machine.specs.Turn.{with_memory, refer_to, refer, execute, fetch, prepared, turn}
+use Rattle.nova_machine.specs.Turn.{with_memory, refer_to, refer, execute, fetch, turn}
 use Rattle.nova_machine.specs.Run.{last_time, next_turn, turns}
 use Rattle.nova_machine.specs.Quiet.{IsPlain}
 use Rattle.nova_processor.specs.Burst.{Stepped, steps, refers_to, refers, passes, step_of, step, Reaches, IsBurst}

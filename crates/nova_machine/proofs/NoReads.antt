@@ -1,22 +1,21 @@
 -- A run reads nothing of the input.
-use Rattle.std.proofs.Common.{◌≡◌, ℕ, zero, suc, ◌+◌, ◌==◌, Bool, true, false, List, [], ◌∷◌, Option, Some, None, Result, Ok, Err, refl, ap, ◌∙◌, arith, if◌then◌else◌}
+use Rattle.std.proofs.Common.{◌≡◌, ℕ, ◌+◌, Bool, List, Option, Some, None, Result, Ok, Err, refl, ap, ◌∙◌, arith}
 use Rattle.observations.specs.Observations.{Observation, reads_of}
 use Rattle.observations.proofs.MadeLemmas.{reads_of-append}
 use Rattle.unit_trait.specs.declared.kind.UnitName.{UnitName}
 use Rattle.unit_trait.specs.declared.calls.Want.{Want}
 use Rattle.unit_trait.specs.declared.calls.Want.TheVariants as want
-use Rattle.event_queue.specs.EventList.{dues}
 use Rattle.nova_machine.specs.declared.machine.Stop.{Stop}
 use Rattle.unit_trait.specs.declared.calls.Got.{Got}
 use Rattle.unit_files.specs.Attachments.{attachment_at}
 use Rattle.unit_files.specs.Acts.{Failure}
-use Rattle.nova_machine.specs.Notes.{UnitNote, RunNote, at_unit, at_time}
+use Rattle.nova_machine.specs.Notes.{RunNote}
 use Rattle.nova_machine.specs.Seen.{Seen, with_machine, attached_in}
 use Rattle.nova_machine.specs.Parts.{Part, followed, then_part}
 use Rattle.nova_machine.specs.Wants.{prints, answer_to, own_stop}
-use Rattle.nova_machine.specs.Service.{want_at, key_at, asked, replied, hosted, service, services, serving, taken}
-use Rattle.nova_machine.specs.Turn.{breaks_tested, breaks_tested_unless, attended, prepared, turn}
-use Rattle.nova_machine.specs.Run.{last_time, next_turn, turns, run}
+use Rattle.nova_machine.specs.Service.{want_at, key_at, asked, replied, hosted, service, taken}
+use Rattle.nova_machine.specs.Turn.{breaks_tested}
+use Rattle.nova_machine.specs.Run.{run}
 use Rattle.nova_machine.specs.Tapes.{NoAnswer}
 use Rattle.nova_machine.proofs.Walks.{OfRuns, walk-run}
 

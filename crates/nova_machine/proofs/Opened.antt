@@ -4,7 +4,7 @@ use Rattle.unit_trait.specs.declared.kind.UnitName.{UnitName}
 use Rattle.event_queue.specs.EventList.{dues}
 use Rattle.nova_machine.specs.Notes.{UnitNote, RunNote, at_unit}
 use Rattle.nova_machine.specs.Seen.{Seen}
-use Rattle.nova_machine.specs.Parts.{Part, silent, then_part}
+use Rattle.nova_machine.specs.Parts.{silent, then_part}
 use Rattle.nova_machine.specs.Turned.{still}
 use Rattle.nova_machine.specs.Service.{service, services, serving, taken}
 use Rattle.nova_machine.specs.Turn.{fetch, interrupt, breaks_tested_unless, attended, prepared, turn}

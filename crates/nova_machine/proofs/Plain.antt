@@ -7,7 +7,6 @@ use Rattle.nova_machine.specs.Seen.{Seen, seen, beside, erased, with_machine}
 use Rattle.nova_machine.specs.Parts.{Part, silent, then_part}
 use Rattle.nova_machine.specs.Turned.{Turned, goes_on, still}
 use Rattle.nova_machine.specs.Turn.{is_interrupted, enter, interrupt, breaks_tested, breaks_tested_unless, attended, prepared}
-use Rattle.nova_machine.specs.Service.{serving}
 use Rattle.nova_machine.specs.Quiet.{IsPlain}
 use Rattle.nova_machine.specs.Comes.{IsWhole}
 use Rattle.nova_machine.proofs.Serving.{serving-none}

@@ -8,7 +8,7 @@ use Rattle.nova_machine.specs.Notes.{UnitNote, RunNote, at_time}
 use Rattle.nova_machine.specs.Seen.{Seen}
 use Rattle.nova_machine.specs.Parts.{Part, silent, behind_made, followed, then_part}
 use Rattle.nova_machine.specs.Turned.{still}
-use Rattle.nova_machine.specs.Turn.{fetch, attended, breaks_tested_unless, prepared, turn}
+use Rattle.nova_machine.specs.Turn.{fetch, attended, breaks_tested_unless, turn}
 use Rattle.nova_machine.specs.Run.{turns, run, next_turn, expired, last_time}
 use Rattle.nova_machine.specs.Laws.{IsLimit, PassesNoBreak, Unchanged, RunSplits, RunTakesTime}
 use Rattle.expect_actions.specs.Breaks.{has_break}

@@ -1,5 +1,5 @@
 -- Runs and turns from the same state do the same.
-use Rattle.std.proofs.Common.{◌≡◌, ℕ, Bool, true, List, ◌++◌, Option, Some, None, refl, sym, ap, subst, ◌∙◌}
+use Rattle.std.proofs.Common.{ℕ, true, List, Option, Some, None, refl, sym, subst, ◌∙◌}
 use Rattle.observations.specs.Observations.{text_of}
 use Rattle.nova_machine.specs.declared.machine.Stop.{Stop}
 use Rattle.nova_machine.specs.declared.machine.Stop.TheVariants as stop
@@ -7,8 +7,8 @@ use Rattle.nova_machine.specs.Seen.{Seen}
 use Rattle.nova_machine.specs.Parts.{Part}
 use Rattle.nova_machine.specs.Turn.{turn}
 use Rattle.nova_machine.specs.Run.{run}
-use Rattle.nova_machine.specs.Comes.{bare, IsOwn, IsWhole, Comes}
-use Rattle.nova_machine.specs.SameRun.{SameEnd, SameOf, SameStateSameRun}
+use Rattle.nova_machine.specs.Comes.{IsOwn, IsWhole, Comes}
+use Rattle.nova_machine.specs.SameRun.{SameOf, SameStateSameRun}
 
 is-whole : (p : Part) (st : Option Stop) (s : Seen) (before after : List ℕ) → IsOwn st → Comes p st s true before after → IsWhole p st s true before after
 is-whole p None s before after own c = c

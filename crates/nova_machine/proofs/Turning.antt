@@ -9,7 +9,7 @@ use Rattle.nova_machine.specs.Ends.{end_stop}
 use Rattle.nova_machine.specs.Machine.{MachineState}
 use Rattle.nova_machine.specs.Notes.{UnitNote, unit_note}
 use Rattle.nova_machine.specs.Seen.{Seen, seen, beside, erased}
-use Rattle.nova_machine.specs.Parts.{Part, silent, then_part}
+use Rattle.nova_machine.specs.Parts.{Part, silent}
 use Rattle.nova_machine.specs.Turned.{Turned, still}
 use Rattle.expect_actions.specs.Watch.{WatchState}
 use Rattle.nova_machine.specs.Turn.{fetch, interrupt, breaks_tested, breaks_tested_unless, attended, prepared, turn}

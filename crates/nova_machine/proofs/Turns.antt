@@ -1,5 +1,5 @@
 -- What every instruction and every turn keeps, and how time grows over a turn.
-use Rattle.std.proofs.Common.{◌≡◌, ℕ, zero, suc, ◌+◌, ◌≤◌, ◌==◌, Bool, true, false, List, [], ◌∷◌, Option, Some, None, option_map, Result, Ok, Err, slice_index, refl, ap, ◌∙◌, if◌then◌else◌, arith, sym, subst}
+use Rattle.std.proofs.Common.{◌≡◌, ℕ, zero, suc, ◌+◌, ◌≤◌, ◌==◌, Bool, true, false, List, Option, Some, None, option_map, Result, Ok, Err, slice_index, refl, ap, ◌∙◌, if◌then◌else◌, arith, sym, subst}
 use Rattle.std.proofs.lemmas.Bool.Decides.{nat_tests}
 use Rattle.observations.specs.Observations.{Observation}
 use Rattle.nova_word.specs.Bits.{bits}
@@ -12,7 +12,6 @@ use Rattle.unit_trait.specs.declared.calls.Want.TheVariants as want
 use Rattle.unit_trait.specs.declared.calls.Got.{Got}
 use Rattle.unit_trait.specs.declared.calls.UnitStop.{UnitStop}
 use Rattle.unit_trait.specs.declared.calls.UnitStop.TheVariants as unit_stop
-use Rattle.event_queue.specs.EventList.{dues}
 use Rattle.nova_interrupts.specs.Interrupts.{enabled, disabled}
 use Rattle.nova_interrupts.specs.Requests.{acknowledged}
 use Rattle.nova_machine.specs.declared.machine.Stop.{Stop}
@@ -23,7 +22,7 @@ use Rattle.unit_files.specs.Attachments.{Attachment, attachment_at}
 use Rattle.unit_files.specs.Buffer.{Buffer, sector_of}
 use Rattle.nova_machine.specs.Sectors.{sector_words, words_put, memory_with, memory_after}
 use Rattle.unit_files.specs.Acts.{Failure}
-use Rattle.nova_machine.specs.Notes.{UnitNote, at_unit}
+use Rattle.nova_machine.specs.Notes.{UnitNote}
 use Rattle.nova_machine.specs.Seen.{Seen, with_machine, attached_in}
 use Rattle.nova_machine.specs.Parts.{Part, behind_made, followed, then_part}
 use Rattle.nova_machine.specs.Turned.{Turned, begun, ticked, executed, goes_on, stops, still}
@@ -33,8 +32,8 @@ use Rattle.nova_machine.specs.Transfer.{asked_unit, flags_in, to_unit, to_device
 use Rattle.nova_machine.specs.Wants.{prints, stop_by, key_stop, own_stop, wru, answer_to, memory_behind}
 use Rattle.expect_actions.specs.Breaks.{stop_at}
 use Rattle.expect_actions.specs.Expects.{ExpectTable, match_at}
-use Rattle.nova_machine.specs.Service.{asked, answered, first_stop, replied, hosted, want_at, key_at, service, taken, services, serving}
-use Rattle.nova_machine.specs.Turn.{with_memory, refer_to, refer, execute, fetch, is_interrupted, jump_to, interrupt_reference, enter, interrupt, breaks_tested, breaks_tested_unless, attended, prepared, turn}
+use Rattle.nova_machine.specs.Service.{asked, answered, first_stop, replied, hosted, want_at, key_at, service, taken}
+use Rattle.nova_machine.specs.Turn.{with_memory, refer_to, refer, execute, fetch, is_interrupted, jump_to, interrupt_reference, enter, interrupt, breaks_tested, prepared, turn}
 use Rattle.nova_machine.specs.Laws.{IsLimit, Unchanged}
 use Rattle.unit_trait.specs.declared.calls.TapeOrder.{TapeOrder}
 use Rattle.host_files.specs.Lists.{NamedBytes}

@@ -1,5 +1,5 @@
 -- A turn and a run are walked once: what holds of each piece that they are made of holds of them.
-use Rattle.std.proofs.Common.{◌≡◌, ℕ, zero, suc, ◌==◌, Bool, true, false, List, [], ◌∷◌, Option, Some, None, sym, subst, if◌then◌else◌}
+use Rattle.std.proofs.Common.{ℕ, zero, suc, ◌==◌, Bool, true, false, List, [], ◌∷◌, Option, Some, None, sym, subst, if◌then◌else◌}
 use Rattle.unit_trait.specs.declared.kind.UnitName.{UnitName}
 use Rattle.event_queue.specs.EventList.{dues}
 use Rattle.unit_files.specs.Acts.{Failure}

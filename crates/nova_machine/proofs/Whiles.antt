@@ -12,7 +12,7 @@ use Rattle.unit_trait.specs.declared.calls.Got.{Got}
 use Rattle.unit_files.specs.Attachments.{attachment_at}
 use Rattle.unit_files.specs.Acts.{Failure}
 use Rattle.nova_machine.specs.Wants.{answer_to, own_stop}
-use Rattle.nova_machine.specs.Notes.{UnitNote, at_unit}
+use Rattle.nova_machine.specs.Notes.{at_unit}
 use Rattle.nova_machine.specs.Seen.{Seen, attached_in}
 use Rattle.nova_machine.specs.Parts.{Part, behind_made, followed, then_part}
 use Rattle.nova_machine.specs.Service.{asked, answered, replied, hosted, want_at, key_at, service, taken, services, serving}
