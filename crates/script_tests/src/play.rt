@@ -3,7 +3,8 @@
 // (`files`), the input and its read that fails (`input` and `read`), whether it is read behind the script and after a prompt
 // (`reads=no` and `prompt=no`), the budget and how many bytes the console takes (`room`); and then what is printed
 // (`prints`), how the session finishes and how many reads have failed (`faults`).
-ghost use Rattle.std.specs.Prelude.{◌≤◌, ◌^◌, IfOk};
+ghost use Rattle.std.specs.Prelude.{◌≤◌, ◌^◌, List, IfOk};
+ghost use Rattle.host_files.specs.State.{Opened};
 ghost use Rattle.unit_files.specs.Open.{AllOpen};
 
 use crate::row::{Row, bytes, decimal, number, text};
@@ -28,10 +29,21 @@ pub fn all(rt: &impl Abort, alloc: Global, base: &str, table: &str) -> Result<()
 }
 
 fn play(rt: &impl Abort, alloc: Global, row: Row<'_>) -> Result<(), Fail> {
-    let units: Vec<Clk> = Vec::new(alloc);
-    let mut session = Session::new(alloc, units, Keys::none(alloc), 1 << 48)?;
+    let mut session = Session::new(alloc, Vec::<Clk>::new(alloc), Keys::none(alloc), 1 << 48)?;
+    with_session(rt, alloc, &mut session, row)
+}
+
+fn with_session<U: Unit>(
+    rt: &impl Abort,
+    alloc: Global,
+    session: &mut Session<U>,
+    row: Row<'_>,
+) -> Result<(), Fail>
+    requires command { session.old.command ≤ 2 ^ 32 }
+    requires open { (opened : List Opened) → AllOpen session.old.machine.slots opened }
+{
     let mut files = files_of(rt, alloc, row)?;
-    with_files(rt, alloc, &mut session, &mut files, row)
+    with_files(rt, alloc, session, &mut files, row)
 }
 
 /// The files that are there. They stand between &, each as its name, a colon and its bytes.
