@@ -21,6 +21,7 @@ use clock_unit::Clk;
 use disk_unit::Dsk;
 use host_adapters::{PagedFiles, ReaderSource, RealFiles, WriterSink};
 use host_files::{Sink, Source};
+use observations::ExitStatus;
 use paper_tape::{Lpt, Ptp, Ptr};
 use session::session;
 use std::alloc::{AllocError as OutOfMemory, Global};
@@ -33,13 +34,10 @@ use tape_unit::Mta;
 use tty_units::{Tti, Tto};
 use unit_trait::Unit;
 
-/// The exit status where memory does not suffice.
-const NO_MEMORY: u8 = 103;
-
 fn main(rt: HostRuntime) -> ExitCode {
     match command_line_session(&rt) {
         Ok(code) => code,
-        Err(OutOfMemory) => ExitCode::from(NO_MEMORY),
+        Err(OutOfMemory) => ExitCode::from(ExitStatus::OutOfMemory.number()),
     }
 }
 

@@ -32,8 +32,7 @@ use Rattle.expect_actions.specs.Breaks.{has_break}
 use Rattle.expect_actions.specs.Watch.{WatchState}
 use Rattle.nova_machine.specs.Bursts.{passed_by, IsCalm, Bursts}
 use Rattle.nova_machine.proofs.Plain.{plain-prepared}
-use Rattle.nova_machine.proofs.Runs.{turns-stop, turns-go, next-early}
-use Rattle.nova_machine.proofs.Opened.{turn-is}
+use Rattle.nova_machine.proofs.Opened.{turn-is, turns-stop, turns-go, next-early}
 
 -- the machine behind an instruction of the processor alone
 pub behind_step : MachineState → ProcessorState → MachineState

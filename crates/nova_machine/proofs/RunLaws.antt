@@ -13,9 +13,9 @@ use Rattle.nova_machine.specs.Run.{turns, run, next_turn, expired, last_time}
 use Rattle.nova_machine.specs.Laws.{IsLimit, PassesNoBreak, Unchanged, RunSplits, RunTakesTime}
 use Rattle.expect_actions.specs.Breaks.{has_break}
 use Rattle.nova_machine.proofs.Plain.{breaks-none}
-use Rattle.nova_machine.proofs.Runs.{turns-stop, turns-go}
+use Rattle.nova_machine.proofs.Walks.{OfCounted, walk-next, walk-counted, limit-expired}
 use Rattle.nova_machine.proofs.Turns.{turns-turn, unchanged-same, unchanged-then}
-use Rattle.nova_machine.proofs.Opened.{prepared-is, turn-is, turns-none}
+use Rattle.nova_machine.proofs.Opened.{stop-cases, prepared-is, turn-is, turns-none, turns-stop, turns-go, next-late}
 
 -- a turn where time may have ended: it stops for a limit exactly there, and then all is as it was
 pub record NextTurn (before : Seen) (p : Part) : Type 0 where
@@ -25,10 +25,6 @@ pub record NextTurn (before : Seen) (p : Part) : Type 0 where
   pub ended : IsLimit p.stop → (before.machine.time ≡ last_time) × (p ≡ silent (Some Limit) before)
   pub unchanged : Unchanged before.machine p.after.machine
   pub held : p.after.machine.time ≡ before.machine.time → p.after.machine.ints.hold ≡ before.machine.ints.hold
-
-next-if : (b : Bool) (s : Seen) (x y : Part) → (b ≡ true → NextTurn s x) → NextTurn s y → NextTurn s (if b then x else y)
-next-if true s x y first second = first refl
-next-if false s x y first second = second
 
 next-ended : (s : Seen) → s.machine.time ≡ last_time → NextTurn s (silent (Some Limit) s)
 next-ended s end = record {
@@ -52,33 +48,76 @@ next-made note first s =
       held = t.held;
     }
 
-pub next-next_turn : (note : Option RunNote) (first : Bool) (s : Seen) → NextTurn s (next_turn note first s)
-unfolding next_turn
-next-next_turn note first s =
-    next-if (s.machine.time == last_time) s _ (turn (at_time s.machine.time note) first s) (λ e. next-ended s (grind (arith, nat_tests))) (next-made (at_time s.machine.time note) first s)
+-- the time that so many turns have taken, what they have done to the wait of interrupts, and what they have left
+record Takes (n : ℕ) (s : Seen) (p : Part) : Type 0 where
+  least : s.machine.time ≤ p.after.machine.time
+  most : p.after.machine.time ≤ s.machine.time + n
+  stepped : p.stop ≡ Some Stepped → p.after.machine.time ≡ s.machine.time + n
+  limited : IsLimit p.stop → (p.after.machine.time ≡ s.machine.time + n) ⊎ (p.after.machine.time ≡ last_time)
+  unchanged : Unchanged s.machine p.after.machine
+  held : p.after.machine.time ≡ s.machine.time → p.after.machine.ints.hold ≡ s.machine.ints.hold
 
-limit-expired : (step : Bool) → IsLimit (Some (expired step))
-limit-expired true = tt
-limit-expired false = tt
+-- a turn that stops is the end of them
+takes-stop : (n : ℕ) (s : Seen) (p : Part) → NextTurn s p → Takes (suc n) s p ⊎ (p.stop ≡ None)
+takes-stop n s p next =
+    let P : Option Stop → Type 0 = λ o. IsLimit o in
+    elim (stop-cases p.stop) [
+      | inl goes ↦ inr goes
+      | inr w ↦ inl (record {
+        least = next.least;
+        most = omega (arith, next.most);
+        stepped = λ h. let e = next.ended (subst P (sym h) tt) in let limit = ap (λ (x : Part). x.stop) e.1 in absurd (cc);
+        limited = λ h. let e = next.ended h in inr (ap (λ (x : Part). x.after.machine.time) e.1 ∙ e.0);
+        unchanged = next.unchanged;
+        held = next.held;
+      })
+    ]
+
+-- one that goes on is one more
+takes-followed : (n : ℕ) (s : Seen) (made : List (Observation Seen)) (stop : Option Stop) (after : Seen) (goes_on : Seen → Part)
+    → NextTurn s (record { made = made; after = after; stop = stop }) → ((next : Seen) → Takes n next (goes_on next)) → Takes (suc n) s (followed made stop after goes_on)
+takes-followed n s made (Some stop) after goes_on next more =
+    elim (takes-stop n s (record { made = made; after = after; stop = Some stop }) next) [ inl takes ↦ takes | inr goes ↦ absurd (cc) ]
+takes-followed n s made None after goes_on next more =
+    let t = more after in
+    let last = (goes_on after).after.machine in
+    let one : after.machine.time ≡ s.machine.time + 1 = next.goes refl in
+    record {
+      least = omega (arith, one, t.least);
+      most = omega (arith, one, t.most);
+      stepped = λ h. let e = t.stepped h in omega (arith, one, e);
+      limited = λ h. elim (t.limited h) [ inl e ↦ inl (omega (arith, one, e)) | inr e ↦ inr e ];
+      unchanged = unchanged-then s.machine after.machine last next.unchanged t.unchanged;
+      held = λ h. absurd (omega (arith, one, t.least, h));
+    }
+
+takes-none : (step : Bool) (s : Seen) → Takes 0 s (silent (Some (expired step)) s)
+takes-none step s = record {
+  least = omega arith;
+  most = omega arith;
+  stepped = λ h. omega arith;
+  limited = λ h. inl (omega arith);
+  unchanged = unchanged-same s.machine;
+  held = λ _. refl;
+}
+
+turns-take : OfCounted NextTurn Takes
+turns-take = record {
+  turn = next-made;
+  ended = next-ended;
+  none = takes-none;
+  more = λ n s p goes_on next more. takes-followed n s p.made p.stop p.after goes_on next more;
+}
+
+next-next_turn : (note : Option RunNote) (first : Bool) (s : Seen) → NextTurn s (next_turn note first s)
+next-next_turn note first s = walk-next NextTurn Takes turns-take note first s
 
 -- at the end of time every run that is not empty stops for the limit
-at-end : (note : Option RunNote) (first : Bool) (s : Seen) → s.machine.time ≡ last_time → next_turn note first s ≡ silent (Some Limit) s
-unfolding next_turn
-at-end note first s end = end-if (s.machine.time == last_time) (silent (Some Limit) s) (turn (at_time s.machine.time note) first s) (grind (arith, nat_tests))
-  where
-    end-if : (b : Bool) (x y : Part) → b ≡ true → (if b then x else y) ≡ x
-    end-if true x y is = refl
-    end-if false x y is = absurd (cc)
-
 turns-ended : (note : Option RunNote) (step first : Bool) (n : ℕ) (s : Seen) → 0 < n → s.machine.time ≡ last_time → turns note step first n s ≡ silent (Some Limit) s
 turns-ended note step first zero s some end = absurd (omega arith)
 turns-ended note step first (suc n) s some end =
-    let is = at-end note first s end in
+    let is = next-late note first s end in
     turns-stop note step first n s Limit (ap (λ (p : Part). p.stop) is) ∙ is
-
-stop-cases : (o : Option Stop) → (o ≡ None) ⊎ ((s : Stop) × (o ≡ Some s))
-stop-cases None = inl refl
-stop-cases (Some s) = inr (s, refl)
 
 behind-behind : (first second : List (Observation Seen)) (p : Part) → behind_made first (behind_made second p) ≡ behind_made (first ++ second) p
 behind-behind first second p = ap (λ l. record { made = l; after = p.after; stop = p.stop }) (sym (append_assoc first second p.made))
@@ -193,70 +232,8 @@ turns-stopped note one step first (suc n) k s other =
 pub runs-split : RunSplits
 runs-split = record { counted = run-counted; limited = run-limited; stopped = λ note one step n k s other. turns-stopped note one step true n k s other }
 
--- the time that so many turns have taken, what they have done to the wait of interrupts, and what they have left
-pub record Takes (n : ℕ) (s : Seen) (p : Part) : Type 0 where
-  pub least : s.machine.time ≤ p.after.machine.time
-  pub most : p.after.machine.time ≤ s.machine.time + n
-  pub stepped : p.stop ≡ Some Stepped → p.after.machine.time ≡ s.machine.time + n
-  pub limited : IsLimit p.stop → (p.after.machine.time ≡ s.machine.time + n) ⊎ (p.after.machine.time ≡ last_time)
-  pub unchanged : Unchanged s.machine p.after.machine
-  pub held : p.after.machine.time ≡ s.machine.time → p.after.machine.ints.hold ≡ s.machine.ints.hold
-
--- turns that go on from the state of the next one
-takes-more : (note : Option RunNote) (first : Bool) (n : ℕ) (s : Seen) (p : Part) → (next_turn note first s).stop ≡ None → Takes n (next_turn note first s).after p → Takes (suc n) s (behind_made (next_turn note first s).made p)
-takes-more note first n s p goes t =
-    let next = next-next_turn note first s in
-    let now = (next_turn note first s).after.machine in
-    let one : now.time ≡ s.machine.time + 1 = next.goes goes in
-    record {
-      least = omega (arith, one, t.least);
-      most = omega (arith, one, t.most);
-      stepped = λ h. let e = t.stepped h in omega (arith, one, e);
-      limited = λ h. elim (t.limited h) [ inl e ↦ inl (omega (arith, one, e)) | inr e ↦ inr e ];
-      unchanged = unchanged-then s.machine now p.after.machine next.unchanged t.unchanged;
-      held = λ h. absurd (omega (arith, one, t.least, h));
-    }
-
-takes-stop : (note : Option RunNote) (first : Bool) (n : ℕ) (s : Seen) → Takes (suc n) s (next_turn note first s) ⊎ ((next_turn note first s).stop ≡ None)
-takes-stop note first n s =
-    let next = next-next_turn note first s in
-    let p = next_turn note first s in
-    let P : Option Stop → Type 0 = λ o. IsLimit o in
-    elim (stop-cases p.stop) [
-      | inl goes ↦ inr goes
-      | inr w ↦ inl (record {
-        least = next.least;
-        most = omega (arith, next.most);
-        stepped = λ h. let e = next.ended (subst P (sym h) tt) in let limit = ap (λ (x : Part). x.stop) e.1 in absurd (cc);
-        limited = λ h. let e = next.ended h in inr (ap (λ (x : Part). x.after.machine.time) e.1 ∙ e.0);
-        unchanged = next.unchanged;
-        held = next.held;
-      })
-    ]
-
-takes-none : (step first : Bool) (s : Seen) → Takes 0 s (silent (Some (expired step)) s)
-takes-none step first s = record {
-  least = omega arith;
-  most = omega arith;
-  stepped = λ h. omega arith;
-  limited = λ h. inl (omega arith);
-  unchanged = unchanged-same s.machine;
-  held = λ _. refl;
-}
-
-pub takes-turns : (note : Option RunNote) (step first : Bool) (n : ℕ) (s : Seen) → Takes n s (turns note step first n s)
-takes-turns note step first zero s =
-    let P : Part → Type 0 = λ p. Takes zero s p in
-    subst P (sym (turns-none note step first s)) (takes-none step first s)
-takes-turns note step first (suc n) s =
-    let P : Part → Type 0 = λ p. Takes (suc n) s p in
-    elim (stop-cases (next_turn note first s).stop) [
-      | inl goes ↦ subst P (sym (turns-go note step first n s goes)) (takes-more note first n s _ goes (takes-turns note step false n (next_turn note first s).after))
-      | inr w ↦ elim (takes-stop note first n s) [
-        | inl takes ↦ subst P (sym (turns-stop note step first n s w.0 w.1)) takes
-        | inr goes ↦ let wrong = w.1 in absurd (cc)
-      ]
-    ]
+takes-turns : (note : Option RunNote) (step first : Bool) (n : ℕ) (s : Seen) → Takes n s (turns note step first n s)
+takes-turns note step first n s = walk-counted NextTurn Takes turns-take note step first n s
 
 pub runs-take-time : RunTakesTime
 runs-take-time = record {

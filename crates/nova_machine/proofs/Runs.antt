@@ -16,38 +16,7 @@ use Rattle.nova_machine.specs.Bursts.{Bursts}
 use Rattle.host_files.specs.Lists.{NamedBytes}
 use Rattle.nova_machine.specs.Comes.{Comes, IsOwn}
 use Rattle.nova_machine.proofs.Parts.{silent-comes, comes-then, comes-stopped}
-use Rattle.nova_machine.proofs.Opened.{turns-none, turns-some}
-
--- the next turn stops
-pub turns-stop : (note : Option RunNote) (step first : Bool) (left : ℕ) (s : Seen) (stop : Stop) → (next_turn note first s).stop ≡ Some stop → turns note step first (suc left) s ≡ next_turn note first s
-turns-stop note step first left s stop stops =
-    let next = next_turn note first s in
-    turns-some note step first left s ∙ ap (λ (o : Option Stop). followed next.made o next.after (λ t. turns note step false left t)) stops
-    ∙ ap (λ (o : Option Stop). record { made = next.made; after = next.after; stop = o }) (sym stops)
-
--- the next turn is executed, and the turns go on
-pub turns-go : (note : Option RunNote) (step first : Bool) (left : ℕ) (s : Seen) → (next_turn note first s).stop ≡ None
-    → turns note step first (suc left) s ≡ behind_made (next_turn note first s).made (turns note step false left (next_turn note first s).after)
-turns-go note step first left s goes =
-    let next = next_turn note first s in
-    turns-some note step first left s ∙ ap (λ (o : Option Stop). followed next.made o next.after (λ t. turns note step false left t)) goes
-
--- a turn where time has not ended
-pub next-early : (note : Option RunNote) (first : Bool) (s : Seen) → s.machine.time < last_time → next_turn note first s ≡ turn (at_time s.machine.time note) first s
-unfolding next_turn
-next-early note first s early = by-test (s.machine.time == last_time) (silent (Some Limit) s) (turn (at_time s.machine.time note) first s) (grind (arith, nat_tests))
-  where
-    by-test : (b : Bool) (x y : Part) → b ≡ false → (if b then x else y) ≡ y
-    by-test false x y is = refl
-    by-test true x y is = absurd (cc)
-
-next-late : (note : Option RunNote) (first : Bool) (s : Seen) → s.machine.time ≡ last_time → next_turn note first s ≡ silent (Some Limit) s
-unfolding next_turn
-next-late note first s late = by-test (s.machine.time == last_time) (silent (Some Limit) s) (turn (at_time s.machine.time note) first s) (grind (arith, nat_tests))
-  where
-    by-test : (b : Bool) (x y : Part) → b ≡ true → (if b then x else y) ≡ x
-    by-test true x y is = refl
-    by-test false x y is = absurd (cc)
+use Rattle.nova_machine.proofs.Opened.{turns-none, turns-some, turns-stop, next-early, next-late}
 
 -- what the calls of a run come to, from the state where so many turns are left
 

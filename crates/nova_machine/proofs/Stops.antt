@@ -35,7 +35,7 @@ use Rattle.nova_machine.specs.Turn.{with_memory, refer_to, refer, execute, fetch
 use Rattle.nova_machine.specs.StopLaws.{fetched, IsTransfer, IsHalt, IsUnknown, IsEndless, IsEndlessEntry, IsBroken, IsReached, ready, IsHalted, behind_entry, TurnStops}
 use Rattle.nova_machine.specs.Tapes.{NoAnswer, FileFails, ImageIsBad}
 use Rattle.nova_machine.proofs.Walks.{OfServices, walk-serving}
-use Rattle.nova_machine.proofs.Opened.{attended-is, prepared-is, turn-is}
+use Rattle.nova_machine.proofs.Opened.{stop-cases, attended-stops, attended-goes, prepared-stops, prepared-goes, turn-stops, turn-goes}
 
 -- ---- an instruction
 
@@ -311,38 +311,6 @@ enters-interrupt m = enters-if (is_interrupted m) m refl
 
 -- ---- the whole turn
 
--- a part that stops, and one that goes on
-stops-there : (made : List (Observation Seen)) (o : Option Stop) (s : Seen) (more : Seen → Part) (stop : Stop) → o ≡ Some stop → followed made o s more ≡ record { made = made; after = s; stop = o }
-stops-there made None s more stop is = absurd (cc)
-stops-there made (Some x) s more stop is = refl
-
-goes-there : (made : List (Observation Seen)) (o : Option Stop) (s : Seen) (more : Seen → Part) → o ≡ None → followed made o s more ≡ behind_made made (more s)
-goes-there made None s more is = refl
-goes-there made (Some x) s more is = absurd (cc)
-
-attended-stops : (note : Option UnitNote) (s : Seen) (stop : Stop) → (serving note s).stop ≡ Some stop → attended note s ≡ serving note s
-attended-stops note s stop is = attended-is note s ∙ stops-there (serving note s).made (serving note s).stop (serving note s).after _ stop is
-
-attended-goes : (note : Option UnitNote) (s : Seen) → (serving note s).stop ≡ None → attended note s ≡ behind_made (serving note s).made (still (serving note s).after (interrupt (serving note s).after.machine))
-attended-goes note s is = attended-is note s ∙ goes-there (serving note s).made (serving note s).stop (serving note s).after _ is
-
-prepared-stops : (note : Option UnitNote) (first : Bool) (s : Seen) (stop : Stop) → (attended note s).stop ≡ Some stop → prepared note first s ≡ attended note s
-prepared-stops note first s stop is = prepared-is note first s ∙ stops-there (attended note s).made (attended note s).stop (attended note s).after _ stop is
-
-prepared-goes : (note : Option UnitNote) (first : Bool) (s : Seen) → (attended note s).stop ≡ None
-    → prepared note first s ≡ behind_made (attended note s).made (breaks_tested_unless first (attended note s).after)
-prepared-goes note first s is = prepared-is note first s ∙ goes-there (attended note s).made (attended note s).stop (attended note s).after _ is
-
-turn-stops_early : (note : Option UnitNote) (first : Bool) (s : Seen) (stop : Stop) → (prepared note first s).stop ≡ Some stop → turn note first s ≡ prepared note first s
-turn-stops_early note first s stop is = turn-is note first s ∙ stops-there (prepared note first s).made (prepared note first s).stop (prepared note first s).after _ stop is
-
-turn-reaches : (note : Option UnitNote) (first : Bool) (s : Seen) → IsReached note first s → turn note first s ≡ behind_made (prepared note first s).made (still (prepared note first s).after (fetch (ready note first s)))
-turn-reaches note first s is = turn-is note first s ∙ goes-there (prepared note first s).made (prepared note first s).stop (prepared note first s).after _ is
-
-stop-cases : (o : Option Stop) → (o ≡ None) ⊎ ((x : Stop) × (o ≡ Some x))
-stop-cases None = inl refl
-stop-cases (Some x) = inr (x, refl)
-
 -- where the turn stops before its breaks: in a service, or at an entry without an end
 early : (note : Option UnitNote) (s : Seen) (x : Stop) → (attended note s).stop ≡ Some x
     → ((serving note s).stop ≡ Some x) ⊎ ((x ≡ ChainLimit) × IsEndlessEntry note s)
@@ -411,9 +379,9 @@ record ComesFrom (note : Option UnitNote) (first : Bool) (s : Seen) (x : Stop) :
 comes-from : (note : Option UnitNote) (first : Bool) (s : Seen) (x : Stop) → (turn note first s).stop ≡ Some x → ComesFrom note first s x
 comes-from note first s x is =
     elim (stop-cases (prepared note first s).stop) [
-      | inl goes ↦ record { from = inr (inr (inr (goes, sym (ap (λ (p : Part). p.stop) (turn-reaches note first s goes)) ∙ is))) }
+      | inl goes ↦ record { from = inr (inr (inr (goes, sym (ap (λ (p : Part). p.stop) (turn-goes note first s goes)) ∙ is))) }
       | inr w ↦
-          let at : (prepared note first s).stop ≡ Some x = sym (ap (λ (p : Part). p.stop) (turn-stops_early note first s w.0 w.1)) ∙ is in
+          let at : (prepared note first s).stop ≡ Some x = sym (ap (λ (p : Part). p.stop) (turn-stops note first s w.0 w.1)) ∙ is in
           elim (prepared-early note first s x at) [
             | inl before ↦ elim (early note s x before) [
               | inl served ↦ record { from = inl served }
@@ -424,13 +392,13 @@ comes-from note first s x is =
     ]
 
 reached-stop : (note : Option UnitNote) (first : Bool) (s : Seen) (x : Stop) → IsReached note first s → (fetch (ready note first s)).stop ≡ Some x → (turn note first s).stop ≡ Some x
-reached-stop note first s x reached is = ap (λ (p : Part). p.stop) (turn-reaches note first s reached) ∙ is
+reached-stop note first s x reached is = ap (λ (p : Part). p.stop) (turn-goes note first s reached) ∙ is
 
 served-turn : (note : Option UnitNote) (first : Bool) (s : Seen) (stop : Stop) → (serving note s).stop ≡ Some stop → turn note first s ≡ serving note s
 served-turn note first s stop is =
     let now = attended-stops note s stop is in
     let before = prepared-stops note first s stop (ap (λ (p : Part). p.stop) now ∙ is) ∙ now in
-    turn-stops_early note first s stop (ap (λ (p : Part). p.stop) before ∙ is) ∙ before
+    turn-stops note first s stop (ap (λ (p : Part). p.stop) before ∙ is) ∙ before
 
 -- a stop that is no unit's does not come from a service
 not-served : (note : Option UnitNote) (s : Seen) (x : Stop) → (IsUnitStop (Some x) → ⊥) → (serving note s).stop ≢ Some x
@@ -477,17 +445,17 @@ chain-to note first s (inl e) =
     let at = entry-stops note s e in
     let before = prepared-stops note first s ChainLimit at.0 in
     let is : (prepared note first s).stop ≡ Some ChainLimit = ap (λ (p : Part). p.stop) before ∙ at.0 in
-    ap (λ (p : Part). p.stop) (turn-stops_early note first s ChainLimit is) ∙ is
+    ap (λ (p : Part). p.stop) (turn-stops note first s ChainLimit is) ∙ is
 chain-to note first s (inr e) = reached-stop note first s ChainLimit e.0 ((stops-fetch (ready note first s)).chain_limit.1 e.1)
 
 after-reached : (note : Option UnitNote) (first : Bool) (s : Seen) → IsReached note first s → (turn note first s).after.machine ≡ (fetch (ready note first s)).machine
-after-reached note first s reached = ap (λ (p : Part). p.after.machine) (turn-reaches note first s reached)
+after-reached note first s reached = ap (λ (p : Part). p.after.machine) (turn-goes note first s reached)
 
 after-all : (note : Option UnitNote) (first : Bool) (s : Seen) → IsReached note first s → (fetch (ready note first s)).machine ≡ ready note first s → (turn note first s).after ≡ (prepared note first s).after
-after-all note first s reached is = ap (λ (p : Part). p.after) (turn-reaches note first s reached) ∙ ap (λ (m : MachineState). with_machine (prepared note first s).after m) is
+after-all note first s reached is = ap (λ (p : Part). p.after) (turn-goes note first s reached) ∙ ap (λ (m : MachineState). with_machine (prepared note first s).after m) is
 
 stop-of-reached : (note : Option UnitNote) (first : Bool) (s : Seen) (x : Stop) → IsReached note first s → (turn note first s).stop ≡ Some x → (fetch (ready note first s)).stop ≡ Some x
-stop-of-reached note first s x reached is = sym (ap (λ (p : Part). p.stop) (turn-reaches note first s reached)) ∙ is
+stop-of-reached note first s x reached is = sym (ap (λ (p : Part). p.stop) (turn-goes note first s reached)) ∙ is
 
 broken-from : (note : Option UnitNote) (first : Bool) (s : Seen) (k : ℕ) → (turn note first s).stop ≡ Some (Break k) → IsBroken note first s k
 broken-from note first s k is =
@@ -511,10 +479,10 @@ broken-from note first s k is =
 
 broken-to : (note : Option UnitNote) (first : Bool) (s : Seen) (k : ℕ) → IsBroken note first s k → (turn note first s).stop ≡ Some (Break k)
 broken-to note first s k b =
-    let at = broken-stops note first s k b in ap (λ (p : Part). p.stop) (turn-stops_early note first s (Break k) at.0) ∙ at.0
+    let at = broken-stops note first s k b in ap (λ (p : Part). p.stop) (turn-stops note first s (Break k) at.0) ∙ at.0
 
-pub turn-stops : TurnStops
-turn-stops = record {
+pub stops-of-turns : TurnStops
+stops-of-turns = record {
   service = served-turn;
   unit_end = λ note first s u. units-own note first s (UnitEnd u) (λ e. absurd (cc)) (λ k e. absurd (cc)) ((stops-fetch (ready note first s)).not_units u).0;
   unit_none = λ note first s u. units-own note first s (UnitNone u) (λ e. absurd (cc)) (λ k e. absurd (cc)) ((stops-fetch (ready note first s)).not_units u).1;
@@ -545,9 +513,9 @@ turn-stops = record {
       let at = entry-stops note s e in
       let before = prepared-stops note first s ChainLimit at.0 in
       let is : (prepared note first s).stop ≡ Some ChainLimit = ap (λ (p : Part). p.stop) before ∙ at.0 in
-      ap (λ (p : Part). p.after.machine) (turn-stops_early note first s ChainLimit is ∙ before) ∙ at.1;
+      ap (λ (p : Part). p.after.machine) (turn-stops note first s ChainLimit is ∙ before) ∙ at.1;
   broken = λ note first s k is.
       let b = broken-from note first s k is in
       let at = broken-stops note first s k b in
-      ap (λ (p : Part). p.after.machine) (turn-stops_early note first s (Break k) at.0) ∙ at.1;
+      ap (λ (p : Part). p.after.machine) (turn-stops note first s (Break k) at.0) ∙ at.1;
 }

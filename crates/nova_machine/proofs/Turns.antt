@@ -41,8 +41,7 @@ use Rattle.nova_machine.specs.Tapes.{NoAnswer, FileFails, ImageIsBad, block_put,
 use Rattle.simh_tape.specs.Image.{Met}
 use Rattle.simh_tape.specs.Image.Met.{BlockTo}
 use Rattle.simh_tape.specs.Reading.{next_act}
-use Rattle.nova_machine.proofs.Walks.{OfPieces, walk-prepared}
-use Rattle.nova_machine.proofs.Opened.{turn-is}
+use Rattle.nova_machine.proofs.Walks.{OfPieces, walk-instruction}
 
 -- an instruction leaves the size of memory
 pub record SameSize (before after : ProcessorState) : Type 0 where
@@ -448,9 +447,6 @@ pieces-prepare = record {
   tested = tested-prepares;
 }
 
-pub prepared-prepares : (note : Option UnitNote) (first : Bool) (s : Seen) → Prepares s (prepared note first s)
-prepared-prepares note first s = walk-prepared Prepares pieces-prepare note first s
-
 -- a whole turn
 pub record TurnsPart (before : Seen) (p : Part) : Type 0 where
   pub goes : p.stop ≡ None → p.after.machine.time ≡ before.machine.time + 1
@@ -484,5 +480,5 @@ turns-followed s made None ready stays other =
 
 pub turns-turn : (note : Option UnitNote) (first : Bool) (s : Seen) → TurnsPart s (turn note first s)
 turns-turn note first s =
-    let p = prepared-prepares note first s in
-    subst (TurnsPart s) (sym (turn-is note first s)) (turns-followed s (prepared note first s).made (prepared note first s).stop (prepared note first s).after p.stays p.other)
+    walk-instruction Prepares TurnsPart
+    (record { pieces = pieces-prepare; fetched = λ s p before. turns-followed s p.made p.stop p.after before.stays before.other }) note first s

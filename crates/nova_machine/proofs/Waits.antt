@@ -26,7 +26,7 @@ use Rattle.nova_machine.specs.Run.{last_time, next_turn, turns}
 use Rattle.nova_machine.specs.Quiet.{IsPlain}
 use Rattle.nova_machine.specs.Bursts.{passed_by, IsCalm, Bursts}
 use Rattle.nova_machine.specs.Waits.{IsTest, IsUntaken, IsJump, IsWaiting}
-use Rattle.nova_machine.proofs.Runs.{next-early}
+use Rattle.nova_machine.proofs.Opened.{next-early}
 use Rattle.nova_machine.proofs.Bursts.{behind_step, executed-is, IsUnbroken, plain-turn, plain-next, turns-silent, behind, behind-none, behind-more, behind-plain, behind-early, behind-processor, behind-is, calm-erased, erased-behind}
 
 -- ---- the skip

@@ -1,5 +1,6 @@
 -- A turn and a run are walked once: what holds of each piece that they are made of holds of them.
-use Rattle.std.proofs.Common.{ℕ, zero, suc, ◌==◌, Bool, true, false, List, [], ◌∷◌, Option, Some, None, sym, subst, if◌then◌else◌}
+use Rattle.std.proofs.Common.{◌≡◌, ℕ, zero, suc, ◌==◌, Bool, true, false, List, [], ◌∷◌, Option, Some, None, refl, sym, subst, arith, if◌then◌else◌}
+use Rattle.std.proofs.lemmas.Bool.Decides.{nat_tests}
 use Rattle.unit_trait.specs.declared.kind.UnitName.{UnitName}
 use Rattle.event_queue.specs.EventList.{dues}
 use Rattle.unit_files.specs.Acts.{Failure}
@@ -30,6 +31,11 @@ pub record OfPieces (P : Seen → Part → Type 0) : Type 0 where
   pub interrupted : (s : Seen) → P s (still s (interrupt s.machine))
   pub tested : (s : Seen) → P s (breaks_tested s)
 
+-- another thing holds of the whole turn, where this holds of what comes before its instruction
+pub record OfInstruction (P Q : Seen → Part → Type 0) : Type 0 where
+  pub pieces : OfPieces P
+  pub fetched : (s : Seen) (p : Part) → P s p → Q s (then_part p (λ ready. still ready (fetch ready.machine)))
+
 -- and of the instruction
 pub record OfTurns (P : Seen → Part → Type 0) : Type 0 where
   pub pieces : OfPieces P
@@ -39,6 +45,14 @@ pub record OfTurns (P : Seen → Part → Type 0) : Type 0 where
 pub record OfRuns (P : Seen → Part → Type 0) : Type 0 where
   pub turn : OfTurns P
   pub over : (s : Seen) (stop : Stop) → IsLimit (Some stop) → P s (silent (Some stop) s)
+
+-- What holds of so many turns: it holds of none, and of one more where another thing holds of the next turn, be it one that
+-- finds the end of time.
+pub record OfCounted (Q : Seen → Part → Type 0) (P : ℕ → Seen → Part → Type 0) : Type 0 where
+  pub turn : (note : Option UnitNote) (first : Bool) (s : Seen) → Q s (turn note first s)
+  pub ended : (s : Seen) → s.machine.time ≡ last_time → Q s (silent (Some Limit) s)
+  pub none : (step : Bool) (s : Seen) → P 0 s (silent (Some (expired step)) s)
+  pub more : (n : ℕ) (s : Seen) (p : Part) (goes_on : Seen → Part) → Q s p → ((next : Seen) → P n next (goes_on next)) → P (suc n) s (then_part p goes_on)
 
 -- ---- so it holds of all
 
@@ -65,31 +79,44 @@ walk-prepared P of note first s =
     subst (P s) (sym (prepared-is note first s))
     (of.services.both s (attended note s) (λ at. breaks_tested_unless first at) (walk-attended P of note s) (walk-tested P of first))
 
+pub walk-instruction : (P Q : Seen → Part → Type 0) → OfInstruction P Q → (note : Option UnitNote) (first : Bool) (s : Seen) → Q s (turn note first s)
+walk-instruction P Q of note first s =
+    subst (Q s) (sym (turn-is note first s)) (of.fetched s (prepared note first s) (walk-prepared P of.pieces note first s))
+
 pub walk-turn : (P : Seen → Part → Type 0) → OfTurns P → (note : Option UnitNote) (first : Bool) (s : Seen) → P s (turn note first s)
 walk-turn P of note first s =
-    subst (P s) (sym (turn-is note first s))
-    (of.pieces.services.both s (prepared note first s) (λ ready. still ready (fetch ready.machine)) (walk-prepared P of.pieces note first s) of.fetched)
+    walk-instruction P P (record {
+      pieces = of.pieces;
+      fetched = λ s p before. of.pieces.services.both s p (λ ready. still ready (fetch ready.machine)) before of.fetched;
+    }) note first s
 
-walk-either : (P : Part → Type 0) (b : Bool) (x y : Part) → P x → P y → P (if b then x else y)
-walk-either P true x y first second = first
+walk-either : (P : Part → Type 0) (b : Bool) (x y : Part) → (b ≡ true → P x) → P y → P (if b then x else y)
+walk-either P true x y first second = first refl
 walk-either P false x y first second = second
 
-walk-next : (P : Seen → Part → Type 0) → OfRuns P → (note : Option RunNote) (first : Bool) (s : Seen) → P s (next_turn note first s)
+pub walk-next : (Q : Seen → Part → Type 0) (P : ℕ → Seen → Part → Type 0) → OfCounted Q P → (note : Option RunNote) (first : Bool) (s : Seen) → Q s (next_turn note first s)
 unfolding next_turn
-walk-next P of note first s =
-    walk-either (P s) (s.machine.time == last_time) (silent (Some Limit) s) (turn (at_time s.machine.time note) first s)
-    (of.over s Limit tt) (walk-turn P of.turn (at_time s.machine.time note) first s)
+walk-next Q P of note first s =
+    walk-either (Q s) (s.machine.time == last_time) (silent (Some Limit) s) (turn (at_time s.machine.time note) first s)
+    (λ is. of.ended s (grind (arith, nat_tests))) (of.turn (at_time s.machine.time note) first s)
 
-expired-limit : (step : Bool) → IsLimit (Some (expired step))
-expired-limit true = tt
-expired-limit false = tt
+pub walk-counted : (Q : Seen → Part → Type 0) (P : ℕ → Seen → Part → Type 0) → OfCounted Q P → (note : Option RunNote) (step first : Bool) (count : ℕ) (s : Seen)
+    → P count s (turns note step first count s)
+walk-counted Q P of note step first zero s = subst (P zero s) (sym (turns-none note step first s)) (of.none step s)
+walk-counted Q P of note step first (suc count) s =
+    subst (P (suc count) s) (sym (turns-some note step first count s))
+    (of.more count s (next_turn note first s) (λ next. turns note step false count next) (walk-next Q P of note first s)
+    (λ next. walk-counted Q P of note step false count next))
 
-walk-turns : (P : Seen → Part → Type 0) → OfRuns P → (note : Option RunNote) (step first : Bool) (count : ℕ) (s : Seen) → P s (turns note step first count s)
-walk-turns P of note step first zero s = subst (P s) (sym (turns-none note step first s)) (of.over s (expired step) (expired-limit step))
-walk-turns P of note step first (suc count) s =
-    subst (P s) (sym (turns-some note step first count s))
-    (of.turn.pieces.services.both s (next_turn note first s) (λ next. turns note step false count next) (walk-next P of note first s)
-    (λ next. walk-turns P of note step false count next))
+pub limit-expired : (step : Bool) → IsLimit (Some (expired step))
+limit-expired true = tt
+limit-expired false = tt
 
 pub walk-run : (P : Seen → Part → Type 0) → OfRuns P → (note : Option RunNote) (step : Bool) (count : ℕ) (s : Seen) → P s (run note step count s)
-walk-run P of note step count s = walk-turns P of note step true count s
+walk-run P of note step count s =
+    walk-counted P (λ n s p. P s p) (record {
+      turn = walk-turn P of.turn;
+      ended = λ s is. of.over s Limit tt;
+      none = λ step s. of.over s (expired step) (limit-expired step);
+      more = λ n s p goes_on. of.turn.pieces.services.both s p goes_on;
+    }) note step true count s

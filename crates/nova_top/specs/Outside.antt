@@ -1,5 +1,7 @@
 -- All that is handed to the program, and what it comes to.
 use Rattle.std.specs.Prelude.{ℕ, ◌+◌, ◌==◌, ◌&&◌, Bool, List, [], ◌∷◌, ◌++◌, codes, decimal, drop, take, map, take_while, false, is_none, Option, Some, None, Result, Ok, Err}
+use Rattle.observations.specs.declared.exit_status.ExitStatus.TheVariants as exits
+use Rattle.observations.specs.Status.{number_of}
 use Rattle.observations.specs.Observations.{Prints, Trace, map_trace}
 use Rattle.observations.specs.Cut.{Outcome, cut_trace}
 use Rattle.host_files.specs.declared.files.FileCall.{FileCall}
@@ -71,11 +73,11 @@ pub record Denial : Type 0 where
   pub text : List ℕ
 
 abbrev pub unopened : List ℕ → Denial
-unopened name = record { status = 101; text = unopened_text name }
+unopened name = record { status = number_of exits.Unopened; text = unopened_text name }
 
 abbrev pub or_bad_keys : Result (List Key) ℕ → Result (List Key) Denial
 or_bad_keys (Ok keys) = Ok keys
-or_bad_keys (Err place) = Err (record { status = 105; text = bad_keys_text place })
+or_bad_keys (Err place) = Err (record { status = number_of exits.BadKeys; text = bad_keys_text place })
 
 -- the keys of a keys file, by what was read of it
 abbrev pub keys_from : List ℕ → WholeSaid → Result (List Key) Denial
@@ -115,7 +117,7 @@ start_by options (Ok keys, used) (Ok script, more) = (Begins options keys (first
 
 -- how it starts, and how many of the notes that uses: first the keys', and then the script's
 abbrev pub start_of : Option Options → List (List ℕ) → List NamedBytes → List Note → Start × ℕ
-start_of None words files notes = (Refused 100 usage_text, 0)
+start_of None words files notes = (Refused (number_of exits.Usage) usage_text, 0)
 start_of (Some options) words files notes =
     let keys = taken_keys (keys_name words options) files notes in
     start_by options keys (taken_script (script_name words options) files (drop keys.1 notes))

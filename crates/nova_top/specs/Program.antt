@@ -2,6 +2,8 @@
 use Rattle.std.specs.Prelude.{◌≡◌, ◌⊎◌, ℕ, ◌<◌, List, [], ◌∷◌, ◌++◌, length, get_or, map, Option, Some, None, IfSome, IsSome, option_map, is_none, false, Result, Ok, Err}
 use Rattle.std.specs.Global.{Vec}
 use Rattle.fault_counts.specs.Faults.{raised}
+use Rattle.observations.specs.declared.exit_status.ExitStatus.TheVariants as exits
+use Rattle.observations.specs.Status.{number_of}
 use Rattle.host_files.specs.declared.files.FileCall.{FileCall}
 use Rattle.host_files.specs.Lists.{NamedBytes}
 use Rattle.host_files.specs.Streams.{AddsPart}
@@ -53,7 +55,7 @@ pub record ReadsFile (whose : Subject) (name : List ℕ) (files : List NamedByte
 -- by what a refusal is answered, but where memory ran out
 abbrev pub denial_of : List (List ℕ) → Refusal → Option Denial
 denial_of words (Unopened place) = Some (unopened (get_or words place []))
-denial_of words (BadKeys place) = Some (record { status = 105; text = bad_keys_text place })
+denial_of words (BadKeys place) = Some (record { status = number_of exits.BadKeys; text = bad_keys_text place })
 denial_of words OutOfMemory = None
 
 -- what comes of what was read of a file
@@ -106,10 +108,10 @@ pub record OpensAs (words : List (List ℕ)) (options : Options) (opening : Open
 
 -- the text was printed, with that status, or the console refused a byte of it
 abbrev pub IsRefused : ℕ → List ℕ → ℕ → List ℕ → List ℕ → Type 0
-IsRefused status_there text status before after = ((status ≡ status_there) × (after ≡ before ++ text)) ⊎ ((status ≡ 102) × AddsPart before text after)
+IsRefused status_there text status before after = ((status ≡ status_there) × (after ≡ before ++ text)) ⊎ ((status ≡ number_of exits.Console) × AddsPart before text after)
 
 abbrev pub RefusedCause : ℕ → ℕ → ℕ → ℕ → Type 0
-RefusedCause status_there status sink sink_now = ((status ≡ status_there) × (sink_now ≡ sink)) ⊎ ((status ≡ 102) × (sink_now ≡ raised sink))
+RefusedCause status_there status sink sink_now = ((status ≡ status_there) × (sink_now ≡ sink)) ⊎ ((status ≡ number_of exits.Console) × (sink_now ≡ raised sink))
 
 -- a session that ended: by that finish, with that machine and those watch tables
 abbrev pub SessionEnds : ℕ → Option MachineState → (Finish → WatchState → MachineState → Type 0) → (Finish → Type 0) → Type 0
@@ -119,13 +121,13 @@ SessionEnds status machine Told Cause =
 -- the status behind a text that was printed, or not
 abbrev pub status_printed : {T E : Type 0} → Result T E → ℕ → ℕ
 status_printed (Ok _) status = status
-status_printed (Err _) status = 102
+status_printed (Err _) status = number_of exits.Console
 
 -- a file was refused by its text; nothing is printed where memory ran out
 abbrev pub IsDenied : Option Denial → ℕ → List ℕ → List ℕ → Type 0
 IsDenied (Some denial) status before after = IsRefused denial.status denial.text status before after
-IsDenied None status before after = (status ≡ 103) × (after ≡ before)
+IsDenied None status before after = (status ≡ number_of exits.OutOfMemory) × (after ≡ before)
 
 abbrev pub DeniedCause : Option Denial → ℕ → ℕ → ℕ → Type 0
 DeniedCause (Some denial) status sink sink_now = RefusedCause denial.status status sink sink_now
-DeniedCause None status sink sink_now = (status ≡ 103) × (sink_now ≡ sink)
+DeniedCause None status sink sink_now = (status ≡ number_of exits.OutOfMemory) × (sink_now ≡ sink)

@@ -1,5 +1,6 @@
 ghost use Rattle.std.specs.Prelude.{◌≡◌, ◌≢◌, ◌≤◌, ◌^◌, List, [], map, None, false, IsTrue, IsSome, string_bytes};
 ghost use Rattle.fault_counts.specs.Faults.{Rose, CountsFault};
+ghost use Rattle.observations.specs.Status.{number_of};
 ghost use Rattle.host_files.specs.Streams.{Puts};
 ghost use Rattle.host_files.specs.State.{Opened};
 ghost use Rattle.unit_files.specs.Open.{AllOpen, Around};
@@ -25,6 +26,7 @@ use expect_actions::Keys;
 use host_files::{Failed, Files, Sink, Source, put_all, put_pieces};
 use itoa::Buffer;
 use nova_machine::Machine;
+use observations::ExitStatus;
 use scp_commands::{FaultNote, Session};
 use scp_script::{Opening, perform};
 use std::alloc::Global;
@@ -90,7 +92,7 @@ pub fn simulate<U: Unit, C: Source, S: Sink, F: Files>(
     };
     let Ok(mut session) = Session::new(alloc, units, Keys::none(alloc), options.limit) else {
         return Ending {
-            status: 103,
+            status: ExitStatus::OutOfMemory.number(),
             machine: None,
             faults: Vec::new(alloc),
         };
@@ -135,7 +137,7 @@ fn usage<U: Unit, S: Sink>(alloc: Global, output: &mut S) -> Ending<U>
     ensures notes { result.faults.items ≡ [] }
 {
     let printed = put_all(output, USAGE);
-    refused(printed, 100, Vec::new(alloc))
+    refused(printed, ExitStatus::Usage, Vec::new(alloc))
 }
 
 /// Answers a keys file or a script that was refused.
@@ -156,14 +158,14 @@ fn refuse_files<U: Unit, S: Sink>(
     match refusal {
         Refusal::Unopened(place) => {
             let printed = put_unopened(&words[place], output);
-            refused(printed, 101, notes)
+            refused(printed, ExitStatus::Unopened, notes)
         }
         Refusal::BadKeys(place) => {
             let printed = put_bad_keys(place, output);
-            refused(printed, 105, notes)
+            refused(printed, ExitStatus::BadKeys, notes)
         }
         Refusal::OutOfMemory => Ending {
-            status: 103,
+            status: ExitStatus::OutOfMemory.number(),
             machine: None,
             faults: notes,
         },
@@ -193,17 +195,17 @@ fn put_bad_keys<S: Sink>(place: usize, output: &mut S) -> Result<(), Failed>
 }
 
 /// The end with that status, if its text was printed.
-fn refused<U: Unit>(printed: Result<(), Failed>, status: u8, notes: Vec<FaultNote>) -> Ending<U>
-    ensures status { result.status ≡ status_printed printed status }
+fn refused<U: Unit>(printed: Result<(), Failed>, status: ExitStatus, notes: Vec<FaultNote>) -> Ending<U>
+    ensures status { result.status ≡ status_printed printed (number_of status) }
     ensures machine { result.machine ≡ None }
     ensures notes { result.faults.items ≡ notes.items }
 {
     let status = match printed {
         Ok(()) => status,
-        Err(Failed) => 102,
+        Err(Failed) => ExitStatus::Console,
     };
     Ending {
-        status,
+        status: status.number(),
         machine: None,
         faults: notes,
     }

@@ -1,6 +1,8 @@
 -- The early ends of a session: the console refuses a byte, or a read of the input fails. One definition says where each
 -- trace is cut, so that no command's definition speaks of either.
 use Rattle.std.specs.Prelude.{◌≡◌, ℕ, ◌+◌, ◌-◌, List, [], ◌∷◌, ◌++◌, length, take, nat_le, if◌then◌else◌}
+use Rattle.observations.specs.declared.exit_status.ExitStatus.TheVariants.{Console, Input}
+use Rattle.observations.specs.Status.{number_of}
 use Rattle.observations.specs.Observations.{Observation, Prints, Reads, Ended, Trace}
 
 -- the status, what the console has, how many reads were made, and the state that is left
@@ -22,16 +24,16 @@ abbrev pub behind : {S : Type 0} → List ℕ → ℕ → Outcome S → Outcome 
 behind text reads o = ends o.status (text ++ o.console) (reads + o.reads) o.state
 
 -- The outcome where the console takes `takes` bytes and no more, and `gives` reads are let through before one fails:
--- status 102 at the first byte that is refused, and 106 at the first read that fails, each in the state in which it
--- comes.
+-- the status of the console at the first byte that is refused, and that of the input at the first read that fails, each in
+-- the state in which it comes.
 abbrev pub cut : {S : Type 0} → ℕ → ℕ → List (Observation S) → Ended S → Outcome S
 cut takes gives [] ended = ends ended.status [] 0 ended.state
 cut takes gives (Prints text at ∷ more) ended =
     if nat_le (length text) takes then behind text 0 (cut (takes - length text) gives more ended)
-    else ends 102 (take takes text) 0 at
+    else ends (number_of Console) (take takes text) 0 at
 cut takes gives (Reads count at ∷ more) ended =
     if nat_le count gives then behind [] count (cut takes (gives - count) more ended)
-    else ends 106 [] gives at
+    else ends (number_of Input) [] gives at
 
 abbrev pub cut_trace : {S : Type 0} → ℕ → ℕ → Trace S → Outcome S
 cut_trace takes gives t = cut takes gives t.made t.ended
@@ -40,4 +42,4 @@ cut_trace takes gives t = cut takes gives t.made t.ended
 -- refused a byte of a text there.
 pub record BreaksOff {S : Type 0} (made : List (Observation S)) (taken : List ℕ) (at : S) : Type 0 where
   pub reads : ℕ
-  pub cut_at : (gives : ℕ) (ended : Ended S) → cut (length taken) (reads + gives) made ended ≡ ends 102 taken reads at
+  pub cut_at : (gives : ℕ) (ended : Ended S) → cut (length taken) (reads + gives) made ended ≡ ends (number_of Console) taken reads at

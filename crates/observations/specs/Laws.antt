@@ -1,12 +1,14 @@
 -- What holds of every cut, in a reader's words. A law is proved where a public function's contract is that law.
 use Rattle.std.specs.Prelude.{◌≡◌, ◌≢◌, ℕ, ◌≤◌, List, ◌++◌}
+use Rattle.observations.specs.declared.exit_status.ExitStatus.TheVariants.{Console, Input}
+use Rattle.observations.specs.Status.{number_of}
 use Rattle.observations.specs.Observations.{Observation, Ended, text_of, reads_of}
 use Rattle.observations.specs.Cut.{cut}
 
 -- a console that takes more comes to the same end, where none of its bytes was refused
 abbrev pub SameWithMoreRoom : Type 0 → Type 0
 SameWithMoreRoom S = (made : List (Observation S)) (ended : Ended S) (takes more gives : ℕ) → takes ≤ more
-    → (cut takes gives made ended).status ≢ 102 → cut more gives made ended ≡ cut takes gives made ended
+    → (cut takes gives made ended).status ≢ number_of Console → cut more gives made ended ≡ cut takes gives made ended
 
 -- what the console took is a first part of all that is printed
 abbrev pub TakesFirstPart : Type 0 → Type 0
@@ -22,4 +24,4 @@ pub record IsWhole {S : Type 0} (made : List (Observation S)) (ended : Ended S) 
 
 abbrev pub WholeWithoutFaults : Type 0 → Type 0
 WholeWithoutFaults S = (made : List (Observation S)) (ended : Ended S) (takes gives : ℕ)
-    → (cut takes gives made ended).status ≢ 102 → (cut takes gives made ended).status ≢ 106 → IsWhole made ended takes gives
+    → (cut takes gives made ended).status ≢ number_of Console → (cut takes gives made ended).status ≢ number_of Input → IsWhole made ended takes gives

@@ -1,15 +1,15 @@
-ghost use Rattle.std.specs.Prelude.{◌≡◌, map, option_map, slice_get};
+ghost use Rattle.std.specs.Prelude.{◌≡◌, map, slice_get};
 ghost use Rattle.unit_trait.specs.Processor.{register_name, all_registers};
 ghost use Rattle.operand_forms.specs.Names.{register_names};
 ghost use Rattle.operand_forms.specs.Operands.{register_named};
 
 use crate::listing::Name;
-use line_text::is_spelled;
+use line_text::{Text, is_spelled};
 use unit_trait::{CpuReg, reg_name};
 
 /// The name of a register of the processor or of a device, by its number in order from 0; none past the last one.
-pub fn register_name(device: Name, i: u8) -> Option<&'static str>
-    ensures { option_map (λ name. name.now) result ≡ slice_get (register_names device) i }
+pub fn register_name(device: Name, i: u8) -> Option<Text<8>>
+    ensures { result ≡ slice_get (register_names device) i }
 {
     match device {
         Name::Cpu => processor_name(i),
@@ -18,11 +18,15 @@ pub fn register_name(device: Name, i: u8) -> Option<&'static str>
 }
 
 // The name of a register of the processor.
-fn processor_name(i: u8) -> Option<&'static str>
-    ensures { option_map (λ name. name.now) result ≡ slice_get (map register_name all_registers) i }
+fn processor_name(i: u8) -> Option<Text<8>>
+    ensures { result ≡ slice_get (map register_name all_registers) i }
 {
     match CpuReg::ALL.get(usize::from(i)) {
-        Some(register) => Some(register.name()),
+        Some(register) => {
+            let mut text = Text::new();
+            text.push_all(register.name().as_bytes());
+            Some(text)
+        }
         None => None,
     }
 }
@@ -35,7 +39,7 @@ pub fn register_named(device: Name, word: &[u8]) -> Option<u8>
     for i in 0..u8::MAX {
         match register_name(device, i) {
             Some(name) => {
-                if is_spelled(word, name.as_bytes()) {
+                if is_spelled(word, name.as_slice()) {
                     return Some(i);
                 }
             }

@@ -3,6 +3,9 @@
 use Rattle.std.specs.Prelude.{◌≡◌, ◌≢◌, ◌⊎◌, ℕ, ◌<◌, ◌≤◌, Bool, IsTrue, List, [], ◌++◌, length, Option, Some, None, Ok}
 use Rattle.fault_counts.specs.Faults.{raised}
 use Rattle.host_files.specs.Streams.{AddsPart}
+use Rattle.observations.specs.declared.exit_status.ExitStatus.{ExitStatus}
+use Rattle.observations.specs.declared.exit_status.ExitStatus.TheVariants as exits
+use Rattle.observations.specs.Status.{number_of}
 use Rattle.observations.specs.Observations.{Trace, text_of, reads_of}
 use Rattle.observations.specs.Cut.{ends, cut_trace}
 use Rattle.file_commands.specs.AllUnits.{IsUnwritten}
@@ -128,15 +131,18 @@ Denies fault.Console tells result before after sink sink_now = (result ≡ IsOve
 Denies fault.OutOfMemory tells result before after sink sink_now = (result ≡ IsOver OutOfMemory) × (after ≡ before) × (sink_now ≡ sink)
 Denies fault tells result before after sink sink_now = Complains tells before (fault_text fault) result after × AnswerCounts result sink sink_now × HasExitStatus result
 
--- the status of a finish
+-- the exit status of a finish, and its number
+abbrev pub exit_status : Finish → ExitStatus
+exit_status (Exit status) = exits.Exit status
+exit_status EndOfInput = exits.Exit 0
+exit_status FlushFailed = exits.FlushFailed
+exit_status Commands = exits.Commands
+exit_status Console = exits.Console
+exit_status Input = exits.Input
+exit_status OutOfMemory = exits.OutOfMemory
+
 abbrev pub status_of : Finish → ℕ
-status_of (Exit status) = status
-status_of EndOfInput = 0
-status_of FlushFailed = 107
-status_of Commands = 104
-status_of Console = 102
-status_of Input = 106
-status_of OutOfMemory = 103
+status_of finish = number_of (exit_status finish)
 
 -- the finish of a session in which nothing failed
 abbrev pub finish_of : SessionEnd → Finish

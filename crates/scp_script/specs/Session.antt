@@ -1,5 +1,7 @@
 -- A session: one text after another, to EXIT, the end of the input, or the end of the budget.
 use Rattle.std.specs.Prelude.{◌≡◌, ℕ, zero, suc, ◌+◌, ◌-◌, nat_le, Bool, List, [], ◌∷◌, ◌++◌, length, drop, codes, Option, Some, None, Ok, Err, if◌then◌else◌}
+use Rattle.observations.specs.declared.exit_status.ExitStatus.TheVariants as exits
+use Rattle.observations.specs.Status.{number_of}
 use Rattle.observations.specs.Observations.{Observation, Prints, Reads, Trace, after_made, map_made}
 use Rattle.file_commands.specs.Notes.{CommandNote, Note, handed}
 use Rattle.scp_commands.specs.declared.next.Next.TheVariants.{Exit, Ran}
@@ -107,8 +109,8 @@ abbrev pub end_status : SessionEnd → ℕ
 end_status (ExitDone status) = status
 end_status AllDone = 0
 end_status InputEnded = 0
-end_status FlushFailed = 107
-end_status BudgetSpent = 104
+end_status FlushFailed = number_of exits.FlushFailed
+end_status BudgetSpent = number_of exits.Commands
 
 -- what comes next in a session: its end, or a text and the session behind it
 pub data Upcoming : Type 0 where

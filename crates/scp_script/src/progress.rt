@@ -1,5 +1,6 @@
 use crate::line_reader::LineReader;
 use crate::texts::Texts;
+use observations::ExitStatus;
 
 /// How a session ended.
 #[derive(Clone, Copy, Debug, PartialEq, Eq)]
@@ -22,20 +23,27 @@ pub enum Finish {
 
 impl Finish {
     ghost use Rattle.std.specs.Prelude.{◌≡◌};
-    ghost use Rattle.scp_script.specs.Loop.{status_of};
+    ghost use Rattle.scp_script.specs.Loop.{status_of, exit_status};
 
-    /// The exit status of the process.
+    /// The number of the exit status of the process.
     pub fn status(self) -> u8
         ensures { result ≡ status_of self }
     {
+        self.exit_status().number()
+    }
+
+    // The exit status of the process.
+    fn exit_status(self) -> ExitStatus
+        ensures { result ≡ exit_status self }
+    {
         match self {
-            Finish::Exit(status) => status,
-            Finish::EndOfInput => 0,
-            Finish::FlushFailed => 107,
-            Finish::Commands => 104,
-            Finish::Console => 102,
-            Finish::Input => 106,
-            Finish::OutOfMemory => 103,
+            Finish::Exit(status) => ExitStatus::Exit(status),
+            Finish::EndOfInput => ExitStatus::Exit(0),
+            Finish::FlushFailed => ExitStatus::FlushFailed,
+            Finish::Commands => ExitStatus::Commands,
+            Finish::Console => ExitStatus::Console,
+            Finish::Input => ExitStatus::Input,
+            Finish::OutOfMemory => ExitStatus::OutOfMemory,
         }
     }
 }

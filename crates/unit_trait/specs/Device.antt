@@ -1,6 +1,6 @@
 -- What stands of a device in its table, and the registers that several devices have (SIMH Users' Guide, "Examining and
 -- Changing State").
-use Rattle.std.specs.Prelude.{ℕ, Bool, true, false, List, codes}
+use Rattle.std.specs.Prelude.{ℕ, ◌+◌, ◌/◌, ◌%◌, Bool, true, false, nat_lt, List, [], ◌∷◌, ◌++◌, codes, if◌then◌else◌}
 
 -- a register: its name, its least and largest value, what it holds at first, and whether a reset sets it to 0
 pub record Register : Type 0 where
@@ -19,6 +19,14 @@ pub record Device : Type 0 where
   pub units : ℕ
   pub takes_file : Bool
   pub registers : List Register
+
+-- a number below 100 in decimal, without a leading zero
+abbrev pub decimal_below_100 : ℕ → List ℕ
+decimal_below_100 n = if nat_lt n 10 then (48 + n) ∷ [] else (48 + n / 10) ∷ (48 + n % 10) ∷ []
+
+-- the name of one of several registers that are alike: a text, and its number behind that
+abbrev pub numbered_name : List ℕ → ℕ → List ℕ
+numbered_name text number = text ++ decimal_below_100 number
 
 -- a register that is 0 at first and that a reset leaves alone
 abbrev pub kept_register : List ℕ → ℕ → Register

@@ -3,7 +3,7 @@ use Rattle.std.specs.Prelude.{ℕ, ◌+◌, ◌-◌, ◌/◌, ◌%◌, ◌^◌, 
 use Rattle.unit_trait.specs.declared.kind.Kind.{Kind}
 use Rattle.unit_trait.specs.declared.kind.Kind.TheVariants.{Dsk, Mta, Lpt, Ptr, Ptp, Clk, Tti, Tto, Tti1, Tto1, Qty}
 use Rattle.unit_trait.specs.declared.kind.UnitName.{UnitName}
-use Rattle.unit_trait.specs.Device.{Device}
+use Rattle.unit_trait.specs.Device.{Device, decimal_below_100}
 use Rattle.unit_trait.specs.Disk.{disk}
 use Rattle.unit_trait.specs.Tape.{tape}
 use Rattle.unit_trait.specs.Printer.{printer}
@@ -54,10 +54,6 @@ takes_file kind = (device_of kind).takes_file
 
 abbrev pub TakesFile : Kind → Type 0
 TakesFile kind = IsTrue (takes_file kind)
-
--- a number below 100 in decimal, without a leading zero
-abbrev pub decimal_below_100 : ℕ → List ℕ
-decimal_below_100 n = if nat_lt n 10 then (48 + n) ∷ [] else (48 + n / 10) ∷ (48 + n % 10) ∷ []
 
 -- the name of a unit: that of its kind, and its number where the kind has several
 abbrev pub unit_name : UnitName → List ℕ

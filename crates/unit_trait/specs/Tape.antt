@@ -1,6 +1,6 @@
 -- The magnetic tape, of eight drives that share one control (How to Use the Nova Computers, "Magnetic Tape"). Its
 -- registers, and the numbers of its commands, are this project's own.
-use Rattle.std.specs.Prelude.{ℕ, ◌+◌, ◌-◌, ◌/◌, ◌%◌, ◌^◌, ◌==◌, ◌||◌, Bool, true, false, List, [], ◌∷◌, ◌++◌, codes, take, drop, slice_index, slice_set, if◌then◌else◌}
+use Rattle.std.specs.Prelude.{ℕ, ◌+◌, ◌-◌, ◌/◌, ◌%◌, ◌^◌, ◌==◌, ◌||◌, Bool, true, false, List, [], ◌∷◌, ◌++◌, codes, map, take, drop, slice_index, slice_set, if◌then◌else◌}
 use Rattle.unit_trait.specs.declared.calls.IoOp.{IoOp}
 use Rattle.unit_trait.specs.declared.calls.IoOp.TheVariants.{Dia, Doa, Dib, Dob, Dic, Doc}
 use Rattle.unit_trait.specs.declared.calls.Pulse.{Pulse}
@@ -15,7 +15,7 @@ use Rattle.unit_trait.specs.declared.calls.TapeGot.{TapeGot}
 use Rattle.unit_trait.specs.declared.calls.TapeOrder.{TapeOrder}
 use Rattle.unit_trait.specs.declared.calls.UnitStop.{UnitStop}
 use Rattle.unit_trait.specs.declared.calls.UnitStop.TheVariants as unit_stop
-use Rattle.unit_trait.specs.Device.{Device, Register, kept_register, cleared_register, time_register, busy, done, stop_ioe}
+use Rattle.unit_trait.specs.Device.{Device, Register, numbered_name, kept_register, cleared_register, time_register, busy, done, stop_ioe}
 use Rattle.unit_trait.specs.Calls.{UnitCall, Io, Due, Answered, Reset, Row, holds}
 use Rattle.unit_trait.specs.Usual.{flagged, pulsed, stopping, reset_registers}
 
@@ -24,13 +24,12 @@ abbrev pub tape_length : ℕ
 tape_length = 0o400000000
 
 -- where the tape of a drive stands
-abbrev pub tape_position : List ℕ → Register
-tape_position name = kept_register name tape_length
+abbrev pub tape_position : ℕ → Register
+tape_position drive = kept_register (numbered_name (codes "POS") drive) tape_length
 
--- where the tape of each drive stands
+-- the same of each drive
 abbrev pub tape_positions : List Register
-tape_positions = tape_position (codes "POS0") ∷ tape_position (codes "POS1") ∷ tape_position (codes "POS2") ∷ tape_position (codes "POS3")
-    ∷ tape_position (codes "POS4") ∷ tape_position (codes "POS5") ∷ tape_position (codes "POS6") ∷ tape_position (codes "POS7") ∷ []
+tape_positions = map tape_position (0 ∷ 1 ∷ 2 ∷ 3 ∷ 4 ∷ 5 ∷ 6 ∷ 7 ∷ [])
 
 abbrev pub tape : Device
 tape = record {

@@ -1,8 +1,8 @@
 ghost use Rattle.std.specs.Prelude.{◌≡◌, ◌<◌, ◌≤◌, ◌++◌, ◌↔◌, IsTrue, length, drop};
-ghost use Rattle.unit_trait.specs.Kinds.{kind_name, code_of, mask_of, same_unit, units_of, takes_file, TakesFile, unit_name, decimal_below_100};
+ghost use Rattle.unit_trait.specs.Kinds.{kind_name, code_of, mask_of, same_unit, units_of, takes_file, TakesFile, unit_name};
 
 use crate::clock::CLOCK;
-use crate::device::Device;
+use crate::device::{Device, push_decimal};
 use crate::disk::DISK;
 use crate::keyboard::{TTI, TTI1};
 use crate::multiplexer::MULTIPLEXER;
@@ -145,16 +145,4 @@ fn unit_name(unit: UnitName) -> Text<8>
         push_decimal(unit.unit, &mut text);
     }
     text
-}
-
-// Adds a number below 100 in decimal.
-fn push_decimal(n: u8, text: &mut Text<8>)
-    requires number { n < 100 }
-    requires room { length text.old ≤ 6 }
-    ensures { text.new ≡ text.old ++ decimal_below_100 n }
-{
-    if n >= 10 {
-        text.push(b'0' + n / 10);
-    }
-    text.push(b'0' + n % 10);
 }

@@ -2,7 +2,7 @@ ghost use Rattle.std.specs.Prelude.{◌≡◌, ◌++◌, Some, option_map, Match
 ghost use Rattle.unit_trait.specs.Registers.{register_at, name_at};
 ghost use Rattle.unit_trait.specs.Seen.{seen, HasShortName};
 
-use crate::device::Register;
+use crate::device::{Register, register_name};
 use crate::kind::Kind;
 use crate::{clock, disk, keyboard, printer, punch, reader, tape, teleprinter};
 use line_text::Text;
@@ -56,11 +56,11 @@ pub fn is_cleared(kind: Kind, i: u8) -> Option<bool>
 }
 
 /// The name of a register in capitals, by its number from 0; none past the last one.
-pub fn reg_name(kind: Kind, i: u8) -> Option<&'static str>
-    ensures { option_map (λ name. name.now) result ≡ option_map (λ r. r.name) (register_at kind i) }
+pub fn reg_name(kind: Kind, i: u8) -> Option<Text<8>>
+    ensures { result ≡ option_map (λ r. r.name) (register_at kind i) }
 {
     match register_at(kind, i) {
-        Some(register) => Some(register.name),
+        Some(register) => Some(register_name(register)),
         None => None,
     }
 }
@@ -71,16 +71,7 @@ pub fn reg_text(kind: Kind, i: u8, out: &mut [u8; 8]) -> usize
     ensures text { out.new ≡ name_at kind i ++ drop (length (name_at kind i)) out.old }
 {
     match register_at(kind, i) {
-        Some(register) => name_text(register).copy_to(out),
+        Some(register) => register_name(register).copy_to(out),
         None => 0,
     }
-}
-
-fn name_text(register: Register) -> Text<8>
-    requires { HasShortName register }
-    ensures { result ≡ register.name.now }
-{
-    let mut text = Text::new();
-    text.push_all(register.name.as_bytes());
-    text
 }

@@ -2,7 +2,7 @@ ghost use Rattle.std.specs.Prelude.{◌≡◌, option_map, slice_get, IfSome};
 ghost use Rattle.unit_trait.specs.Tape.{tape};
 ghost use Rattle.unit_trait.specs.Seen.{seen, HasShortName};
 
-use crate::device::{Device, Register, cleared_register, kept_register, time_register};
+use crate::device::{Device, Register, cleared_register, kept_register, numbered_register, time_register};
 
 /// The magnetic tape.
 pub const TAPE: Device = Device {
@@ -28,14 +28,14 @@ pub fn register(i: u8) -> Option<Register>
         6 => kept_register("MA", 0o77777),
         7 => kept_register("WC", 0o7777),
         8 => cleared_register("STAT", 0o177777),
-        9 => kept_register("POS0", 0o400000000),
-        10 => kept_register("POS1", 0o400000000),
-        11 => kept_register("POS2", 0o400000000),
-        12 => kept_register("POS3", 0o400000000),
-        13 => kept_register("POS4", 0o400000000),
-        14 => kept_register("POS5", 0o400000000),
-        15 => kept_register("POS6", 0o400000000),
-        16 => kept_register("POS7", 0o400000000),
+        9 => numbered_register("POS", 0, 0o400000000),
+        10 => numbered_register("POS", 1, 0o400000000),
+        11 => numbered_register("POS", 2, 0o400000000),
+        12 => numbered_register("POS", 3, 0o400000000),
+        13 => numbered_register("POS", 4, 0o400000000),
+        14 => numbered_register("POS", 5, 0o400000000),
+        15 => numbered_register("POS", 6, 0o400000000),
+        16 => numbered_register("POS", 7, 0o400000000),
         _ => return None,
     };
     Some(register)

@@ -12,10 +12,10 @@ returns-in-None c = sym (register_past c.args.device c.args.word.now c.loop-i.i 
 pub loop-i-preserved : goal.loop-i-preserved
 loop-i-preserved c =
     let names = register_names c.args.device in
-    let is : slice_get names c.loop-i.i ≡ Some c.in-Some.name.now = sym c.in-Some.ensures in
-    let differs : is_spelled c.args.word.now c.in-Some.name.now ≡ false = cc (c.is_spelled.ensures, c.as_bytes.ensures.value, c.if-is_spelled.false) in
-    let inside : c.loop-i.i < length names = slice_get_within names c.loop-i.i c.in-Some.name.now is in
+    let is : slice_get names c.loop-i.i ≡ Some c.in-Some.name = sym c.in-Some.ensures in
+    let differs : is_spelled c.args.word.now c.in-Some.name ≡ false = cc (c.is_spelled.ensures, c.as_slice.ensures, c.if-is_spelled.false) in
+    let inside : c.loop-i.i < length names = slice_get_within names c.loop-i.i c.in-Some.name is in
     record {
       within = omega arith;
-      before = register_not c.args.device c.args.word.now c.in-Some.name.now c.loop-i.i is differs c.loop-i.invariant.before;
+      before = register_not c.args.device c.args.word.now c.in-Some.name c.loop-i.i is differs c.loop-i.invariant.before;
     }
