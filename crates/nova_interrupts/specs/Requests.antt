@@ -2,11 +2,12 @@
 -- Interrupt"). The units stand in bus order.
 use Rattle.std.specs.Prelude.{ℕ, ◌/◌, ◌%◌, ◌==◌, ◌&&◌, Bool, List, filter, slice_get, slice_index, Option, Some, None, is_some}
 use Rattle.unit_trait.specs.Kinds.{code_of, mask_of}
+use Rattle.unit_trait.specs.Registers.{done_number}
 use Rattle.unit_trait.specs.Calls.{UnitState}
 
--- a device asks where its DONE, which is its second register, is 1 and its bit of the mask word is 0
+-- a device asks where its DONE is 1 and its bit of the mask word is 0
 abbrev pub asks : ℕ → UnitState → Bool
-asks mask u = (slice_index u.registers 1 == 1) && (mask / mask_of u.kind % 2 == 0)
+asks mask u = (slice_index u.registers done_number == 1) && (mask / mask_of u.kind % 2 == 0)
 
 -- the units of the devices that ask, in bus order
 abbrev pub asking : ℕ → List UnitState → List UnitState

@@ -1,7 +1,7 @@
 ghost use Rattle.std.specs.Prelude.{◌≡◌, map, option_map};
 ghost use Rattle.nova_interrupts.specs.Requests.{asks, first_asking, requested, acknowledged};
 
-use unit_trait::{Kind, Unit, code_of, mask_of};
+use unit_trait::{DONE, Kind, Unit, code_of, mask_of};
 
 /// What of the processor belongs to interrupts (How to Use the Nova Computers, "Program Interrupt").
 #[derive(Clone, Copy, Debug, PartialEq, Eq)]
@@ -101,5 +101,5 @@ fn first_asking<U: Unit>(mask: u16, units: &[U]) -> Option<Kind>
 fn asks<U: Unit>(mask: u16, unit: &U) -> bool
     ensures { result ≡ asks mask (U.unit_state unit.now) }
 {
-    unit.reg(1) == 1 && mask / mask_of(unit.kind()) % 2 == 0
+    unit.reg(DONE) == 1 && mask / mask_of(unit.kind()) % 2 == 0
 }

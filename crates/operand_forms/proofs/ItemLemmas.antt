@@ -9,7 +9,9 @@ use Rattle.std.proofs.lemmas.List.Folds.{list_all-append}
 use Rattle.std.proofs.lemmas.Option.{slice_get_within, get_or_from_slice_get}
 use Rattle.nova_word.specs.Numbers.{IsDigit, is_digit}
 use Rattle.nova_word.proofs.ReadingLemmas.{digit_is, digit_passes}
+use Rattle.unit_trait.specs.declared.kind.Kind.{Kind}
 use Rattle.unit_trait.specs.declared.kind.Kind.TheVariants.{Dsk, Mta, Lpt, Ptr, Ptp, Clk, Tti, Tto, Tti1, Tto1, Qty}
+use Rattle.unit_trait.proofs.EveryKind.{every-kind}
 use Rattle.operand_forms.specs.declared.listing.Name.{Name}
 use Rattle.operand_forms.specs.declared.listing.Name.TheVariants.{Cpu, Device}
 use Rattle.operand_forms.specs.declared.listing.Item.{Item}
@@ -118,17 +120,7 @@ name_lacks (b ∷ rest) h =
 
 registers_apart : (device : Name) → are_apart is_spelled (register_names device) ≡ true
 registers_apart Cpu = refl
-registers_apart (Device Dsk) = refl
-registers_apart (Device Mta) = refl
-registers_apart (Device Lpt) = refl
-registers_apart (Device Ptr) = refl
-registers_apart (Device Ptp) = refl
-registers_apart (Device Clk) = refl
-registers_apart (Device Tti) = refl
-registers_apart (Device Tto) = refl
-registers_apart (Device Tti1) = refl
-registers_apart (Device Tto1) = refl
-registers_apart (Device Qty) = refl
+registers_apart (Device kind) = every-kind (λ (k : Kind). are_apart is_spelled (register_names (Device k)) ≡ true) (refl, refl, refl, refl, refl, refl, refl, refl, refl, refl, refl) kind
 
 register_found : (device : Name) (text : List ℕ) (k : ℕ) → register_named device text ≡ Some k → IsRegister device text k
 unfolding register_named
@@ -149,17 +141,7 @@ is_plain name = not (starts_digit name) && (lacks 44 name && (not (is_spelled na
 
 registers_plain : (device : Name) → list_all is_plain (register_names device) ≡ true
 registers_plain Cpu = refl
-registers_plain (Device Dsk) = refl
-registers_plain (Device Mta) = refl
-registers_plain (Device Lpt) = refl
-registers_plain (Device Ptr) = refl
-registers_plain (Device Ptp) = refl
-registers_plain (Device Clk) = refl
-registers_plain (Device Tti) = refl
-registers_plain (Device Tto) = refl
-registers_plain (Device Tti1) = refl
-registers_plain (Device Tto1) = refl
-registers_plain (Device Qty) = refl
+registers_plain (Device kind) = every-kind (λ (k : Kind). list_all is_plain (register_names (Device k)) ≡ true) (refl, refl, refl, refl, refl, refl, refl, refl, refl, refl, refl) kind
 
 record Plain (text : List ℕ) : Type 0 where
   starts : starts_digit text ≡ false

@@ -1,6 +1,8 @@
 -- The text without a byte has no form.
 use Rattle.std.proofs.Common.{◌≡◌, [], None, refl}
+use Rattle.unit_trait.specs.declared.kind.Kind.{Kind}
 use Rattle.unit_trait.specs.declared.kind.Kind.TheVariants.{Dsk, Mta, Lpt, Ptr, Ptp, Clk, Tti, Tto, Tti1, Tto1, Qty}
+use Rattle.unit_trait.proofs.EveryKind.{every-kind}
 use Rattle.nova_word.specs.Numbers.{number_read}
 use Rattle.operand_forms.specs.declared.listing.Name.{Name}
 use Rattle.operand_forms.specs.declared.listing.Name.TheVariants as whose
@@ -25,14 +27,4 @@ no_device = refl
 pub no_items : (device : Name) → items_of device [] ≡ None
 unfolding items_of items_up_to item_of named_item register_named is_name numbered_item octal number_read decimal
 no_items whose.Cpu = refl
-no_items (whose.Device Dsk) = refl
-no_items (whose.Device Mta) = refl
-no_items (whose.Device Lpt) = refl
-no_items (whose.Device Ptr) = refl
-no_items (whose.Device Ptp) = refl
-no_items (whose.Device Clk) = refl
-no_items (whose.Device Tti) = refl
-no_items (whose.Device Tto) = refl
-no_items (whose.Device Tti1) = refl
-no_items (whose.Device Tto1) = refl
-no_items (whose.Device Qty) = refl
+no_items (whose.Device kind) = every-kind (λ (k : Kind). items_of (whose.Device k) [] ≡ None) (refl, refl, refl, refl, refl, refl, refl, refl, refl, refl, refl) kind

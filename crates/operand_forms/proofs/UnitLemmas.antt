@@ -11,6 +11,7 @@ use Rattle.unit_trait.specs.declared.kind.Kind.{Kind}
 use Rattle.unit_trait.specs.declared.kind.Kind.TheVariants.{Dsk, Mta, Lpt, Ptr, Ptp, Clk, Tti, Tto, Tti1, Tto1, Qty}
 use Rattle.unit_trait.specs.declared.kind.UnitName.{UnitName}
 use Rattle.unit_trait.specs.Kinds.{kind_name}
+use Rattle.unit_trait.proofs.EveryKind.{every-kind}
 use Rattle.line_text.specs.Words.{IsSpelled, is_spelled}
 use Rattle.operand_forms.specs.Names.{device_kinds, unit_kinds}
 use Rattle.operand_forms.specs.Forms.{IsKind, IsDevice, IsUnit, alone, drive}
@@ -109,17 +110,7 @@ drive_reads text n below h =
 
 -- no kind is named as a drive
 drive_apart : (kind : Kind) (n : ℕ) → is_spelled (kind_name kind) (drive_name n) ≡ false
-drive_apart Dsk n = refl
-drive_apart Mta n = refl
-drive_apart Lpt n = refl
-drive_apart Ptr n = refl
-drive_apart Ptp n = refl
-drive_apart Clk n = refl
-drive_apart Tti n = refl
-drive_apart Tto n = refl
-drive_apart Tti1 n = refl
-drive_apart Tto1 n = refl
-drive_apart Qty n = refl
+drive_apart kind n = every-kind (λ (k : Kind). is_spelled (kind_name k) (drive_name n) ≡ false) (refl, refl, refl, refl, refl, refl, refl, refl, refl, refl, refl) kind
 
 kind_is_no_drive : (text : List ℕ) (kind : Kind) (n : ℕ) → IsSpelled text (kind_name kind) → IsSpelled text (drive_name n) → ⊥
 kind_is_no_drive text kind n one other =

@@ -15,6 +15,7 @@ use Rattle.unit_trait.specs.Writer.{writer_row}
 use Rattle.unit_trait.specs.Clock.{clock_row}
 use Rattle.unit_trait.specs.Keyboard.{keyboard_row}
 use Rattle.unit_trait.specs.Teleprinter.{teleprinter_row}
+use Rattle.unit_trait.proofs.EveryKind.{every-kind}
 use Rattle.event_queue.specs.EventList.{Event, waits, placed, activated, wished}
 use Rattle.unit_list.specs.Bus.{unit_at}
 use Rattle.unit_list.specs.Reset.{first_unit, reset_events}
@@ -70,15 +71,7 @@ waits-wished u v (queue.After t) es keeps h = waits-activated u v t es h
 -- no reset cancels an event
 reset-keeps : (kind : Kind) (registers : List ℕ) → KeepsEvents (row_of kind registers Reset).queue
 unfolding row_of reader_row writer_row clock_row keyboard_row teleprinter_row
-reset-keeps Lpt registers = tt
-reset-keeps Ptr registers = tt
-reset-keeps Ptp registers = tt
-reset-keeps Clk registers = tt
-reset-keeps Tti registers = tt
-reset-keeps Tto registers = tt
-reset-keeps Tti1 registers = tt
-reset-keeps Tto1 registers = tt
-reset-keeps kind registers = tt
+reset-keeps kind registers = every-kind (λ (k : Kind). KeepsEvents (row_of k registers Reset).queue) (tt, tt, tt, tt, tt, tt, tt, tt, tt, tt, tt) kind
 
 waits-reset : (u : UnitName) (us : List UnitState) (es : List Event) → waits u es ≡ true → waits u (reset_events us es) ≡ true
 waits-reset u [] es h = h

@@ -22,13 +22,7 @@ use host_files::Files;
 use nova_machine::Machine;
 use std::alloc::Global;
 use unit_files::{AttachMode, DetachFault};
-use unit_trait::{Kind, Unit, UnitName};
-
-/// The number of the register POS of the units that go through their files byte by byte.
-const POSITION: u8 = 5;
-
-/// The number of the register POS of drive 0; those of the other drives follow.
-const POSITION_OF_DRIVE: u8 = 9;
+use unit_trait::{Kind, Unit, UnitName, position_register};
 
 /// ATTACH opens a file for a unit, and sets POS to the place where the unit goes on in it. It prints nothing.
 #[tactic(auto, unfolding(crate::specs::FileEffects::attach_reply))]
@@ -244,15 +238,9 @@ fn set_position<U: Unit>(machine: &mut Machine<U>, unit: UnitName, place: u64)
     ensures { machine.new ≡ record machine.old { units = positioned unit place machine.old.units } }
 {
     match unit.kind {
-        Kind::Mta => {
-            let _fits = machine.set_unit_reg(
-                Kind::Mta,
-                POSITION_OF_DRIVE + unit.unit,
-                place as u32,
-            );
-        }
-        Kind::Lpt | Kind::Ptr | Kind::Ptp => {
-            let _fits = machine.set_unit_reg(unit.kind, POSITION, place as u32);
+        Kind::Mta | Kind::Lpt | Kind::Ptr | Kind::Ptp => {
+            let position = position_register(unit);
+            let _fits = machine.set_unit_reg(unit.kind, position, place as u32);
         }
         _ => {}
     }

@@ -12,6 +12,7 @@ use Rattle.unit_trait.specs.Processor.{all_registers}
 use Rattle.unit_trait.specs.Calls.{UnitState}
 use Rattle.unit_trait.specs.Row.{InRange, Fits, takes_value}
 use Rattle.unit_trait.proofs.Codes.{same-code}
+use Rattle.unit_trait.proofs.EveryKind.{every-kind}
 use Rattle.unit_list.specs.Bus.{unit_at, register_in, with_register, with_register_in, kinds_of, AllFit}
 use Rattle.unit_list.proofs.Calls.{changed-here, changed-elsewhere}
 use Rattle.operand_forms.specs.declared.listing.Name.TheVariants as whose
@@ -70,17 +71,7 @@ pub register_count-more : (kind : Kind) (i : ℕ) → is_some (register_at kind 
 register_count-more kind i some = let within = within-some (registers kind) i some in omega (arith, within)
 
 pub few_registers : (kind : Kind) → length (registers kind) ≤ 17
-few_registers Dsk = omega arith
-few_registers Mta = omega arith
-few_registers Lpt = omega arith
-few_registers Ptr = omega arith
-few_registers Ptp = omega arith
-few_registers Clk = omega arith
-few_registers Tti = omega arith
-few_registers Tto = omega arith
-few_registers Tti1 = omega arith
-few_registers Tto1 = omega arith
-few_registers Qty = omega arith
+few_registers = every-kind (λ (k : Kind). length (registers k) ≤ 17) (omega arith, omega arith, omega arith, omega arith, omega arith, omega arith, omega arith, omega arith, omega arith, omega arith, omega arith)
 
 -- Which units there are.
 

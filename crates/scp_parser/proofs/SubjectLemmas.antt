@@ -6,6 +6,7 @@ use Rattle.unit_trait.specs.declared.kind.Kind.{Kind}
 use Rattle.unit_trait.specs.declared.kind.Kind.TheVariants.{Dsk, Mta, Lpt, Ptr, Ptp, Clk, Tti, Tto, Tti1, Tto1, Qty}
 use Rattle.unit_trait.specs.declared.kind.UnitName.{UnitName}
 use Rattle.unit_trait.specs.Kinds.{kind_name}
+use Rattle.unit_trait.proofs.EveryKind.{every-kind}
 use Rattle.scp_parser.specs.declared.command.Shown.{Shown}
 use Rattle.scp_parser.specs.declared.command.Shown.TheVariants.{Time, Cpu, Queue, Break, Expect, Send, Version, Unit as AUnit}
 use Rattle.line_text.specs.Words.{IsSpelled, is_spelled}
@@ -46,17 +47,9 @@ subject_found text shown =
 -- a unit's name is the name of no other subject
 kind_shown : (text : List ℕ) (kind : Kind) → IsSpelled text (kind_name kind) → subject_of text ≡ option_map (λ u. AUnit u) (unit_of text)
 unfolding subject_of
-kind_shown text Dsk h = rw h refl
-kind_shown text Mta h = rw h refl
-kind_shown text Lpt h = rw h refl
-kind_shown text Ptr h = rw h refl
-kind_shown text Ptp h = rw h refl
-kind_shown text Clk h = rw h refl
-kind_shown text Tti h = rw h refl
-kind_shown text Tto h = rw h refl
-kind_shown text Tti1 h = rw h refl
-kind_shown text Tto1 h = rw h refl
-kind_shown text Qty h = rw h refl
+kind_shown text =
+    every-kind (λ (k : Kind). IsSpelled text (kind_name k) → subject_of text ≡ option_map (λ u. AUnit u) (unit_of text))
+    ((λ h. rw h refl), (λ h. rw h refl), (λ h. rw h refl), (λ h. rw h refl), (λ h. rw h refl), (λ h. rw h refl), (λ h. rw h refl), (λ h. rw h refl), (λ h. rw h refl), (λ h. rw h refl), (λ h. rw h refl))
 
 drive_shown : (text : List ℕ) (n : ℕ) → IsSpelled text (drive_name n) → subject_of text ≡ option_map (λ u. AUnit u) (unit_of text)
 unfolding subject_of

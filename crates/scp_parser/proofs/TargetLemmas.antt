@@ -6,6 +6,7 @@ use Rattle.unit_trait.specs.declared.kind.Kind.{Kind}
 use Rattle.unit_trait.specs.declared.kind.Kind.TheVariants.{Dsk, Mta, Lpt, Ptr, Ptp, Clk, Tti, Tto, Tti1, Tto1, Qty}
 use Rattle.unit_trait.specs.declared.kind.UnitName.{UnitName}
 use Rattle.unit_trait.specs.Kinds.{kind_name, takes_file, TakesFile}
+use Rattle.unit_trait.proofs.EveryKind.{every-kind}
 use Rattle.line_text.specs.Words.{IsSpelled, is_spelled}
 use Rattle.line_text.proofs.SpellingLemmas.{spelled_is}
 use Rattle.operand_forms.specs.Forms.{IsUnit, alone, drive}
@@ -87,17 +88,9 @@ detached_found text unit h =
 -- the name of no unit is ALL
 kind_detached : (text : List ℕ) (kind : Kind) → IsSpelled text (kind_name kind) → detached_of text ≡ option_map (λ u. Some u) (unit_of text)
 unfolding detached_of
-kind_detached text Dsk h = rw h refl
-kind_detached text Mta h = rw h refl
-kind_detached text Lpt h = rw h refl
-kind_detached text Ptr h = rw h refl
-kind_detached text Ptp h = rw h refl
-kind_detached text Clk h = rw h refl
-kind_detached text Tti h = rw h refl
-kind_detached text Tto h = rw h refl
-kind_detached text Tti1 h = rw h refl
-kind_detached text Tto1 h = rw h refl
-kind_detached text Qty h = rw h refl
+kind_detached text =
+    every-kind (λ (k : Kind). IsSpelled text (kind_name k) → detached_of text ≡ option_map (λ u. Some u) (unit_of text))
+    ((λ h. rw h refl), (λ h. rw h refl), (λ h. rw h refl), (λ h. rw h refl), (λ h. rw h refl), (λ h. rw h refl), (λ h. rw h refl), (λ h. rw h refl), (λ h. rw h refl), (λ h. rw h refl), (λ h. rw h refl))
 
 unit_detached : (text : List ℕ) (u : UnitName) → IsUnit text u → detached_of text ≡ option_map (λ u. Some u) (unit_of text)
 unfolding detached_of

@@ -10,7 +10,9 @@ use Rattle.std.proofs.lemmas.List.{take-append-drop, take_at, drop_at}
 use Rattle.std.proofs.lemmas.List.Sums.{AllPass-from_list_all, list_all-from_AllPass}
 use Rattle.std.proofs.lemmas.Option.{slice_get_within, get_or_from_slice_get}
 use Rattle.nova_word.specs.Numbers.{IsDigit}
+use Rattle.unit_trait.specs.declared.kind.Kind.{Kind}
 use Rattle.unit_trait.specs.declared.kind.Kind.TheVariants.{Dsk, Mta, Lpt, Ptr, Ptp, Clk, Tti, Tto, Tti1, Tto1, Qty}
+use Rattle.unit_trait.proofs.EveryKind.{every-kind}
 use Rattle.operand_forms.specs.declared.listing.Name.{Name}
 use Rattle.operand_forms.specs.declared.listing.Name.TheVariants.{Cpu, Device}
 use Rattle.operand_forms.specs.declared.listing.Item.{Item}
@@ -41,17 +43,7 @@ upper_no_rel (b ∷ more) =
 
 registers_no_rel : (device : Name) → list_all no_rel (register_names device) ≡ true
 registers_no_rel Cpu = refl
-registers_no_rel (Device Dsk) = refl
-registers_no_rel (Device Mta) = refl
-registers_no_rel (Device Lpt) = refl
-registers_no_rel (Device Ptr) = refl
-registers_no_rel (Device Ptp) = refl
-registers_no_rel (Device Clk) = refl
-registers_no_rel (Device Tti) = refl
-registers_no_rel (Device Tto) = refl
-registers_no_rel (Device Tti1) = refl
-registers_no_rel (Device Tto1) = refl
-registers_no_rel (Device Qty) = refl
+registers_no_rel (Device kind) = every-kind (λ (k : Kind). list_all no_rel (register_names (Device k)) ≡ true) (refl, refl, refl, refl, refl, refl, refl, refl, refl, refl, refl) kind
 
 register_no_rel : (device : Name) (text : List ℕ) (k : ℕ) → IsRegister device text k → no_rel text ≡ true
 register_no_rel device text k h =

@@ -6,6 +6,7 @@ use Rattle.std.proofs.lemmas.List.{get_or-set_other}
 use Rattle.unit_trait.specs.declared.kind.Kind.{Kind}
 use Rattle.unit_trait.specs.declared.kind.Kind.TheVariants.{Dsk, Mta, Lpt, Ptr, Ptp, Clk, Tti, Tto, Tti1, Tto1, Qty}
 use Rattle.unit_trait.specs.declared.kind.UnitName.{UnitName}
+use Rattle.unit_trait.proofs.EveryKind.{every-kind}
 use Rattle.unit_files.specs.declared.slots.DiskCopy.{DiskCopy}
 use Rattle.unit_files.specs.declared.faults.DetachFault.{DetachFault}
 use Rattle.unit_files.specs.declared.faults.DetachFault.TheVariants as faults
@@ -19,30 +20,14 @@ use Rattle.unit_files.specs.View.{CanWrite, disk_bytes}
 -- the first place is the disk's, and no other unit's
 first-of : (k : Kind) (n : ℕ) → is_disk k ≡ true → IsTrue (takes_attachment (record { kind = k; unit = n }))
     → file_place (record { kind = k; unit = n }) ≡ 0
-first-of Dsk n is takes = grind (arith, nat_tests)
-first-of Mta n is takes = absurd (cc)
-first-of Lpt n is takes = absurd (cc)
-first-of Ptr n is takes = absurd (cc)
-first-of Ptp n is takes = absurd (cc)
-first-of Clk n is takes = absurd (cc)
-first-of Tti n is takes = absurd (cc)
-first-of Tto n is takes = absurd (cc)
-first-of Tti1 n is takes = absurd (cc)
-first-of Tto1 n is takes = absurd (cc)
-first-of Qty n is takes = absurd (cc)
+first-of k n =
+    every-kind (λ (kind : Kind). is_disk kind ≡ true → IsTrue (takes_attachment (record { kind = kind; unit = n })) → file_place (record { kind = kind; unit = n }) ≡ 0)
+    ((λ is takes. grind (arith, nat_tests)), (λ is takes. absurd (cc)), (λ is takes. absurd (cc)), (λ is takes. absurd (cc)), (λ is takes. absurd (cc)), (λ is takes. absurd (cc)), (λ is takes. absurd (cc)), (λ is takes. absurd (cc)), (λ is takes. absurd (cc)), (λ is takes. absurd (cc)), (λ is takes. absurd (cc))) k
 
 not-first : (k : Kind) (n : ℕ) → is_disk k ≡ false → file_place (record { kind = k; unit = n }) ≡ 0 → ⊥
-not-first Dsk n other is = absurd (cc)
-not-first Mta n other is = grind (arith, nat_tests)
-not-first Lpt n other is = grind (arith, nat_tests)
-not-first Ptr n other is = grind (arith, nat_tests)
-not-first Ptp n other is = grind (arith, nat_tests)
-not-first Clk n other is = grind (arith, nat_tests)
-not-first Tti n other is = grind (arith, nat_tests)
-not-first Tto n other is = grind (arith, nat_tests)
-not-first Tti1 n other is = grind (arith, nat_tests)
-not-first Tto1 n other is = grind (arith, nat_tests)
-not-first Qty n other is = grind (arith, nat_tests)
+not-first k n =
+    every-kind (λ (kind : Kind). is_disk kind ≡ false → file_place (record { kind = kind; unit = n }) ≡ 0 → ⊥)
+    ((λ other is. absurd (cc)), (λ other is. grind (arith, nat_tests)), (λ other is. grind (arith, nat_tests)), (λ other is. grind (arith, nat_tests)), (λ other is. grind (arith, nat_tests)), (λ other is. grind (arith, nat_tests)), (λ other is. grind (arith, nat_tests)), (λ other is. grind (arith, nat_tests)), (λ other is. grind (arith, nat_tests)), (λ other is. grind (arith, nat_tests)), (λ other is. grind (arith, nat_tests))) k
 
 some-none : (h : Held) (x : Option Held) → x ≡ Some h → x ≡ None → ⊥
 some-none h x is none = absurd (cc)
@@ -104,17 +89,9 @@ due-writable slots unit d can takes is written =
 pub copy-fits : (kind : Kind) (count room : ℕ) → is_disk kind ≡ true → count ≤ longest_file kind → disk_bytes ≤ room
     → count ≤ room
 unfolding longest_file disk_bytes
-copy-fits Dsk count room is short enough = omega (arith, short, enough)
-copy-fits Mta count room is short enough = absurd (cc)
-copy-fits Lpt count room is short enough = absurd (cc)
-copy-fits Ptr count room is short enough = absurd (cc)
-copy-fits Ptp count room is short enough = absurd (cc)
-copy-fits Clk count room is short enough = absurd (cc)
-copy-fits Tti count room is short enough = absurd (cc)
-copy-fits Tto count room is short enough = absurd (cc)
-copy-fits Tti1 count room is short enough = absurd (cc)
-copy-fits Tto1 count room is short enough = absurd (cc)
-copy-fits Qty count room is short enough = absurd (cc)
+copy-fits kind count room =
+    every-kind (λ (k : Kind). is_disk k ≡ true → count ≤ longest_file k → disk_bytes ≤ room → count ≤ room)
+    ((λ is short enough. omega (arith, short, enough)), (λ is short enough. absurd (cc)), (λ is short enough. absurd (cc)), (λ is short enough. absurd (cc)), (λ is short enough. absurd (cc)), (λ is short enough. absurd (cc)), (λ is short enough. absurd (cc)), (λ is short enough. absurd (cc)), (λ is short enough. absurd (cc)), (λ is short enough. absurd (cc)), (λ is short enough. absurd (cc))) kind
 
 -- ---- where nothing was attached, nothing is taken away
 

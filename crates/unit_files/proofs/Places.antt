@@ -7,6 +7,7 @@ use Rattle.std.proofs.lemmas.List.{get_or-set_same, get_or-set_other, map-set}
 use Rattle.unit_trait.specs.declared.kind.Kind.{Kind}
 use Rattle.unit_trait.specs.declared.kind.Kind.TheVariants.{Dsk, Mta, Lpt, Ptr, Ptp, Clk, Tti, Tto, Tti1, Tto1, Qty}
 use Rattle.unit_trait.specs.declared.kind.UnitName.{UnitName}
+use Rattle.unit_trait.proofs.EveryKind.{every-kind}
 use Rattle.unit_files.specs.declared.slots.UnitFile.{UnitFile}
 use Rattle.unit_files.specs.View.{slot_of}
 use Rattle.unit_files.specs.Attachments.{Held, file_place, takes_attachment, only_writes, read_only_of, writers_write}
@@ -26,30 +27,14 @@ attachments-set slots unit h =
 
 -- the place of the printer, and that of the punch, are of units that only write
 at-printer : (k : Kind) (n : ℕ) → file_place (record { kind = k; unit = n }) ≡ 9 → only_writes k ≡ true
-at-printer Dsk n is = grind (arith, nat_tests)
-at-printer Mta n is = grind (arith, nat_tests)
-at-printer Lpt n is = refl
-at-printer Ptr n is = grind (arith, nat_tests)
-at-printer Ptp n is = refl
-at-printer Clk n is = grind (arith, nat_tests)
-at-printer Tti n is = grind (arith, nat_tests)
-at-printer Tto n is = grind (arith, nat_tests)
-at-printer Tti1 n is = grind (arith, nat_tests)
-at-printer Tto1 n is = grind (arith, nat_tests)
-at-printer Qty n is = grind (arith, nat_tests)
+at-printer k n =
+    every-kind (λ (kind : Kind). file_place (record { kind = kind; unit = n }) ≡ 9 → only_writes kind ≡ true)
+    ((λ is. grind (arith, nat_tests)), (λ is. grind (arith, nat_tests)), (λ is. refl), (λ is. grind (arith, nat_tests)), (λ is. refl), (λ is. grind (arith, nat_tests)), (λ is. grind (arith, nat_tests)), (λ is. grind (arith, nat_tests)), (λ is. grind (arith, nat_tests)), (λ is. grind (arith, nat_tests)), (λ is. grind (arith, nat_tests))) k
 
 at-punch : (k : Kind) (n : ℕ) → file_place (record { kind = k; unit = n }) ≡ 11 → only_writes k ≡ true
-at-punch Dsk n is = grind (arith, nat_tests)
-at-punch Mta n is = grind (arith, nat_tests)
-at-punch Lpt n is = refl
-at-punch Ptr n is = grind (arith, nat_tests)
-at-punch Ptp n is = refl
-at-punch Clk n is = grind (arith, nat_tests)
-at-punch Tti n is = grind (arith, nat_tests)
-at-punch Tto n is = grind (arith, nat_tests)
-at-punch Tti1 n is = grind (arith, nat_tests)
-at-punch Tto1 n is = grind (arith, nat_tests)
-at-punch Qty n is = grind (arith, nat_tests)
+at-punch k n =
+    every-kind (λ (kind : Kind). file_place (record { kind = kind; unit = n }) ≡ 11 → only_writes kind ≡ true)
+    ((λ is. grind (arith, nat_tests)), (λ is. grind (arith, nat_tests)), (λ is. refl), (λ is. grind (arith, nat_tests)), (λ is. refl), (λ is. grind (arith, nat_tests)), (λ is. grind (arith, nat_tests)), (λ is. grind (arith, nat_tests)), (λ is. grind (arith, nat_tests)), (λ is. grind (arith, nat_tests)), (λ is. grind (arith, nat_tests))) k
 
 -- what stands at a place once one was written is not only read, where it was not and what was written is not
 written-at : (slots : List (Option Held)) (p q : ℕ) (h : Option Held) → q < length slots
@@ -81,17 +66,9 @@ writers-set slots unit h long all writes =
 -- a unit that can have a file has a place
 placed : (k : Kind) (n : ℕ) → IsTrue (takes_attachment (record { kind = k; unit = n }))
     → file_place (record { kind = k; unit = n }) < 12
-placed Dsk n takes = grind (arith, nat_tests)
-placed Mta n takes = grind (arith, nat_tests)
-placed Lpt n takes = grind (arith, nat_tests)
-placed Ptr n takes = grind (arith, nat_tests)
-placed Ptp n takes = grind (arith, nat_tests)
-placed Clk n takes = grind (arith, nat_tests)
-placed Tti n takes = grind (arith, nat_tests)
-placed Tto n takes = grind (arith, nat_tests)
-placed Tti1 n takes = grind (arith, nat_tests)
-placed Tto1 n takes = grind (arith, nat_tests)
-placed Qty n takes = grind (arith, nat_tests)
+placed k n =
+    every-kind (λ (kind : Kind). IsTrue (takes_attachment (record { kind = kind; unit = n })) → file_place (record { kind = kind; unit = n }) < 12)
+    ((λ is. grind (arith, nat_tests)), (λ is. grind (arith, nat_tests)), (λ is. grind (arith, nat_tests)), (λ is. grind (arith, nat_tests)), (λ is. grind (arith, nat_tests)), (λ is. grind (arith, nat_tests)), (λ is. grind (arith, nat_tests)), (λ is. grind (arith, nat_tests)), (λ is. grind (arith, nat_tests)), (λ is. grind (arith, nat_tests)), (λ is. grind (arith, nat_tests))) k
 
 pub within : (slots : List (Option Held)) (unit : UnitName) → length slots ≡ 12 → IsTrue (takes_attachment unit)
     → file_place unit < length slots

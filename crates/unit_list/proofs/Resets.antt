@@ -7,6 +7,7 @@ use Rattle.unit_trait.specs.declared.calls.Queue.TheVariants.{Keep, Cancel, Afte
 use Rattle.unit_trait.specs.Kinds.{units_of}
 use Rattle.unit_trait.specs.Calls.{UnitState, Reset}
 use Rattle.unit_trait.specs.Row.{row, moved, Fits, IsLater, IsAgain}
+use Rattle.unit_trait.proofs.EveryKind.{every-kind}
 use Rattle.event_queue.specs.EventList.{Event, wished, due}
 use Rattle.unit_list.specs.Bus.{kinds_of, AllFit}
 use Rattle.unit_list.specs.Reset.{first_unit, reset_units, reset_events}
@@ -14,17 +15,7 @@ use Rattle.unit_list.proofs.Standing.{fits-set, kinds-set}
 
 -- every kind has a first unit
 pub has-first : (kind : Kind) → 0 < units_of kind
-has-first Dsk = omega arith
-has-first Mta = omega arith
-has-first Lpt = omega arith
-has-first Ptr = omega arith
-has-first Ptp = omega arith
-has-first Clk = omega arith
-has-first Tti = omega arith
-has-first Tto = omega arith
-has-first Tti1 = omega arith
-has-first Tto1 = omega arith
-has-first Qty = omega arith
+has-first kind = every-kind (λ (k : Kind). 0 < units_of k) (omega arith, omega arith, omega arith, omega arith, omega arith, omega arith, omega arith, omega arith, omega arith, omega arith, omega arith) kind
 
 pub again-later : (wish : Queue) → IsAgain wish → IsLater wish
 again-later Keep again = tt

@@ -8,7 +8,7 @@ use Rattle.unit_trait.specs.declared.calls.Want.TheVariants.{ReadByte, WriteByte
 use Rattle.unit_trait.specs.declared.calls.Got.{Got}
 use Rattle.unit_trait.specs.Device.{position}
 use Rattle.unit_trait.specs.Kinds.{code_of}
-use Rattle.unit_trait.specs.Registers.{register_at}
+use Rattle.unit_trait.specs.Registers.{busy_number, done_number, register_at}
 use Rattle.unit_trait.specs.Calls.{UnitState, UnitCall, Row, holds}
 use Rattle.unit_trait.specs.Row.{row, moved, Fits, takes_value, goes_by_bytes, moves_on, CanMoveOn, IsOnTape}
 use Rattle.unit_list.specs.declared.bus.Flags.{Flags}
@@ -51,9 +51,9 @@ IsByteBelowEnd want got = Unit {0}
 abbrev pub IsBelowEnd : Want → Got → Type 0
 IsBelowEnd want got = IsByteBelowEnd want got × IsOnTape got
 
--- BUSY and DONE, the first two registers of a unit
+-- BUSY and DONE of a unit
 abbrev pub flags_of : UnitState → Flags
-flags_of u = record { busy = slice_index u.registers 0 == 1; done = slice_index u.registers 1 == 1 }
+flags_of u = record { busy = slice_index u.registers busy_number == 1; done = slice_index u.registers done_number == 1 }
 
 -- what a register holds, by its number from 0, where there is such a unit and such a register
 abbrev pub register_in : Kind → ℕ → List UnitState → Option ℕ

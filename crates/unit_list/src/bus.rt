@@ -5,7 +5,7 @@ ghost use Rattle.unit_trait.specs.Row.{row, moved, Fits, IsLater};
 ghost use Rattle.unit_list.specs.Bus.{unit_at, row_at, after_at, flags_of, kinds_of, AllFit};
 
 use crate::places::place;
-use unit_trait::{IoAnswer, IoOp, Kind, Pulse, Unit};
+use unit_trait::{BUSY, DONE, IoAnswer, IoOp, Kind, Pulse, Unit};
 
 /// The flags of a device: whether it is at work, and whether it has done its work.
 #[derive(Clone, Copy, Debug, PartialEq, Eq)]
@@ -45,8 +45,8 @@ fn flags_of<U: Unit>(unit: &U) -> Flags
     ensures { result ≡ flags_of (U.unit_state unit.now) }
 {
     Flags {
-        busy: unit.reg(0) == 1,
-        done: unit.reg(1) == 1,
+        busy: unit.reg(BUSY) == 1,
+        done: unit.reg(DONE) == 1,
     }
 }
 

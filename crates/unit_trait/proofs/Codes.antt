@@ -3,6 +3,7 @@ use Rattle.std.proofs.Common.{◌≡◌, ℕ, ◌==◌, refl, ap, sym, ◌∙◌
 use Rattle.unit_trait.specs.declared.kind.Kind.{Kind}
 use Rattle.unit_trait.specs.declared.kind.Kind.TheVariants.{Dsk, Mta, Lpt, Ptr, Ptp, Clk, Tti, Tto, Tti1, Tto1, Qty}
 use Rattle.unit_trait.specs.Kinds.{code_of}
+use Rattle.unit_trait.proofs.EveryKind.{every-kind}
 
 -- the kind with a code, where there is one
 kind_with : ℕ → Kind
@@ -13,17 +14,7 @@ kind_with code =
 
 with-code : (kind : Kind) → kind_with (code_of kind) ≡ kind
 unfolding kind_with
-with-code Dsk = refl
-with-code Mta = refl
-with-code Lpt = refl
-with-code Ptr = refl
-with-code Ptp = refl
-with-code Clk = refl
-with-code Tti = refl
-with-code Tto = refl
-with-code Tti1 = refl
-with-code Tto1 = refl
-with-code Qty = refl
+with-code kind = every-kind (λ (k : Kind). kind_with (code_of k) ≡ k) (refl, refl, refl, refl, refl, refl, refl, refl, refl, refl, refl) kind
 
 pub same-code : (a b : Kind) → code_of a ≡ code_of b → a ≡ b
 same-code a b same = sym (with-code a) ∙ ap kind_with same ∙ with-code b

@@ -1,1 +1,3 @@
+pub mod EveryKind
 pub mod Codes
+pub mod NamedRegisters

@@ -1,6 +1,8 @@
 -- The registers of each kind of unit, by their numbers.
-use Rattle.std.specs.Prelude.{ℕ, List, [], Option, Some, None, slice_get}
+use Rattle.std.specs.Prelude.{ℕ, ◌+◌, List, [], Option, Some, None, slice_get}
 use Rattle.unit_trait.specs.declared.kind.Kind.{Kind}
+use Rattle.unit_trait.specs.declared.kind.Kind.TheVariants.{Mta}
+use Rattle.unit_trait.specs.declared.kind.UnitName.{UnitName}
 pub use Rattle.unit_trait.specs.Device.{Register}
 use Rattle.unit_trait.specs.Kinds.{device_of}
 
@@ -18,3 +20,18 @@ name_or_none (Some r) = r.name
 -- the name of a register, which is empty past the last one
 abbrev pub name_at : Kind → ℕ → List ℕ
 name_at kind i = name_or_none (register_at kind i)
+
+-- The registers that others than their device look at. BUSY and DONE are the first two of every device; POS, of a unit that
+-- goes through its file from place to place, says where it is in that, and a tape has one for each drive.
+abbrev pub busy_number : ℕ
+busy_number = 0
+
+abbrev pub done_number : ℕ
+done_number = 1
+
+abbrev pub position_of : Kind → ℕ → ℕ
+position_of Mta drive = 9 + drive
+position_of kind unit = 5
+
+abbrev pub position_number : UnitName → ℕ
+position_number unit = position_of unit.kind unit.unit

@@ -10,7 +10,7 @@ use Rattle.unit_trait.specs.declared.calls.Want.TheVariants.{Key, LineKey, Conso
 use Rattle.unit_trait.specs.declared.calls.Got.{Got}
 use Rattle.unit_trait.specs.declared.calls.Got.TheVariants.{Done, Byte, Tape}
 use Rattle.unit_trait.specs.Device.{Register, position}
-use Rattle.unit_trait.specs.Registers.{registers}
+use Rattle.unit_trait.specs.Registers.{registers, position_of}
 use Rattle.unit_trait.specs.Calls.{UnitState, UnitCall, Row, holds}
 use Rattle.unit_trait.specs.Disk.{disk_row}
 use Rattle.unit_trait.specs.Tape.{tape_length, tape_row}
@@ -78,7 +78,7 @@ IsAgain (After delay) = 1 ≤ delay
 IsAgain Keep = Unit {0}
 IsAgain Cancel = ⊥
 
--- the kinds of units that read or write their file byte by byte; POS, their sixth register, is the place of the next byte
+-- the kinds of units that read or write their file byte by byte; POS is the place of the next byte
 abbrev pub goes_by_bytes : Kind → Bool
 goes_by_bytes Lpt = true
 goes_by_bytes Ptr = true
@@ -93,7 +93,7 @@ moves_on got = false
 
 -- .. which can be done while POS is below its largest value
 abbrev pub CanMoveOn : List ℕ → Type 0
-CanMoveOn registers = slice_index registers 5 < position.largest
+CanMoveOn registers = slice_index registers (position_of Ptr 0) < position.largest
 
 -- a tape stands at a place that its register can hold
 abbrev pub IsOnTape : Got → Type 0

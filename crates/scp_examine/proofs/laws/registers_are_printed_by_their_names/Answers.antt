@@ -1,24 +1,17 @@
-use Rattle.std.proofs.Common.{refl}
+use Rattle.std.proofs.Common.{◌≡◌, map, refl}
+use Rattle.unit_trait.specs.declared.kind.Kind.{Kind}
 use Rattle.unit_trait.specs.declared.kind.Kind.TheVariants.{Dsk, Mta, Lpt, Ptr, Ptp, Clk, Tti, Tto, Tti1, Tto1, Qty}
+use Rattle.unit_trait.proofs.EveryKind.{every-kind}
 use Rattle.operand_forms.specs.declared.listing.Name.TheVariants.{Cpu, Device}
-use Rattle.scp_examine.specs.Places.{numbered}
+use Rattle.operand_forms.specs.Names.{register_names}
+use Rattle.scp_examine.specs.Places.{numbered, place_name, all_of}
 use Rattle.scp_examine.specs.Laws.{RegistersHaveNames}
 use Rattle.scp_examine.proofs.laws.registers_are_printed_by_their_names.Goals as goal
 
 have_names : RegistersHaveNames
 unfolding numbered
 have_names Cpu = refl
-have_names (Device Dsk) = refl
-have_names (Device Mta) = refl
-have_names (Device Lpt) = refl
-have_names (Device Ptr) = refl
-have_names (Device Ptp) = refl
-have_names (Device Clk) = refl
-have_names (Device Tti) = refl
-have_names (Device Tto) = refl
-have_names (Device Tti1) = refl
-have_names (Device Tto1) = refl
-have_names (Device Qty) = refl
+have_names (Device kind) = every-kind (λ (k : Kind). map place_name (all_of (Device k)) ≡ register_names (Device k)) (refl, refl, refl, refl, refl, refl, refl, refl, refl, refl, refl) kind
 
 pub returns : goal.returns
 returns c = have_names
