@@ -5,6 +5,7 @@ use Rattle.std.proofs.lemmas.Bool.Decides.{nat_tests}
 use Rattle.std.proofs.lemmas.List.{length-take, length-drop}
 use Rattle.nova_memory.specs.Memory.{MemoryState, put}
 use Rattle.binary_load.specs.Tape.{Store, stores_from, words_of, word_at, put_all}
+use Rattle.nova_memory.proofs.Chains.{put-size}
 
 -- the words of bytes, the first one first
 pub words_first : (bytes : List ℕ) → 2 ≤ length bytes → words_of bytes ≡ word_at bytes 0 ∷ words_of (drop 2 bytes)
@@ -22,9 +23,6 @@ length-words_of [] n is = omega arith
 length-words_of (low ∷ []) n is = absurd (omega arith)
 length-words_of (low ∷ high ∷ rest) zero is = absurd (omega arith)
 length-words_of (low ∷ high ∷ rest) (suc n) is = omega (arith, length-words_of rest n (omega arith))
-
-pub put-size : (m : MemoryState) (a v : ℕ) → (put m a v).size ≡ m.size
-put-size m a v = grind (arith, nat_tests)
 
 pub put_all-size : (stores : List Store) (m : MemoryState) → (put_all m stores).size ≡ m.size
 put_all-size [] m = refl

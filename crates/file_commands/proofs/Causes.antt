@@ -6,7 +6,7 @@ use Rattle.host_files.specs.State.{FileState}
 use Rattle.unit_files.specs.Causes.{IsQuiet, OnlyNewCounts}
 use Rattle.file_commands.specs.Counts.{RoseBy, AreCounted}
 
-same-rose : (before now : ℕ) → now ≡ before → RoseBy 0 before now
+pub same-rose : (before now : ℕ) → now ≡ before → RoseBy 0 before now
 same-rose before now same = (omega (arith, same), inl (omega (arith, same)))
 
 rose-end : (b : Bool) (before now : ℕ) → nat_le (2 ^ 64 - 1) now ≡ b → Rose before now → (before + 1 ≤ now) ⊎ (2 ^ 64 - 1 ≤ now)

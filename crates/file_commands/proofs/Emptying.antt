@@ -23,6 +23,7 @@ use Rattle.file_commands.proofs.Adding.{counted-both, counted-none}
 use Rattle.file_commands.specs.declared.stamp.Stamp.{Stamp}
 use Rattle.file_commands.specs.Kept.{fault_note, fault_of_detach, kept_of, own_of, own_note}
 use Rattle.file_commands.specs.AllUnits.{AreApart, Filed, Emptied, more_used, emptied_as, said_in, written_in, without_file, emptied, flush_fault, is_one_of, Empties, IsUnwritten}
+use Rattle.unit_trait.proofs.Codes.{same-self}
 
 said-append : (first second : List FaultNote) → notes_said (first ++ second) ≡ notes_said first ++ notes_said second
 said-append [] second = refl
@@ -44,7 +45,7 @@ away : (u : UnitName) (us : List UnitName) (n : CommandNote) → AllByRecursion 
 away u [] n apart is = absurd (cc)
 away u (v ∷ us) n apart is = away-any (same_subject n.subject (subject.Unit v)) u v us n refl apart.0 (away u us n apart.1) is
 
-none-and : (b c : Bool) (f : Failure) → c ≡ false → (if b && c then Some f else None) ≡ None
+pub none-and : (b c : Bool) (f : Failure) → c ≡ false → (if b && c then Some f else None) ≡ None
 none-and true false f is = refl
 none-and false false f is = refl
 none-and b true f is = absurd (cc)
@@ -64,10 +65,7 @@ wider u us (n ∷ own) among = (either (same_subject n.subject (subject.Unit u))
     either true c is = refl
     either false c is = is
 
-same-self : (u : UnitName) → same_unit u u ≡ true
-same-self u = grind (arith, nat_tests)
-
-front : (b c : Bool) → b ≡ true → IsTrue (b || c)
+pub front : (b c : Bool) → b ≡ true → IsTrue (b || c)
 front true c is = refl
 front false c is = absurd (cc)
 

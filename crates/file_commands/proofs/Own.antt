@@ -9,9 +9,7 @@ use Rattle.unit_files.specs.Answers.{failure_in}
 use Rattle.file_commands.specs.declared.note.Subject.TheVariants as subject
 use Rattle.file_commands.specs.Notes.{failure_now}
 use Rattle.file_commands.specs.Kept.{own_of}
-
-same-self : (u : UnitName) → same_unit u u ≡ true
-same-self u = grind (arith, nat_tests)
+use Rattle.unit_trait.proofs.Codes.{same-self}
 
 here : (b : Bool) (f : Failure) → b ≡ true → (if b then Some f else None) ≡ Some f
 here true f is = refl

@@ -69,7 +69,7 @@ there-changed files (o ∷ rest) name step =
     ap (λ (b : Bool). b && are_there (changed files name step) rest) (changed-there files name step o.name)
     ∙ ap (λ (b : Bool). is_some (find_file files o.name) && b) (there-changed files rest name step)
 
-both : (a b : Bool) → (a && b) ≡ true → (a ≡ true) × (b ≡ true)
+pub both : (a b : Bool) → (a && b) ≡ true → (a ≡ true) × (b ≡ true)
 both true true all = (refl, refl)
 both true false all = absurd (cc)
 both false b all = absurd (cc)
@@ -97,7 +97,7 @@ changed-same (f ∷ rest) name step same = by-test f rest name step (bytes_eq f.
 
 -- ---- a file more
 
-test-same : (name : List ℕ) → bytes_eq name name ≡ true
+pub test-same : (name : List ℕ) → bytes_eq name name ≡ true
 test-same name = (bytes_eq-Decides name name).1 refl
 
 pub with-new : (files : List NamedBytes) (name bytes : List ℕ) → find_file files name ≡ None → with_file files name bytes ≡ files ++ (name, bytes) ∷ []

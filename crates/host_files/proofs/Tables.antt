@@ -5,11 +5,12 @@ use Rattle.std.proofs.lemmas.Bool.{cases_lt, cases_eq}
 use Rattle.std.proofs.lemmas.Bool.Decides.{nat_tests}
 use Rattle.host_files.specs.State.{Opened, opened_at, without}
 use Rattle.host_files.specs.OpenTable.{StandsAt, all_given}
+use Rattle.host_files.proofs.Names.{both}
 
-test-is : (m n : ℕ) → m ≡ n → (m == n) ≡ true
+pub test-is : (m n : ℕ) → m ≡ n → (m == n) ≡ true
 test-is m n same = grind (arith, nat_tests)
 
-test-not : (m n : ℕ) → m ≢ n → (m == n) ≡ false
+pub test-not : (m n : ℕ) → m ≢ n → (m == n) ≡ false
 test-not m n other = grind (arith, nat_tests)
 
 -- an id that stands at the front
@@ -46,12 +47,7 @@ stands-first o rest file is = record {
 
 -- ---- ids that were given
 
-and-both : (a b : Bool) → (a && b) ≡ true → (a ≡ true) × (b ≡ true)
-and-both true true both = (refl, refl)
-and-both true false both = absurd (cc)
-and-both false b both = absurd (cc)
-
-both-and : (a b : Bool) → a ≡ true → b ≡ true → (a && b) ≡ true
+pub both-and : (a b : Bool) → a ≡ true → b ≡ true → (a && b) ≡ true
 both-and a b first second = ap (λ (x : Bool). x && b) first ∙ second
 
 below : (m n : ℕ) → nat_lt m n ≡ true → m < n
@@ -63,7 +59,7 @@ below-is m n less = grind (arith, nat_tests)
 pub given-more : (opened : List Opened) (given : ℕ) → all_given opened given ≡ true → all_given opened (given + 1) ≡ true
 given-more [] given all = refl
 given-more (o ∷ rest) given all =
-    let both = and-both (nat_lt o.file given) (all_given rest given) all in
+    let both = both (nat_lt o.file given) (all_given rest given) all in
     let less = below o.file given both.0 in
     both-and (nat_lt o.file (given + 1)) (all_given rest (given + 1)) (below-is o.file (given + 1) (omega (arith, less))) (given-more rest given both.1)
 
@@ -71,7 +67,7 @@ given-more (o ∷ rest) given all =
 pub not-open : (opened : List Opened) (given file : ℕ) → all_given opened given ≡ true → given ≤ file → opened_at opened file ≡ None
 not-open [] given file all late = refl
 not-open (o ∷ rest) given file all late =
-    let both = and-both (nat_lt o.file given) (all_given rest given) all in
+    let both = both (nat_lt o.file given) (all_given rest given) all in
     let less = below o.file given both.0 in
     front-passed o rest file (λ same. absurd (omega (arith, less, same, late))) ∙ not-open rest given file both.1 late
 
@@ -93,7 +89,7 @@ without-missing (o ∷ rest) file none =
 pub given-without : (opened : List Opened) (given file : ℕ) → all_given opened given ≡ true → all_given (without opened file) given ≡ true
 given-without [] given file all = refl
 given-without (o ∷ rest) given file all =
-    let both = and-both (nat_lt o.file given) (all_given rest given) all in
+    let both = both (nat_lt o.file given) (all_given rest given) all in
     elim (cases_eq o.file file) [
       | inl same ↦ ap (λ (xs : List Opened). all_given xs given) (front-out o rest file same) ∙ both.1
       | inr other ↦ ap (λ (xs : List Opened). all_given xs given) (front-kept o rest file other) ∙ both-and (nat_lt o.file given) (all_given (without rest file) given) both.0 (given-without rest given file both.1)

@@ -41,6 +41,7 @@ use Rattle.nova_machine.proofs.Parts.{silent-comes, comes-behind, comes-then, co
 use Rattle.nova_machine.specs.Tapes.{NoAnswer, FileFails, ImageIsBad}
 use Rattle.nova_memory.specs.Memory.{MemoryState}
 use Rattle.nova_machine.proofs.Opened.{serving-is, services-none, services-some}
+use Rattle.unit_trait.proofs.Codes.{same-self}
 
 pub serving-none : (note : Option UnitNote) (s : Seen) → due s.machine.events ≡ None → serving note s ≡ silent None s
 serving-none note s none =
@@ -111,9 +112,6 @@ stop-at note watch keys files m at u fault stop last tells b a first is meets on
 abbrev pub IsStillDue : Option UnitNote → List UnitName → Type 0
 IsStillDue None us = Unit {0}
 IsStillDue (Some n) us = IsTrue (list_any (λ (v : UnitName). same_unit v n.unit) us)
-
-same-self : (u : UnitName) → same_unit u u ≡ true
-same-self u = grind (arith, nat_tests)
 
 -- the note of a stop of the first service is of its unit
 pub note-first : (stop : Stop) (u : UnitName) (m : MachineState) → due m.events ≡ Some u → IfSome (unit_note (Some stop)) (λ n. n.unit ≡ u)

@@ -5,7 +5,7 @@ use Rattle.observations.specs.Observations.{Observation}
 use Rattle.nova_word.specs.Bits.{bits}
 use Rattle.nova_memory.specs.Memory.{MemoryState, get, put}
 use Rattle.nova_memory.specs.Address.{Reference, address, indexed}
-use Rattle.nova_memory.proofs.Chains.{chain-size}
+use Rattle.nova_memory.proofs.Chains.{chain-size, put-size}
 use Rattle.unit_trait.specs.declared.kind.UnitName.{UnitName}
 use Rattle.unit_trait.specs.declared.calls.Want.{Want}
 use Rattle.unit_trait.specs.declared.calls.Want.TheVariants as want
@@ -50,9 +50,6 @@ pub record SameSize (before after : ProcessorState) : Type 0 where
 size-if : (b : Bool) (p x y : ProcessorState) → SameSize p x → SameSize p y → SameSize p (if b then x else y)
 size-if true p x y first second = first
 size-if false p x y first second = second
-
-put-size : (m : MemoryState) (a v : ℕ) → (put m a v).size ≡ m.size
-put-size m a v = grind (arith, nat_tests)
 
 size-store_and_skip : (a v : ℕ) (p : ProcessorState) → SameSize p (store_and_skip a v p)
 unfolding store_and_skip

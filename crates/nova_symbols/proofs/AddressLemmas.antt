@@ -9,7 +9,8 @@ use Rattle.nova_symbols.specs.declared.fault.SymbolFault.{SymbolFault}
 use Rattle.nova_symbols.specs.declared.fault.SymbolFault.TheVariants.{BadField}
 use Rattle.nova_symbols.specs.Operands.{◌>>=◌, is_separator, operand_at, after_comma, index_found, is_octal, number, index_at, negative, relative, signed, indexed, not_indexed, absolute, address, indirect, target_at}
 use Rattle.nova_symbols.specs.Forms.{IsGap, IsPair, IsIndex, IsNegative, IsSigned, IsRelative, here as here_form, ahead as ahead_form, behind as behind_form, IsAddress, page_zero, indexed as indexed_form, relative as relative_form, IsTarget, direct, indirect as indirect_form}
-use Rattle.nova_symbols.proofs.SplitLemmas.{free, StartsWith, is_other, operand_split, after_gap, starts_gap, starts_other, number_free, number_reads}
+use Rattle.nova_symbols.proofs.SplitLemmas.{free, StartsWith, operand_split, after_gap, starts_gap, starts_other, number_free, number_reads}
+use Rattle.line_text.proofs.BlankLemmas.{is_other}
 
 -- a text begins with that byte
 abbrev pub head_is : ℕ → List ℕ → Bool

@@ -13,14 +13,14 @@ use Rattle.nova_symbols.specs.Operands.{◌>>=◌, operand_at, after_comma, comm
 use Rattle.nova_symbols.specs.Reading.{memory_operands, load_operands, skip_operand, arithmetic_operands, device_operand, transfer_operands, one_or_two, device_operands, processor_operand, operands, named_operands, read_from_end, placed, with_place, reading}
 use Rattle.nova_symbols.specs.Forms.{IsAccumulator, IsSkip, IsDevice, IsNamed}
 use Rattle.nova_symbols.specs.Faults.{IsAbove, IsNeverAbove, IsLastAccumulator, IsFirstAccumulator, IsLastSkip, IsLastDevice, TargetFaults, SecondFaults, DeviceFaults, OperandFaults, Faults, unknown_name, behind_name, at_operands}
-use Rattle.nova_symbols.proofs.FoundLemmas.{blank_is, blanked}
 use Rattle.nova_symbols.proofs.ReadsLemmas.{named_is}
-use Rattle.nova_symbols.proofs.SplitLemmas.{word_split, blank_passes, past_blanks_split}
+use Rattle.nova_symbols.proofs.SplitLemmas.{word_split, past_blanks_split}
 use Rattle.nova_symbols.proofs.NameLemmas.{name_given}
 use Rattle.nova_symbols.proofs.GivenLemmas.{word_reads}
 use Rattle.nova_symbols.proofs.StandsLemmas.{free_from, all_from, starts_with, starts_in, starts_without, starts_outside, front_free, rest_starts, past_other, comma_next, no_comma_next, last_given, last_found, first_given, first_found}
 use Rattle.nova_symbols.proofs.FaultFieldLemmas.{accumulator_field, device_field, skip_field}
 use Rattle.nova_symbols.proofs.FaultAddressLemmas.{pair_ok, target_given, target_faulty}
+use Rattle.line_text.proofs.BlankLemmas.{blank_is, blanked, blank_passes}
 
 -- the last operands
 

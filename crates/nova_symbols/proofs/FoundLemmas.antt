@@ -17,6 +17,7 @@ use Rattle.nova_symbols.specs.Names.{entry, skip_names, device_names, device_cod
 use Rattle.nova_symbols.specs.Naming.{name_place, code_found, device_named}
 use Rattle.nova_symbols.specs.Operands.{◌>>=◌, is_separator, is_octal_digit, operand_at, behind_comma, after_comma, comma_found, comma_at, is_octal, number, accumulator_at, index_at, device_number_at, device_found, device_at, skip_found, skip_at, negative, relative, signed, indexed, not_indexed, index_found, absolute, address, indirect, target_at}
 use Rattle.nova_symbols.specs.Forms.{IsEntry, IsGap, IsPair, IsAccumulator, IsIndex, IsNegative, IsSigned, IsRelative, here as here_form, ahead as ahead_form, behind as behind_form, IsAddress, page_zero, indexed as indexed_form, relative as relative_form, IsTarget, direct, indirect as indirect_form, IsSkip, IsDevice, by_name, by_code}
+use Rattle.line_text.proofs.BlankLemmas.{Blanked, blank_is, blanked}
 
 -- a step of a reader that answered
 pub record Answered {A B : Type 0} (r : Result A SymbolFault) (f : A → Result B SymbolFault) (y : B) : Type 0 where
@@ -72,27 +73,6 @@ number_found largest digits field own n h =
 pub operand_parts : (text : List ℕ) → text ≡ (operand_at text).0 ++ (operand_at text).1
 unfolding operand_at
 operand_parts text = sym (take-append-drop (position_or_len is_separator text) text)
-
-pub blank_is : (b : ℕ) → is_blank b ≡ true → IsBlank b
-blank_is b h = elim (or_cases (eqb b 32) (eqb b 9) h) [ inl space ↦ inl (eqb-true b 32 space) | inr tab ↦ inr (eqb-true b 9 tab) ]
-
--- a text begins with blanks
-pub record Blanked (text : List ℕ) : Type 0 where
-  pub blanks : List ℕ
-  pub are : IsBlanks blanks
-  pub spelled : text ≡ blanks ++ past_blanks text
-
-pub blanked : (text : List ℕ) → Blanked text
-unfolding past_blanks
-blanked text =
-    let other : ℕ → Bool = λ b. not (is_blank b) in
-    let n = position_or_len other text in
-    let long : length (take n text) ≡ n = length-take-le n text (prefix_len-le-length (λ b. not (other b)) text) in
-    record {
-      blanks = take n text;
-      are = λ k d h. let below : k < n = omega (arith, long) in subst IsBlank (sym (get_or-take n text k d below)) (blank_is (get_or text k d) (not-false (is_blank (get_or text k d)) (not-true (not (is_blank (get_or text k d))) (prefix_len_passes (λ b. not (other b)) text k d below))));
-      spelled = sym (take-append-drop n text);
-    }
 
 -- a comma with blanks round it, and the text behind it
 pub record Parted (text next : List ℕ) : Type 0 where

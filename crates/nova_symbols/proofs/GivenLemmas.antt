@@ -11,10 +11,11 @@ use Rattle.nova_symbols.specs.Operands.{◌>>=◌, is_separator, operand_at, aft
 use Rattle.nova_symbols.specs.Reading.{memory_operands, load_operands, skip_operand, arithmetic_operands, device_operand, transfer_operands, one_or_two, device_operands, processor_operand, operands, named_operands, read_from_end, with_place, reading}
 use Rattle.nova_symbols.specs.Forms.{IsGap, IsPair, IsAccumulator, IsTarget, IsSkip, IsDevice, AreOperands, processor, memory, load, no_skip, skip, transfer, device, with_accumulator, Reads, name_alone, name_and_operands}
 use Rattle.nova_symbols.proofs.ReadsLemmas.{reads_found}
-use Rattle.nova_symbols.proofs.SplitLemmas.{free, StartsWith, is_other, operand_split, word_split, past_blanks_split, starts_blank, after_gap, starts_gap, starts_other}
+use Rattle.nova_symbols.proofs.SplitLemmas.{free, StartsWith, operand_split, word_split, past_blanks_split, starts_blank, after_gap, starts_gap, starts_other}
 use Rattle.nova_symbols.proofs.FieldLemmas.{whole_split, accumulator_free, accumulator_some, accumulator_reads, skip_is_free, skip_some, skip_reads, device_is_free, device_some, device_reads}
 use Rattle.nova_symbols.proofs.AddressLemmas.{no_comma, target_reads, target_other}
 use Rattle.nova_symbols.proofs.NameLemmas.{NameRead, name_given}
+use Rattle.line_text.proofs.BlankLemmas.{is_other}
 
 -- an operand that is a whole text begins with no blank
 whole_other : (part : List ℕ) → free is_separator part ≡ true → 0 < length part → StartsWith is_other part

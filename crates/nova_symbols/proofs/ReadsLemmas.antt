@@ -16,7 +16,8 @@ use Rattle.nova_symbols.specs.Naming.{name_place, otherwise, naming, memory_foun
 use Rattle.nova_symbols.specs.Operands.{◌>>=◌, operand_at, after_comma, comma_at, accumulator_at, device_at, device_number_at, skip_at, target_at, is_octal, number, indirect, address, absolute, not_indexed, ended}
 use Rattle.nova_symbols.specs.Reading.{memory_operands, load_operands, skip_operand, arithmetic_operands, device_operand, transfer_operands, one_or_two, device_operands, processor_operand, operands, named_operands, read_from_end, with_place, reading}
 use Rattle.nova_symbols.specs.Forms.{IsEntry, IsPair, IsAccumulator, IsTarget, IsSkip, IsDevice, AreOperands, processor, memory, load, no_skip, skip, transfer, device, with_accumulator, AreLetters, IsNamed, memory_name, load_name, arithmetic_name, lone_name, processor_name, test_name, no_transfer_name, transfer_name, Reads, name_alone, name_and_operands}
-use Rattle.nova_symbols.proofs.FoundLemmas.{bind_ok, positive, entry_found, blanked, blank_is, Parted, after_comma_found, comma_found_at, Begins, whole_part, pair_found, accumulator_found, target_found_at, device_found_at, skip_found_at}
+use Rattle.nova_symbols.proofs.FoundLemmas.{bind_ok, positive, entry_found, Parted, after_comma_found, comma_found_at, Begins, whole_part, pair_found, accumulator_found, target_found_at, device_found_at, skip_found_at}
+use Rattle.line_text.proofs.BlankLemmas.{word_parts, blanked, blank_is}
 
 -- the names
 
@@ -298,10 +299,6 @@ starts_blank (b ∷ more) =
 rest_starts_blank : (text : List ℕ) → StartsBlank (word_at text).1
 unfolding word_at
 rest_starts_blank text = starts_blank text
-
-word_parts : (text : List ℕ) → text ≡ (word_at text).0 ++ (word_at text).1
-unfolding word_at
-word_parts text = sym (take-append-drop (position_or_len is_blank text) text)
 
 past_blank_head : (b : ℕ) (more : List ℕ) → is_blank b ≡ true → past_blanks (b ∷ more) ≡ past_blanks more
 unfolding past_blanks

@@ -16,6 +16,7 @@ use Rattle.nova_symbols.specs.Operands.{is_separator, operand_at, behind_comma, 
 use Rattle.nova_symbols.specs.Forms.{IsEntry, IsGap}
 use Rattle.nova_symbols.proofs.OctalLemmas.{number_fits}
 use Rattle.nova_symbols.proofs.CanonLemmas.{every, every_at}
+use Rattle.line_text.proofs.BlankLemmas.{is_other, split_at_place, blank_passes}
 
 -- no byte of a text passes
 abbrev pub free : (ℕ → Bool) → List ℕ → Bool
@@ -27,9 +28,6 @@ abbrev pub StartsWith : (ℕ → Bool) → List ℕ → Type 0
 StartsWith p [] = Unit {0}
 StartsWith p (b ∷ more) = p b ≡ true
 
-abbrev pub is_other : ℕ → Bool
-is_other b = not (is_blank b)
-
 pub place_behind : (p : ℕ → Bool) (part rest : List ℕ) → free p part ≡ true → StartsWith p rest → position_or_len p (part ++ rest) ≡ length part
 place_behind p [] [] none starts = refl
 place_behind p [] (b ∷ more) none starts = ap (λ (c : Bool). cond (not c) (1 + position_or_len p more) 0) starts
@@ -39,10 +37,6 @@ place_behind p (b ∷ more) rest none starts =
     let one : 1 + position_or_len p (more ++ rest) ≡ suc (length more) = omega (arith, further) in
     ap (λ (c : Bool). cond c (1 + position_or_len p (more ++ rest)) 0) parts.0 ∙ one
 
-split_at_place : (part rest : List ℕ) (n : ℕ) → n ≡ length part → ◌≡◌ {A = List ℕ × List ℕ} (take n (part ++ rest), drop n (part ++ rest)) (part, rest)
-split_at_place part rest n is =
-    ap (λ (t : List ℕ). (t, drop n (part ++ rest))) (take_at part rest n (sym is)) ∙ ap (λ (t : List ℕ). (part, t)) (drop_at part rest n (sym is))
-
 pub operand_split : (part rest : List ℕ) → free is_separator part ≡ true → StartsWith is_separator rest → operand_at (part ++ rest) ≡ (part, rest)
 unfolding operand_at
 operand_split part rest none starts = split_at_place part rest (position_or_len is_separator (part ++ rest)) (place_behind is_separator part rest none starts)
@@ -50,9 +44,6 @@ operand_split part rest none starts = split_at_place part rest (position_or_len 
 pub word_split : (part rest : List ℕ) → free is_blank part ≡ true → StartsWith is_blank rest → word_at (part ++ rest) ≡ (part, rest)
 unfolding word_at
 word_split part rest none starts = split_at_place part rest (position_or_len is_blank (part ++ rest)) (place_behind is_blank part rest none starts)
-
-pub blank_passes : (b : ℕ) → IsBlank b → is_blank b ≡ true
-blank_passes b h = elim h [ inl space ↦ subst (λ (c : ℕ). is_blank c ≡ true) (sym space) refl | inr tab ↦ subst (λ (c : ℕ). is_blank c ≡ true) (sym tab) refl ]
 
 blanks_free : (blanks : List ℕ) → IsBlanks blanks → free is_other blanks ≡ true
 blanks_free [] are = refl

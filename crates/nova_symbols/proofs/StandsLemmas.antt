@@ -10,9 +10,10 @@ use Rattle.nova_symbols.specs.declared.fault.SymbolFault.TheVariants.{BadField, 
 use Rattle.nova_symbols.specs.Operands.{◌>>=◌, is_separator, operand_at, behind_comma, after_comma, comma_found, comma_at, ended}
 use Rattle.nova_symbols.specs.Forms.{IsGap}
 use Rattle.nova_symbols.specs.Faults.{IsSeparator, Stands, IsCommaNext, FieldFaults, too_large, bad, LastFaults, at_last, behind_last, IsBare, IsPastBlanks, FirstFaults, at_first, no_comma, behind_comma as behind_comma_form}
-use Rattle.nova_symbols.proofs.FoundLemmas.{operand_parts, blank_is, blanked, behind_found, after_comma_found, same_rest}
-use Rattle.nova_symbols.proofs.SplitLemmas.{free, StartsWith, is_other, operand_split, past_blanks_split, blank_passes}
+use Rattle.nova_symbols.proofs.FoundLemmas.{operand_parts, behind_found, after_comma_found, same_rest}
+use Rattle.nova_symbols.proofs.SplitLemmas.{free, StartsWith, operand_split, past_blanks_split}
 use Rattle.nova_symbols.proofs.GivenLemmas.{comma_given}
+use Rattle.line_text.proofs.BlankLemmas.{blank_is, blanked, is_other, blank_passes}
 
 -- tests and what they say
 

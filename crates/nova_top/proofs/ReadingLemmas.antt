@@ -32,6 +32,7 @@ use Rattle.nova_top.specs.Outside.{keys_from, taken_keys, script_from, taken_scr
 use Rattle.nova_top.specs.Program.{noted_call, word_notes, ReadsFile, ComesOf, IsTaken, Takes}
 use Rattle.nova_top.proofs.WordsLemmas.{rest-same}
 use Rattle.nova_top.proofs.WordFileLemmas.{file-taken, name-at}
+use Rattle.scp_commands.proofs.WholeLemmas.{rose-by}
 
 -- ---- the notes
 
@@ -72,17 +73,11 @@ noted-claim whose (Some f) file = by-file f.file
     by-file None = refl
     by-file (Some id) = test-one (id.0 == file)
 
-by-raised : (n before : ℕ) → RoseBy n before (raised_by n before)
-by-raised zero before = rose-none before
-by-raised (suc n) before =
-    subst (λ (m : ℕ). RoseBy m before (raised_by (suc n) before)) (add-one n)
-    (rose-both n 1 before (raised_by n before) (raised (raised_by n before)) (by-raised n before) (rose-one (raised_by n before) (raised (raised_by n before)) (omega arith)))
-
 files-rose : (whose : Subject) (w : Whole) (file before now : ℕ) → now ≡ raised_by (claims_on w file) before → RoseBy (noted file (noted_call whose w.failed ++ noted_call whose w.closing)) before now
 files-rose whose w file before now is =
     let many : noted file (noted_call whose w.failed ++ noted_call whose w.closing) ≡ claims_on w file =
     noted-append file (noted_call whose w.failed) (noted_call whose w.closing) ∙ (λ i. noted-claim whose w.failed file i + noted-claim whose w.closing file i) in
-    subst (λ (n : ℕ). RoseBy n before now) (sym many) (subst (λ (n : ℕ). RoseBy (claims_on w file) before n) (sym is) (by-raised (claims_on w file) before))
+    subst (λ (n : ℕ). RoseBy n before now) (sym many) (subst (λ (n : ℕ). RoseBy (claims_on w file) before n) (sym is) (rose-by (claims_on w file) before))
 
 open-one : (whose : Subject) (f : Option FailedCall) → IfSome f (λ f. ComesBefore f.call f.file) → openings_noted (noted_call whose f) ≡ one_if (is_opening f)
 open-one whose None before = refl

@@ -14,6 +14,7 @@ use Rattle.nova_machine.specs.Seen.{attached_in}
 use Rattle.scp_commands.specs.Live.{Live, CommandState}
 use Rattle.scp_commands.specs.Doing.{ComeBehind}
 use Rattle.scp_commands.proofs.CloseLemmas.{is-of-unit, some-none, said-append}
+use Rattle.file_commands.proofs.Emptying.{none-and}
 
 -- the notes that are kept for a fault of a unit's file, as the command's own
 pub kept-said : (stamp : Stamp) (fault : Option UnitFault) (before after : List FaultNote) → after ≡ before ++ kept_of stamp fault
@@ -25,11 +26,6 @@ kept-said stamp fault before after is =
     own-said None = refl
     own-said (Some f) = refl
 
-none-if : (b c : Bool) (f : Failure) → c ≡ false → (if b && c then Some f else None) ≡ None
-none-if true false f is = refl
-none-if false false f is = refl
-none-if b true f is = absurd (cc)
-
 same-units : (v u : UnitName) → subject.Unit v ≡ subject.Unit u → v ≡ u
 same-units v u is = cc
 
@@ -38,7 +34,7 @@ pub none-behind : (live : Live) (unit : UnitName) (time : ℕ) (behind : List Co
     → failure_now time (subject.Unit unit) behind ≡ None
 none-behind live unit time [] none come = refl
 none-behind live unit time (n ∷ behind) none come =
-    none-if (n.time == time) (same_subject n.subject (subject.Unit unit)) n.failure (other (same_subject n.subject (subject.Unit unit)) refl)
+    none-and (n.time == time) (same_subject n.subject (subject.Unit unit)) n.failure (other (same_subject n.subject (subject.Unit unit)) refl)
   where
     other : (b : Bool) → same_subject n.subject (subject.Unit unit) ≡ b → b ≡ false
     other false is = refl

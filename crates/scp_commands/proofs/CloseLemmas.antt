@@ -11,7 +11,7 @@ use Rattle.unit_trait.specs.declared.kind.Kind.{Kind}
 use Rattle.unit_trait.specs.declared.kind.Kind.TheVariants.{Lpt, Ptr, Ptp, Mta}
 use Rattle.unit_trait.specs.declared.kind.UnitName.{UnitName}
 use Rattle.unit_trait.specs.Kinds.{code_of, same_unit}
-use Rattle.unit_trait.proofs.Codes.{same-code}
+use Rattle.unit_trait.proofs.Codes.{same-code, same-self}
 use Rattle.unit_files.specs.Attachments.{Attachment, Held, attachments_of, file_place, attachment_at, is_disk}
 use Rattle.unit_files.specs.Buffer.{AttachedFiles}
 use Rattle.unit_files.specs.Acts.{Failure, DetachSaid, HadNone, StillHeld, Detached, same_call, detached, detach_said_of, closing_said, flush_failure, is_due_back}
@@ -20,7 +20,7 @@ use Rattle.file_commands.specs.declared.note.Subject.TheVariants as subject
 use Rattle.file_commands.specs.declared.note.FaultNote.{FaultNote}
 use Rattle.file_commands.specs.Notes.{CommandNote, Note, same_subject, numbered, failure_now, notes_said, said_of}
 use Rattle.file_commands.specs.AllUnits.{attachable, Filed, Emptied, emptied_as, said_in, written_in, without_file, filed_of, emptied, Empties}
-use Rattle.file_commands.proofs.Emptying.{emptied-nothing, emptied-more}
+use Rattle.file_commands.proofs.Emptying.{emptied-nothing, emptied-more, front}
 use Rattle.expect_actions.specs.Watch.{WatchState}
 use Rattle.nova_machine.specs.Machine.{MachineState, attached_files, with_attached_files}
 use Rattle.host_files.specs.Lists.{NamedBytes}
@@ -45,9 +45,6 @@ one-unit a b is =
     let code : code_of a.kind ≡ code_of b.kind = let first = both.0 in grind (arith, nat_tests) in
     let number : a.unit ≡ b.unit = let second = both.1 in grind (arith, nat_tests) in
     λ i. record { kind = same-code a.kind b.kind code i; unit = number i }
-
-pub same-self : (u : UnitName) → same_unit u u ≡ true
-same-self u = grind (arith, nat_tests)
 
 pub closing-call : (c : FileCall) → same_call c Closing ≡ true → c ≡ Closing
 closing-call Opening is = absurd (cc)
@@ -194,10 +191,6 @@ or-last : (b c : Bool) → IsTrue c → IsTrue (b || c)
 or-last true c is = refl
 or-last false c is = is
 
-or-first : (b c : Bool) → b ≡ true → IsTrue (b || c)
-or-first true c is = refl
-or-first false c is = absurd (cc)
-
 wider : (time : ℕ) (u : UnitName) (us : List UnitName) (attached : List (Option Attachment)) (own : List CommandNote)
     → AllByRecursion (IsOneOf time us (detached u attached)) own → AllByRecursion (IsOneOf time (u ∷ us) attached) own
 wider time u us attached [] all = tt
@@ -216,7 +209,7 @@ wider time u us attached (n ∷ own) all =
 
 first-of : (time : ℕ) (u : UnitName) (us : List UnitName) (s : Filed) (n : CommandNote) → IsFirst time u s n → IsLastCall u.kind n.failure.call → IsOneOf time (u ∷ us) s.attached n
 first-of time u us s n first call =
-    record { unit = u; time_is = first.time_is; subject_is = first.subject_is; among = or-first (same_unit u u) _ (same-self u); call = call; there = first.there }
+    record { unit = u; time_is = first.time_is; subject_is = first.subject_is; among = front (same_unit u u) _ (same-self u); call = call; there = first.there }
 
 closing-last : (kind : Kind) (c : FileCall) → c ≡ Closing → IsLastCall kind c
 closing-last kind c is = subst (λ (x : FileCall). IsLastCall kind x) (sym is) tt

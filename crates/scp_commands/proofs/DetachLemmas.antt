@@ -34,10 +34,11 @@ use Rattle.scp_commands.specs.FaultText.{detach_fault}
 use Rattle.scp_commands.specs.FileEffects.{lacks_unit, detach_answer, detach_used, detached_machine, flushed_files, detach_with, detach_reply}
 use Rattle.scp_commands.specs.Doing.{Does, Did, ComeBehind, FileCause, Keeps}
 use Rattle.scp_commands.proofs.SeenLemmas.{attached-erased, attached-with, seen-with, same-with}
-use Rattle.scp_commands.proofs.CloseLemmas.{same-self, closing-call, detached-none}
+use Rattle.scp_commands.proofs.CloseLemmas.{closing-call, detached-none}
 use Rattle.scp_commands.proofs.DidLemmas.{refused-did}
 use Rattle.scp_commands.proofs.BehindLemmas.{kept-said, none-behind, handed-own}
 use Rattle.scp_commands.proofs.AttachLemmas.{one-note, stamped-note}
+use Rattle.unit_trait.proofs.Codes.{same-self}
 
 -- what is answered
 abbrev pub detach_result : Result (Option UnitFault) DetachFault → Answer

@@ -23,7 +23,7 @@ use Rattle.file_commands.specs.declared.note.Subject.TheVariants as subject
 use Rattle.file_commands.specs.declared.note.FaultNote.{FaultNote}
 use Rattle.file_commands.specs.Notes.{CommandNote, Note, numbered, said_of, notes_said}
 use Rattle.file_commands.specs.Counts.{is_of, one_if, openings_noted, RoseBy, AreCounted}
-use Rattle.file_commands.proofs.Causes.{rose-one, counted-quiet}
+use Rattle.file_commands.proofs.Causes.{rose-one, counted-quiet, same-rose}
 use Rattle.file_commands.specs.declared.stamp.Stamp.{Stamp}
 use Rattle.file_commands.specs.Kept.{fault_note, own_note}
 use Rattle.nova_machine.specs.declared.machine.Stop.{Stop}
@@ -203,9 +203,6 @@ run-did step count old new time stop printed answer number tells before mid afte
 }
 
 -- ---- causes
-
-same-rose : (before now : ℕ) → now ≡ before → RoseBy 0 before now
-same-rose before now same = (omega (arith, same), inl (omega (arith, same)))
 
 raised-rose : (before now : ℕ) → now ≡ raised before → RoseBy 1 before now
 raised-rose before now is = rose-one before now (omega (arith, is))

@@ -352,7 +352,7 @@ raised-on n before now (later, inl rise) = by-end (nat_le (2 ^ 64 - 1) now) refl
         (omega (arith, later), inl (omega (arith, rise, below)))
 raised-on n before now (later, inr end) = (omega (arith, later), inr (omega (arith, end)))
 
-rose-by : (n before : ℕ) → RoseBy n before (raised_by n before)
+pub rose-by : (n before : ℕ) → RoseBy n before (raised_by n before)
 rose-by zero before = (omega arith, inl (omega arith))
 rose-by (suc n) before = raised-on n before (raised_by n before) (rose-by n before)
 

@@ -22,8 +22,9 @@ use Rattle.operand_forms.proofs.NothingLemmas.{no_octal}
 use Rattle.operand_forms.proofs.SpellingLemmas.{lacks}
 use Rattle.operand_forms.proofs.SplitLemmas.{first_place, no_place}
 use Rattle.scp_parser.proofs.SizeLemmas.{last_of, ends_in, before_last, last_byte, ends_last}
-use Rattle.scp_parser.proofs.WordLemmas.{blank_is, starts_at_place}
+use Rattle.scp_parser.proofs.WordLemmas.{starts_at_place}
 use Rattle.scp_parser.proofs.PartLemmas.{part_there}
+use Rattle.line_text.proofs.BlankLemmas.{blank_is}
 
 -- a count
 

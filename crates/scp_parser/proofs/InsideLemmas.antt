@@ -9,7 +9,8 @@ use Rattle.std.proofs.lemmas.List.Sums.{suffix_len-le-length, suffix_len_is, pre
 use Rattle.line_text.specs.Words.{IsBlank, IsBlanks, is_blank, past_blanks, trimmed}
 use Rattle.scp_parser.specs.Grammar.{EndsWithoutBlank, IsInside}
 use Rattle.scp_parser.specs.Reading.{inside_of}
-use Rattle.scp_parser.proofs.WordLemmas.{blank_is, blank_passes, not_blank, not_blank_is, IsBare, past_blanks_split, past_is_bare, blanked, past_of_blanks, blanks_from_past}
+use Rattle.scp_parser.proofs.WordLemmas.{not_blank, not_blank_is, IsBare, past_blanks_split, past_is_bare, past_of_blanks, blanks_from_past}
+use Rattle.line_text.proofs.BlankLemmas.{blank_is, blank_passes, blanked}
 
 -- a text without the blanks at its end
 

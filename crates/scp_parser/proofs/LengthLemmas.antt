@@ -4,14 +4,11 @@ use Rattle.std.specs.List.{position_or_len}
 use Rattle.std.specs.Prelude.{not}
 use Rattle.line_text.specs.Words.{is_blank, past_blanks, word_at}
 use Rattle.scp_parser.specs.Reading.{next_word, maybe_found, maybe}
-
-pub past_within : (text : List ℕ) → length (past_blanks text) ≤ length text
-unfolding past_blanks
-past_within text = omega (arith, length-drop (position_or_len (λ b. not (is_blank b)) text) text)
+use Rattle.line_text.proofs.BlankLemmas.{past_shorter}
 
 pub next_within : (text : List ℕ) → length (next_word text).1 ≤ length text
 unfolding next_word word_at
-next_within text = omega (arith, past_within text, length-drop (position_or_len is_blank (past_blanks text)) (past_blanks text))
+next_within text = omega (arith, past_shorter text, length-drop (position_or_len is_blank (past_blanks text)) (past_blanks text))
 
 found_within : {V : Type 0} (o : Option V) (text rest : List ℕ) → length rest ≤ length text → length (maybe_found o text rest).1 ≤ length text
 found_within None text rest within = omega arith

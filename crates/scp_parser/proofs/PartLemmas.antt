@@ -8,9 +8,10 @@ use Rattle.scp_parser.specs.Faults.{bad_word, PartFaults, part_missing, part_bad
 use Rattle.scp_parser.specs.Reading.{part_found, needed_part}
 use Rattle.operand_forms.proofs.Decides.{Decides}
 use Rattle.operand_forms.proofs.ChoiceLemmas.{none_from}
-use Rattle.scp_parser.proofs.WordLemmas.{past_blanks_split, past_is_bare, blanked, past_of_blanks, blanks_from_past}
+use Rattle.scp_parser.proofs.WordLemmas.{past_blanks_split, past_is_bare, past_of_blanks, blanks_from_past}
 use Rattle.scp_parser.proofs.Settles.{Sound, Settles}
 use Rattle.scp_parser.proofs.AttachLemmas.{IsEnd, behind_part}
+use Rattle.line_text.proofs.BlankLemmas.{blanked}
 
 -- where a text begins behind its blanks
 

@@ -10,8 +10,8 @@ use Rattle.scp_parser.specs.Operands.{starts_in_blank, quoted_before, text_at}
 use Rattle.scp_parser.specs.Reading.{needed_part}
 use Rattle.operand_forms.proofs.Decides.{Decides}
 use Rattle.operand_forms.proofs.ChoiceLemmas.{chosen, same_some}
-use Rattle.scp_parser.proofs.WordLemmas.{blank_is, blank_passes}
 use Rattle.scp_parser.proofs.PartLemmas.{part_there}
+use Rattle.line_text.proofs.BlankLemmas.{blank_is, blank_passes}
 
 blank_or_end : (text : List ℕ) → starts_in_blank text ≡ true → StartsIn IsBlank text
 blank_or_end [] h = tt

@@ -8,27 +8,15 @@ use Rattle.std.proofs.lemmas.List.Elements.{All-head, All-tail, All-same}
 use Rattle.std.proofs.lemmas.List.Sums.{prefix_len-le-length, fails_before_first}
 use Rattle.line_text.specs.Words.{IsBlank, IsBlanks, StartsIn, IsWord, Begins, is_blank, past_blanks, word_at}
 use Rattle.scp_parser.specs.Reading.{next_word}
+use Rattle.line_text.proofs.BlankLemmas.{Blanked, is_other, blank_is, blank_passes, none_before_place, blanked, split_at_place, word_parts}
 
 -- blanks, and the bytes that are none
-
-pub blank_is : (b : ℕ) → is_blank b ≡ true → IsBlank b
-blank_is b h = elim (or_cases (eqb b 32) (eqb b 9) h) [ inl space ↦ inl (eqb-true b 32 space) | inr tab ↦ inr (eqb-true b 9 tab) ]
-
-pub blank_passes : (b : ℕ) → IsBlank b → is_blank b ≡ true
-blank_passes b h =
-    elim h [
-      | inl space ↦ subst (λ (c : ℕ). is_blank c ≡ true) (sym space) refl
-      | inr tab ↦ subst (λ (c : ℕ). is_blank c ≡ true) (sym tab) refl
-    ]
 
 pub not_blank : (b : ℕ) → (IsBlank b → ⊥) → is_blank b ≡ false
 not_blank b h = false_from_ne_true (is_blank b) (λ e. h (blank_is b e))
 
 pub not_blank_is : (b : ℕ) → is_blank b ≡ false → IsBlank b → ⊥
 not_blank_is b h blank = false≢true (sym h ∙ blank_passes b blank)
-
-abbrev pub is_other : ℕ → Bool
-is_other b = not (is_blank b)
 
 -- the text begins with no blank
 abbrev pub IsBare : List ℕ → Type 0
@@ -55,13 +43,6 @@ starts_at_place p (b ∷ more) =
       | false ↦ λ is. subst (λ (k : ℕ). StartsIn (λ b. p b ≡ true) (drop k (b ∷ more))) one (starts_at_place p more)
     ] refl
 
-none_before_place : (p : ℕ → Bool) (text : List ℕ) → All (λ b. p b ≡ false) (take (position_or_len p text) text)
-none_before_place p text = λ k d below.
-    let n = position_or_len p text in
-    let long : length (take n text) ≡ n = length-take-le n text (prefix_len-le-length (λ b. not (p b)) text) in
-    let early : k < n = omega (arith, long, below) in
-    subst (λ (b : ℕ). p b ≡ false) (sym (get_or-take n text k d early)) (fails_before_first p text k d early)
-
 -- what stands behind the blanks at the front
 
 starts_other : (text : List ℕ) → IsBare text → StartsIn (λ b. is_other b ≡ true) text
@@ -82,23 +63,6 @@ pub past_is_bare : (text : List ℕ) → IsBare (past_blanks text)
 unfolding past_blanks
 past_is_bare text = bare_from (drop (position_or_len is_other text) text) (starts_at_place is_other text)
 
--- the blanks at the front of a text, and what stands behind them
-pub record Blanked (text : List ℕ) : Type 0 where
-  pub blanks : List ℕ
-  pub are : IsBlanks blanks
-  pub spelled : text ≡ blanks ++ past_blanks text
-
-pub blanked : (text : List ℕ) → Blanked text
-unfolding past_blanks
-blanked text =
-    let n = position_or_len is_other text in
-    let none = none_before_place is_other text in
-    record {
-      blanks = take n text;
-      are = λ k d below. blank_is (get_or (take n text) k d) (not-false (is_blank (get_or (take n text) k d)) (none k d below));
-      spelled = sym (take-append-drop n text);
-    }
-
 pub past_of_blanks : (text : List ℕ) → IsBlanks text → past_blanks text ≡ []
 past_of_blanks text are = ap past_blanks (sym (append-nil text)) ∙ past_blanks_split text [] are tt
 
@@ -116,10 +80,6 @@ starts_blank (b ∷ more) starts = blank_passes b starts
 blank_from : (text : List ℕ) → StartsIn (λ b. is_blank b ≡ true) text → StartsIn IsBlank text
 blank_from [] starts = tt
 blank_from (b ∷ more) starts = blank_is b starts
-
-split_at_place : (part rest : List ℕ) (n : ℕ) → n ≡ length part → ◌≡◌ {A = List ℕ × List ℕ} (take n (part ++ rest), drop n (part ++ rest)) (part, rest)
-split_at_place part rest n is =
-    ap (λ (t : List ℕ). (t, drop n (part ++ rest))) (take_at part rest n (sym is)) ∙ ap (λ (t : List ℕ). (part, t)) (drop_at part rest n (sym is))
 
 word_split : (word rest : List ℕ) → IsWord word → StartsIn IsBlank rest → word_at (word ++ rest) ≡ (word, rest)
 unfolding word_at
@@ -156,10 +116,6 @@ word_whole text = λ k d below.
 word_ends : (text : List ℕ) → StartsIn IsBlank (word_at text).1
 unfolding word_at
 word_ends text = blank_from (drop (position_or_len is_blank text) text) (starts_at_place is_blank text)
-
-word_parts : (text : List ℕ) → text ≡ (word_at text).0 ++ (word_at text).1
-unfolding word_at
-word_parts text = sym (take-append-drop (position_or_len is_blank text) text)
 
 -- a text that begins with a byte that is no blank begins with a word
 word_some : (b : ℕ) (more : List ℕ) → (IsBlank b → ⊥) → 0 < length (word_at (b ∷ more)).0

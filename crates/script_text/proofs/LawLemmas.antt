@@ -15,13 +15,10 @@ use Rattle.script_text.specs.Filling.{is_name, named_text, filled}
 use Rattle.script_text.specs.Laws.{LinesMakeTheScript, LinesFollow, IsFirstLabel, LabelIsFirst, PlainLinesStay, Names}
 use Rattle.script_text.specs.Laws.{OthersDoNotMatter}
 use Rattle.script_text.proofs.LineLemmas.{lines_first}
+use Rattle.script_text.proofs.WordLemmas.{blank_or_not}
 
 false_true : false ≡ true → ⊥
 false_true h = cc
-
-two_ways : (t : Bool) → (t ≡ true) ⊎ (t ≡ false)
-two_ways true = inl refl
-two_ways false = inr refl
 
 -- lines
 
@@ -94,7 +91,7 @@ label_found label (line ∷ lines) place found =
     let there = map_some (length line) (label_place label lines) place
     (sym (passed (is_label label line) (Some 0) later isn't) ∙ found) in
     label_later label line lines place there.0 isn't there.2 (label_found label lines there.0 there.1))
-    (two_ways (is_label label line))
+    (blank_or_not (is_label label line))
 
 label_missing : (label : List ℕ) (lines : List (List ℕ)) → label_place label lines ≡ None →
     All (λ line. is_label label line ≡ false) lines
@@ -110,7 +107,7 @@ label_missing label (line ∷ lines) missing =
     let none = map_none (length line) (label_place label lines)
     (sym (passed (is_label label line) (Some 0) later isn't) ∙ missing) in
     All-cons (λ (other : List ℕ). is_label label other ≡ false) line lines isn't (label_missing label lines none))
-    (two_ways (is_label label line))
+    (blank_or_not (is_label label line))
 
 pub label_is_first : LabelIsFirst
 label_is_first = record { found = label_found; missing = label_missing }
@@ -159,7 +156,7 @@ first_named a b rest named other = record {
 equal_or_not : (b c : ℕ) → (b ≡ c) ⊎ (b ≢ c)
 equal_or_not b c =
     ⊎_elim (λ same. inl (eqb-true b c same))
-    (λ apart. inr (λ same. absurd (false_true (sym apart ∙ eq-eqb b c same)))) (two_ways (b == c))
+    (λ apart. inr (λ same. absurd (false_true (sym apart ∙ eq-eqb b c same)))) (blank_or_not (b == c))
 
 same_text : (one other : List (List ℕ)) (a b : ℕ) (rest : List ℕ) → (a == 37 && is_name b) ≡ true →
     ((digit : ℕ) → digit < 10 → Names (a ∷ b ∷ rest) digit → get_or one digit [] ≡ get_or other digit []) →
@@ -193,4 +190,4 @@ others_do_not_matter (a ∷ b ∷ rest) one other agree =
     ap (λ (t : Bool). if t then named_text one b ++ filled one rest else a ∷ filled one (b ∷ rest)) plain
     ∙ ap (λ (x : List ℕ). a ∷ x) behind
     ∙ sym (ap (λ (t : Bool). if t then named_text other b ++ filled other rest else a ∷ filled other (b ∷ rest)) plain))
-    (two_ways test)
+    (blank_or_not test)

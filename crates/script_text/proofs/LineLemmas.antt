@@ -10,10 +10,7 @@ use Rattle.std.proofs.Common.{suc, nat_eq, min, get_or, if◌then◌else◌}
 use Rattle.std.proofs.lemmas.List.Sums.{prefix_len_is, prefix_len_passes, prefix_len_stops}
 use Rattle.std.proofs.lemmas.List.{get_or-take, take-take, length-take, length-drop}
 use Rattle.script_text.specs.Lines.{first_line, has_lf, without_cr, command_line, behind_line, lines_of, with_front}
-
--- a place that is at most the end
-some_or_end : (a n : ℕ) → a ≤ n → unwrap_or (cond (ltb a n) (Some a) None) n ≡ a
-some_or_end a n h = grind (arith, nat_tests)
+use Rattle.line_text.proofs.PlaceLemmas.{some_or_end}
 
 pub length-first_line : (s : List ℕ) → length (first_line s) ≡ position_or_len (λ b. b == 10) s
 length-first_line s = length-prefix_len _ s

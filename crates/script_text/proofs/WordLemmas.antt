@@ -9,6 +9,7 @@ use Rattle.std.proofs.lemmas.Bool.Decides.{nat_tests}
 use Rattle.line_text.specs.Words.{is_blank, past_blanks, word_at}
 use Rattle.script_text.specs.Lines.{with_front}
 use Rattle.script_text.specs.Arguments.{ends_word, words_of}
+use Rattle.line_text.proofs.BlankLemmas.{past_shorter}
 
 -- a place one further on
 one_more : (n : ℕ) → 1 + n ≡ suc n
@@ -31,7 +32,7 @@ none_past : past_blanks [] ≡ []
 unfolding past_blanks
 none_past = refl
 
-blank_or_not : (t : Bool) → (t ≡ true) ⊎ (t ≡ false)
+pub blank_or_not : (t : Bool) → (t ≡ true) ⊎ (t ≡ false)
 blank_or_not true = inl refl
 blank_or_not false = inr refl
 
@@ -55,10 +56,6 @@ first_past (b ∷ rest) some =
     ∙ first_past rest (omega (arith, some, ap length (passed b rest blank))))
     (λ blank. ap (λ (x : List ℕ). is_blank (get_or x 0 0)) (kept b rest blank) ∙ blank)
     (blank_or_not (is_blank b))
-
-pub past_shorter : (text : List ℕ) → length (past_blanks text) ≤ length text
-unfolding past_blanks
-past_shorter text = omega (arith, length-drop (position_or_len (λ b. not (is_blank b)) text) text)
 
 -- the first word of a text that begins with no blank, and the others
 

@@ -12,11 +12,9 @@ use Rattle.simh_tape.specs.Image.WordAt.{AtEnd, CutShort, WordIs}
 use Rattle.simh_tape.specs.Image.Met.{BlockTo}
 use Rattle.simh_tape.specs.Writing.{word_bytes, block_bytes, after_writing}
 use Rattle.simh_tape.specs.Laws.{HasBlock, BlocksAreReadBack}
-use Rattle.simh_tape.proofs.ItemLaws.{Between, if_false, both_true, next_block, block_next_previous}
-
-pub shown_all : (bytes : List ℕ) → length bytes ≤ longest_list → shown bytes ≡ bytes
-unfolding shown
-shown_all bytes within = take_all longest_list bytes within
+use Rattle.simh_tape.proofs.ItemLaws.{Between, if_false, next_block, block_next_previous}
+use Rattle.host_files.proofs.Shown.{shown_all}
+use Rattle.host_files.proofs.Tables.{both-and}
 
 length-word : (word : ℕ) → length (word_bytes word) ≡ 4
 length-word word = refl
@@ -51,7 +49,7 @@ length_word : (count : ℕ) → 0 < count → count < 2 ^ 24 → is_length_word 
 length_word count some few =
     let low : count % 2 ^ 24 ≡ count = omega arith in
     let high : count / 2 ^ 24 % 2 ^ 7 ≡ 0 = omega arith in
-    both_true (nat_lt 0 (count % 2 ^ 24)) (count / 2 ^ 24 % 2 ^ 7 == 0) (grind (arith, nat_tests)) (grind (arith, nat_tests))
+    both-and (nat_lt 0 (count % 2 ^ 24)) (count / 2 ^ 24 % 2 ^ 7 == 0) (grind (arith, nat_tests)) (grind (arith, nat_tests))
 
 no_flag : (count : ℕ) → count < 2 ^ 24 → is_flagged count ≡ false
 no_flag count few = let none : count / 2 ^ 31 ≡ 0 = omega arith in grind (arith, nat_tests)

@@ -7,6 +7,7 @@ use Rattle.simh_tape.specs.Image.{block_after, item_after, next, block_before, i
 use Rattle.simh_tape.specs.Image.WordAt.{AtEnd, CutShort, WordIs}
 use Rattle.simh_tape.specs.Image.Met.{BlockTo, MarkTo, MediumEnds, AtLoadPoint, BadAt, CallFails}
 use Rattle.simh_tape.specs.Laws.{ItemsReadTheSame}
+use Rattle.host_files.proofs.Tables.{both-and}
 
 -- tests
 
@@ -17,10 +18,6 @@ if_true false x y is = cc
 pub if_false : {A : Type 0} (test : Bool) (x y : A) → test ≡ false → (if test then x else y) ≡ y
 if_false true x y is = cc
 if_false false x y is = refl
-
-pub both_true : (a b : Bool) → a ≡ true → b ≡ true → (a && b) ≡ true
-both_true true b one other = other
-both_true false b one other = cc
 
 first_true : (a b : Bool) → (a && b) ≡ true → a ≡ true
 first_true true b both = refl
@@ -91,7 +88,7 @@ next_block bytes from to word there =
     ap (item_after bytes from) there.leading
     ∙ if_false (word == 2 ^ 32 - 1) MediumEnds _ (other_number word (2 ^ 32 - 1) no_end)
     ∙ if_false (word == 0) (MarkTo (from + 4)) (block_after bytes from word) (other_number word 0 no_mark)
-    ∙ if_true _ block (BadAt from) (both_true _ _ there.counts (is_the_word _ word behind))
+    ∙ if_true _ block (BadAt from) (both-and _ _ there.counts (is_the_word _ word behind))
     ∙ ap (BlockTo (data_length word) (is_flagged word)) (sym there.apart)
 
 ending_there : (bytes : List ℕ) (to : ℕ) (there : WordAt) → 4 ≤ to → to ≤ length bytes → word_at bytes (to - 4) ≡ there →
@@ -117,7 +114,7 @@ previous_block bytes from to word within there =
     ending_there bytes to (WordIs word) (omega (arith, there.apart)) within there.trailing
     ∙ if_false (word == 0) (MarkTo (to - 4)) (block_before bytes to word) (other_number word 0 no_mark)
     ∙ if_true _ (BlockTo (data_length word) (is_flagged word) (to - size)) (BadAt (to - 4))
-    (both_true _ _ (both_true _ _ there.counts room) (is_the_word _ word before))
+    (both-and _ _ (both-and _ _ there.counts room) (is_the_word _ word before))
     ∙ ap (BlockTo (data_length word) (is_flagged word)) start
 
 -- what is between two places, by the block that is met

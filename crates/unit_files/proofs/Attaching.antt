@@ -4,7 +4,8 @@ use Rattle.std.proofs.Common.{get_or, set, replicate, refl, ap, sym, ◌∙◌, 
 use Rattle.host_files.specs.State.{Opened, opened_at, without}
 use Rattle.unit_files.specs.Attachments.{Held}
 use Rattle.unit_files.specs.Open.{is_reading, AllOpen, IsHeldOpen, Around, without_held}
-use Rattle.unit_files.proofs.Entries.{front-found, front-out, front-passed, front-kept, other-kept, closed-both}
+use Rattle.unit_files.proofs.Entries.{other-kept, closed-both}
+use Rattle.host_files.proofs.Tables.{front-found, front-out, front-passed, front-kept}
 
 -- what stands at a place once one was written
 found-after : (slots : List (Option Held)) (p q : ℕ) (x : Option Held) (g : Held) → get_or (set slots p x) q None

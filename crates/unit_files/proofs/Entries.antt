@@ -4,29 +4,7 @@ use Rattle.std.proofs.Common.{sym, ◌∙◌, arith, if◌then◌else◌}
 use Rattle.std.proofs.lemmas.Bool.{cases_eq}
 use Rattle.std.proofs.lemmas.Bool.Decides.{nat_tests}
 use Rattle.host_files.specs.State.{Opened, opened_at, without}
-
-test-is : (m n : ℕ) → m ≡ n → (m == n) ≡ true
-test-is m n same = grind (arith, nat_tests)
-
-test-not : (m n : ℕ) → m ≢ n → (m == n) ≡ false
-test-not m n other = grind (arith, nat_tests)
-
--- the entry in front
-pub front-found : (o : Opened) (rest : List Opened) (file : ℕ) → o.file ≡ file → opened_at (o ∷ rest) file ≡ Some o
-front-found o rest file is = ap (λ (b : Bool). if b then Some o else opened_at rest file) (test-is o.file file is)
-
-pub front-out : (o : Opened) (rest : List Opened) (file : ℕ) → o.file ≡ file → without (o ∷ rest) file ≡ rest
-front-out o rest file is = ap (λ (b : Bool). if b then rest else o ∷ without rest file) (test-is o.file file is)
-
--- another one
-pub front-passed : (o : Opened) (rest : List Opened) (file : ℕ) → o.file ≢ file → opened_at (o ∷ rest) file
-    ≡ opened_at rest file
-front-passed o rest file other =
-    ap (λ (b : Bool). if b then Some o else opened_at rest file) (test-not o.file file other)
-
-pub front-kept : (o : Opened) (rest : List Opened) (file : ℕ) → o.file ≢ file → without (o ∷ rest) file
-    ≡ o ∷ without rest file
-front-kept o rest file other = ap (λ (b : Bool). if b then rest else o ∷ without rest file) (test-not o.file file other)
+use Rattle.host_files.proofs.Tables.{test-is, test-not, front-found, front-out, front-passed, front-kept}
 
 -- closing one leaves every other as it was
 pub other-kept : (opened : List Opened) (file other : ℕ) → other ≢ file → opened_at (without opened file) other

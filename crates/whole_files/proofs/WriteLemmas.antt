@@ -23,6 +23,7 @@ use Rattle.whole_files.specs.Reading.{IsClosing, failure_count}
 use Rattle.whole_files.specs.Writing.{WriteSaid, AllWritten, WriteFailed, write_act, said_of_writing, claimed_in_writing, HasWriteShape}
 use Rattle.whole_files.specs.Writing.{write_claims_on, written_of, unmade_of}
 use Rattle.whole_files.proofs.Counts.{one-here, none-elsewhere, calls-counted}
+use Rattle.host_files.proofs.Names.{test-same}
 
 -- ---- the file behind a write
 
@@ -30,9 +31,6 @@ over-empty : (piece : List ℕ) → overwritten [] 0 piece ≡ piece
 over-empty [] = refl
 over-empty (b ∷ rest) =
     ap (λ (ys : List ℕ). (b ∷ rest) ++ ys) (drop_all (0 + length (b ∷ rest)) [] (omega arith)) ∙ append-nil (b ∷ rest)
-
-test-same : (name : List ℕ) → bytes_eq name name ≡ true
-test-same name = (bytes_eq-Decides name name).1 refl
 
 -- a piece that is written at the front of a file that was made or emptied is all that it has
 pub written-new : (files : List NamedBytes) (name piece : List ℕ)
