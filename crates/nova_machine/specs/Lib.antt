@@ -24,3 +24,4 @@ pub mod StopLaws
 pub mod ServiceLaws
 pub mod Core
 pub mod SameRun
+pub mod Valid
