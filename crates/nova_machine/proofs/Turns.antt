@@ -41,7 +41,7 @@ use Rattle.nova_machine.specs.Tapes.{NoAnswer, FileFails, ImageIsBad, block_put,
 use Rattle.simh_tape.specs.Image.{Met}
 use Rattle.simh_tape.specs.Image.Met.{BlockTo}
 use Rattle.simh_tape.specs.Reading.{next_act}
-use Rattle.nova_machine.proofs.Walks.{OfPieces, walk-instruction}
+use Rattle.nova_machine.proofs.Walks.{OfPieces, stages-of, walk-instruction}
 
 -- an instruction leaves the size of memory
 pub record SameSize (before after : ProcessorState) : Type 0 where
@@ -478,4 +478,4 @@ turns-followed s made None ready stays other =
 pub turns-turn : (note : Option UnitNote) (first : Bool) (s : Seen) → TurnsPart s (turn note first s)
 turns-turn note first s =
     walk-instruction Prepares TurnsPart
-    (record { pieces = pieces-prepare; fetched = λ s p before. turns-followed s p.made p.stop p.after before.stays before.other }) note first s
+    (record { stages = stages-of Prepares pieces-prepare; fetched = λ s p before. turns-followed s p.made p.stop p.after before.stays before.other }) note first s

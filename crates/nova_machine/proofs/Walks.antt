@@ -31,11 +31,6 @@ pub record OfPieces (P : Seen → Part → Type 0) : Type 0 where
   pub interrupted : (s : Seen) → P s (still s (interrupt s.machine))
   pub tested : (s : Seen) → P s (breaks_tested s)
 
--- another thing holds of the whole turn, where this holds of what comes before its instruction
-pub record OfInstruction (P Q : Seen → Part → Type 0) : Type 0 where
-  pub pieces : OfPieces P
-  pub fetched : (s : Seen) (p : Part) → P s p → Q s (then_part p (λ ready. still ready (fetch ready.machine)))
-
 -- and of the instruction
 pub record OfTurns (P : Seen → Part → Type 0) : Type 0 where
   pub pieces : OfPieces P
@@ -45,14 +40,6 @@ pub record OfTurns (P : Seen → Part → Type 0) : Type 0 where
 pub record OfRuns (P : Seen → Part → Type 0) : Type 0 where
   pub turn : OfTurns P
   pub over : (s : Seen) (stop : Stop) → IsLimit (Some stop) → P s (silent (Some stop) s)
-
--- What holds of so many turns: it holds of none, and of one more where another thing holds of the next turn, be it one that
--- finds the end of time.
-pub record OfCounted (Q : Seen → Part → Type 0) (P : ℕ → Seen → Part → Type 0) : Type 0 where
-  pub turn : (note : Option UnitNote) (first : Bool) (s : Seen) → Q s (turn note first s)
-  pub ended : (s : Seen) → s.machine.time ≡ last_time → Q s (silent (Some Limit) s)
-  pub none : (step : Bool) (s : Seen) → P 0 s (silent (Some (expired step)) s)
-  pub more : (n : ℕ) (s : Seen) (p : Part) (goes_on : Seen → Part) → Q s p → ((next : Seen) → P n next (goes_on next)) → P (suc n) s (then_part p goes_on)
 
 -- ---- so it holds of all
 
@@ -65,30 +52,68 @@ walk-services P of note (u ∷ us) s =
 pub walk-serving : (P : Seen → Part → Type 0) → OfServices P → (note : Option UnitNote) (s : Seen) → P s (serving note s)
 walk-serving P of note s = subst (P s) (sym (serving-is note s)) (walk-services P of note (dues s.machine.events) s)
 
-pub walk-attended : (P : Seen → Part → Type 0) → OfPieces P → (note : Option UnitNote) (s : Seen) → P s (attended note s)
-walk-attended P of note s =
-    subst (P s) (sym (attended-is note s))
-    (of.services.both s (serving note s) (λ served. still served (interrupt served.machine)) (walk-serving P of.services note s) of.interrupted)
+-- ---- the same where it is known of all services of a turn at once: that of one may rest on its unit's event being due
 
-walk-tested : (P : Seen → Part → Type 0) → OfPieces P → (first : Bool) (s : Seen) → P s (breaks_tested_unless first s)
-walk-tested P of true s = of.services.none s
-walk-tested P of false s = of.tested s
+pub record OfStages (P : Seen → Part → Type 0) : Type 0 where
+  pub none : (s : Seen) → P s (silent None s)
+  pub both : (s : Seen) (p : Part) (goes_on : Seen → Part) → P s p → ((next : Seen) → P next (goes_on next)) → P s (then_part p goes_on)
+  pub served : (note : Option UnitNote) (s : Seen) → P s (serving note s)
+  pub interrupted : (s : Seen) → P s (still s (interrupt s.machine))
+  pub tested : (s : Seen) → P s (breaks_tested s)
+
+pub stages-of : (P : Seen → Part → Type 0) → OfPieces P → OfStages P
+stages-of P of = record {
+  none = of.services.none;
+  both = of.services.both;
+  served = walk-serving P of.services;
+  interrupted = of.interrupted;
+  tested = of.tested;
+}
+
+stages-attended : (P : Seen → Part → Type 0) → OfStages P → (note : Option UnitNote) (s : Seen) → P s (attended note s)
+stages-attended P of note s =
+    subst (P s) (sym (attended-is note s)) (of.both s (serving note s) (λ served. still served (interrupt served.machine)) (of.served note s) of.interrupted)
+
+stages-tested : (P : Seen → Part → Type 0) → OfStages P → (first : Bool) (s : Seen) → P s (breaks_tested_unless first s)
+stages-tested P of true s = of.none s
+stages-tested P of false s = of.tested s
+
+stages-prepared : (P : Seen → Part → Type 0) → OfStages P → (note : Option UnitNote) (first : Bool) (s : Seen) → P s (prepared note first s)
+stages-prepared P of note first s =
+    subst (P s) (sym (prepared-is note first s)) (of.both s (attended note s) (λ at. breaks_tested_unless first at) (stages-attended P of note s) (stages-tested P of first))
 
 pub walk-prepared : (P : Seen → Part → Type 0) → OfPieces P → (note : Option UnitNote) (first : Bool) (s : Seen) → P s (prepared note first s)
-walk-prepared P of note first s =
-    subst (P s) (sym (prepared-is note first s))
-    (of.services.both s (attended note s) (λ at. breaks_tested_unless first at) (walk-attended P of note s) (walk-tested P of first))
+walk-prepared P of note first s = stages-prepared P (stages-of P of) note first s
+
+-- a turn, where all before the instruction and the instruction are known
+pub record OfEach (P : Seen → Part → Type 0) : Type 0 where
+  pub stages : OfStages P
+  pub fetched : (s : Seen) → P s (still s (fetch s.machine))
+
+-- another thing holds of the whole turn, where this holds of what comes before its instruction
+pub record OfInstruction (P Q : Seen → Part → Type 0) : Type 0 where
+  pub stages : OfStages P
+  pub fetched : (s : Seen) (p : Part) → P s p → Q s (then_part p (λ ready. still ready (fetch ready.machine)))
 
 pub walk-instruction : (P Q : Seen → Part → Type 0) → OfInstruction P Q → (note : Option UnitNote) (first : Bool) (s : Seen) → Q s (turn note first s)
 walk-instruction P Q of note first s =
-    subst (Q s) (sym (turn-is note first s)) (of.fetched s (prepared note first s) (walk-prepared P of.pieces note first s))
+    subst (Q s) (sym (turn-is note first s)) (of.fetched s (prepared note first s) (stages-prepared P of.stages note first s))
 
-pub walk-turn : (P : Seen → Part → Type 0) → OfTurns P → (note : Option UnitNote) (first : Bool) (s : Seen) → P s (turn note first s)
-walk-turn P of note first s =
+pub each-turn : (P : Seen → Part → Type 0) → OfEach P → (note : Option UnitNote) (first : Bool) (s : Seen) → P s (turn note first s)
+each-turn P of note first s =
     walk-instruction P P (record {
-      pieces = of.pieces;
-      fetched = λ s p before. of.pieces.services.both s p (λ ready. still ready (fetch ready.machine)) before of.fetched;
+      stages = of.stages;
+      fetched = λ s p before. of.stages.both s p (λ ready. still ready (fetch ready.machine)) before of.fetched;
     }) note first s
+
+-- ---- so many turns
+
+-- It holds of none, and of one more where another thing holds of the next turn, be it one that finds the end of time.
+pub record OfCounted (Q : Seen → Part → Type 0) (P : ℕ → Seen → Part → Type 0) : Type 0 where
+  pub turn : (note : Option UnitNote) (first : Bool) (s : Seen) → Q s (turn note first s)
+  pub ended : (s : Seen) → s.machine.time ≡ last_time → Q s (silent (Some Limit) s)
+  pub none : (step : Bool) (s : Seen) → P 0 s (silent (Some (expired step)) s)
+  pub more : (n : ℕ) (s : Seen) (p : Part) (goes_on : Seen → Part) → Q s p → ((next : Seen) → P n next (goes_on next)) → P (suc n) s (then_part p goes_on)
 
 walk-either : (P : Part → Type 0) (b : Bool) (x y : Part) → (b ≡ true → P x) → P y → P (if b then x else y)
 walk-either P true x y first second = first refl
@@ -112,11 +137,26 @@ pub limit-expired : (step : Bool) → IsLimit (Some (expired step))
 limit-expired true = tt
 limit-expired false = tt
 
-pub walk-run : (P : Seen → Part → Type 0) → OfRuns P → (note : Option RunNote) (step : Bool) (count : ℕ) (s : Seen) → P s (run note step count s)
-walk-run P of note step count s =
+-- a run, where it is known of one that has ended too
+abbrev pub OfEnds : (Seen → Part → Type 0) → Type 0
+OfEnds P = (s : Seen) (stop : Stop) → IsLimit (Some stop) → P s (silent (Some stop) s)
+
+pub each-run : (P : Seen → Part → Type 0) → OfEach P → OfEnds P → (note : Option RunNote) (step : Bool) (count : ℕ) (s : Seen) → P s (run note step count s)
+each-run P of over note step count s =
     walk-counted P (λ n s p. P s p) (record {
-      turn = walk-turn P of.turn;
-      ended = λ s is. of.over s Limit tt;
-      none = λ step s. of.over s (expired step) (limit-expired step);
-      more = λ n s p goes_on. of.turn.pieces.services.both s p goes_on;
+      turn = each-turn P of;
+      ended = λ s is. over s Limit tt;
+      none = λ step s. over s (expired step) (limit-expired step);
+      more = λ n s p goes_on. of.stages.both s p goes_on;
     }) note step true count s
+
+-- ---- where it is known of each service
+
+each-of : (P : Seen → Part → Type 0) → OfTurns P → OfEach P
+each-of P of = record { stages = stages-of P of.pieces; fetched = of.fetched }
+
+pub walk-turn : (P : Seen → Part → Type 0) → OfTurns P → (note : Option UnitNote) (first : Bool) (s : Seen) → P s (turn note first s)
+walk-turn P of note first s = each-turn P (each-of P of) note first s
+
+pub walk-run : (P : Seen → Part → Type 0) → OfRuns P → (note : Option RunNote) (step : Bool) (count : ℕ) (s : Seen) → P s (run note step count s)
+walk-run P of note step count s = each-run P (each-of P of.turn) of.over note step count s

@@ -1,3 +1,4 @@
 pub mod EveryKind
 pub mod Codes
 pub mod NamedRegisters
+pub mod Ranges

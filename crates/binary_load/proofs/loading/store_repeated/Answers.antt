@@ -1,6 +1,7 @@
 use Rattle.std.proofs.Common.{◌∙◌, ◌+◌, ◌-◌, ap, arith}
 use Rattle.nova_memory.specs.Memory.{MemoryState}
-use Rattle.binary_load.proofs.StoreLemmas.{repeated_next, put-size}
+use Rattle.nova_memory.proofs.Chains.{put-size}
+use Rattle.binary_load.proofs.StoreLemmas.{repeated_next}
 use Rattle.binary_load.proofs.loading.store_repeated.Goals as goal
 
 pub loop-at-preserved : goal.loop-at-preserved
