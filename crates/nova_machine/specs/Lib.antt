@@ -25,3 +25,4 @@ pub mod ServiceLaws
 pub mod Core
 pub mod SameRun
 pub mod Valid
+pub mod ValidLaws
