@@ -31,9 +31,10 @@ use Rattle.scp_commands.specs.declared.next.Next.{Next}
 use Rattle.scp_commands.specs.declared.next.Next.TheVariants.{Exit, Ran}
 use Rattle.scp_commands.specs.declared.fault.CommandFault.TheVariants.{Console, OutOfMemory, NoFile, FileTooLong, FileFailed}
 use Rattle.scp_commands.specs.declared.fault.CommandFault.TheVariants.{LoadTruncated, LoadSum, PastMemory}
-use Rattle.scp_commands.specs.Live.{Live, Standing, standing, CommandState}
+use Rattle.scp_commands.specs.Live.{Live, Standing, standing, CommandState, live_in}
 use Rattle.scp_commands.specs.Nature.{Telling, nature}
 use Rattle.scp_commands.specs.Nature.Telling.{Nothing, Attached, Named}
+use Rattle.scp_commands.specs.Remains.{Remains, AreLeft}
 use Rattle.scp_commands.specs.Reply.{Answer, Reply, bare_answer}
 use Rattle.scp_commands.specs.FileEffects.{emptied_all, emptied_live}
 
@@ -231,13 +232,12 @@ MayWant spare request = want_by (nature request).takes_memory spare
 abbrev pub says_files : Bool → Request → Bool
 says_files tells request = if (nature request).reads_whole then tells else true
 
--- nothing was done
-pub record IsUndone (says : Bool) (old new : CommandState) (before after : List ℕ) (files files' : FileState) : Type 0 where
-  pub machine : new.machine ≡ old.machine
-  pub watch : new.watch ≡ old.watch
+-- nothing was done, but that a command may have flushed the disk
+pub record IsUndone (flushes says : Bool) (old new : CommandState) (before after : List ℕ) (files files' : FileState) : Type 0 where
+  pub left : AreLeft flushes old new
   pub notes : new.notes ≡ old.notes
   pub written : after ≡ before
-  pub files_are : IsTrue says → files'.files ≡ files.files
+  pub live : IsTrue says → Remains flushes (live_in old files.files) (live_in new files'.files)
 
 -- ---- the end of the input
 
