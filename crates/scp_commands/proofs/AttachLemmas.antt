@@ -97,11 +97,11 @@ files-same f mode unit name attached files clear = unless (refused_first (attach
     unless (Some refusal) = refl
     unless None = ap (λ (x : Option Failure). files_unless_opening x mode name files) clear.opening
 
-closing-if : (kind : Kind) (b : Bool) (f : Failure) → IsLastCall kind f.call → IsNoFailure (if b then Some f else None)
-closing-if kind false f is = record { opening = refl; measuring = refl; reading = refl }
-closing-if kind true f is = by-call f.call is
+closing-if : (written : Bool) (kind : Kind) (b : Bool) (f : Failure) → IsLastCall written kind f.call → IsNoFailure (if b then Some f else None)
+closing-if written kind false f is = record { opening = refl; measuring = refl; reading = refl }
+closing-if written kind true f is = by-call f.call is
   where
-    by-call : (c : FileCall) → IsLastCall kind c → IsNoFailure (Some (record { call = c; done = f.done }))
+    by-call : (c : FileCall) → IsLastCall written kind c → IsNoFailure (Some (record { call = c; done = f.done }))
     by-call Closing last = record { opening = refl; measuring = refl; reading = refl }
     by-call Write last = record { opening = refl; measuring = refl; reading = refl }
     by-call Opening last = absurd last
@@ -111,7 +111,7 @@ closing-if kind true f is = by-call f.call is
 
 no-failure-behind : (live : Live) (time : ℕ) (s : Subject) (behind : List CommandNote) → ComeBehind live behind → IsNoFailure (failure_now time s behind)
 no-failure-behind live time s [] come = record { opening = refl; measuring = refl; reading = refl }
-no-failure-behind live time s (n ∷ behind) come = closing-if come.0.unit.kind ((n.time == time) && same_subject n.subject s) n.failure come.0.call
+no-failure-behind live time s (n ∷ behind) come = closing-if live.machine.disk.written come.0.unit.kind ((n.time == time) && same_subject n.subject s) n.failure come.0.call
 
 -- ---- the reply, by what was said
 

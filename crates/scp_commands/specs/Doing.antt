@@ -66,18 +66,18 @@ Does reply answer at tells before after = (bare_answer answer ≡ reply.answer) 
 
 -- ---- the notes of a command
 
--- the calls by which a unit loses its file: a closing, or a write of what the disk holds
-abbrev pub IsLastCall : Kind → FileCall → Type 0
-IsLastCall kind Closing = Unit {0}
-IsLastCall kind Write = is_disk kind ≡ true
-IsLastCall kind call = ⊥
+-- the calls by which a unit loses its file: a closing, or a write of what the disk holds, where a sector of that was written
+abbrev pub IsLastCall : Bool → Kind → FileCall → Type 0
+IsLastCall written kind Closing = Unit {0}
+IsLastCall written kind Write = (is_disk kind ≡ true) × (written ≡ true)
+IsLastCall written kind call = ⊥
 
 -- a note of such a call on a file that is still attached where a command has left off
 pub record IsLate (live : Live) (n : CommandNote) : Type 0 where
   pub unit : UnitName
   pub subject_is : n.subject ≡ subject.Unit unit
   pub among : IsTrue (list_any (λ u. same_unit u unit) attachable)
-  pub call : IsLastCall unit.kind n.failure.call
+  pub call : IsLastCall live.machine.disk.written unit.kind n.failure.call
   pub there : IsTrue (is_some (attachment_at (attached_in live.machine) unit))
 
 -- Notes that may come behind a command's own under its number: where the session ends with it, the units lose their files
