@@ -27,7 +27,7 @@ use Rattle.file_commands.specs.declared.note.FaultNote.{FaultNote}
 use Rattle.file_commands.specs.Notes.{CommandNote, Note, same_subject, numbered, failure_now, notes_said}
 use Rattle.file_commands.specs.Counts.{AreCounted}
 use Rattle.file_commands.specs.declared.stamp.Stamp.{Stamp}
-use Rattle.file_commands.specs.Kept.{IsAttachFault, MissingCause, fault_of_attach, kept_of, own_of, own_note}
+use Rattle.file_commands.specs.Kept.{fault_note, IsAttachFault, MissingCause, fault_of_attach, kept_of, own_of, own_note}
 use Rattle.expect_actions.specs.Watch.{WatchState}
 use Rattle.nova_machine.specs.Machine.{MachineState, attached_files, with_attached_files}
 use Rattle.nova_machine.specs.Seen.{erased, seen, beside, attached_in}
@@ -38,6 +38,7 @@ use Rattle.scp_commands.specs.Reply.{Answer, Reply, refused}
 use Rattle.scp_commands.specs.FaultText.{attach_fault}
 use Rattle.scp_commands.specs.FileEffects.{has_files, lacks_unit, mode_of, attach_answer, attach_used, first_place, positioned, attached_machine, attach_with, attach_reply}
 use Rattle.scp_commands.specs.Doing.{Does, Did, IsLastCall, ComeBehind, IsSaid, IsStamped, FileCause, Keeps}
+use Rattle.scp_commands.proofs.CloseLemmas.{refused-first}
 use Rattle.scp_commands.proofs.SeenLemmas.{attached-erased, erased-with, same-with}
 use Rattle.scp_commands.proofs.DidLemmas.{refused-did}
 use Rattle.scp_commands.proofs.BehindLemmas.{kept-said}
@@ -287,7 +288,8 @@ attach-cause stamp tells unit (Err attach.AlreadyAttached) old new of_unit missi
 attach-cause stamp tells unit (Err attach.ReadOnly) old new of_unit missing = refl
 attach-cause stamp tells unit (Err attach.NoFile) old new of_unit missing = (refl, missing)
 attach-cause stamp tells unit (Err attach.TooLong) old new of_unit missing = tt
-attach-cause stamp tells unit (Err (attach.Failed f)) old new of_unit missing = ((refl, no-closing unit f of_unit), tt)
+attach-cause stamp tells unit (Err (attach.Failed f)) old new of_unit missing =
+    refused-first (subject.Unit f.unit) (fault_note stamp f) [] (refl, no-closing unit f of_unit) tt
 attach-cause stamp tells unit (Err attach.OutOfMemory) old new of_unit missing = refl
 
 pub attach-keeps : (number time : ℕ) (stamp : Stamp) (tells : Bool) (unit : UnitName) (r : Result ℕ AttachFault) (answer : Answer) (notes notes' : List FaultNote) (old new : FileState)

@@ -30,7 +30,7 @@ use Rattle.scp_commands.specs.declared.next.Next.TheVariants.{Go, Exit}
 use Rattle.scp_commands.specs.Live.{Live, Standing, standing, with_attached, numberless}
 use Rattle.scp_commands.specs.Reply.{Reply, bare_answer}
 use Rattle.scp_commands.specs.FileEffects.{filed_in, emptied_all, left_by, emptied_live, kept_answer, emptied_reply}
-use Rattle.scp_commands.specs.Doing.{IsLastCall, ComeBehind, IsStamped, AreRefusalOf, AllClosings, FileCause, Closes, Keeps, Does, IsSaid, Did}
+use Rattle.scp_commands.specs.Doing.{IsLastCall, ComeBehind, IsStamped, IsRefusalOf, IsClosingOf, AreRefusalOf, AllClosings, FileCause, Closes, Keeps, Does, IsSaid, Did}
 use Rattle.scp_commands.proofs.SeenLemmas.{attached-erased, attached-numberless, unnumbered-is, seen-with}
 
 -- ---- units with one name are one
@@ -421,6 +421,12 @@ kept-is time u us s own k others used kept =
 
 -- ---- the files of all units
 
+-- the note of a refusal, with those of closings behind it
+pub refused-first : (who : Subject) (own : FaultNote) (behind : List FaultNote) → IsRefusalOf who own → AllByRecursion (IsClosingOf who) behind
+    → AreRefusalOf who (own ∷ behind)
+refused-first who own behind refused later =
+    record { before = []; own = own; behind = behind; are = refl; refused = refused; earlier = tt; later = later }
+
 stamped : (number time : ℕ) (us : List UnitName) (written : Bool) (attached : List (Option Attachment)) (kept : List FaultNote) (own : List CommandNote)
     → notes_said kept ≡ numbered number own → AllByRecursion (IsOneOf time us written attached) own → AllByRecursion (IsStamped number time) kept
 stamped number time us written attached [] own said all = tt
@@ -523,7 +529,7 @@ keeps-of number time now tells from to k before after old new at e =
     refusal (x ∷ []) n u said of call =
         let first : said_of x ≡ record { command = number; note = n } = cc in
         let made : x.call ≡ Write = ap (λ (y : Note). y.note.failure.call) first ∙ call in
-        ((ap (λ (y : Note). y.note.subject) first ∙ of, λ closing. absurd (let both : Write ≡ Closing = sym made ∙ closing in cc)), tt)
+        refused-first (subject.Unit u) x [] (ap (λ (y : Note). y.note.subject) first ∙ of, λ closing. absurd (let both : Write ≡ Closing = sym made ∙ closing in cc)) tt
 
     by-keeper : (k : Option UnitName) (e : Empties number time attachable from to k before after old new)
         → FileCause (record { command = number; time = now }) tells (kept_answer k Go) e.kept old new

@@ -110,14 +110,20 @@ IsRefusalOf who n = (n.subject ≡ who) × (n.call ≡ Closing → ⊥)
 abbrev pub IsClosingOf : Subject → FaultNote → Type 0
 IsClosingOf who n = (n.subject ≡ who) × (n.call ≡ Closing)
 
--- the note of the call for which it was refused is the first, and behind it may come those of closings
-abbrev pub AreRefusalOf : Subject → List FaultNote → Type 0
-AreRefusalOf who [] = ⊥
-AreRefusalOf who (n ∷ notes) = IsRefusalOf who n × AllByRecursion (IsClosingOf who) notes
-
 -- notes of closings, if there are any
 abbrev pub AllClosings : List FaultNote → Type 0
 AllClosings notes = AllByRecursion (λ (n : FaultNote). n.call ≡ Closing) notes
+
+-- Exactly one note is that of the call for which it was refused, wherever it stands. All others are of closings, and those
+-- behind it of that subject.
+pub record AreRefusalOf (who : Subject) (notes : List FaultNote) : Type 0 where
+  pub before : List FaultNote
+  pub own : FaultNote
+  pub behind : List FaultNote
+  pub are : notes ≡ before ++ own ∷ behind
+  pub refused : IsRefusalOf who own
+  pub earlier : AllClosings before
+  pub later : AllByRecursion (IsClosingOf who) behind
 
 -- the notes that are kept for a stop
 abbrev pub stop_notes : Stamp → Stop → List FaultNote
@@ -125,8 +131,8 @@ stop_notes stamp (FileFault f) = fault_note stamp f ∷ []
 stop_notes stamp stop = []
 
 -- Why an answer comes, by the notes that were kept. A file was missing only where none was kept and, if names are not told,
--- the count of openings rose. A call on a file failed only where its note is the first. A run keeps the note of the call
--- for which it stopped, if it did for one, also where the console refused a byte of the stop's text. What was done
+-- the count of openings rose. A call on a file failed only where exactly one note is of that call. A run keeps the note of the
+-- call for which it stopped, if it did for one, also where the console refused a byte of the stop's text. What was done
 -- otherwise, a file that is too long, and a tape with a fault have only notes of closings, and what was refused otherwise
 -- has none.
 abbrev pub FileCause : Stamp → Bool → Answer → List FaultNote → FileState → FileState → Type 0
