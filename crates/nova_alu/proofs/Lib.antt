@@ -1,1 +1,2 @@
 pub mod Undone
+pub mod Words

@@ -23,7 +23,7 @@ chain-next (suc left) rest m after a v next one word stored high low_bits =
     let same : rest ≡ left = omega arith in
     grind (arith, nat_tests)
 
-put-size : (m : MemoryState) (a v : ℕ) → (put m a v).size ≡ m.size
+pub put-size : (m : MemoryState) (a v : ℕ) → (put m a v).size ≡ m.size
 put-size m a v = grind (arith, nat_tests)
 
 -- the change of one level leaves every place that is not an auto-index location

@@ -1,5 +1,6 @@
 pub mod Calls
 pub mod Held
+pub mod Ranges
 pub mod Resets
 pub mod Room
 pub mod Standing

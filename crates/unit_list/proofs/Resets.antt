@@ -1,15 +1,19 @@
 -- One unit after another is reset.
-use Rattle.std.proofs.Common.{◌≡◌, ℕ, ◌+◌, ◌<◌, zero, suc, List, [], ◌∷◌, ◌++◌, length, map, take, drop, get_or, slice_set, None, add-one, ap, ◌∙◌, arith}
+use Rattle.std.proofs.Common.{◌≡◌, ℕ, ◌+◌, ◌<◌, zero, suc, List, [], ◌∷◌, ◌++◌, length, map, take, drop, get_or, slice_set, None, add-one, refl, ap, ◌∙◌, arith}
 use Rattle.unit_trait.specs.declared.kind.Kind.{Kind}
 use Rattle.unit_trait.specs.declared.kind.Kind.TheVariants.{Dsk, Mta, Lpt, Ptr, Ptp, Clk, Tti, Tto, Tti1, Tto1, Qty}
+use Rattle.unit_trait.specs.declared.kind.UnitName.{UnitName}
 use Rattle.unit_trait.specs.declared.calls.Queue.{Queue}
 use Rattle.unit_trait.specs.declared.calls.Queue.TheVariants.{Keep, Cancel, After}
 use Rattle.unit_trait.specs.Kinds.{units_of}
 use Rattle.unit_trait.specs.Calls.{UnitState, Reset}
-use Rattle.unit_trait.specs.Row.{row, moved, Fits, IsLater, IsAgain}
-use Rattle.event_queue.specs.EventList.{Event, wished, due}
+use Rattle.unit_trait.specs.Row.{row, moved, Fits, initial_unit, IsLater, IsAgain}
+use Rattle.event_queue.specs.EventList.{Event, Sound, wished, due}
+use Rattle.event_queue.proofs.SoundLists.{sound-activated, sound-cancelled}
 use Rattle.unit_list.specs.Bus.{kinds_of, AllFit}
 use Rattle.unit_list.specs.Reset.{first_unit, reset_units, reset_events}
+use Rattle.unit_list.specs.Laws.{IsTimely}
+use Rattle.unit_list.proofs.Ranges.{moved-fits, wish-timely, initial-fits}
 use Rattle.unit_list.proofs.Standing.{fits-set, kinds-set}
 
 -- every kind has a first unit
@@ -33,6 +37,33 @@ again-later (After delay) again = again
 
 pub ruleset resets = (has-first, again-later)
 
+-- ---- behind a reset all is in range, as at first
+pub reset-fits : (us : List UnitState) → AllFit us → AllFit (reset_units us)
+reset-fits [] all = tt
+reset-fits (u ∷ us) all = (moved-fits u Reset all.0 tt, reset-fits us all.1)
+
+pub reset-kinds : (us : List UnitState) → kinds_of (reset_units us) ≡ kinds_of us
+reset-kinds [] = refl
+reset-kinds (u ∷ us) = ap (λ kinds. u.kind ∷ kinds) (reset-kinds us)
+
+pub begun-fits : (kinds : List Kind) → AllFit (map initial_unit kinds)
+begun-fits [] = tt
+begun-fits (kind ∷ kinds) = (initial-fits kind, begun-fits kinds)
+
+-- a wish in time, for one of the units of its kind, leaves a sound list of events
+pub sound-wished : (u : UnitName) (wish : Queue) (es : List Event) → u.unit < units_of u.kind → IsTimely wish → Sound es → Sound (wished u wish es)
+sound-wished u Keep es low timely sound = sound
+sound-wished u Cancel es low timely sound = sound-cancelled u.kind es sound
+sound-wished u (After delay) es low timely sound = sound-activated u delay es low timely.1 sound
+
+pub sound-resets : (us : List UnitState) (es : List Event) → AllFit us → Sound es → Sound (reset_events us es)
+sound-resets [] es all sound = sound
+sound-resets (u ∷ us) es all sound =
+    let first = first_unit u.kind in
+    let wish = (row u Reset).queue in
+    sound-resets us (wished first wish es) all.1 (sound-wished first wish es (has-first u.kind) (wish-timely u Reset all.0) sound)
+
+-- ---- one of them behind another
 -- the first units are reset, and what is left to do for the others comes to a reset of all
 pub record ResetSoFar {A : Type 0} (f : A → UnitState) (before now : List A) (i : ℕ) (queue_before queue : List Event) : Type 0 where
   pub units : map f (take i now) ++ reset_units (map f (drop i now)) ≡ reset_units (map f before)

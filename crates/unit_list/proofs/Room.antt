@@ -1,5 +1,5 @@
 -- An answer that is for a place of a file below the largest is one that the unit may get.
-use Rattle.std.proofs.Common.{◌≡◌, ℕ, IsTrue, List, [], ◌∷◌, Option, Some, None, sym, subst, arith}
+use Rattle.std.proofs.Common.{◌≡◌, ℕ, IsTrue, List, [], ◌∷◌, Option, Some, None, refl, sym, subst, arith}
 use Rattle.std.specs.Prelude.{IfSome, option_map}
 use Rattle.std.proofs.lemmas.Bool.Decides.{nat_tests}
 use Rattle.unit_trait.specs.declared.kind.Kind.{Kind}
@@ -8,10 +8,11 @@ use Rattle.unit_trait.specs.declared.calls.Got.{Got}
 use Rattle.unit_trait.specs.Reader.{reader_row}
 use Rattle.unit_trait.specs.Writer.{writer_row}
 use Rattle.unit_trait.specs.Kinds.{code_of}
-use Rattle.unit_trait.specs.Calls.{UnitState, Due}
+use Rattle.unit_trait.specs.Calls.{UnitState, Due, Answered}
 use Rattle.unit_trait.specs.Row.{row, row_of, moved, moves_on, goes_by_bytes, CanMoveOn, TakesAnswer}
 use Rattle.unit_trait.proofs.Codes.{same-code}
 use Rattle.unit_list.specs.Bus.{unit_at, row_or_nothing, row_at, after_at, TakesAnswerIn, IsByteBelowEnd, IsBelowEnd}
+use Rattle.unit_list.specs.Laws.{BringsByte, CanBeAsked}
 use Rattle.unit_list.proofs.Calls.{after-here}
 
 room-of : (kind : Kind) (values : List ℕ) (n : ℕ) (got : Got) → IsByteBelowEnd (row_of kind values (Due n)).want got
@@ -56,3 +57,12 @@ room-at kind got us u takes there same = record {
       subst (λ there. IfSome there (λ v. CanMoveOn v.registers)) there (takes.room (subst (λ k. IsTrue (goes_by_bytes k)) same bytes) moves);
   tape = takes.tape;
 }
+
+-- .. and that it can be asked to take, where it brings bytes
+pub asked-in : (kind : Kind) (n : ℕ) (got : Got) (us : List UnitState) → BringsByte got → TakesAnswerIn kind got us
+    → IfSome (unit_at (code_of kind) us) (λ u. CanBeAsked u (Answered n got))
+asked-in kind n got us bytes takes = by-unit (unit_at (code_of kind) us) refl (kind-found kind us)
+  where
+    by-unit : (o : Option UnitState) → unit_at (code_of kind) us ≡ o → IfSome o (λ u. u.kind ≡ kind) → IfSome o (λ u. CanBeAsked u (Answered n got))
+    by-unit None there same = tt
+    by-unit (Some u) there same = (bytes, room-at kind got us u takes there same)
