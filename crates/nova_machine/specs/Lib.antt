@@ -24,3 +24,5 @@ pub mod StopLaws
 pub mod ServiceLaws
 pub mod Core
 pub mod SameRun
+pub mod Valid
+pub mod ValidLaws

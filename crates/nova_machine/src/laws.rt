@@ -2,6 +2,7 @@ ghost use Rattle.nova_machine.specs.Laws.{RunSplits, RunTakesTime};
 ghost use Rattle.nova_machine.specs.SameRun.{SameStateSameRun};
 ghost use Rattle.nova_machine.specs.ServiceLaws.{ServesWhileDue};
 ghost use Rattle.nova_machine.specs.StopLaws.{TurnStops};
+ghost use Rattle.nova_machine.specs.ValidLaws.{RunsStayValid};
 
 /// The law that a run of n + k is a run of n and then a run of k, with what the first made in front, where only the
 /// count or the end of time ended the first. Another stop within the first n ends the whole run.
@@ -30,4 +31,11 @@ pub fn units_are_served_while_due()
 /// print the same, where neither meets a failed call on a file or a refused byte.
 pub fn same_state_same_run()
     ensures { SameStateSameRun }
+{}
+
+/// The law of what every state is that a run works on: a new machine is valid, and a turn and a run go from a valid state
+/// to valid ones, also where something comes in between; no run goes past the end of time; and the disk's copy is that of
+/// its file where nothing is to be written back, as long as nothing else changes that file.
+pub fn runs_stay_valid()
+    ensures { RunsStayValid }
 {}

@@ -22,11 +22,11 @@ pub both_true : (a b : Bool) → a ≡ true → b ≡ true → (a && b) ≡ true
 both_true true b one other = other
 both_true false b one other = cc
 
-first_true : (a b : Bool) → (a && b) ≡ true → a ≡ true
+pub first_true : (a b : Bool) → (a && b) ≡ true → a ≡ true
 first_true true b both = refl
 first_true false b both = both
 
-second_true : (a b : Bool) → (a && b) ≡ true → b ≡ true
+pub second_true : (a b : Bool) → (a && b) ≡ true → b ≡ true
 second_true true b both = both
 second_true false b both = cc
 
@@ -43,7 +43,7 @@ skip_if false x y z never is = (refl, is)
 
 -- words
 
-word_is : (there : WordAt) (word : ℕ) → is_word there word ≡ true → there ≡ WordIs word
+pub word_is : (there : WordAt) (word : ℕ) → is_word there word ≡ true → there ≡ WordIs word
 word_is AtEnd word is = cc
 word_is CutShort word is = cc
 word_is (WordIs other) word is = ap WordIs (let same : other ≡ word = grind (arith, nat_tests) in same)
@@ -55,7 +55,7 @@ behind_word : (bytes : List ℕ) (place : ℕ) → nat_lt (length bytes) (place 
 behind_word bytes place is = grind (arith, nat_tests)
 
 -- a word that stands somewhere has 4 bytes there
-word_within : (bytes : List ℕ) (place word : ℕ) → word_at bytes place ≡ WordIs word → place + 4 ≤ length bytes
+pub word_within : (bytes : List ℕ) (place word : ℕ) → word_at bytes place ≡ WordIs word → place + 4 ≤ length bytes
 word_within bytes place word is =
     let there : WordAt = WordIs (from_le_bytes w32 (take 4 (drop place bytes))) in
     let longer = skip_if (nat_le (length bytes) place) AtEnd (if nat_lt (length bytes) (place + 4) then CutShort else there)

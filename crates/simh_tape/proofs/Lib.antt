@@ -4,3 +4,4 @@ pub mod WriteLemmas
 pub mod ItemLaws
 pub mod BlockLaws
 pub mod SpaceLaws
+pub mod PlaceLemmas

@@ -1,0 +1,79 @@
+-- What every state is that a run works on: true of the beginning, and kept by every turn. Laws speak of such states.
+use Rattle.std.specs.Prelude.{◌≡◌, ℕ, ◌^◌, ◌<◌, ◌≤◌, Bool, false, List, length, Option, Some, None}
+use Rattle.std.specs.List.{AllByRecursion}
+use Rattle.host_files.specs.Lists.{NamedBytes, bytes_of}
+use Rattle.unit_files.specs.Attachments.{Attachment, attachment_at}
+use Rattle.unit_files.specs.Buffer.{Buffer, no_buffer, disk_unit}
+use Rattle.nova_memory.specs.Memory.{IsMemory, IsSize}
+use Rattle.nova_processor.specs.declared.cpu.Cpu.{Cpu}
+use Rattle.expect_actions.specs.declared.breaks.Break.{Break}
+use Rattle.expect_actions.specs.declared.expects.Expect.{Expect}
+use Rattle.expect_actions.specs.Breaks.{most_breaks, Rising}
+use Rattle.expect_actions.specs.Expects.{most_expects, longest_text}
+use Rattle.expect_actions.specs.Sends.{Send, most_sends, InTime}
+use Rattle.expect_actions.specs.Watch.{WatchState}
+use Rattle.nova_machine.specs.Core.{IsCore}
+use Rattle.nova_machine.specs.Machine.{MachineState}
+use Rattle.nova_machine.specs.Seen.{Seen, attached_in}
+
+abbrev pub AreBytes : List ℕ → Type 0
+AreBytes bytes = AllByRecursion (λ (b : ℕ). b < 2 ^ 8) bytes
+
+-- four accumulators of 16 bits, and a PC of 15
+pub record ValidCpu (cpu : Cpu) : Type 0 where
+  pub four : length cpu.accumulators ≡ 4
+  pub words : AllByRecursion (λ (w : ℕ). w < 2 ^ 16) cpu.accumulators
+  pub pc : cpu.pc < 2 ^ 15
+
+-- a machine: its memory is 0 past its size, and its registers are in range
+pub record ValidMachine (m : MachineState) : Type 0 where
+  pub memory : IsMemory m.processor.memory
+  pub size : IsSize m.processor.memory.size
+  pub cpu : ValidCpu m.processor.cpu
+  pub mask : m.ints.mask < 2 ^ 16
+  pub switches : m.sr < 2 ^ 16
+  pub core : IsCore m
+  pub places : length m.slots ≡ 12
+  pub disk : AreBytes m.disk.bytes
+
+pub record ValidBreak (b : Break) : Type 0 where
+  pub address : b.address < 2 ^ 15
+  pub actions : AreBytes b.actions
+
+-- the watch tables: each list is within its limit, breaks in the order of their addresses, sends in that of their times
+pub record ValidWatch (w : WatchState) : Type 0 where
+  pub breaks : length w.breaks.list ≤ most_breaks
+  pub rising : Rising w.breaks.list
+  pub each : AllByRecursion ValidBreak w.breaks.list
+  pub expects : length w.expects.list ≤ most_expects
+  pub texts : AllByRecursion (λ (e : Expect). AreBytes e.actions) w.expects.list
+  pub tail : length w.expects.tail ≤ longest_text
+  pub sends : length w.sends ≤ most_sends
+  pub in_time : InTime w.sends
+  pub bytes : AllByRecursion (λ (send : Send). send.1 < 2 ^ 8) w.sends
+  pub broke : AreBytes w.breaks.actions
+  pub matched : AreBytes w.expects.actions
+
+-- and with the keys that are to come and the files
+pub record Valid (s : Seen) : Type 0 where
+  pub machine : ValidMachine s.machine
+  pub watch : ValidWatch s.watch
+  pub taken : s.machine.taken ≤ length s.keys
+  pub keys : AllByRecursion (λ (key : ℕ × ℕ). key.1 < 2 ^ 8) s.keys
+  pub files : AllByRecursion (λ (f : NamedBytes). AreBytes f.1) s.files
+
+-- what the disk holds of its file is what is in the file, where nothing is to be written back; without a file it holds nothing
+abbrev pub CopyIsFile : Option Attachment → Buffer → List NamedBytes → Type 0
+CopyIsFile None disk files = disk ≡ no_buffer
+CopyIsFile (Some a) disk files = disk.written ≡ false → disk.bytes ≡ bytes_of files a.name
+
+abbrev pub DiskIsItsFile : Seen → Type 0
+DiskIsItsFile s = CopyIsFile (attachment_at (attached_in s.machine) disk_unit) s.machine.disk s.files
+
+-- nobody but the disk has changed the disk's file
+abbrev pub KeepsFile : Option Attachment → List NamedBytes → List NamedBytes → Type 0
+KeepsFile None old new = Unit {0}
+KeepsFile (Some a) old new = bytes_of new a.name ≡ bytes_of old a.name
+
+abbrev pub LeavesDiskFile : Seen → Seen → Type 0
+LeavesDiskFile s t = KeepsFile (attachment_at (attached_in s.machine) disk_unit) s.files t.files

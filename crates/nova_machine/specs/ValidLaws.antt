@@ -1,0 +1,52 @@
+-- Every state of a run is one that a machine can be in, with its files, keys and watch tables; and what that takes at first.
+use Rattle.std.specs.Prelude.{◌≡◌, ◌≢◌, ◌↔◌, ℕ, ◌≤◌, Bool, false, List, Option, Some, None, IfSome}
+use Rattle.observations.specs.Observations.{StandsAt}
+use Rattle.unit_trait.specs.declared.kind.Kind.TheVariants.{Dsk}
+use Rattle.unit_trait.specs.declared.kind.UnitName.{UnitName}
+use Rattle.unit_trait.specs.Calls.{UnitState}
+use Rattle.unit_list.specs.Bus.{AllFit}
+use Rattle.unit_files.specs.Attachments.{Attachment, attachment_at}
+use Rattle.unit_files.specs.Buffer.{disk_unit}
+use Rattle.nova_machine.specs.Machine.{new_machine}
+use Rattle.nova_machine.specs.Notes.{UnitNote, RunNote}
+use Rattle.nova_machine.specs.Seen.{Seen, attached_in}
+use Rattle.nova_machine.specs.Parts.{Part}
+use Rattle.nova_machine.specs.Turn.{turn}
+use Rattle.nova_machine.specs.Run.{run, last_time}
+use Rattle.nova_machine.specs.Valid.{ValidMachine, Valid, DiskIsItsFile, LeavesDiskFile}
+
+-- the state behind a part is valid, and so is each in which something comes: an early end shows one of these
+pub record IsValidPart (p : Part) : Type 0 where
+  pub after : Valid p.after
+  pub made : (t : Seen) → StandsAt t p.made → Valid t
+
+-- time has not passed its end behind a part, nor where something comes
+pub record IsInTime (p : Part) : Type 0 where
+  pub after : p.after.machine.time ≤ last_time
+  pub made : (t : Seen) → StandsAt t p.made → t.machine.time ≤ last_time
+
+-- no unit of another kind has the disk's file
+abbrev pub HasOwnFile : Option Attachment → List (Option Attachment) → Type 0
+HasOwnFile None attached = Unit {0}
+HasOwnFile (Some a) attached = (u : UnitName) → u.kind ≢ Dsk → IfSome (attachment_at attached u) (λ b. b.name ≢ a.name)
+
+abbrev pub DiskHasOwnFile : Seen → Type 0
+DiskHasOwnFile s = HasOwnFile (attachment_at (attached_in s.machine) disk_unit) (attached_in s.machine)
+
+-- Where nothing is to be written back behind a part, nothing was written to the disk's copy in it. So the copy is that of
+-- its file still, exactly where the file then has the bytes that it had.
+pub record KeepsCopy (s : Seen) (p : Part) : Type 0 where
+  pub written : p.after.machine.disk.written ≡ false → p.after.machine.disk ≡ s.machine.disk
+  pub copy : DiskIsItsFile s → (DiskIsItsFile p.after ↔ (p.after.machine.disk.written ≡ false → LeavesDiskFile s p.after))
+  -- and it has, where no other unit has the file
+  pub alone : DiskHasOwnFile s → LeavesDiskFile s p.after
+
+pub record RunsStayValid : Type 0 where
+  -- a new machine with whatever units whose registers are in their ranges
+  pub begin : (units : List UnitState) → AllFit units → ValidMachine (new_machine units)
+  pub turn_valid : (note : Option UnitNote) (first : Bool) (s : Seen) → Valid s → IsValidPart (turn note first s)
+  pub run_valid : (note : Option RunNote) (step : Bool) (n : ℕ) (s : Seen) → Valid s → IsValidPart (run note step n s)
+  -- no run goes past the end of time
+  pub run_time : (note : Option RunNote) (step : Bool) (n : ℕ) (s : Seen) → s.machine.time ≤ last_time → IsInTime (run note step n s)
+  pub turn_copy : (note : Option UnitNote) (first : Bool) (s : Seen) → Valid s → KeepsCopy s (turn note first s)
+  pub run_copy : (note : Option RunNote) (step : Bool) (n : ℕ) (s : Seen) → Valid s → KeepsCopy s (run note step n s)
