@@ -95,7 +95,7 @@ changed-live live m w files is machine taken time watch all = record {
 machine-live : (live : Live) (m : MachineState) → ValidLive live → ValidMachine m → LeavesRest live.machine m → ValidLive (with_machine live m)
 machine-live live m is machine rest = changed-live live m live.watch live.files is machine rest.taken rest.time is.valid.watch is.valid.files
 
-watch-live : (live : Live) (w : WatchState) → ValidLive live → ValidWatch w → ValidLive (record live { watch = w })
+pub watch-live : (live : Live) (w : WatchState) → ValidLive live → ValidWatch w → ValidLive (record live { watch = w })
 watch-live live w is watch = changed-live live live.machine w live.files is is.valid.machine refl refl watch is.valid.files
 
 -- ---- replies
@@ -117,7 +117,7 @@ stands-says text live is = record {
   copy = copy-same live live refl refl;
 }
 
-stands-refused : (fault : CommandFault) (live : Live) → ValidLive live → Stands live (refused fault live)
+pub stands-refused : (fault : CommandFault) (live : Live) → ValidLive live → Stands live (refused fault live)
 stands-refused fault live is = record { valid = record { after = is; made = λ at h. absurd h; script = tt }; copy = copy-same live live refl refl }
 
 -- nothing is printed and nothing changes
@@ -302,7 +302,7 @@ stands-detach notes live unit drive is =
 filed-live : (live : Live) → ValidLive live → IsFiled (filed_in live)
 filed-live live is = record { places = numberless-count live.machine ∙ is.valid.machine.places; disk = is.valid.machine.disk; files = is.valid.files }
 
-stands-emptied : (next : Next) (notes : List CommandNote) (live : Live) → GivesBytes (Ok next) → ValidLive live → Stands live (emptied_reply next (emptied_all notes live) live)
+pub stands-emptied : (next : Next) (notes : List CommandNote) (live : Live) → GivesBytes (Ok next) → ValidLive live → Stands live (emptied_reply next (emptied_all notes live) live)
 stands-emptied next notes live gives is = by-keeper e.kept refl
   where
     e : Emptied
