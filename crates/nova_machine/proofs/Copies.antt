@@ -1,5 +1,5 @@
 -- The disk's copy of its file over a turn and a run.
-use Rattle.std.proofs.Common.{◌≡◌, ◌≢◌, ◌↔◌, ◌&&◌, [], ◌∷◌, unwrap_or, ℕ, ◌+◌, ◌<◌, ◌≤◌, ◌==◌, ◌⊎◌, inl, inr, Bool, true, false, List, length, get_or, slice_index, nat_lt, Option, Some, None, option_map, map, IfSome, Result, Ok, Err, refl, ap, sym, subst, ◌∙◌, arith, if◌then◌else◌}
+use Rattle.std.proofs.Common.{◌≡◌, ◌≢◌, ◌↔◌, ◌&&◌, [], ◌∷◌, unwrap_or, ℕ, ◌==◌, inl, inr, Bool, true, false, List, length, slice_index, nat_lt, Option, Some, None, option_map, IfSome, Result, Ok, Err, refl, ap, sym, subst, ◌∙◌, arith, if◌then◌else◌}
 use Rattle.std.proofs.lemmas.Bool.{cond_both, cases_lt, le-ltb}
 use Rattle.std.specs.Prelude.{bytes_eq}
 use Rattle.std.proofs.lemmas.List.{length-map, get_or_past}
@@ -22,27 +22,27 @@ use Rattle.unit_trait.specs.Keyboard.{keyboard_row}
 use Rattle.unit_trait.specs.Teleprinter.{teleprinter_row}
 use Rattle.unit_trait.specs.Calls.{UnitState, Due}
 use Rattle.unit_trait.specs.Row.{row_of}
-use Rattle.unit_list.specs.Bus.{unit_at, row_or_nothing, row_at}
+use Rattle.unit_list.specs.Bus.{unit_at, row_or_nothing}
 use Rattle.unit_list.proofs.Room.{kind-found}
 use Rattle.unit_files.specs.Attachments.{Attachment, Held, attachments_of, attachment_at, file_place, kind_place, file_units}
-use Rattle.unit_files.specs.Buffer.{Buffer, disk_unit, no_buffer, with_sector, sector_written}
+use Rattle.unit_files.specs.Buffer.{Buffer, disk_unit, with_sector, sector_written}
 use Rattle.unit_files.specs.Acts.{Failure, byte_written, write_files, most_bytes}
 use Rattle.nova_machine.specs.declared.machine.Stop.{Stop}
 use Rattle.nova_machine.specs.Machine.{MachineState}
 use Rattle.nova_machine.specs.Notes.{UnitNote, RunNote}
-use Rattle.nova_machine.specs.Seen.{Seen, with_machine, attached_in}
-use Rattle.nova_machine.specs.Parts.{Part, silent, behind_made, followed, then_part}
+use Rattle.nova_machine.specs.Seen.{Seen, attached_in}
+use Rattle.nova_machine.specs.Parts.{Part, silent, followed, then_part}
 use Rattle.nova_machine.specs.Sectors.{sector_words, bytes_got, disk_after}
 use Rattle.nova_machine.specs.Tapes.{NoAnswer, with_some_done, writes_tape, image_operated, tape_files}
-use Rattle.nova_machine.specs.Wants.{answer_to, files_after, own_stop, prints}
+use Rattle.nova_machine.specs.Wants.{answer_to, files_after, own_stop}
 use Rattle.nova_machine.specs.Service.{want_at, asked, answered, replied, key_at, hosted, service, taken}
-use Rattle.nova_machine.specs.Turn.{fetch, interrupt, breaks_tested, turn}
+use Rattle.nova_machine.specs.Turn.{breaks_tested, turn}
 use Rattle.nova_machine.specs.Run.{run}
-use Rattle.nova_machine.specs.Valid.{CopyIsFile, DiskIsItsFile, KeepsFile, LeavesDiskFile, Valid}
+use Rattle.nova_machine.specs.Valid.{CopyIsFile, KeepsFile, LeavesDiskFile, Valid}
 use Rattle.nova_machine.specs.ValidLaws.{HasOwnFile, DiskHasOwnFile, KeepsCopy}
 use Rattle.nova_machine.proofs.Hosting.{disk-is}
-use Rattle.nova_machine.proofs.Leaves.{Leaves, leaves-fetch, leaves-interrupt}
-use Rattle.nova_machine.proofs.Walks.{OfServices, OfStages, OfEach, walk-serving, each-turn, each-run}
+use Rattle.nova_machine.proofs.Leaves.{leaves-fetch, leaves-interrupt}
+use Rattle.nova_machine.proofs.Walks.{OfServices, OfTurns, OfRuns, walk-turn, walk-run}
 
 -- ---- what may be written into the copy
 
@@ -237,17 +237,18 @@ copies-tested : (s : Seen) → Copies s (breaks_tested s)
 unfolding breaks_tested
 copies-tested s = copies-same s _ refl refl refl
 
-copies-each : OfEach Copies
-copies-each = record {
-  stages = record {
-    none = copies-services.none;
-    both = copies-then;
-    served = walk-serving Copies copies-services;
+copies-turns : OfTurns Copies
+copies-turns = record {
+  pieces = record {
+    services = copies-services;
     interrupted = λ s. let same = leaves-interrupt s.machine in copies-same s _ same.slots same.disk refl;
     tested = copies-tested;
   };
   fetched = λ s. let same = leaves-fetch s.machine in copies-same s _ same.slots same.disk refl;
 }
+
+copies-runs : OfRuns Copies
+copies-runs = record { turn = copies-turns; over = λ s stop limit. copies-same s (silent (Some stop) s) refl refl refl }
 
 -- ---- so it is that of the file still
 
@@ -272,7 +273,7 @@ keeps-copy s p is copies = record {
 }
 
 pub turn-copies : (note : Option UnitNote) (first : Bool) (s : Seen) → Valid s → KeepsCopy s (turn note first s)
-turn-copies note first s is = keeps-copy s (turn note first s) is (each-turn Copies copies-each note first s)
+turn-copies note first s is = keeps-copy s (turn note first s) is (walk-turn Copies copies-turns note first s)
 
 pub run-copies : (note : Option RunNote) (step : Bool) (n : ℕ) (s : Seen) → Valid s → KeepsCopy s (run note step n s)
-run-copies note step n s is = keeps-copy s (run note step n s) is (each-run Copies copies-each (λ s stop limit. copies-same s (silent (Some stop) s) refl refl refl) note step n s)
+run-copies note step n s is = keeps-copy s (run note step n s) is (walk-run Copies copies-runs note step n s)

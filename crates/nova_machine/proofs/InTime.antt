@@ -2,6 +2,7 @@
 use Rattle.std.proofs.Common.{◌≡◌, ℕ, zero, suc, ◌≤◌, ◌==◌, inl, inr, Bool, true, false, List, Option, Some, None, Result, Ok, Err, refl, ap, sym, subst, ◌∙◌, arith}
 use Rattle.std.proofs.lemmas.Bool.{cond_both, eqb-false}
 use Rattle.observations.specs.Observations.{Observation, StandsAt}
+use Rattle.observations.proofs.MadeLemmas.{stands-either}
 use Rattle.unit_trait.specs.declared.kind.UnitName.{UnitName}
 use Rattle.unit_trait.specs.declared.calls.Want.{Want}
 use Rattle.unit_trait.specs.declared.calls.Want.TheVariants as want
@@ -24,8 +25,7 @@ use Rattle.nova_machine.specs.Run.{last_time, expired, next_turn, turns, run}
 use Rattle.nova_machine.specs.ValidLaws.{IsInTime}
 use Rattle.nova_machine.proofs.Opened.{turn-is, turns-none, turns-some}
 use Rattle.nova_machine.proofs.Turns.{turns-turn}
-use Rattle.nova_machine.proofs.ValidService.{stands-either}
-use Rattle.nova_machine.proofs.Walks.{OfServices, OfStages, walk-serving, stages-prepared}
+use Rattle.nova_machine.proofs.Walks.{OfServices, OfPieces, walk-prepared}
 
 -- ---- before the instruction no time passes
 
@@ -92,14 +92,8 @@ at-tested : (s : Seen) → AtTime s (breaks_tested s)
 unfolding breaks_tested
 at-tested s = at-silent s _ _ refl
 
-at-stages : OfStages AtTime
-at-stages = record {
-  none = λ s. at-silent s s None refl;
-  both = at-then;
-  served = walk-serving AtTime at-services;
-  interrupted = λ s. at-silent s _ _ (interrupt-time s.machine);
-  tested = at-tested;
-}
+at-pieces : OfPieces AtTime
+at-pieces = record { services = at-services; interrupted = λ s. at-silent s _ _ (interrupt-time s.machine); tested = at-tested }
 
 -- ---- a turn
 
@@ -111,7 +105,7 @@ made-followed s made None next first t h = elim (stands-either t made _ h) [ inl
 turn-made : (note : Option UnitNote) (first : Bool) (s t : Seen) → StandsAt t (turn note first s).made → t.machine.time ≡ s.machine.time
 turn-made note first s t h =
     let p = prepared note first s in
-    let at = stages-prepared AtTime at-stages note first s in
+    let at = walk-prepared AtTime at-pieces note first s in
     made-followed s p.made p.stop p.after (record { after = at.after; made = at.made }) t (subst (λ (q : Part). StandsAt t q.made) (turn-is note first s) h)
 
 -- ---- a run

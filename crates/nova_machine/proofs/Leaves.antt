@@ -1,12 +1,12 @@
 -- What no instruction and no interrupt changes: what is attached, and the disk's copy of its file.
 use Rattle.std.proofs.Common.{◌≡◌, ℕ, ◌==◌, Bool, true, false, Option, Some, None, slice_index, is_some, nat_lt, refl, ◌∙◌, if◌then◌else◌}
 use Rattle.nova_word.specs.Bits.{bits}
-use Rattle.nova_memory.specs.Memory.{MemoryState, get, put}
+use Rattle.nova_memory.specs.Memory.{MemoryState, get}
 use Rattle.nova_memory.specs.Address.{address}
 use Rattle.unit_list.specs.Bus.{unit_at}
 use Rattle.nova_interrupts.specs.Interrupts.{enabled, disabled}
 use Rattle.nova_interrupts.specs.Requests.{acknowledged}
-use Rattle.nova_machine.specs.declared.machine.Stop.TheVariants.{Halt, ChainLimit, UnknownDevice}
+use Rattle.nova_machine.specs.declared.machine.Stop.TheVariants.{Halt, UnknownDevice}
 use Rattle.nova_processor.specs.Processor.{ProcessorState}
 use Rattle.nova_processor.specs.Instruction.{memory_reference, arithmetic}
 use Rattle.nova_processor.specs.InputOutput.{input, past, tested, unanswered, multiply_divide}

@@ -1,9 +1,8 @@
 -- What the machine makes of a want leaves a valid state behind it, and its answer is one that the unit can be asked to take.
-use Rattle.std.proofs.Common.{◌≡◌, ℕ, ◌+◌, ◌^◌, ◌<◌, ◌≤◌, ◌==◌, ◌&&◌, Bool, true, false, IsTrue, nat_lt, List, [], ◌∷◌, length, take, get_or, slice_index, Option, Some, None, IfSome, Result, Ok, Err, refl, arith, if◌then◌else◌}
+use Rattle.std.proofs.Common.{ℕ, ◌^◌, ◌<◌, ◌==◌, Bool, nat_lt, List, [], ◌∷◌, length, get_or, slice_index, Option, Some, None, IfSome, Result, Ok, Err, arith}
 use Rattle.std.proofs.lemmas.Bool.{cond_both, ltb-true}
 use Rattle.host_files.specs.declared.files.FileCall.TheVariants.{Read, Write}
 use Rattle.host_files.specs.Lists.{NamedBytes, bytes_of, changed}
-use Rattle.host_files.specs.OneList.{longest_list}
 use Rattle.nova_memory.specs.Memory.{MemoryState, IsMemory}
 use Rattle.unit_trait.specs.declared.kind.Kind.{Kind}
 use Rattle.unit_trait.specs.declared.kind.Kind.TheVariants.{Dsk, Mta, Lpt, Ptr, Ptp, Clk, Tti, Tto, Tti1, Tto1}
@@ -12,7 +11,6 @@ use Rattle.unit_trait.specs.declared.calls.Want.TheVariants as want
 use Rattle.unit_trait.specs.declared.calls.Got.{Got}
 use Rattle.unit_trait.specs.declared.calls.Got.TheVariants as got
 use Rattle.unit_trait.specs.declared.calls.TapeOrder.{TapeOrder}
-use Rattle.unit_trait.specs.Kinds.{code_of}
 use Rattle.unit_trait.specs.Tape.{tape_order}
 use Rattle.unit_trait.specs.Reader.{reader_row}
 use Rattle.unit_trait.specs.Writer.{writer_row}
@@ -21,7 +19,7 @@ use Rattle.unit_trait.specs.Keyboard.{keyboard_row}
 use Rattle.unit_trait.specs.Teleprinter.{teleprinter_row}
 use Rattle.unit_trait.specs.Registers.{registers}
 use Rattle.unit_trait.specs.Calls.{UnitState, Due}
-use Rattle.unit_trait.specs.Row.{row, row_of, InRange, Fits, moves_on}
+use Rattle.unit_trait.specs.Row.{row_of, InRange, Fits}
 use Rattle.unit_trait.proofs.Ranges.{held-within}
 use Rattle.unit_list.specs.Bus.{AllFit, unit_at, row_or_nothing, row_at, IsBelowEnd}
 use Rattle.unit_list.specs.Laws.{BringsByte}
@@ -29,7 +27,7 @@ use Rattle.unit_list.proofs.Calls.{found-fits}
 use Rattle.unit_files.specs.declared.faults.SectorAnswer.{SectorAnswer}
 use Rattle.unit_files.specs.declared.faults.SectorAnswer.TheVariants as sector
 use Rattle.unit_files.specs.Attachments.{Attachment}
-use Rattle.unit_files.specs.Acts.{Failure, ByteSaid, ByteIs, WasWritten, AtEnd, NothingThere, ByteFailed, failure_at, read_act, read_said, byte_at, write_act, write_said, piece_of, byte_written, write_files, most_bytes}
+use Rattle.unit_files.specs.Acts.{Failure, ByteSaid, ByteIs, AtEnd, failure_at, read_act, read_said, byte_at, write_act, write_said, piece_of, byte_written, write_files, most_bytes}
 use Rattle.unit_files.specs.Buffer.{Buffer}
 use Rattle.nova_machine.specs.Sectors.{got_of_sector, said_of_sector}
 use Rattle.nova_machine.specs.Tapes.{NoAnswer, with_nothing_done, with_some_done, tape_answer}

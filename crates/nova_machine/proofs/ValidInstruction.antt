@@ -224,7 +224,7 @@ reset_devices-keeps m valid =
     }
 
 -- a reset of the machine keeps it
-pub reset-keeps : KeepsMachine reset_machine
+pub reset-keeps : (m : MachineState) → ValidMachine m → Follows m (reset_machine m)
 unfolding reset_machine
 reset-keeps m valid =
     let devices = reset_devices-keeps m valid in

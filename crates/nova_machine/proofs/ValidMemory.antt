@@ -1,5 +1,5 @@
 -- Memory stays memory where words are put into it, and what is taken from it is bytes.
-use Rattle.std.proofs.Common.{◌≡◌, ℕ, zero, suc, ◌+◌, ◌*◌, ◌/◌, ◌%◌, ◌^◌, ◌<◌, ◌≤◌, Bool, true, false, List, length, take, drop, min, slice_index, slice_set, Option, Some, None, nat_lt, sym, subst, arith, replicate, ◌++◌}
+use Rattle.std.proofs.Common.{ℕ, zero, suc, ◌+◌, ◌*◌, ◌^◌, ◌<◌, Bool, true, false, List, drop, Option, Some, None, sym, subst, arith, replicate, ◌++◌}
 use Rattle.std.proofs.lemmas.Bool.{cond_both}
 use Rattle.nova_memory.specs.Memory.{MemoryState, IsMemory, IsSize, get, put}
 use Rattle.nova_memory.proofs.Chains.{put-size}

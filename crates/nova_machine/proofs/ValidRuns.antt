@@ -1,5 +1,5 @@
 -- Every turn and run goes from a valid state to valid ones.
-use Rattle.std.proofs.Common.{◌≡◌, ℕ, zero, suc, ◌+◌, ◌^◌, ◌<◌, ◌≤◌, ◌==◌, Bool, true, false, List, [], ◌∷◌, length, replicate, Option, Some, None, refl, ap, sym, subst, ◌∙◌, arith, if◌then◌else◌}
+use Rattle.std.proofs.Common.{ℕ, ◌<◌, Bool, List, [], ◌∷◌, Option, Some, None, refl, sym, subst, arith}
 use Rattle.std.specs.List.{AllByRecursion}
 use Rattle.nova_memory.proofs.Blank.{IsMemory-blank}
 use Rattle.unit_trait.specs.declared.kind.UnitName.{UnitName}
@@ -7,20 +7,22 @@ use Rattle.unit_trait.specs.Kinds.{units_of}
 use Rattle.unit_trait.specs.Calls.{UnitState}
 use Rattle.event_queue.specs.EventList.{dues}
 use Rattle.event_queue.proofs.SoundLists.{sound-none}
-use Rattle.unit_list.specs.Bus.{AllFit, kinds_of}
-use Rattle.unit_list.specs.Reset.{reset_units, reset_events}
+use Rattle.unit_list.specs.Bus.{AllFit}
+use Rattle.unit_list.specs.Reset.{reset_events}
 use Rattle.unit_list.proofs.Resets.{reset-fits, reset-kinds, sound-resets}
+use Rattle.expect_actions.specs.Watch.{empty_watch}
 use Rattle.nova_machine.specs.declared.machine.Stop.{Stop}
+use Rattle.nova_machine.specs.declared.machine.Stop.TheVariants.{ConsoleFault}
+use Rattle.nova_machine.specs.Comes.{Comes}
 use Rattle.nova_machine.specs.Core.{AreListed}
-use Rattle.nova_machine.specs.Machine.{MachineState, new_machine, reset_machine, reset_devices}
-use Rattle.nova_machine.specs.Notes.{UnitNote, RunNote, at_unit, at_time}
-use Rattle.nova_machine.specs.Seen.{Seen, with_machine}
-use Rattle.nova_machine.specs.Parts.{Part, silent, behind_made, followed, then_part}
-use Rattle.nova_machine.specs.Turned.{still}
+use Rattle.nova_machine.specs.Machine.{new_machine, reset_machine, reset_devices}
+use Rattle.nova_machine.specs.Notes.{UnitNote, RunNote, at_unit}
+use Rattle.nova_machine.specs.Seen.{Seen}
+use Rattle.nova_machine.specs.Parts.{Part}
 use Rattle.nova_machine.specs.Service.{service, services, serving, taken}
-use Rattle.nova_machine.specs.Turn.{fetch, interrupt, breaks_tested, turn}
-use Rattle.nova_machine.specs.Run.{last_time, next_turn, turns, run, expired}
-use Rattle.nova_machine.specs.Valid.{ValidMachine, Valid}
+use Rattle.nova_machine.specs.Turn.{breaks_tested, turn}
+use Rattle.nova_machine.specs.Run.{run}
+use Rattle.nova_machine.specs.Valid.{ValidMachine, ValidWatch, Valid}
 use Rattle.nova_machine.specs.ValidLaws.{IsValidPart}
 use Rattle.nova_machine.proofs.Opened.{serving-is, services-none, services-some}
 use Rattle.nova_machine.proofs.Walks.{OfStages, OfEach, each-turn, each-run}
@@ -70,6 +72,11 @@ turn-valid note first s = each-turn StaysValid each-valid note first s
 pub run-valid : (note : Option RunNote) (step : Bool) (n : ℕ) (s : Seen) → Valid s → IsValidPart (run note step n s)
 run-valid note step n s = each-run StaysValid each-valid (λ s stop limit is. valid-silent (Some stop) s is) note step n s
 
+-- what a call has come to that does such a part
+pub left-valid : (p : Part) (stop : Option Stop) (t : Seen) (tells : Bool) (before after : List ℕ) → IsValidPart p → Comes p stop t tells before after → Valid t
+left-valid p (Some ConsoleFault) t tells before after is comes = is.made t comes.stands
+left-valid p stop t tells before after is comes = subst Valid (sym comes.after_is) is.after
+
 -- ---- the beginning
 
 pub new-valid : (us : List UnitState) → AllFit us → ValidMachine (new_machine us)
@@ -88,4 +95,19 @@ new-valid us fit = record {
   };
   places = refl;
   disk = tt;
+}
+
+pub empty-valid : ValidWatch empty_watch
+empty-valid = record {
+  breaks = omega arith;
+  rising = tt;
+  each = tt;
+  expects = omega arith;
+  texts = tt;
+  tail = omega arith;
+  sends = omega arith;
+  in_time = tt;
+  bytes = tt;
+  broke = tt;
+  matched = tt;
 }

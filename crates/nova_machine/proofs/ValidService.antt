@@ -1,8 +1,9 @@
 -- The service of a unit leaves a valid state, and prints in one.
-use Rattle.std.proofs.Common.{◌≡◌, ◌⊎◌, inl, inr, ℕ, ◌<◌, ◌≤◌, ◌==◌, Bool, List, [], ◌∷◌, ◌++◌, Option, Some, None, option_map, IfSome, Result, Ok, Err, refl, ap, sym, subst, ◌∙◌, length}
+use Rattle.std.proofs.Common.{◌≡◌, inl, inr, ℕ, ◌<◌, ◌==◌, List, [], ◌∷◌, Option, Some, None, option_map, IfSome, Result, Ok, Err, refl, ap, sym, subst, ◌∙◌, length}
 use Rattle.std.specs.List.{AllByRecursion}
 use Rattle.std.proofs.lemmas.Bool.{cond_both}
-use Rattle.observations.specs.Observations.{Observation, Prints, Reads, StandsAt}
+use Rattle.observations.specs.Observations.{Observation, StandsAt}
+use Rattle.observations.proofs.MadeLemmas.{stands-either}
 use Rattle.host_files.specs.Lists.{NamedBytes}
 use Rattle.unit_trait.specs.declared.kind.UnitName.{UnitName}
 use Rattle.unit_trait.specs.declared.calls.Want.{Want}
@@ -20,16 +21,15 @@ use Rattle.unit_list.proofs.Resets.{sound-wished}
 use Rattle.unit_list.proofs.Room.{kind-found, room-in, asked-in}
 use Rattle.unit_files.specs.Attachments.{Attachment, attachment_at}
 use Rattle.unit_files.specs.Acts.{Failure}
-use Rattle.expect_actions.specs.Watch.{WatchState}
 use Rattle.nova_machine.specs.declared.machine.Stop.{Stop}
-use Rattle.nova_machine.specs.Core.{IsAmong, AreListed}
+use Rattle.nova_machine.specs.Core.{AreListed}
 use Rattle.nova_machine.specs.Machine.{MachineState}
 use Rattle.nova_machine.specs.Seen.{Seen, with_machine, attached_in}
 use Rattle.nova_machine.specs.Parts.{Part, silent, behind_made, followed, then_part}
 use Rattle.nova_machine.specs.Tapes.{NoAnswer}
-use Rattle.nova_machine.specs.Wants.{answer_to, files_after, watch_after, typed_key, own_stop, prints, unanswered}
+use Rattle.nova_machine.specs.Wants.{answer_to, typed_key, own_stop, prints, unanswered}
 use Rattle.nova_machine.specs.Service.{want_at, asked, answered, stopping, replied, typed_at, sent_at, key_at, done_for, hosted, service, taken}
-use Rattle.nova_machine.specs.Valid.{ValidMachine, ValidWatch, Valid}
+use Rattle.nova_machine.specs.Valid.{ValidMachine, Valid}
 use Rattle.nova_machine.specs.ValidLaws.{IsValidPart}
 use Rattle.nova_machine.proofs.Hosting.{wants-in}
 use Rattle.nova_machine.proofs.Listed.{listed-served, listed-wished, among-found, times_later}
@@ -40,14 +40,6 @@ use Rattle.nova_machine.proofs.ValidWatch.{watch-after, key-typed, key-sent, key
 use Rattle.nova_machine.proofs.ValidAnswers.{writes-in, IsGiven, answer-given, files-behind, memory-hosted}
 
 -- ---- parts
-
--- a state in which one of all comes is one in which one of the first comes, or one of the others
-pub stands-either : (t : Seen) (first second : List (Observation Seen)) → StandsAt t (first ++ second) → StandsAt t first ⊎ StandsAt t second
-stands-either t [] second h = inr h
-stands-either t (Prints text at ∷ more) second (inl h) = inl (inl h)
-stands-either t (Prints text at ∷ more) second (inr h) = elim (stands-either t more second h) [ inl x ↦ inl (inr x) | inr x ↦ inr x ]
-stands-either t (Reads count at ∷ more) second (inl h) = inl (inl h)
-stands-either t (Reads count at ∷ more) second (inr h) = elim (stands-either t more second h) [ inl x ↦ inl (inr x) | inr x ↦ inr x ]
 
 pub valid-silent : (stop : Option Stop) (s : Seen) → Valid s → IsValidPart (silent stop s)
 valid-silent stop s is = record { after = is; made = λ t h. absurd h }

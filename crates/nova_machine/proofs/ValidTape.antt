@@ -1,5 +1,5 @@
 -- An operation on a tape leaves bytes in the files and words in memory, and the tape at a place that its register can hold.
-use Rattle.std.proofs.Common.{◌≡◌, ℕ, ◌+◌, ◌*◌, ◌%◌, ◌==◌, ◌&&◌, ◌≤◌, nat_le, min, Bool, true, false, List, [], ◌++◌, length, take, drop, replicate, Option, Some, None, Result, Ok, Err, refl, arith, if◌then◌else◌}
+use Rattle.std.proofs.Common.{ℕ, ◌+◌, ◌%◌, ◌==◌, ◌&&◌, ◌≤◌, nat_le, min, Bool, true, false, List, [], ◌++◌, length, take, drop, replicate, Option, Some, None, Result, Ok, Err, arith, if◌then◌else◌}
 use Rattle.std.proofs.lemmas.Bool.{cond_both, leb-true}
 use Rattle.std.proofs.lemmas.List.{length-take}
 use Rattle.host_files.specs.declared.files.FileCall.{FileCall}
@@ -20,11 +20,11 @@ use Rattle.simh_tape.specs.declared.items.TapeFault.TheVariants.{BadImage, Faile
 use Rattle.simh_tape.specs.Image.{Met}
 use Rattle.simh_tape.specs.Image.Met.{BlockTo, MarkTo, MediumEnds, AtLoadPoint, BadAt, CallFails}
 use Rattle.simh_tape.specs.Reading.{next_act}
-use Rattle.simh_tape.specs.Spacing.{space_from, space_act}
+use Rattle.simh_tape.specs.Spacing.{space_act}
 use Rattle.simh_tape.specs.Writing.{word_bytes, block_bytes, mark_bytes, after_fault}
 use Rattle.simh_tape.proofs.PlaceLemmas.{MetWithin, next-within, EndsWithin, space-within}
 use Rattle.nova_machine.specs.Tapes.{NoAnswer, FileFails, words_for, block_got, came_to, read_answer, space_answer, put_answer, reading_call, erasing_failure, writing_failure, block_written, mark_written, operation}
-use Rattle.nova_machine.specs.Tapes.{image_of, writes_tape, tape_answer, memory_read, memory_operated, tape_memory, item_written, image_operated, tape_files}
+use Rattle.nova_machine.specs.Tapes.{image_of, writes_tape, tape_answer, memory_read, tape_memory, item_written, image_operated, tape_files}
 use Rattle.nova_machine.specs.Valid.{AreBytes}
 use Rattle.nova_machine.proofs.ValidBytes.{AreFiles, bytes-append, bytes-take, bytes-drop, bytes-zeros, bytes-word, bytes-resized, files-found, files-changed}
 use Rattle.nova_machine.proofs.ValidMemory.{HasSize, memory-block, bytes-block}

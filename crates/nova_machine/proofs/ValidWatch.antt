@@ -1,6 +1,5 @@
 -- The watch tables stay within their limits and in order, and keys that come are bytes.
-use Rattle.std.proofs.Common.{◌≡◌, ℕ, zero, suc, ◌+◌, ◌-◌, ◌^◌, ◌<◌, ◌≤◌, Bool, List, [], ◌∷◌, ◌++◌, length, drop, remove, set, slice_get, Option, Some, None, option_map, unwrap_or, IfSome, refl, ap, sym, subst, arith, nat_le, leb, cond}
-use Rattle.std.specs.Prelude.{option_and_then}
+use Rattle.std.proofs.Common.{◌≡◌, ℕ, zero, suc, ◌-◌, ◌^◌, ◌<◌, ◌≤◌, List, [], ◌∷◌, ◌++◌, length, remove, set, slice_get, Option, Some, None, option_map, unwrap_or, IfSome, refl, subst, arith, nat_le, leb, cond}
 use Rattle.std.specs.List.{AllByRecursion}
 use Rattle.std.proofs.lemmas.Bool.{cond_both}
 use Rattle.std.proofs.lemmas.List.{length-drop, length-set}
@@ -13,7 +12,7 @@ use Rattle.expect_actions.specs.declared.expects.Expect.{Expect}
 use Rattle.expect_actions.specs.Breaks.{is_at, lowered, tested, stop_at, stopped_actions, after_test}
 use Rattle.expect_actions.specs.Expects.{ExpectTable, table, most_expects, longest_text, last_bytes, first_match, counted_down, matched, printed_with, after_printed}
 use Rattle.expect_actions.specs.KeysFile.{due_key}
-use Rattle.expect_actions.specs.Sends.{Send, due_send, sends_left, most_sends, InTime}
+use Rattle.expect_actions.specs.Sends.{Send, due_send, sends_left}
 use Rattle.expect_actions.specs.Watch.{WatchState}
 use Rattle.expect_actions.proofs.BreakLemmas.{tested_length, tested_rising}
 use Rattle.expect_actions.proofs.SendLemmas.{left_stays}

@@ -51,7 +51,7 @@ walk-services P of note (u ∷ us) s =
 pub walk-serving : (P : Seen → Part → Type 0) → OfServices P → (note : Option UnitNote) (s : Seen) → P s (serving note s)
 walk-serving P of note s = subst (P s) (sym (serving-is note s)) (walk-services P of note (dues s.machine.events) s)
 
--- ---- or, where a service is one of a unit whose event is due, of all that are served
+-- ---- the same where it is known of all services of a turn at once: that of one may rest on its unit's event being due
 
 pub record OfStages (P : Seen → Part → Type 0) : Type 0 where
   pub none : (s : Seen) → P s (silent None s)
@@ -77,7 +77,7 @@ stages-tested : (P : Seen → Part → Type 0) → OfStages P → (first : Bool)
 stages-tested P of true s = of.none s
 stages-tested P of false s = of.tested s
 
-pub stages-prepared : (P : Seen → Part → Type 0) → OfStages P → (note : Option UnitNote) (first : Bool) (s : Seen) → P s (prepared note first s)
+stages-prepared : (P : Seen → Part → Type 0) → OfStages P → (note : Option UnitNote) (first : Bool) (s : Seen) → P s (prepared note first s)
 stages-prepared P of note first s =
     subst (P s) (sym (prepared-is note first s)) (of.both s (attended note s) (λ at. breaks_tested_unless first at) (stages-attended P of note s) (stages-tested P of first))
 
@@ -124,6 +124,9 @@ each-run P of over note step count s = each-turns P of over note step true count
 
 each-of : (P : Seen → Part → Type 0) → OfTurns P → OfEach P
 each-of P of = record { stages = stages-of P of.pieces; fetched = of.fetched }
+
+pub walk-turn : (P : Seen → Part → Type 0) → OfTurns P → (note : Option UnitNote) (first : Bool) (s : Seen) → P s (turn note first s)
+walk-turn P of note first s = each-turn P (each-of P of) note first s
 
 pub walk-run : (P : Seen → Part → Type 0) → OfRuns P → (note : Option RunNote) (step : Bool) (count : ℕ) (s : Seen) → P s (run note step count s)
 walk-run P of note step count s = each-run P (each-of P of.turn) of.over note step count s

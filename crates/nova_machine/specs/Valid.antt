@@ -1,5 +1,5 @@
 -- What every state is that a run works on: true of the beginning, and kept by every turn. Laws speak of such states.
-use Rattle.std.specs.Prelude.{◌≡◌, ℕ, ◌^◌, ◌<◌, ◌≤◌, Bool, false, List, length, Option, Some, None}
+use Rattle.std.specs.Prelude.{◌≡◌, ℕ, ◌^◌, ◌<◌, ◌≤◌, false, List, length, Option, Some, None}
 use Rattle.std.specs.List.{AllByRecursion}
 use Rattle.host_files.specs.Lists.{NamedBytes, bytes_of}
 use Rattle.unit_files.specs.Attachments.{Attachment, attachment_at}

@@ -1,4 +1,4 @@
--- Every state of a run is one that a machine can be in, with its files, keys and watch tables; and what that takes at first.
+-- Every state of a run is one that a machine can be in, with its files, keys and watch tables.
 use Rattle.std.specs.Prelude.{◌≡◌, ◌≢◌, ◌↔◌, ℕ, ◌≤◌, Bool, false, List, Option, Some, None, IfSome}
 use Rattle.observations.specs.Observations.{StandsAt}
 use Rattle.unit_trait.specs.declared.kind.Kind.TheVariants.{Dsk}
@@ -7,13 +7,16 @@ use Rattle.unit_trait.specs.Calls.{UnitState}
 use Rattle.unit_list.specs.Bus.{AllFit}
 use Rattle.unit_files.specs.Attachments.{Attachment, attachment_at}
 use Rattle.unit_files.specs.Buffer.{disk_unit}
+use Rattle.expect_actions.specs.Watch.{empty_watch}
+use Rattle.nova_machine.specs.declared.machine.Stop.{Stop}
 use Rattle.nova_machine.specs.Machine.{new_machine}
 use Rattle.nova_machine.specs.Notes.{UnitNote, RunNote}
 use Rattle.nova_machine.specs.Seen.{Seen, attached_in}
 use Rattle.nova_machine.specs.Parts.{Part}
 use Rattle.nova_machine.specs.Turn.{turn}
 use Rattle.nova_machine.specs.Run.{run, last_time}
-use Rattle.nova_machine.specs.Valid.{ValidMachine, Valid, DiskIsItsFile, LeavesDiskFile}
+use Rattle.nova_machine.specs.Comes.{Comes}
+use Rattle.nova_machine.specs.Valid.{ValidMachine, ValidWatch, Valid, DiskIsItsFile, LeavesDiskFile}
 
 -- the state behind a part is valid, and so is each in which something comes: an early end shows one of these
 pub record IsValidPart (p : Part) : Type 0 where
@@ -28,25 +31,35 @@ pub record IsInTime (p : Part) : Type 0 where
 -- no unit of another kind has the disk's file
 abbrev pub HasOwnFile : Option Attachment → List (Option Attachment) → Type 0
 HasOwnFile None attached = Unit {0}
-HasOwnFile (Some a) attached = (u : UnitName) → u.kind ≢ Dsk → IfSome (attachment_at attached u) (λ b. b.name ≢ a.name)
+HasOwnFile (Some a) attached =
+    (u : UnitName) → u.kind ≢ Dsk → IfSome (attachment_at attached u) (λ b. b.name ≢ a.name)
 
 abbrev pub DiskHasOwnFile : Seen → Type 0
 DiskHasOwnFile s = HasOwnFile (attachment_at (attached_in s.machine) disk_unit) (attached_in s.machine)
 
--- Where nothing is to be written back behind a part, nothing was written to the disk's copy in it. So the copy is that of
--- its file still, exactly where the file then has the bytes that it had.
+-- the disk's copy of its file over a part
 pub record KeepsCopy (s : Seen) (p : Part) : Type 0 where
+  -- where nothing is to be written back behind it, nothing was written into the copy
   pub written : p.after.machine.disk.written ≡ false → p.after.machine.disk ≡ s.machine.disk
-  pub copy : DiskIsItsFile s → (DiskIsItsFile p.after ↔ (p.after.machine.disk.written ≡ false → LeavesDiskFile s p.after))
-  -- and it has, where no other unit has the file
+  -- so it is that of its file still, exactly where the file then has the bytes that it had
+  pub copy : DiskIsItsFile s
+      → (DiskIsItsFile p.after ↔ (p.after.machine.disk.written ≡ false → LeavesDiskFile s p.after))
+  -- and the file has them, where no other unit has it
   pub alone : DiskHasOwnFile s → LeavesDiskFile s p.after
 
 pub record RunsStayValid : Type 0 where
-  -- a new machine with whatever units whose registers are in their ranges
+  -- a new machine, with whatever units whose registers are in their ranges, and empty watch tables
   pub begin : (units : List UnitState) → AllFit units → ValidMachine (new_machine units)
+  pub nothing_watched : ValidWatch empty_watch
   pub turn_valid : (note : Option UnitNote) (first : Bool) (s : Seen) → Valid s → IsValidPart (turn note first s)
-  pub run_valid : (note : Option RunNote) (step : Bool) (n : ℕ) (s : Seen) → Valid s → IsValidPart (run note step n s)
+  pub run_valid : (note : Option RunNote) (step : Bool) (n : ℕ) (s : Seen) → Valid s
+      → IsValidPart (run note step n s)
+  -- what a call has come to that does such a part is valid then, also where a byte was refused
+  pub left_valid : (p : Part) (stop : Option Stop) (t : Seen) (tells : Bool) (before after : List ℕ) → IsValidPart p
+      → Comes p stop t tells before after → Valid t
   -- no run goes past the end of time
-  pub run_time : (note : Option RunNote) (step : Bool) (n : ℕ) (s : Seen) → s.machine.time ≤ last_time → IsInTime (run note step n s)
+  pub run_time : (note : Option RunNote) (step : Bool) (n : ℕ) (s : Seen) → s.machine.time ≤ last_time
+      → IsInTime (run note step n s)
   pub turn_copy : (note : Option UnitNote) (first : Bool) (s : Seen) → Valid s → KeepsCopy s (turn note first s)
-  pub run_copy : (note : Option RunNote) (step : Bool) (n : ℕ) (s : Seen) → Valid s → KeepsCopy s (run note step n s)
+  pub run_copy : (note : Option RunNote) (step : Bool) (n : ℕ) (s : Seen) → Valid s
+      → KeepsCopy s (run note step n s)

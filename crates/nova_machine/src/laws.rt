@@ -33,9 +33,9 @@ pub fn same_state_same_run()
     ensures { SameStateSameRun }
 {}
 
-/// The law of what every state is that a run works on: a new machine is valid, and a turn and a run go from a valid state
-/// to valid ones, also where something comes in between; no run goes past the end of time; and the disk's copy is that of
-/// its file where nothing is to be written back, as long as nothing else changes that file.
+/// The law of what every state is that a run works on: a new machine is valid, and a turn and a run go from a valid
+/// state to valid ones, also where something comes in between; no run goes past the end of time; and the disk's copy is
+/// that of its file where nothing is to be written back, as long as nothing else changes that file.
 pub fn runs_stay_valid()
     ensures { RunsStayValid }
 {}
