@@ -350,7 +350,7 @@ all-emptied time (u ∷ us) s own v kept among =
 
 -- ---- a unit has kept its file: the disk, which comes first
 
-abbrev AreOthers : List UnitName → Type 0
+abbrev pub AreOthers : List UnitName → Type 0
 AreOthers us = AllByRecursion (λ (u : UnitName). is_disk u.kind ≡ false) us
 
 not-held : (u : UnitName) (s : Filed) (fault : Option Failure) (g : Failure) → is_disk u.kind ≡ false → said_in fault u s ≡ StillHeld g → ⊥
@@ -473,7 +473,7 @@ module _ (number time : ℕ) (live : Live) (from to : Filed) (k : Option UnitNam
         behind = come-behind live e.own (are-of live.machine.time attachable (filed_in live) e.own used);
       }
 
-none-other : AreOthers (record { kind = Mta; unit = 0 } ∷ record { kind = Mta; unit = 1 } ∷ record { kind = Mta; unit = 2 } ∷ record { kind = Mta; unit = 3 } ∷ record { kind = Mta; unit = 4 } ∷ record { kind = Mta; unit = 5 } ∷ record { kind = Mta; unit = 6 } ∷ record { kind = Mta; unit = 7 } ∷ record { kind = Lpt; unit = 0 } ∷ record { kind = Ptr; unit = 0 } ∷ record { kind = Ptp; unit = 0 } ∷ [])
+pub none-other : AreOthers (record { kind = Mta; unit = 0 } ∷ record { kind = Mta; unit = 1 } ∷ record { kind = Mta; unit = 2 } ∷ record { kind = Mta; unit = 3 } ∷ record { kind = Mta; unit = 4 } ∷ record { kind = Mta; unit = 5 } ∷ record { kind = Mta; unit = 6 } ∷ record { kind = Mta; unit = 7 } ∷ record { kind = Lpt; unit = 0 } ∷ record { kind = Ptr; unit = 0 } ∷ record { kind = Ptp; unit = 0 } ∷ [])
 none-other = (refl, (refl, (refl, (refl, (refl, (refl, (refl, (refl, (refl, (refl, (refl, tt)))))))))))
 
 -- a unit that has kept its file is the disk, and then only files have changed

@@ -26,3 +26,8 @@ pub mod AskedLemmas
 pub mod PrintedLemmas
 pub mod QuotedLemmas
 pub mod WatchLines
+pub mod ValidWatch
+pub mod ValidFiles
+pub mod ValidMachines
+pub mod ValidCopies
+pub mod ValidEffect

@@ -21,3 +21,4 @@ pub mod Refusals
 pub mod Doing
 pub mod Parts
 pub mod Laws
+pub mod Valid

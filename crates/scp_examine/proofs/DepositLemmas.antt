@@ -34,7 +34,7 @@ use Rattle.scp_examine.proofs.RegisterLemmas.{same_register, register_of-other}
 
 -- A word is put into memory.
 
-IsMemory-put : (mem : MemoryState) (a v : ℕ) → IsMemory mem → a < mem.size → v < 2 ^ 16 → IsMemory (put mem a v)
+pub IsMemory-put : (mem : MemoryState) (a v : ℕ) → IsMemory mem → a < mem.size → v < 2 ^ 16 → IsMemory (put mem a v)
 IsMemory-put mem a v is h word =
     let after : MemoryState = record mem { words = set mem.words a v } in
     let made : put mem a v ≡ after = rw (lt-ltb a mem.size h) refl in
@@ -98,7 +98,7 @@ pub record PutsOne (place : Place) (value : ℕ) (before after : MachineState) :
   pub events : after.events ≡ before.events
   pub machine : IsMachine after
 
-word_value : (v : ℕ) → out_of_range_unless (nat_le v largest_word) ≡ None → v < 2 ^ 16
+pub word_value : (v : ℕ) → out_of_range_unless (nat_le v largest_word) ≡ None → v < 2 ^ 16
 word_value v none =
     let h : v ≤ 65535 = leb-true v 65535 (fits_from_none (nat_le v largest_word) none) in
     omega arith
@@ -315,7 +315,7 @@ item_takes shape v device (item.Reg i) named none =
 item_takes shape v device item.State named none = state_takes shape v device (name_fits (has_named shape device) named) none
 item_takes shape v device item.Unknown named none = tt
 
-items_take : (shape : Shape) (v : ℕ) (device : Name) (items : List Item) → items_fault (deposit_fault shape device v) items ≡ None → AllTake shape v (all_places shape device items)
+pub items_take : (shape : Shape) (v : ℕ) (device : Name) (items : List Item) → items_fault (deposit_fault shape device v) items ≡ None → AllTake shape v (all_places shape device items)
 unfolding items_fault all_places
 items_take shape v device [] none = tt
 items_take shape v device (i ∷ more) none =
