@@ -14,8 +14,8 @@ pub const BUSY: u8 = 0;
 /// The number of DONE, in every device.
 pub const DONE: u8 = 1;
 
-/// The number of POS, of a unit that goes through its file from place to place: a tape drive, or one that reads or writes
-/// byte by byte.
+/// The number of POS, of a unit that goes through its file from place to place: a tape drive, or one that reads or
+/// writes byte by byte.
 pub fn position_register(unit: UnitName) -> u8
     requires { unit.unit < units_of unit.kind }
     ensures { result ≡ position_number unit }
