@@ -238,7 +238,11 @@ fn set_position<U: Unit>(machine: &mut Machine<U>, unit: UnitName, place: u64)
     ensures { machine.new ≡ record machine.old { units = positioned unit place machine.old.units } }
 {
     match unit.kind {
-        Kind::Mta | Kind::Lpt | Kind::Ptr | Kind::Ptp => {
+        Kind::Mta => {
+            let position = position_register(unit);
+            let _fits = machine.set_unit_reg(Kind::Mta, position, place as u32);
+        }
+        Kind::Lpt | Kind::Ptr | Kind::Ptp => {
             let position = position_register(unit);
             let _fits = machine.set_unit_reg(unit.kind, position, place as u32);
         }
