@@ -29,9 +29,8 @@ use Rattle.nova_machine.specs.Valid.{AreBytes, ValidMachine}
 use Rattle.nova_machine.proofs.ValidBytes.{AreFiles, files-found, files-with, files-changed, bytes-take, bytes-overwritten}
 use Rattle.scp_parser.specs.Command.{IsDrive}
 use Rattle.scp_commands.specs.Live.{numberless, with_attached}
-use Rattle.scp_commands.specs.FileEffects.{has_files, has_position, positioned, first_place, attached_machine, detached_machine}
+use Rattle.scp_commands.specs.FileEffects.{position_number, has_files, has_position, positioned, first_place, attached_machine, detached_machine}
 use Rattle.scp_examine.proofs.UnitLemmas.{all_fit-set, kinds-set}
-use Rattle.unit_trait.specs.Registers.{position_number}
 
 -- ---- files
 

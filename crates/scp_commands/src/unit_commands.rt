@@ -22,7 +22,7 @@ use host_files::Files;
 use nova_machine::Machine;
 use std::alloc::Global;
 use unit_files::{AttachMode, DetachFault};
-use unit_trait::{Kind, Unit, UnitName, position_register};
+use unit_trait::{Kind, POS, POS0, Unit, UnitName};
 
 /// ATTACH opens a file for a unit, and sets POS to the place where the unit goes on in it. It prints nothing.
 #[tactic(auto, unfolding(crate::specs::FileEffects::attach_reply))]
@@ -239,12 +239,10 @@ fn set_position<U: Unit>(machine: &mut Machine<U>, unit: UnitName, place: u64)
 {
     match unit.kind {
         Kind::Mta => {
-            let position = position_register(unit);
-            let _fits = machine.set_unit_reg(Kind::Mta, position, place as u32);
+            let _fits = machine.set_unit_reg(Kind::Mta, POS0 + unit.unit, place as u32);
         }
         Kind::Lpt | Kind::Ptr | Kind::Ptp => {
-            let position = position_register(unit);
-            let _fits = machine.set_unit_reg(unit.kind, position, place as u32);
+            let _fits = machine.set_unit_reg(unit.kind, POS, place as u32);
         }
         _ => {}
     }
