@@ -9,7 +9,7 @@ use Rattle.expect_actions.specs.Watch.{WatchState}
 use Rattle.nova_machine.specs.Machine.{MachineState}
 use Rattle.nova_machine.specs.Notes.{UnitNote, RunNote, at_time, unit_note, run_note}
 use Rattle.nova_machine.specs.Seen.{Seen, seen, beside}
-use Rattle.nova_machine.specs.Parts.{Part, silent, behind_made, followed, then_part}
+use Rattle.nova_machine.specs.Parts.{Part, silent, then_part}
 use Rattle.nova_machine.specs.Turn.{turn}
 use Rattle.nova_machine.specs.Run.{next_turn, turns, expired, last_time}
 use Rattle.nova_machine.specs.Bursts.{Bursts}

@@ -23,7 +23,7 @@ use Rattle.unit_files.specs.Acts.{Failure}
 use Rattle.nova_machine.specs.Notes.{UnitNote}
 use Rattle.nova_machine.specs.Seen.{Seen, with_machine, attached_in}
 use Rattle.nova_machine.specs.Parts.{Part, behind_made, followed}
-use Rattle.nova_machine.specs.Turned.{Turned, begun, ticked, goes_on, still}
+use Rattle.nova_machine.specs.Turned.{Turned, begun, ticked, goes_on}
 use Rattle.nova_processor.specs.Instruction.{advanced}
 use Rattle.nova_processor.specs.InputOutput.{past}
 use Rattle.nova_machine.specs.Transfer.{central_function, central_pulse, central, to_processor, to_device, transfer}

@@ -1,6 +1,5 @@
 -- What every instruction and every turn keeps, and how time grows over a turn.
-use Rattle.std.proofs.Common.{◌≡◌, ℕ, zero, suc, ◌+◌, ◌≤◌, ◌==◌, Bool, true, false, List, Option, Some, None, option_map, Result, Ok, Err, slice_index, refl, ap, ◌∙◌, if◌then◌else◌, arith, sym, subst}
-use Rattle.std.proofs.lemmas.Bool.Decides.{nat_tests}
+use Rattle.std.proofs.Common.{◌≡◌, ℕ, zero, suc, ◌+◌, ◌≤◌, ◌==◌, Bool, true, false, List, Option, Some, None, option_map, Result, Ok, Err, slice_index, refl, ap, ◌∙◌, if◌then◌else◌, arith}
 use Rattle.observations.specs.Observations.{Observation}
 use Rattle.nova_word.specs.Bits.{bits}
 use Rattle.nova_memory.specs.Memory.{MemoryState, get, put}
@@ -33,11 +32,11 @@ use Rattle.nova_machine.specs.Wants.{prints, stop_by, key_stop, own_stop, wru, a
 use Rattle.expect_actions.specs.Breaks.{stop_at}
 use Rattle.expect_actions.specs.Expects.{ExpectTable, match_at}
 use Rattle.nova_machine.specs.Service.{asked, answered, first_stop, replied, hosted, want_at, key_at, service, taken}
-use Rattle.nova_machine.specs.Turn.{with_memory, refer_to, refer, execute, fetch, is_interrupted, jump_to, interrupt_reference, enter, interrupt, breaks_tested, prepared, turn}
+use Rattle.nova_machine.specs.Turn.{with_memory, refer_to, refer, execute, fetch, is_interrupted, jump_to, interrupt_reference, enter, interrupt, breaks_tested, turn}
 use Rattle.nova_machine.specs.Laws.{IsLimit, Unchanged}
 use Rattle.unit_trait.specs.declared.calls.TapeOrder.{TapeOrder}
 use Rattle.host_files.specs.Lists.{NamedBytes}
-use Rattle.nova_machine.specs.Tapes.{NoAnswer, FileFails, ImageIsBad, block_put, memory_read, tape_memory, image_of, reading_call}
+use Rattle.nova_machine.specs.Tapes.{NoAnswer, FileFails, ImageIsBad, block_put, memory_read, tape_memory, image_of, failing_call}
 use Rattle.simh_tape.specs.Image.{Met}
 use Rattle.simh_tape.specs.Image.Met.{BlockTo}
 use Rattle.simh_tape.specs.Reading.{next_act}
@@ -373,8 +372,8 @@ tape-size : (fault : Option Failure) (a : Option Attachment) (files : List Named
 tape-size fault None files order m = refl
 tape-size fault (Some a) files order m = by_command (order.command == 0)
   where
-    by_command : (b : Bool) → (if b then memory_read (image_of a files) order (next_act (image_of a files) order.place (reading_call true fault)) m else m).size ≡ m.size
-    by_command true = read-size (image_of a files) order (next_act (image_of a files) order.place (reading_call true fault)) m
+    by_command : (b : Bool) → (if b then memory_read (image_of a files) order (next_act (image_of a files) order.place (failing_call fault)) m else m).size ≡ m.size
+    by_command true = read-size (image_of a files) order (next_act (image_of a files) order.place (failing_call fault)) m
     by_command false = refl
 
 size-behind : (fault : Option Failure) (a : Option Attachment) (files : List NamedBytes) (disk : Buffer) (w : Want) (m : MemoryState)

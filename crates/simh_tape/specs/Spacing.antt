@@ -37,11 +37,11 @@ space_from zero forward bytes place passed = Ok (record { place = place; passed 
 space_from (suc count) forward bytes place passed =
     space_over (λ behind. space_from count forward bytes behind (passed + 1)) place passed (item_from forward bytes place)
 
--- whether spacing over at most so many blocks makes that call: one that is made at a later item is made at the first too
+-- whether spacing over at most so many blocks makes that call: one that a later item takes is made at the first too
 abbrev pub space_calls : ℕ → Bool → List ℕ → ℕ → FileCall → Bool
 space_calls count forward bytes place call = nat_lt 0 count && item_calls forward bytes place call
 
--- spacing over at most so many blocks, where no call fails or that one does, if it is one that the spacing makes
+-- that spacing, where no call fails or that one does, if it is one that the spacing makes
 abbrev pub space_act : List ℕ → ℕ → ℕ → Bool → Option FileCall → Result Spaced TapeFault
 space_act bytes place count forward None = space_from count forward bytes place 0
 space_act bytes place count forward (Some call) =
