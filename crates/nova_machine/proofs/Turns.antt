@@ -36,7 +36,7 @@ use Rattle.nova_machine.specs.Turn.{with_memory, refer_to, refer, execute, fetch
 use Rattle.nova_machine.specs.Laws.{IsLimit, Unchanged}
 use Rattle.unit_trait.specs.declared.calls.TapeOrder.{TapeOrder}
 use Rattle.host_files.specs.Lists.{NamedBytes}
-use Rattle.nova_machine.specs.Tapes.{NoAnswer, FileFails, ImageIsBad, block_put, memory_read, tape_memory, image_of, reading_call}
+use Rattle.nova_machine.specs.Tapes.{NoAnswer, FileFails, ImageIsBad, block_put, memory_read, tape_memory, image_of, failing_call}
 use Rattle.simh_tape.specs.Image.{Met}
 use Rattle.simh_tape.specs.Image.Met.{BlockTo}
 use Rattle.simh_tape.specs.Reading.{next_act}
@@ -365,8 +365,8 @@ tape-size : (fault : Option Failure) (a : Option Attachment) (files : List Named
 tape-size fault None files order m = refl
 tape-size fault (Some a) files order m = by_command (order.command == 0)
   where
-    by_command : (b : Bool) → (if b then memory_read (image_of a files) order (next_act (image_of a files) order.place (reading_call true fault)) m else m).size ≡ m.size
-    by_command true = read-size (image_of a files) order (next_act (image_of a files) order.place (reading_call true fault)) m
+    by_command : (b : Bool) → (if b then memory_read (image_of a files) order (next_act (image_of a files) order.place (failing_call fault)) m else m).size ≡ m.size
+    by_command true = read-size (image_of a files) order (next_act (image_of a files) order.place (failing_call fault)) m
     by_command false = refl
 
 size-behind : (fault : Option Failure) (a : Option Attachment) (files : List NamedBytes) (disk : Buffer) (w : Want) (m : MemoryState)

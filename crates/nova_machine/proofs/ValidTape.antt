@@ -1,7 +1,6 @@
 -- An operation on a tape leaves bytes in the files and words in memory, and the tape at a place that its register can hold.
 use Rattle.std.proofs.Common.{ℕ, ◌+◌, ◌%◌, ◌==◌, ◌&&◌, ◌≤◌, nat_le, min, Bool, true, false, List, [], ◌++◌, length, take, drop, replicate, Option, Some, None, Result, Ok, Err, arith, if◌then◌else◌}
 use Rattle.std.proofs.lemmas.Bool.{cond_both, leb-true}
-use Rattle.std.proofs.lemmas.List.{length-take}
 use Rattle.host_files.specs.declared.files.FileCall.{FileCall}
 use Rattle.host_files.specs.declared.files.FileCall.TheVariants.{Write}
 use Rattle.host_files.specs.Lists.{NamedBytes, bytes_of, changed, resized}
@@ -17,13 +16,13 @@ use Rattle.unit_files.specs.Acts.{Failure}
 use Rattle.simh_tape.specs.declared.spacing.Spaced.{Spaced}
 use Rattle.simh_tape.specs.declared.items.TapeFault.{TapeFault}
 use Rattle.simh_tape.specs.declared.items.TapeFault.TheVariants.{BadImage, Failed}
-use Rattle.simh_tape.specs.Image.{Met}
+use Rattle.simh_tape.specs.Image.{Met, next}
 use Rattle.simh_tape.specs.Image.Met.{BlockTo, MarkTo, MediumEnds, AtLoadPoint, BadAt, CallFails}
-use Rattle.simh_tape.specs.Reading.{next_act}
-use Rattle.simh_tape.specs.Spacing.{space_act}
+use Rattle.simh_tape.specs.Reading.{next_calls, next_act}
+use Rattle.simh_tape.specs.Spacing.{space_from, space_calls, space_act}
 use Rattle.simh_tape.specs.Writing.{word_bytes, block_bytes, mark_bytes, after_fault}
-use Rattle.simh_tape.proofs.PlaceLemmas.{MetWithin, next-within, EndsWithin, space-within}
-use Rattle.nova_machine.specs.Tapes.{NoAnswer, FileFails, words_for, block_got, came_to, read_answer, space_answer, put_answer, reading_call, erasing_failure, writing_failure, block_written, mark_written, operation}
+use Rattle.simh_tape.proofs.PlaceLemmas.{shown-short, MetWithin, next-within, EndsWithin, space-within}
+use Rattle.nova_machine.specs.Tapes.{NoAnswer, FileFails, words_for, block_got, came_to, read_answer, space_answer, put_answer, failing_call, erasing_failure, writing_failure, block_written, mark_written, operation}
 use Rattle.nova_machine.specs.Tapes.{image_of, writes_tape, tape_answer, memory_read, tape_memory, item_written, image_operated, tape_files}
 use Rattle.nova_machine.specs.Valid.{AreBytes}
 use Rattle.nova_machine.proofs.ValidBytes.{AreFiles, bytes-append, bytes-take, bytes-drop, bytes-zeros, bytes-word, bytes-resized, files-found, files-changed}
@@ -37,10 +36,6 @@ bytes-shown bytes all = bytes-take longest_list bytes all
 
 bytes-image : (a : Attachment) (files : List NamedBytes) → AreFiles files → AreBytes (image_of a files)
 bytes-image a files all = bytes-shown (bytes_of files a.name) (files-found files a.name all)
-
-shown-short : (bytes : List ℕ) → length (shown bytes) ≤ longest_list
-unfolding shown
-shown-short bytes = omega (arith, length-take longest_list bytes)
 
 -- ---- what is written
 
@@ -95,7 +90,7 @@ pub memory-tape : (fault : Option Failure) (a : Option Attachment) (files : List
 memory-tape fault None files order memory all is = is
 memory-tape fault (Some a) files order memory all is =
     let image = image_of a files in
-    let met = next_act image order.place (reading_call true fault) in
+    let met = next_act image order.place (failing_call fault) in
     cond_both (order.command == 0) (memory_read image order met memory) memory HasSize (λ _. memory-met image order met memory (bytes-image a files all) is) (λ _. is)
 
 -- ---- where the tape then stands
@@ -107,17 +102,20 @@ StandsOnTape (Ok (got.Byte b)) = ⊥
 StandsOnTape (Ok (got.Key b)) = ⊥
 StandsOnTape result = Unit {0}
 
-act-within : (image : List ℕ) (place : ℕ) (fault : Option FileCall) → MetWithin (length image) (next_act image place fault)
-act-within image place None = next-within image place
-act-within image place (Some call) = tt
-
 read-stands : (order : TapeOrder) (met : Met) (long : ℕ) → long ≤ longest_list → order.place ≤ longest_list → MetWithin long met → StandsOnTape (read_answer order met)
 read-stands order (BlockTo bytes flagged behind) long short here within = omega arith
 read-stands order (MarkTo behind) long short here within = omega arith
 read-stands order MediumEnds long short here within = here
 read-stands order AtLoadPoint long short here within = omega arith
 read-stands order (BadAt place) long short here within = tt
-read-stands order (CallFails call) long short here within = tt
+read-stands order (CallFails call) long short here within = absurd within
+
+next-stands : (image : List ℕ) (order : TapeOrder) (fault : Option FileCall) → length image ≤ longest_list → order.place ≤ longest_list
+    → StandsOnTape (read_answer order (next_act image order.place fault))
+next-stands image order None short here = read-stands order (next image order.place) (length image) short here (next-within image order.place)
+next-stands image order (Some call) short here =
+    cond_both (next_calls order.place call) (CallFails call) (next image order.place) (λ (met : Met). StandsOnTape (read_answer order met)) (λ _. tt)
+    (λ _. read-stands order (next image order.place) (length image) short here (next-within image order.place))
 
 space-stands : (result : Result Spaced TapeFault) → EndsWithin longest_list result → StandsOnTape (space_answer result)
 space-stands (Ok s) within = within
@@ -127,7 +125,9 @@ space-stands (Err (Failed call)) within = tt
 spaced-within : (image : List ℕ) (place count : ℕ) (forward : Bool) (fault : Option FileCall) → length image ≤ longest_list → place ≤ longest_list
     → EndsWithin longest_list (space_act image place count forward fault)
 spaced-within image place count forward None short here = space-within count forward image place 0 longest_list short here
-spaced-within image place count forward (Some call) short here = tt
+spaced-within image place count forward (Some call) short here =
+    cond_both (space_calls count forward image place call) (Err (Failed call)) (space_from count forward image place 0) (EndsWithin longest_list) (λ _. tt)
+    (λ _. space-within count forward image place 0 longest_list short here)
 
 put-stands : (fault : Option Failure) (order : TapeOrder) (size : ℕ) (end : TapeEnd) (words : ℕ) → order.place ≤ longest_list → StandsOnTape (put_answer fault order size end words)
 put-stands None order size end words here =
@@ -140,21 +140,20 @@ operation-stands : (fault : Option Failure) (image : List ℕ) (order : TapeOrde
 operation-stands fault image order short here =
     let P : Result Got NoAnswer → Type 0 = StandsOnTape in
     let c = order.command in
-    let forward = reading_call true fault in
-    let back = reading_call false fault in
+    let call = failing_call fault in
     let size = block_written order.count in
-    let r0 = read_answer order (next_act image order.place forward) in
+    let r0 = read_answer order (next_act image order.place call) in
     let r1 : Result Got NoAnswer = Ok (got.Tape (came_to ends.Plain 0 0 0)) in
-    let r3 = space_answer (space_act image order.place order.count true forward) in
-    let r4 = space_answer (space_act image order.place order.count false back) in
+    let r3 = space_answer (space_act image order.place order.count true call) in
+    let r4 = space_answer (space_act image order.place order.count false call) in
     let r5 = put_answer (writing_failure size fault) order size ends.Plain order.count in
     let r6 = put_answer (writing_failure mark_written fault) order mark_written ends.Mark 0 in
     let r7 = put_answer (erasing_failure fault) order 0 ends.Plain 0 in
     let none : Result Got NoAnswer = Ok got.Done in
-    cond_both (c == 0) r0 _ P (λ _. read-stands order (next_act image order.place forward) (length image) short here (act-within image order.place forward))
+    cond_both (c == 0) r0 _ P (λ _. next-stands image order call short here)
     (λ _. cond_both (c == 1) r1 _ P (λ _. omega arith)
-    (λ _. cond_both (c == 3) r3 _ P (λ _. space-stands (space_act image order.place order.count true forward) (spaced-within image order.place order.count true forward short here))
-    (λ _. cond_both (c == 4) r4 _ P (λ _. space-stands (space_act image order.place order.count false back) (spaced-within image order.place order.count false back short here))
+    (λ _. cond_both (c == 3) r3 _ P (λ _. space-stands (space_act image order.place order.count true call) (spaced-within image order.place order.count true call short here))
+    (λ _. cond_both (c == 4) r4 _ P (λ _. space-stands (space_act image order.place order.count false call) (spaced-within image order.place order.count false call short here))
     (λ _. cond_both (c == 5) r5 _ P (λ _. put-stands (writing_failure size fault) order size ends.Plain order.count here)
     (λ _. cond_both (c == 6) r6 _ P (λ _. put-stands (writing_failure mark_written fault) order mark_written ends.Mark 0 here)
     (λ _. cond_both (c == 7) r7 none P (λ _. put-stands (erasing_failure fault) order 0 ends.Plain 0 here) (λ _. tt)))))))

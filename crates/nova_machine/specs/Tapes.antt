@@ -2,7 +2,7 @@
 -- and Handling). On a tape the high byte of each word stands first.
 use Rattle.std.specs.Prelude.{ℕ, zero, suc, ◌+◌, ◌*◌, ◌/◌, ◌%◌, ◌^◌, ◌==◌, ◌&&◌, nat_le, nat_lt, min, Bool, true, false, List, [], ◌∷◌, ◌++◌, length, take, drop, slice_index, Option, Some, None, option_map, Result, Ok, Err, if◌then◌else◌}
 use Rattle.host_files.specs.declared.files.FileCall.{FileCall}
-use Rattle.host_files.specs.declared.files.FileCall.TheVariants.{Length, Read, Write, SetLength}
+use Rattle.host_files.specs.declared.files.FileCall.TheVariants.{Write, SetLength}
 use Rattle.host_files.specs.Lists.{NamedBytes, bytes_of, changed, resized}
 use Rattle.host_files.specs.OneList.{longest_list, shown}
 use Rattle.nova_memory.specs.Memory.{MemoryState, get, put}
@@ -92,11 +92,6 @@ abbrev pub first_failure : Option Failure → Option Failure → Option Failure
 first_failure (Some f) other = Some f
 first_failure None other = other
 
--- An item is read forward by reads; backwards the length is asked for first.
-abbrev pub reading_failure : Bool → Option Failure → Option Failure
-reading_failure true fault = failure_at Read fault
-reading_failure false fault = first_failure (failure_at Length fault) (failure_at Read fault)
-
 -- a call that writes nothing
 abbrev pub with_nothing_done : Option Failure → Option Failure
 with_nothing_done None = None
@@ -114,13 +109,9 @@ with_some_done size (Some f) = Some (record f { done = min f.done size })
 abbrev pub writing_failure : ℕ → Option Failure → Option Failure
 writing_failure size fault = first_failure (erasing_failure fault) (with_some_done size (failure_at Write fault))
 
--- the call of it
+-- the call that fails, which a reading takes only where it makes that call
 abbrev pub failing_call : Option Failure → Option FileCall
 failing_call fault = option_map (λ f. f.call) fault
-
--- the call of a reading that fails
-abbrev pub reading_call : Bool → Option Failure → Option FileCall
-reading_call forward fault = failing_call (reading_failure forward fault)
 
 -- ---- what an operation answers
 
@@ -144,10 +135,10 @@ mark_written = 4
 -- writing a block, writing a mark, and erasing. Another command does nothing.
 abbrev pub operation : Option Failure → List ℕ → TapeOrder → Result Got NoAnswer
 operation fault image order =
-    if order.command == 0 then read_answer order (next_act image order.place (reading_call true fault))
+    if order.command == 0 then read_answer order (next_act image order.place (failing_call fault))
     else if order.command == 1 then Ok (got.Tape (came_to ends.Plain 0 0 0))
-    else if order.command == 3 then space_answer (space_act image order.place order.count true (reading_call true fault))
-    else if order.command == 4 then space_answer (space_act image order.place order.count false (reading_call false fault))
+    else if order.command == 3 then space_answer (space_act image order.place order.count true (failing_call fault))
+    else if order.command == 4 then space_answer (space_act image order.place order.count false (failing_call fault))
     else if order.command == 5 then put_answer (writing_failure (block_written order.count) fault) order (block_written order.count) ends.Plain order.count
     else if order.command == 6 then put_answer (writing_failure mark_written fault) order mark_written ends.Mark 0
     else if order.command == 7 then put_answer (erasing_failure fault) order 0 ends.Plain 0
@@ -175,7 +166,7 @@ memory_read image order met memory = memory
 
 abbrev pub memory_operated : Option Failure → List ℕ → TapeOrder → MemoryState → MemoryState
 memory_operated fault image order memory =
-    if order.command == 0 then memory_read image order (next_act image order.place (reading_call true fault)) memory else memory
+    if order.command == 0 then memory_read image order (next_act image order.place (failing_call fault)) memory else memory
 
 abbrev pub tape_memory : Option Failure → Option Attachment → List NamedBytes → TapeOrder → MemoryState → MemoryState
 tape_memory fault None files order memory = memory

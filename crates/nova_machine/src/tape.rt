@@ -7,7 +7,7 @@ ghost use Rattle.simh_tape.specs.Reading.{next_act};
 ghost use Rattle.simh_tape.specs.Spacing.{space_act};
 ghost use Rattle.simh_tape.specs.Writing.{block_bytes, mark_bytes};
 ghost use Rattle.nova_machine.specs.Tapes.{writes_tape, block_put, block_got, came_to, read_answer, space_answer, put_answer, operation};
-ghost use Rattle.nova_machine.specs.Tapes.{reading_call, writing_failure, erasing_failure, block_written, mark_written};
+ghost use Rattle.nova_machine.specs.Tapes.{failing_call, writing_failure, erasing_failure, block_written, mark_written};
 ghost use Rattle.nova_machine.specs.Tapes.{memory_read, memory_operated, item_written, image_operated};
 ghost use Rattle.nova_machine.specs.Operated.{operated, failure_of, stop_of, IsOnImage, CountsStop, IsTapeCall};
 
@@ -87,9 +87,9 @@ fn read<B: Bytes>(memory: &mut Memory, order: TapeOrder, tape: &mut B) -> Result
     requires address { order.address < 2 ^ 15 }
     requires most { order.count ≤ 2 ^ 12 }
     ensures said { IsTrue B.tells → operated result
-        ≡ read_answer order (next_act (shown (B.content tape.old)) order.place (reading_call true (failure_of result))) }
+        ≡ read_answer order (next_act (shown (B.content tape.old)) order.place (failing_call (failure_of result))) }
     ensures memory { IsTrue B.tells → memory.new ≡ memory_read (shown (B.content tape.old)) order
-        (next_act (shown (B.content tape.old)) order.place (reading_call true (failure_of result))) memory.old }
+        (next_act (shown (B.content tape.old)) order.place (failing_call (failure_of result))) memory.old }
     ensures same { B.content tape.new ≡ B.content tape.old }
     ensures behind { B.behind tape.new ≡ B.behind tape.old }
     ensures bound { IsOnImage result }
@@ -144,7 +144,7 @@ fn put_block(memory: &mut Memory, address: u16, words: u16, bytes: &[u8; 8192])
 fn pass<B: Bytes>(order: TapeOrder, forward: bool, tape: &mut B) -> Result<Got, TapeStop>
     requires { order.place ≤ longest_list }
     ensures said { IsTrue B.tells → operated result
-        ≡ space_answer (space_act (shown (B.content tape.old)) order.place order.count forward (reading_call forward (failure_of result))) }
+        ≡ space_answer (space_act (shown (B.content tape.old)) order.place order.count forward (failing_call (failure_of result))) }
     ensures same { B.content tape.new ≡ B.content tape.old }
     ensures behind { B.behind tape.new ≡ B.behind tape.old }
     ensures bound { IsOnImage result }

@@ -1,16 +1,16 @@
 -- Blocks that were written are read back.
-use Rattle.std.proofs.Common.{◌≡◌, ◌≢◌, ℕ, ◌+◌, ◌-◌, ◌*◌, ◌/◌, ◌%◌, ◌^◌, ◌==◌, ◌<◌, ◌≤◌, ◌&&◌, Bool, true, false, nat_lt, nat_le, min, List, [], ◌++◌, length, take, drop, replicate, Ok, refl, sym, subst, ap, ◌∙◌, arith, if◌then◌else◌}
+use Rattle.std.proofs.Common.{◌≡◌, ℕ, ◌+◌, ◌-◌, ◌/◌, ◌%◌, ◌^◌, ◌==◌, ◌<◌, ◌≤◌, Bool, true, false, nat_lt, nat_le, List, [], ◌++◌, length, take, drop, replicate, refl, sym, subst, ap, ◌∙◌, arith, if◌then◌else◌}
 use Rattle.std.proofs.Common.{length-append, length-take, append_assoc, append-nil}
 use Rattle.std.proofs.lemmas.Bool.Decides.{nat_tests}
-use Rattle.std.proofs.lemmas.List.{take_at, drop_at, take_all, length-replicate}
+use Rattle.std.proofs.lemmas.List.{take_at, drop_at, length-replicate}
 use Rattle.std.proofs.lemmas.Nat.{from_le_bytes-to_le_bytes_4}
-use Rattle.std.specs.Int.{w32, from_le_bytes, to_le_bytes}
+use Rattle.std.specs.Int.{w32, from_le_bytes}
 use Rattle.host_files.specs.Lists.{resized}
-use Rattle.host_files.specs.OneList.{longest_list, shown}
-use Rattle.simh_tape.specs.Image.{WordAt, Met, word_at, data_length, is_flagged, is_length_word, padded, block_size, next, previous}
+use Rattle.host_files.specs.OneList.{longest_list}
+use Rattle.simh_tape.specs.Image.{WordAt, word_at, data_length, is_flagged, is_length_word, padded, block_size, next}
 use Rattle.simh_tape.specs.Image.WordAt.{AtEnd, CutShort, WordIs}
 use Rattle.simh_tape.specs.Image.Met.{BlockTo}
-use Rattle.simh_tape.specs.Writing.{word_bytes, block_bytes, after_writing}
+use Rattle.simh_tape.specs.Writing.{word_bytes, block_bytes}
 use Rattle.simh_tape.specs.Laws.{HasBlock, BlocksAreReadBack}
 use Rattle.simh_tape.proofs.ItemLaws.{Between, if_false, next_block, block_next_previous}
 use Rattle.host_files.proofs.Shown.{shown_all}

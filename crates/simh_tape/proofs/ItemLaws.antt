@@ -1,11 +1,11 @@
 -- Items are read the same in both directions.
-use Rattle.std.proofs.Common.{◌≡◌, ◌≢◌, ℕ, ◌+◌, ◌-◌, ◌*◌, ◌/◌, ◌%◌, ◌^◌, ◌==◌, ◌<◌, ◌≤◌, ◌&&◌, ◌⊎◌, inl, inr, Bool, true, false, nat_lt, nat_le, min, List, length, take, drop, refl, sym, ap, ◌∙◌, arith, if◌then◌else◌}
+use Rattle.std.proofs.Common.{◌≡◌, ◌≢◌, ℕ, ◌+◌, ◌-◌, ◌/◌, ◌%◌, ◌^◌, ◌==◌, ◌<◌, ◌≤◌, ◌&&◌, Bool, true, false, nat_lt, nat_le, min, List, length, take, drop, refl, sym, ap, ◌∙◌, arith, if◌then◌else◌}
 use Rattle.std.proofs.lemmas.Bool.Decides.{nat_tests}
 use Rattle.std.specs.Int.{w32, from_le_bytes}
 use Rattle.simh_tape.specs.Image.{WordAt, Met, word_at, is_word, data_length, is_flagged, is_length_word, padded, block_size}
 use Rattle.simh_tape.specs.Image.{block_after, item_after, next, block_before, item_before, ending_at, previous}
 use Rattle.simh_tape.specs.Image.WordAt.{AtEnd, CutShort, WordIs}
-use Rattle.simh_tape.specs.Image.Met.{BlockTo, MarkTo, MediumEnds, AtLoadPoint, BadAt, CallFails}
+use Rattle.simh_tape.specs.Image.Met.{BlockTo, MarkTo, MediumEnds, AtLoadPoint, BadAt}
 use Rattle.simh_tape.specs.Laws.{ItemsReadTheSame}
 use Rattle.host_files.proofs.Tables.{both-and}
 

@@ -5,3 +5,4 @@ pub mod ItemLaws
 pub mod BlockLaws
 pub mod SpaceLaws
 pub mod PlaceLemmas
+pub mod CallLemmas

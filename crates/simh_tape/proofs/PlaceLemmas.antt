@@ -1,6 +1,7 @@
 -- Items are met, and spacing ends, at places within the image.
-use Rattle.std.proofs.Common.{◌≡◌, ℕ, zero, suc, ◌+◌, ◌-◌, ◌^◌, ◌==◌, ◌≤◌, ◌&&◌, Bool, true, false, nat_lt, nat_le, min, List, length, Result, Ok, Err, refl, arith, if◌then◌else◌}
-use Rattle.std.proofs.lemmas.Bool.{cond_both}
+use Rattle.std.proofs.Common.{◌≡◌, ℕ, zero, suc, ◌+◌, ◌-◌, ◌^◌, ◌==◌, ◌≤◌, ◌&&◌, Bool, true, false, nat_lt, nat_le, min, List, length, Result, Ok, Err, refl, sym, arith, length-take, if◌then◌else◌}
+use Rattle.std.proofs.lemmas.Bool.{cond_both, le-leb}
+use Rattle.host_files.specs.OneList.{longest_list, shown}
 use Rattle.simh_tape.specs.declared.items.TapeFault.{TapeFault}
 use Rattle.simh_tape.specs.declared.spacing.Spaced.{Spaced}
 use Rattle.simh_tape.specs.Image.{WordAt, Met, word_at, is_word, data_length, is_flagged, is_length_word, padded, block_size}
@@ -8,13 +9,33 @@ use Rattle.simh_tape.specs.Image.{block_after, item_after, next, block_before, i
 use Rattle.simh_tape.specs.Image.WordAt.{AtEnd, CutShort, WordIs}
 use Rattle.simh_tape.specs.Image.Met.{BlockTo, MarkTo, MediumEnds, AtLoadPoint, BadAt, CallFails}
 use Rattle.simh_tape.specs.Spacing.{item_from, space_over, space_from}
-use Rattle.simh_tape.proofs.ItemLaws.{second_true, word_is, word_within}
+use Rattle.simh_tape.proofs.ItemLaws.{if_true, second_true, word_is, word_within}
 
--- an item leads to no place past that one
+-- no more bytes can be read than those of the longest list
+pub shown-short : (bytes : List ℕ) → length (shown bytes) ≤ longest_list
+unfolding shown
+shown-short bytes = omega (arith, length-take longest_list bytes)
+
+-- where no byte can be read, no word stands
+pub ends-there : (bytes : List ℕ) (place : ℕ) → longest_list ≤ place → AtEnd ≡ word_at (shown bytes) place
+ends-there bytes place far =
+    let short = shown-short bytes in
+    sym (if_true (nat_le (length (shown bytes)) place) AtEnd _ (le-leb (length (shown bytes)) place (omega arith)))
+
+-- an item leads to no place past that one, and no call fails
 abbrev pub MetWithin : ℕ → Met → Type 0
 MetWithin most (BlockTo count flagged behind) = behind ≤ most
 MetWithin most (MarkTo behind) = behind ≤ most
+MetWithin most (CallFails call) = ⊥
 MetWithin most met = Unit {0}
+
+within-more : (least most : ℕ) (met : Met) → least ≤ most → MetWithin least met → MetWithin most met
+within-more least most (BlockTo count flagged behind) low within = omega arith
+within-more least most (MarkTo behind) low within = omega arith
+within-more least most MediumEnds low within = tt
+within-more least most AtLoadPoint low within = tt
+within-more least most (BadAt bad) low within = tt
+within-more least most (CallFails call) low within = within
 
 after-within : (bytes : List ℕ) (place : ℕ) (there : WordAt) → word_at bytes place ≡ there → MetWithin (length bytes) (item_after bytes place there)
 after-within bytes place AtEnd is = tt
@@ -33,29 +54,30 @@ after-within bytes place (WordIs word) is =
 pub next-within : (bytes : List ℕ) (place : ℕ) → MetWithin (length bytes) (next bytes place)
 next-within bytes place = after-within bytes place (word_at bytes place) refl
 
-before-within : (bytes : List ℕ) (place : ℕ) (there : WordAt) → place ≤ length bytes → MetWithin (length bytes) (item_before bytes place there)
-before-within bytes place AtEnd low = tt
-before-within bytes place CutShort low = tt
-before-within bytes place (WordIs word) low =
-    let P : Met → Type 0 = MetWithin (length bytes) in
+before-within : (bytes : List ℕ) (place : ℕ) (there : WordAt) → MetWithin place (item_before bytes place there)
+before-within bytes place AtEnd = tt
+before-within bytes place CutShort = tt
+before-within bytes place (WordIs word) =
+    let P : Met → Type 0 = MetWithin place in
     let size = block_size (data_length word) in
     cond_both (word == 0) (MarkTo (place - 4)) (block_before bytes place word) P (λ _. omega arith)
     (λ _. cond_both (is_length_word word && nat_le size place && is_word (word_at bytes (place - size)) word)
     (BlockTo (data_length word) (is_flagged word) (place - size)) (BadAt (place - 4)) P (λ _. omega arith) (λ _. tt))
 
-ending-within : (bytes : List ℕ) (place : ℕ) → place ≤ length bytes → MetWithin (length bytes) (ending_at bytes place)
-ending-within bytes place low =
-    let P : Met → Type 0 = MetWithin (length bytes) in
+ending-within : (bytes : List ℕ) (place : ℕ) → MetWithin place (ending_at bytes place)
+ending-within bytes place =
+    let P : Met → Type 0 = MetWithin place in
     let last = item_before bytes place (word_at bytes (place - 4)) in
     cond_both (place == 0) AtLoadPoint (if nat_lt place 4 then BadAt 0 else last) P (λ _. tt)
-    (λ _. cond_both (nat_lt place 4) (BadAt 0) last P (λ _. tt) (λ _. before-within bytes place (word_at bytes (place - 4)) low))
+    (λ _. cond_both (nat_lt place 4) (BadAt 0) last P (λ _. tt) (λ _. before-within bytes place (word_at bytes (place - 4))))
 
-pub previous-within : (bytes : List ℕ) (place : ℕ) → MetWithin (length bytes) (previous bytes place)
-previous-within bytes place = ending-within bytes (min place (length bytes)) (omega arith)
+pub previous-within : (bytes : List ℕ) (place : ℕ) → MetWithin (min place (length bytes)) (previous bytes place)
+previous-within bytes place = ending-within bytes (min place (length bytes))
 
-item-within : (forward : Bool) (bytes : List ℕ) (place : ℕ) → MetWithin (length bytes) (item_from forward bytes place)
+pub item-within : (forward : Bool) (bytes : List ℕ) (place : ℕ) → MetWithin (length bytes) (item_from forward bytes place)
 item-within true bytes place = next-within bytes place
-item-within false bytes place = previous-within bytes place
+item-within false bytes place =
+    within-more (min place (length bytes)) (length bytes) (previous bytes place) (omega arith) (previous-within bytes place)
 
 -- spacing ends at no place past that one
 abbrev pub EndsWithin : ℕ → Result Spaced TapeFault → Type 0
@@ -69,7 +91,7 @@ over-within further place passed long most (MarkTo behind) within low here more 
 over-within further place passed long most MediumEnds within low here more = here
 over-within further place passed long most AtLoadPoint within low here more = omega arith
 over-within further place passed long most (BadAt bad) within low here more = tt
-over-within further place passed long most (CallFails call) within low here more = tt
+over-within further place passed long most (CallFails call) within low here more = absurd within
 
 pub space-within : (count : ℕ) (forward : Bool) (bytes : List ℕ) (place passed most : ℕ) → length bytes ≤ most → place ≤ most → EndsWithin most (space_from count forward bytes place passed)
 unfolding space_from

@@ -3,7 +3,6 @@ use Rattle.std.proofs.Common.{◌≡◌, ℕ, zero, suc, ◌+◌, ◌≤◌, Boo
 use Rattle.unit_trait.specs.declared.calls.TapeEnd.{TapeEnd}
 use Rattle.unit_trait.specs.declared.calls.TapeEnd.TheVariants.{Plain, Mark, Medium, LoadPoint}
 use Rattle.simh_tape.specs.declared.items.TapeFault.{TapeFault}
-use Rattle.simh_tape.specs.declared.items.TapeFault.TheVariants.{BadImage, Failed}
 use Rattle.simh_tape.specs.declared.spacing.Spaced.{Spaced}
 use Rattle.simh_tape.specs.Image.{Met, next, previous}
 use Rattle.simh_tape.specs.Image.Met.{BlockTo, MarkTo, MediumEnds, AtLoadPoint, BadAt, CallFails}

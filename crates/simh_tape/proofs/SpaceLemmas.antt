@@ -1,6 +1,7 @@
 -- Spacing, an item at a time.
-use Rattle.std.proofs.Common.{◌≡◌, ℕ, zero, suc, ◌+◌, ◌-◌, ◌<◌, ◌≤◌, Bool, List, Result, Ok, Err, Option, refl, sym, ap, ◌∙◌, arith}
-use Rattle.unit_trait.specs.declared.calls.TapeEnd.{TapeEnd}
+use Rattle.std.proofs.Common.{◌≡◌, ℕ, suc, ◌+◌, ◌<◌, nat_lt, Bool, true, false, List, Result, Ok, Err, refl, sym, ap, ◌∙◌, arith}
+use Rattle.std.proofs.lemmas.Bool.{lt-ltb}
+use Rattle.host_files.specs.declared.files.FileCall.{FileCall}
 use Rattle.unit_trait.specs.declared.calls.TapeEnd.TheVariants.{Plain, Mark, Medium, LoadPoint}
 use Rattle.simh_tape.specs.declared.items.Item.{Item}
 use Rattle.simh_tape.specs.declared.items.Item.TheVariants.{Block, EndOfMedium}
@@ -9,9 +10,12 @@ use Rattle.simh_tape.specs.declared.items.TapeFault.{TapeFault}
 use Rattle.simh_tape.specs.declared.items.TapeFault.TheVariants.{BadImage, Failed}
 use Rattle.simh_tape.specs.declared.spacing.Spaced.{Spaced}
 use Rattle.simh_tape.specs.Image.{Met}
-use Rattle.simh_tape.specs.Image.Met.{BlockTo, MarkTo, MediumEnds, AtLoadPoint, BadAt, CallFails}
+use Rattle.simh_tape.specs.Image.Met.{BlockTo, MarkTo, MediumEnds, AtLoadPoint, BadAt}
 use Rattle.simh_tape.specs.Reading.{item_said, said, failure}
-use Rattle.simh_tape.specs.Spacing.{item_from, item_act, space_over, space_from, space_act}
+use Rattle.simh_tape.specs.Spacing.{item_from, item_calls, item_act, space_over, space_from, space_calls, space_act}
+use Rattle.host_files.proofs.Tables.{both-and}
+use Rattle.simh_tape.proofs.ItemLaws.{if_true}
+use Rattle.simh_tape.proofs.CallLemmas.{call-made, made-before}
 
 pub space_none : (forward : Bool) (bytes : List ℕ) (place passed : ℕ) →
     space_from 0 forward bytes place passed ≡ Ok (record { place = place; passed = passed; end = Plain })
@@ -68,13 +72,27 @@ pub space_load_point : (left less : ℕ) (forward : Bool) (bytes : List ℕ) (pl
 space_load_point left less forward bytes place passed item wanted more is met wants =
     space_step left less forward bytes place passed AtLoadPoint wanted more (ap item_said (sym is) ∙ met) wants
 
+-- each call that is made at that place is made where spacing began too
+abbrev pub MadeAtFirst : Bool → List ℕ → ℕ → ℕ → Type 0
+MadeAtFirst forward bytes from place = (call : FileCall) → item_calls forward bytes place call ≡ true → item_calls forward bytes from call ≡ true
+
+pub made_further : (forward : Bool) (bytes : List ℕ) (from place : ℕ) (item : Item) (length : ℕ) (flagged : Bool) (taken behind : ℕ) →
+    item ≡ Block length flagged taken behind → item_said item ≡ item_from forward bytes place → MadeAtFirst forward bytes from place →
+    MadeAtFirst forward bytes from behind
+made_further forward bytes from place item length flagged taken behind is met made call there =
+    made call (made-before forward bytes place length flagged behind call (sym (ap item_said (sym is) ∙ met)) there)
+
 pub space_fault : (left less : ℕ) (forward : Bool) (bytes : List ℕ) (place passed : ℕ) (fault : TapeFault) (from count : ℕ) →
-    left ≡ less + 1 → said (Err fault) ≡ item_act bytes place forward (failure {T = Item} (Err fault)) →
+    left ≡ less + 1 → 0 < count → MadeAtFirst forward bytes from place → said (Err fault) ≡ item_act bytes place forward (failure {T = Item} (Err fault)) →
     space_from left forward bytes place passed ≡ space_from count forward bytes from 0 →
     Err fault ≡ space_act bytes from count forward (failure {T = Spaced} (Err fault))
-space_fault left less forward bytes place passed (BadImage bad) from count more met wants =
-    space_step left less forward bytes place passed (BadAt bad) (space_from count forward bytes from 0) more met wants
-space_fault left less forward bytes place passed (Failed call) from count more met wants = refl
+space_fault left less true bytes place passed (BadImage bad) from count more some made met wants =
+    space_step left less true bytes place passed (BadAt bad) (space_from count true bytes from 0) more met wants
+space_fault left less false bytes place passed (BadImage bad) from count more some made met wants =
+    space_step left less false bytes place passed (BadAt bad) (space_from count false bytes from 0) more met wants
+space_fault left less forward bytes place passed (Failed call) from count more some made met wants =
+    sym (if_true (space_calls count forward bytes from call) (Err (Failed call)) (space_from count forward bytes from 0)
+    (both-and (nat_lt 0 count) (item_calls forward bytes from call) (lt-ltb 0 count some) (made call (call-made forward bytes place call met))))
 
 pub space_done : (left : ℕ) (forward : Bool) (bytes : List ℕ) (place passed : ℕ) (wanted : Result Spaced TapeFault) →
     left ≡ 0 → space_from left forward bytes place passed ≡ wanted →

@@ -1,6 +1,6 @@
 -- Pieces that are written one behind another.
 use Rattle.std.specs.Borrow.{Bor}
-use Rattle.std.proofs.Common.{◌≡◌, ℕ, ◌+◌, ◌-◌, ◌<◌, ◌≤◌, List, [], ◌++◌, length, take, drop, get_or, ap, sym, ◌∙◌, arith, length-append, length-drop, append_assoc}
+use Rattle.std.proofs.Common.{◌≡◌, ℕ, ◌+◌, ◌<◌, ◌≤◌, List, [], ◌++◌, length, take, drop, get_or, ap, sym, ◌∙◌, arith, length-append, length-drop, append_assoc}
 use Rattle.std.proofs.lemmas.List.{drop_more, drop_all, drop_at, drop-drop, take-append-le, take_all}
 use Rattle.std.proofs.Math.Seq.{take-add}
 use Rattle.host_files.specs.Streams.{joined}

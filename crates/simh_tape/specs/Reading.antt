@@ -1,5 +1,5 @@
 -- What a reading of one item says.
-use Rattle.std.specs.Prelude.{ℕ, ◌+◌, ◌^◌, ◌≡◌, ◌<◌, ◌≤◌, Bool, true, false, not, IsTrue, List, take, drop, min, length, Option, Some, None, Result, Ok, Err}
+use Rattle.std.specs.Prelude.{ℕ, ◌+◌, ◌^◌, ◌≡◌, ◌<◌, ◌≤◌, nat_lt, nat_le, Bool, true, false, not, IsTrue, List, take, drop, min, length, Option, Some, None, Result, Ok, Err, if◌then◌else◌}
 use Rattle.fault_counts.specs.Faults.{raised}
 use Rattle.host_files.specs.declared.files.FileCall.{FileCall}
 use Rattle.host_files.specs.declared.files.FileCall.TheVariants.{Opening, Length, Read, Write, SetLength, Closing}
@@ -29,15 +29,34 @@ failure (Ok t) = None
 failure (Err (BadImage place)) = None
 failure (Err (Failed call)) = Some call
 
--- what a reading forward meets, where no call fails or that one does
+-- whether a reading forward makes that call: it reads, but not at the largest place, behind which no byte can be read
+abbrev pub next_calls : ℕ → FileCall → Bool
+next_calls place Opening = false
+next_calls place Length = false
+next_calls place Read = nat_lt place longest_list
+next_calls place Write = false
+next_calls place SetLength = false
+next_calls place Closing = false
+
+-- whether a reading backwards makes that call: it asks for the length, and reads where a word fits before the place. A
+-- place past the end is first taken as the end.
+abbrev pub previous_calls : List ℕ → ℕ → FileCall → Bool
+previous_calls bytes place Opening = false
+previous_calls bytes place Length = true
+previous_calls bytes place Read = nat_le 4 (min place (length bytes))
+previous_calls bytes place Write = false
+previous_calls bytes place SetLength = false
+previous_calls bytes place Closing = false
+
+-- what a reading forward meets, where no call fails or that one does, if it is one that the reading makes
 abbrev pub next_act : List ℕ → ℕ → Option FileCall → Met
 next_act bytes place None = next bytes place
-next_act bytes place (Some call) = CallFails call
+next_act bytes place (Some call) = if next_calls place call then CallFails call else next bytes place
 
--- what a reading backwards meets, where no call fails or that one does
+-- what a reading backwards meets, where no call fails or that one does, if it is one that the reading makes
 abbrev pub previous_act : List ℕ → ℕ → Option FileCall → Met
 previous_act bytes place None = previous bytes place
-previous_act bytes place (Some call) = CallFails call
+previous_act bytes place (Some call) = if previous_calls bytes place call then CallFails call else previous bytes place
 
 -- a block's first data bytes, as many as fit, stand in the front of a buffer, and the rest of it is as it was
 abbrev pub HasData : List ℕ → ℕ → ℕ → ℕ → List ℕ → List ℕ → Type 0
@@ -99,6 +118,12 @@ abbrev pub FailsReading : {T : Type 0} → Bool → Result T TapeFault → Type 
 FailsReading forward (Ok t) = Unit {0}
 FailsReading forward (Err (BadImage place)) = Unit {0}
 FailsReading forward (Err (Failed call)) = IsTrue (may_fail forward call)
+
+-- what holds where a call failed
+abbrev pub WhereFailed : {T : Type 0} → Result T TapeFault → Type 0 → Type 0
+WhereFailed (Ok t) P = Unit {0}
+WhereFailed (Err (BadImage place)) P = Unit {0}
+WhereFailed (Err (Failed call)) P = P
 
 -- the count of faults is one more where a call failed, and else as it was
 abbrev pub CountsFailed : {T : Type 0} → ℕ → ℕ → Result T TapeFault → Type 0

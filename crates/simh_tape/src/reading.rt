@@ -1,13 +1,15 @@
 ghost use Rattle.std.specs.Prelude.{◌≡◌, ◌≤◌, ◌+◌, ◌-◌, length, IsTrue, true, false, None};
 ghost use Rattle.host_files.specs.OneList.{longest_list, shown};
 ghost use Rattle.simh_tape.specs.Image.{block_after, block_before, ending_at, item_before};
-ghost use Rattle.simh_tape.specs.Reading.{said, failure, next_act, previous_act, NextData, PreviousData, KeepsBuffer, AnswerWithin, FailsReading, CountsFailed};
+ghost use Rattle.simh_tape.specs.Reading.{said, failure, next_act, previous_act, NextData, PreviousData, KeepsBuffer, AnswerWithin};
+ghost use Rattle.simh_tape.specs.Reading.{FailsReading, WhereFailed, CountsFailed};
 
 use crate::items::{Item, TapeFault};
 use crate::words::{Word, is_length_word, read_data, read_word};
 use host_files::{Bytes, Failed, FileCall};
 
-/// Reads the item behind a place, and the first data of a block, as much as fits, into the front of `into`.
+/// Reads the item behind a place, and the first data of a block, as much as fits, into the front of `into`. At the
+/// largest place, 67108864, the medium ends, and no call is made.
 pub fn read_next<B: Bytes>(tape: &mut B, place: u64, into: &mut [u8]) -> Result<Item, TapeFault>
     requires { place ≤ longest_list }
     ensures item { IsTrue B.tells → said result ≡ next_act (shown (B.content tape.old)) place (failure result) }
@@ -68,7 +70,8 @@ fn block_after<B: Bytes>(
 }
 
 /// Reads the item before a place, which is first taken as the end where it lies past that, and the first data of a
-/// block, as much as fits, into the front of `into`.
+/// block, as much as fits, into the front of `into`. The length is asked for, and nothing is read where no word fits
+/// before that place.
 pub fn read_previous<B: Bytes>(tape: &mut B, place: u64, into: &mut [u8]) -> Result<Item, TapeFault>
     requires { place ≤ longest_list }
     ensures item { IsTrue B.tells → said result ≡ previous_act (shown (B.content tape.old)) place (failure result) }
@@ -98,6 +101,7 @@ fn item_before<B: Bytes>(tape: &mut B, end: u64, into: &mut [u8]) -> Result<Item
     ensures writable { B.writable tape.new ≡ B.writable tape.old }
     ensures behind { B.behind tape.new ≡ B.behind tape.old }
     ensures call { FailsReading true result }
+    ensures made { WhereFailed result (4 ≤ end) }
     ensures counts { CountsFailed (B.fault_count tape.old) (B.fault_count tape.new) result }
 {
     if end == 0 {

@@ -1,4 +1,4 @@
-ghost use Rattle.std.specs.Prelude.{◌≡◌, ℕ, ◌+◌, ◌-◌, ◌*◌, ◌<◌, ◌≤◌, ◌^◌, length, min, take, drop, IsTrue, IfOk};
+ghost use Rattle.std.specs.Prelude.{◌≡◌, ℕ, ◌+◌, ◌-◌, ◌*◌, ◌<◌, ◌≤◌, ◌^◌, length, min, take, drop, IsTrue, IfOk, IfErr};
 ghost use Rattle.fault_counts.specs.Faults.{CountsFault};
 ghost use Rattle.host_files.specs.FileCalls.{Reads};
 ghost use Rattle.host_files.specs.OneList.{longest_list, shown};
@@ -6,6 +6,9 @@ ghost use Rattle.simh_tape.specs.Image.{word_at, is_length_word, with_front};
 ghost use Rattle.simh_tape.specs.Pieces.{word_said, WordEnds};
 
 use host_files::{Bytes, Failed};
+
+/// The place behind the last byte that can be read: 64 MiB.
+const LAST_PLACE: u64 = 67_108_864;
 
 /// What stands at a place of an image.
 #[derive(Clone, Copy, Debug, PartialEq, Eq)]
@@ -17,16 +20,20 @@ pub(crate) enum Word {
     Is(u32),
 }
 
-/// The word at a place of an image.
+/// The word at a place of an image. Where no byte can be read, no call is made.
 pub(crate) fn read_word<B: Bytes>(tape: &mut B, place: u64) -> Result<Word, Failed>
     requires { place ≤ 2 * longest_list }
     ensures word { IsTrue B.tells → IfOk result (λ w. word_said w ≡ word_at (shown (B.content tape.old)) place) }
     ensures end { IfOk result (λ w. WordEnds place w) }
+    ensures made { IfErr result (λ f. place < longest_list) }
     ensures same { B.content tape.new ≡ B.content tape.old }
     ensures writable { B.writable tape.new ≡ B.writable tape.old }
     ensures behind { B.behind tape.new ≡ B.behind tape.old }
     ensures counts { CountsFault (B.fault_count tape.old) (B.fault_count tape.new) result }
 {
+    if place >= LAST_PLACE {
+        return Ok(Word::Nothing);
+    }
     let mut buf = [0u8; 4];
     let count = read_all(tape, place, &mut buf)?;
     if count == 0 {

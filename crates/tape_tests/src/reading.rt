@@ -1,5 +1,5 @@
 // Items that are read at places of images, forward and backwards.
-ghost use Rattle.std.specs.Prelude.{◌≤◌, ◌<◌};
+ghost use Rattle.std.specs.Prelude.{◌≤◌, ◌<◌, ◌^◌};
 
 use crate::test_tape::TestTape;
 use crate::texts::{columns_of, equal, holds, number, place_of};
@@ -235,4 +235,34 @@ fn each_call_of_a_reading_fails_in_turn(rt: HostRuntime) -> Result<(), Fail> {
         fails(&rt, rt.alloc(), call, false)?;
     }
     Ok(())
+}
+
+/// A reading that finds no item makes so many calls, and the next one would fail.
+fn makes(
+    rt: &impl Abort,
+    alloc: Global,
+    calls: u64,
+    forward: bool,
+    place: u64,
+    wanted: &str,
+) -> Result<(), Fail>
+    requires { place ≤ 2 ^ 26 }
+{
+    let mut tape = TestTape::failing(alloc, &IMAGE, calls, 0)?;
+    let item = if forward {
+        read_next(&mut tape, place, &mut [])
+    } else {
+        read_previous(&mut tape, place, &mut [])
+    };
+    equal(rt, &Some(item), &item_of(wanted), wanted);
+    equal(rt, &tape.made, &calls, wanted);
+    Ok(())
+}
+
+// Forward nothing is read at the largest place. Backwards nothing is read where no word fits before the place.
+#[test]
+fn no_call_is_made_where_no_word_can_be(rt: HostRuntime) -> Result<(), Fail> {
+    makes(&rt, rt.alloc(), 0, true, 1 << 26, "medium")?;
+    makes(&rt, rt.alloc(), 1, false, 3, "bad:0")?;
+    makes(&rt, rt.alloc(), 1, false, 0, "load")
 }

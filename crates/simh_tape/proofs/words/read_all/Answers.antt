@@ -1,4 +1,4 @@
-use Rattle.std.proofs.Common.{◌≡◌, ◌-◌, ◌∙◌, ◌≤◌, ◌+◌, length, take, drop, min, arith, length-take, length-drop}
+use Rattle.std.proofs.Common.{◌≡◌, ◌-◌, ◌∙◌, length, drop, min, arith, length-take, length-drop}
 use Rattle.simh_tape.proofs.ReadLemmas.{read_more, put-length}
 use Rattle.simh_tape.proofs.words.read_all.Goals as goal
 

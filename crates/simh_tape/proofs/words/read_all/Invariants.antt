@@ -1,4 +1,4 @@
-use Rattle.std.proofs.Common.{length, ◌+◌, ◌-◌, ◌≡◌, ◌≤◌, IsTrue, take, drop}
+use Rattle.std.proofs.Common.{length, ◌-◌, ◌≡◌, ◌≤◌, IsTrue, take, drop}
 use Rattle.host_files.specs.OneList.{longest_list, shown}
 use Rattle.simh_tape.proofs.words.read_all.Given as goal
 

@@ -1,5 +1,5 @@
 use Rattle.std.specs.Borrow.{Bor}
-use Rattle.std.proofs.Common.{◌≡◌, ◌+◌, ◌≤◌, ◌++◌, ◌∙◌, List, [], ℕ, length, take, drop, get_or, ap, arith}
+use Rattle.std.proofs.Common.{◌+◌, ◌≤◌, ◌∙◌, List, [], ℕ, length, drop, get_or, ap, arith}
 use Rattle.host_files.specs.Streams.{joined}
 use Rattle.simh_tape.proofs.WriteLemmas.{next_piece, piece_fits, part_more, left_more, all_done, whole}
 use Rattle.simh_tape.proofs.writing.write_pieces.Goals as goal

@@ -1,4 +1,4 @@
-use Rattle.std.proofs.Common.{◌+◌, ◌≡◌, ◌≤◌, ◌++◌, IsTrue, length, take, drop}
+use Rattle.std.proofs.Common.{◌≡◌, ◌≤◌, ◌++◌, IsTrue, length, take, drop}
 use Rattle.host_files.specs.Streams.{joined}
 use Rattle.simh_tape.proofs.writing.write_pieces.Given as goal
 
