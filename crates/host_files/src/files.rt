@@ -2,6 +2,7 @@ ghost use Rattle.std.specs.Prelude.{◌≡◌, ℕ, ◌≤◌, Bool, IsTrue, tak
 ghost use Rattle.host_files.specs.Lists.{changed, overwritten, resized};
 ghost use Rattle.host_files.specs.State.{FileState, IsOpen, IsWritable, IsNamed, content, name_at, without};
 ghost use Rattle.host_files.specs.FileCalls.{Counted, Opens, Reads, opening_count, written_count};
+ghost use Rattle.host_files.specs.FileCalls.{FailsBehindLast, UnusedIdsAreUncounted};
 
 use crate::streams::Failed;
 use std::alloc::Global;
@@ -55,11 +56,12 @@ pub trait Files {
     /// What contracts see of them.
     ghost state: { Self → FileState };
 
-    /// Opens the file of that name.
+    /// Opens the file of that name. Where every id was given, the opening fails.
     fn open_file(&mut self, alloc: Global, name: &str, mode: OpenMode) -> Result<FileId, OpenFault>
         ensures opens { Opens tells (state self.old) (state self.new) name.now mode result }
         ensures counts { (state self.new).faults ≡ (state self.old).faults }
-        ensures openings { (state self.new).open_faults ≡ opening_count tells (state self.old) result };
+        ensures openings { (state self.new).open_faults ≡ opening_count tells (state self.old) result }
+        ensures last { FailsBehindLast (state self.old) result };
 
     /// How long the file is.
     fn length(&mut self, file: FileId) -> Result<u64, Failed>
@@ -117,4 +119,7 @@ pub trait Files {
 
     /// Where names are told, each open id stands for one of them.
     ghost named: { IsTrue tells → (s : Self) (file : ℕ) → IsOpen (state s) file → IsNamed (state s) file };
+
+    /// Of an id that was never given no call has failed.
+    ghost unused: { (s : Self) → UnusedIdsAreUncounted (state s) };
 }
