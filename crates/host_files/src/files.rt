@@ -3,6 +3,7 @@ ghost use Rattle.host_files.specs.Lists.{changed, overwritten, resized};
 ghost use Rattle.host_files.specs.State.{FileState, IsOpen, IsWritable, IsNamed, content, name_at, without};
 ghost use Rattle.host_files.specs.FileCalls.{Counted, Opens, Reads, opening_count, written_count};
 ghost use Rattle.host_files.specs.FileCalls.{FailsBehindLast, UnusedIdsAreUncounted};
+ghost use Rattle.host_files.specs.Streams.{LeavesFree};
 
 use crate::streams::Failed;
 use std::alloc::Global;
@@ -71,10 +72,12 @@ pub trait Files {
         ensures opened { (state self.new).opened ≡ (state self.old).opened }
         ensures counted { Counted file.0 (state self.old) (state self.new) result };
 
-    /// Reads bytes from a place on into the front of `buf`, and answers how many.
+    /// Reads bytes from a place on into the front of `buf`, and answers how many. Where it fails, what `buf` holds is
+    /// free.
     fn read_at(&mut self, file: FileId, place: u64, buf: &mut [u8]) -> Result<usize, Failed>
         requires { IsOpen (state self.old) file.0 }
         ensures bound { IfOk result (λ n. n ≤ length buf.new) }
+        ensures lent { LeavesFree result buf.old buf.new }
         ensures reads { IsTrue tells → Reads (content (state self.old) file.0) place result buf.new }
         ensures files { (state self.new).files ≡ (state self.old).files }
         ensures opened { (state self.new).opened ≡ (state self.old).opened }

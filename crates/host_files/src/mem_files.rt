@@ -5,6 +5,7 @@ ghost use Rattle.host_files.specs.State.{IsOpen, IsWritable, content, name_at, o
 ghost use Rattle.host_files.specs.FileCalls.{Counted, Opens, Reads, opening_count, written_count, FailsBehindLast};
 ghost use Rattle.host_files.specs.MemFiles.{MemState, are_there, HasRoom, named_of, told_state, next_fails, begun, with_failing, opening_failed, opening_fails, has_room, write_result};
 ghost use Rattle.host_files.specs.Named.{there_named};
+ghost use Rattle.host_files.specs.Streams.{LeavesFree};
 
 use crate::failing::Failing;
 use crate::files::{FileId, Files, OpenFault, OpenMode, WriteFault};
@@ -269,6 +270,8 @@ impl Files for MemFiles {
     fn read_at(&mut self, file: FileId, place: u64, buf: &mut [u8]) -> Result<usize, Failed>
         requires { IsOpen (told_state (mem_of self.old)) file.0 }
         ensures bound { IfOk result (λ n. n ≤ length buf.new) }
+        ensures lent { LeavesFree result buf.old buf.new }
+        ensures kept { OnErr result (buf.new ≡ buf.old) }
         ensures reads { Reads (content (told_state (mem_of self.old)) file.0) place result buf.new }
         ensures files { (told_state (mem_of self.new)).files ≡ (told_state (mem_of self.old)).files }
         ensures opened { (told_state (mem_of self.new)).opened ≡ (told_state (mem_of self.old)).opened }
