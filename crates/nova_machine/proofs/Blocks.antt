@@ -48,7 +48,7 @@ placed-all n words from bytes memory m least most put =
 
 -- ---- a block that does not fit is not written
 
-got-length : (n from : ℕ) (m : MemoryState) → length (block_got n from m) ≡ 2 * n
+pub got-length : (n from : ℕ) (m : MemoryState) → length (block_got n from m) ≡ 2 * n
 unfolding block_got
 got-length zero from m = refl
 got-length (suc n) from m =
