@@ -57,7 +57,7 @@ got-length (suc n) from m =
     omega (arith, before, more)
 
 -- how long the block of so many words is
-block-length : (n from : ℕ) (m : MemoryState) → length (block_bytes (block_got n from m)) ≡ 2 * n + 8
+pub block-length : (n from : ℕ) (m : MemoryState) → length (block_bytes (block_got n from m)) ≡ 2 * n + 8
 block-length n from m =
     let bytes = block_got n from m in
     let word = word_bytes (length bytes) in

@@ -1,6 +1,6 @@
 -- Words that go out as bytes come back as they were.
-use Rattle.std.proofs.Common.{◌≡◌, ◌≢◌, ◌<◌, ◌≤◌, ◌+◌, ◌*◌, ◌/◌, ◌%◌, ◌^◌, ℕ, zero, suc, List, [], ◌∷◌, ◌++◌, length, slice_index, inl, inr, refl, ap, subst, sym, ◌∙◌, arith, length-append}
-use Rattle.std.proofs.lemmas.Bool.{cases_lt}
+use Rattle.std.proofs.Common.{◌≡◌, ◌≢◌, ◌<◌, ◌≤◌, ◌+◌, ◌*◌, ◌/◌, ◌%◌, ◌^◌, ℕ, zero, suc, List, [], ◌∷◌, ◌++◌, length, slice_index, min, nat_le, Bool, true, None, if◌then◌else◌, inl, inr, refl, ap, subst, sym, ◌∙◌, arith, length-append}
+use Rattle.std.proofs.lemmas.Bool.{cases_lt, le-leb}
 use Rattle.std.proofs.lemmas.List.{get_or_append_left, get_or-append-add}
 use Rattle.nova_memory.specs.Memory.{MemoryState, IsMemory, get, put}
 use Rattle.nova_memory.proofs.Chains.{put-size}
@@ -8,8 +8,15 @@ use Rattle.nova_memory.proofs.Keeps.{get-put, get-put-other, put-long}
 use Rattle.unit_files.specs.Buffer.{sector_bytes, sector_of, with_sector}
 use Rattle.unit_files.proofs.SectorLaws.{sectors-back}
 use Rattle.nova_machine.specs.Sectors.{sector_words, address_on, word_in, words_put, bytes_got, bytes_of_word}
-use Rattle.nova_machine.specs.Tapes.{word_on_tape, block_put, block_got, bytes_on_tape}
-use Rattle.nova_machine.proofs.Blocks.{got-length}
+use Rattle.host_files.specs.Lists.{resized}
+use Rattle.host_files.specs.OneList.{longest_list, shown}
+use Rattle.unit_trait.specs.declared.calls.TapeOrder.{TapeOrder}
+use Rattle.simh_tape.specs.Image.{Met}
+use Rattle.simh_tape.specs.Laws.{HasBlock}
+use Rattle.simh_tape.specs.Writing.{block_bytes}
+use Rattle.simh_tape.proofs.BlockLaws.{blocks_are_read_back}
+use Rattle.nova_machine.specs.Tapes.{word_on_tape, block_put, block_got, bytes_on_tape, block_written, words_for, memory_read, memory_operated, image_operated}
+use Rattle.nova_machine.proofs.Blocks.{got-length, block-length}
 use Rattle.nova_machine.specs.WordLaws.{WordsReadBack}
 
 -- ---- words as bytes
@@ -162,6 +169,48 @@ sector from to n number bytes old m is low there =
     ∙ from-disk sector_words to n piece m is few-words low there
     ∙ to-disk sector_words from n old low
 
+-- ---- a block that an operation writes, and one that reads it
+
+module _ (place count from most to n : ℕ) (image : List ℕ) (old m : MemoryState) (is : IsMemory m) (some : 0 < count)
+    (few : count ≤ 2 ^ 12) (fits : place + block_written count ≤ longest_list) (low : n < count) (read : n < most)
+    (small : most ≤ 2 ^ 15) (there : address_on to n < m.size) where
+  abbrev piece : List ℕ
+  piece = block_got count from old
+
+  piece-long : length piece ≡ 2 * count
+  piece-long = got-length count from old
+
+  abbrev writing : TapeOrder
+  writing = record { command = 5; place = place; address = from; count = count }
+
+  abbrev reading : TapeOrder
+  reading = record { command = 0; place = place; address = to; count = most }
+
+  abbrev new : List ℕ
+  new = shown (image_operated None old writing image)
+
+  written : image_operated None old writing image ≡ resized image place ++ block_bytes piece
+  written =
+      let size = block-length count from old in
+      let within : nat_le (place + length (block_bytes piece)) longest_list ≡ true = le-leb (place + length (block_bytes piece)) longest_list (omega (arith, size, fits)) in
+      ap (λ (b : Bool). if b then resized image place ++ block_bytes piece else image) within
+
+  has : HasBlock new piece place
+  has =
+      subst (λ (xs : List ℕ). HasBlock (shown xs) piece place) (sym written)
+      (blocks_are_read_back image piece place 0 (omega (arith, piece-long, some)) (omega (arith, piece-long, few)) (omega (arith, piece-long, fits)))
+
+  came : memory_operated None new reading m ≡ block_put (min (words_for (length piece)) most) to piece m
+  came =
+      ap (λ (x : Met). memory_read new reading x m) has.forward
+      ∙ ap (λ (xs : List ℕ). block_put (min (words_for (length piece)) most) to xs m) has.there
+
+  tape : get (memory_operated None new reading m) (address_on to n) ≡ get old (address_on from n)
+  tape =
+      ap (λ (x : MemoryState). get x (address_on to n)) came
+      ∙ from-tape (min (words_for (length piece)) most) to n piece m is (omega (arith, small)) (omega (arith, piece-long, low, read)) there
+      ∙ to-tape count from n old low
+
 pub words-back : WordsReadBack
 words-back = record {
   to_disk = to-disk;
@@ -173,6 +222,7 @@ words-back = record {
     ap (λ (x : MemoryState). get x at) (tape-stored count from bytes m) ∙ stored-other (word_on_tape bytes) from m count at other,
   );
   sector = sector;
+  tape = tape;
   block = λ count from to n old m is few low there.
       from-tape count to n (block_got count from old) m is few low there ∙ to-tape count from n old low;
 }

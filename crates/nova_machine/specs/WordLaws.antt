@@ -1,9 +1,10 @@
 -- Words of memory that go out as the bytes of a sector or of a block of a tape, and come back from there.
-use Rattle.std.specs.Prelude.{◌≡◌, ◌≢◌, ◌<◌, ◌≤◌, ◌^◌, ℕ, List}
+use Rattle.std.specs.Prelude.{◌≡◌, ◌≢◌, ◌<◌, ◌≤◌, ◌+◌, ◌^◌, ℕ, List, None}
+use Rattle.host_files.specs.OneList.{longest_list, shown}
 use Rattle.nova_memory.specs.Memory.{MemoryState, IsMemory, get}
 use Rattle.unit_files.specs.Buffer.{sector_of, with_sector}
 use Rattle.nova_machine.specs.Sectors.{sector_words, address_on, word_in, words_put, bytes_got}
-use Rattle.nova_machine.specs.Tapes.{word_on_tape, block_put, block_got}
+use Rattle.nova_machine.specs.Tapes.{word_on_tape, block_put, block_got, block_written, memory_operated, image_operated}
 
 -- Where words go out from an address on, their bytes have these words in order. Where words come in from bytes, each
 -- stands at its address then, if there is memory, and no other word has changed.
@@ -24,7 +25,16 @@ pub record WordsReadBack : Type 0 where
       → address_on to n < m.size
       → get (words_put sector_words to (sector_of (with_sector bytes number (bytes_got sector_words from old)) number) m)
       (address_on to n) ≡ get old (address_on from n)
-  -- .. and so is a block of a tape
+  -- .. and so are the words of a block
   pub block : (count from to n : ℕ) (old m : MemoryState) → IsMemory m → count ≤ 2 ^ 15 → n < count
       → address_on to n < m.size
       → get (block_put count to (block_got count from old) m) (address_on to n) ≡ get old (address_on from n)
+  -- Words that a tape operation writes as a block at a place of an image are those that one reads there, as far as it reads.
+  pub tape : (place count from most to n : ℕ) (image : List ℕ) (old m : MemoryState) → IsMemory m → 0 < count
+      → count ≤ 2 ^ 12 → place + block_written count ≤ longest_list → n < count → n < most → most ≤ 2 ^ 15
+      → address_on to n < m.size
+      → get (memory_operated
+      None
+      (shown (image_operated None old (record { command = 5; place = place; address = from; count = count }) image))
+      (record { command = 0; place = place; address = to; count = most })
+      m) (address_on to n) ≡ get old (address_on from n)
