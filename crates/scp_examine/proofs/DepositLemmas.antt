@@ -5,6 +5,7 @@ use Rattle.std.proofs.lemmas.List.Elements.{All-set}
 use Rattle.std.proofs.lemmas.Option.{slice_get_within}
 use Rattle.std.proofs.lemmas.Bool.{cases_eq, and_parts, leb-true, ltb-true, lt-ltb}
 use Rattle.nova_memory.specs.Memory.{MemoryState, IsMemory, get, put}
+use Rattle.nova_memory.proofs.Keeps.{get-put-other}
 use Rattle.unit_trait.specs.declared.kind.Kind.{Kind}
 use Rattle.unit_trait.specs.declared.processor.CpuReg.{CpuReg}
 use Rattle.unit_trait.specs.Device as table
@@ -45,13 +46,6 @@ IsMemory-put mem a v is h word =
       beyond = λ b past. get_or-set_other mem.words a b v 0 (λ e. omega (arith, e)) ∙ is.beyond b past;
     } in
     subst IsMemory (sym made) stands
-
-get-put_other : (mem : MemoryState) (a b v : ℕ) → (b ≡ a → ⊥) → get (put mem a v) b ≡ get mem b
-get-put_other mem a b v apart = by_place (nat_lt a mem.size)
-  where
-    by_place : (within : Bool) → get (cond within (record mem { words = set mem.words a v }) mem) b ≡ get mem b
-    by_place true = ap (λ (w : ℕ). cond (nat_lt b mem.size) w 0) (get_or-set_other mem.words a b v 0 apart)
-    by_place false = refl
 
 -- A value is put into one place.
 
@@ -104,7 +98,7 @@ word_value v none =
     omega arith
 
 cell_others : (m : MachineState) (a v : ℕ) (other : Place) → (other ≡ Cell a → ⊥) → value_at (with_value v m (Cell a)) other ≡ value_at m other
-cell_others m a v (Cell b) apart = get-put_other m.processor.memory a b v (λ e. apart (ap (λ (n : ℕ). Cell n) e))
+cell_others m a v (Cell b) apart = get-put-other m.processor.memory a b v (λ e. apart (ap (λ (n : ℕ). Cell n) e))
 cell_others m a v (Register r) apart = register_of-memory m (put m.processor.memory a v) r (size-put m.processor.memory a v)
 cell_others m a v (UnitRegister l j) apart = refl
 

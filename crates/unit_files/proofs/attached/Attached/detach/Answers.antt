@@ -1,6 +1,5 @@
-use Rattle.std.proofs.Common.{◌≡◌, ap, ◌∙◌, rules}
+use Rattle.std.proofs.Common.{◌≡◌, ◌∙◌, rules}
 use Rattle.unit_files.specs.Attachments.{attachments_of}
-use Rattle.unit_files.specs.Buffer.{AttachedFiles}
 use Rattle.unit_files.proofs.Copies.{not-detached}
 use Rattle.unit_files.proofs.attached.Attached.detach.Goals as goal
 
