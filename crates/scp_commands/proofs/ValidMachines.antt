@@ -32,7 +32,7 @@ use Rattle.scp_commands.specs.TapeEffects.{tape_in, tape_machine, loaded_machine
 
 -- ---- another memory
 
-memory-valid : (m : MachineState) (memory : MemoryState) → ValidMachine m → IsMemory memory → IsSize memory.size → ValidMachine (with_memory m memory)
+pub memory-valid : (m : MachineState) (memory : MemoryState) → ValidMachine m → IsMemory memory → IsSize memory.size → ValidMachine (with_memory m memory)
 memory-valid m memory is new size = record {
   memory = new;
   size = size;

@@ -1,5 +1,5 @@
 -- BREAK, NOBREAK, EXPECT, NOEXPECT, SEND and NOSEND keep the watch tables within their limits, in order, and of bytes.
-use Rattle.std.proofs.Common.{◌≡◌, ℕ, ◌+◌, ◌-◌, ◌*◌, ◌^◌, ◌<◌, ◌≤◌, ◌==◌, ◌&&◌, nat_lt, nat_le, not, min, max, Bool, true, false, List, [], ◌∷◌, ◌++◌, filter, length, Option, Some, None, option_map, unwrap_or, refl, ap, sym, ◌∙◌, arith, length-append}
+use Rattle.std.proofs.Common.{◌≡◌, ℕ, ◌+◌, ◌-◌, ◌*◌, ◌^◌, ◌<◌, ◌≤◌, ◌==◌, ◌&&◌, nat_lt, nat_le, not, min, max, Bool, true, false, List, [], ◌∷◌, ◌++◌, filter, length, Option, Some, None, IfSome, option_map, unwrap_or, refl, ap, sym, ◌∙◌, arith, length-append}
 use Rattle.std.specs.List.{AllByRecursion}
 use Rattle.std.proofs.lemmas.Bool.{ltb-false}
 use Rattle.std.proofs.lemmas.Bool.Decides.{nat_tests}
@@ -33,14 +33,22 @@ bytes-stood : (inside text : List ℕ) → StandFor inside text → AreBytes tex
 bytes-stood inside text none = tt
 bytes-stood inside text (more front later others b stands stand) = (byte-stood front b stands, bytes-stood later others stand)
 
-pub quoted-bytes : (quoted : List ℕ) → AreBytes (text_of_quoted quoted)
-quoted-bytes quoted = by-read (quoted_read quoted) refl
+-- so is what a quoted text reads as
+pub read-bytes : (quoted : List ℕ) → IfSome (quoted_read quoted) (λ read. AreBytes read.0)
+read-bytes quoted = by-read (quoted_read quoted) refl
   where
-    by-read : (o : Option (List ℕ × List ℕ)) → quoted_read quoted ≡ o → AreBytes (unwrap_or (option_map (λ read. read.0) o) [])
+    by-read : (o : Option (List ℕ × List ℕ)) → quoted_read quoted ≡ o → IfSome o (λ read. AreBytes read.0)
     by-read None is = tt
     by-read (Some (text, rest)) is =
         let begins = quoted_is_computed.read quoted text rest is in
         bytes-stood begins.inside text begins.stands
+
+pub quoted-bytes : (quoted : List ℕ) → AreBytes (text_of_quoted quoted)
+quoted-bytes quoted = by-read (quoted_read quoted) (read-bytes quoted)
+  where
+    by-read : (o : Option (List ℕ × List ℕ)) → IfSome o (λ read. AreBytes read.0) → AreBytes (unwrap_or (option_map (λ read. read.0) o) [])
+    by-read None bytes = tt
+    by-read (Some read) bytes = bytes
 
 -- ---- breaks
 

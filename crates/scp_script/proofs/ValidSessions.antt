@@ -301,17 +301,20 @@ next-valid s t is h =
     let holds = (step-good s (session-holds s is)).next.going t h in
     let behind = lines-are-consumed.texts 1 s t ((step s).made ++ []) (t, [], h, refl, (refl, refl)) in
     let budget = is.budget in
+    let sum = is.spent in
     let least = is.least in
     let most = is.limit in
     let same = behind.limit in
     let spent = behind.budget in
+    let paid = behind.paid in
     record {
       live = holds.live;
       texts = holds.texts;
       input = holds.input;
       least = omega (arith, least, same);
       limit = omega (arith, most, same);
-      budget = omega (arith, budget, spent);
+      budget = omega (arith, budget, paid);
+      spent = omega (arith, sum, spent);
     }
 
 all-valid : (count : ℕ) (s t : Session) (made : List (Observation State)) → ValidSession s → ComesTo count s made t → ValidSession t

@@ -24,15 +24,15 @@ pub record ValidTexts (t : Texts) : Type 0 where
   pub open_ : length t.scripts ≤ most_scripts
   pub scripts : AllByRecursion ValidScript t.scripts
 
--- A session: its state, its texts, the rest of its input, and the numbers that it was given. What is left of the budget is a
--- part of it, and all that is spent is another.
+-- A session: its state, its texts, the rest of its input, and the numbers that it goes by.
 pub record ValidSession (s : Session) : Type 0 where
   pub live : ValidLive s.live
   pub texts : ValidTexts s.texts
   pub input : AreBytes s.input
   pub least : 1 ≤ s.limit
   pub limit : s.limit ≤ 2 ^ 48
-  pub budget : s.budget + s.spent ≤ 2 ^ 32
+  pub budget : s.budget ≤ 2 ^ 32
+  pub spent : s.spent + s.budget ≤ 2 ^ 33
 
 pub record SessionsStayValid : Type 0 where
   -- behind one text, and behind many
