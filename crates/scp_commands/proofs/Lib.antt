@@ -1,4 +1,5 @@
 pub mod ReplyLemmas
+pub mod RemainLemmas
 pub mod RunLemmas
 pub mod StartLemmas
 pub mod ListLemmas

@@ -35,9 +35,9 @@ use Rattle.scp_commands.specs.declared.fault.CommandFault.TheVariants.{OutOfMemo
 use Rattle.scp_commands.specs.Live.{Live, standing}
 use Rattle.scp_commands.specs.Reply.{Answer, Reply}
 use Rattle.scp_commands.specs.WholeCalls.{is_of_whole, whole_calls, write_calls, said_answer, whole_answer, wrote_answer, written_answer}
-use Rattle.scp_commands.specs.WholeCalls.{call_notes, both_notes, unless_memory, read_notes, write_notes}
+use Rattle.scp_commands.specs.WholeCalls.{call_note, call_notes, both_notes, unless_memory, read_notes, write_notes}
 use Rattle.scp_commands.specs.Doing.{Does, Did, ComeBehind, IsStamped, IsClosingOf, AllClosings, FileCause, Keeps, IsPlain, IsOwn, IsExitAnswer}
-use Rattle.scp_commands.proofs.CloseLemmas.{said-append}
+use Rattle.scp_commands.proofs.CloseLemmas.{said-append, refused-first}
 use Rattle.scp_commands.proofs.ReplyLemmas.{silent-does}
 
 -- ---- the calls that fail, as the command's own notes
@@ -554,7 +554,7 @@ read-cause whose stamp tells comes_to w old new takes shape rises =
     by-bytes (Err fault.TooLong) (Some f) closing is claims missing opens = absurd (cc)
     by-bytes (Err fault.Failed) None closing is claims missing opens = absurd (cc)
     by-bytes (Err fault.Failed) (Some f) closing is claims missing opens =
-        ((refl, no-closing f claims.early), closings-of whose stamp closing claims.shut)
+        refused-first whose (call_note whose stamp 0 f) (call_notes whose stamp 0 closing) (refl, no-closing f claims.early) (closings-of whose stamp closing claims.shut)
     by-bytes (Err fault.OutOfMemory) failed closing is claims missing opens = refl
 
 pub read-keeps : (whose : Subject) (number time : ℕ) (tells : Bool) (comes_to : List ℕ → Answer) (w : Whole) (answer : Answer)
@@ -605,7 +605,7 @@ write-cause whose stamp tells piece w old new shape rises =
     by-answer (Err fault.TooLong) failed closing is claims un fits opens = absurd (fits refl)
     by-answer (Err fault.Failed) None closing is claims un fits opens = absurd (cc)
     by-answer (Err fault.Failed) (Some f) closing is claims un fits opens =
-        ((refl, no-closing f claims.early), closings-of whose stamp closing claims.shut)
+        refused-first whose (call_note whose stamp w.done f) (call_notes whose stamp 0 closing) (refl, no-closing f claims.early) (closings-of whose stamp closing claims.shut)
     by-answer (Err fault.OutOfMemory) None closing is claims un fits opens = ap (call_notes whose stamp 0) (un tt)
     by-answer (Err fault.OutOfMemory) (Some f) closing is claims un fits opens = absurd (cc)
 

@@ -31,9 +31,10 @@ use Rattle.scp_commands.specs.declared.next.Next.{Next}
 use Rattle.scp_commands.specs.declared.next.Next.TheVariants.{Exit, Ran}
 use Rattle.scp_commands.specs.declared.fault.CommandFault.TheVariants.{Console, OutOfMemory, NoFile, FileTooLong, FileFailed}
 use Rattle.scp_commands.specs.declared.fault.CommandFault.TheVariants.{LoadTruncated, LoadSum, PastMemory}
-use Rattle.scp_commands.specs.Live.{Live, Standing, standing, CommandState}
+use Rattle.scp_commands.specs.Live.{Live, Standing, standing, CommandState, live_in}
 use Rattle.scp_commands.specs.Nature.{Telling, nature}
 use Rattle.scp_commands.specs.Nature.Telling.{Nothing, Attached, Named}
+use Rattle.scp_commands.specs.Remains.{Remains, AreLeft}
 use Rattle.scp_commands.specs.Reply.{Answer, Reply, bare_answer}
 use Rattle.scp_commands.specs.FileEffects.{emptied_all, emptied_live}
 
@@ -65,18 +66,18 @@ Does reply answer at tells before after = (bare_answer answer ≡ reply.answer) 
 
 -- ---- the notes of a command
 
--- the calls by which a unit loses its file: a closing, or a write of what the disk holds
-abbrev pub IsLastCall : Kind → FileCall → Type 0
-IsLastCall kind Closing = Unit {0}
-IsLastCall kind Write = is_disk kind ≡ true
-IsLastCall kind call = ⊥
+-- the calls by which a unit loses its file: a closing, or a write of what the disk holds, where a sector of that was written
+abbrev pub IsLastCall : Bool → Kind → FileCall → Type 0
+IsLastCall written kind Closing = Unit {0}
+IsLastCall written kind Write = (is_disk kind ≡ true) × (written ≡ true)
+IsLastCall written kind call = ⊥
 
 -- a note of such a call on a file that is still attached where a command has left off
 pub record IsLate (live : Live) (n : CommandNote) : Type 0 where
   pub unit : UnitName
   pub subject_is : n.subject ≡ subject.Unit unit
   pub among : IsTrue (list_any (λ u. same_unit u unit) attachable)
-  pub call : IsLastCall unit.kind n.failure.call
+  pub call : IsLastCall live.machine.disk.written unit.kind n.failure.call
   pub there : IsTrue (is_some (attachment_at (attached_in live.machine) unit))
 
 -- Notes that may come behind a command's own under its number: where the session ends with it, the units lose their files
@@ -109,14 +110,20 @@ IsRefusalOf who n = (n.subject ≡ who) × (n.call ≡ Closing → ⊥)
 abbrev pub IsClosingOf : Subject → FaultNote → Type 0
 IsClosingOf who n = (n.subject ≡ who) × (n.call ≡ Closing)
 
--- the note of the call for which it was refused is the first, and behind it may come those of closings
-abbrev pub AreRefusalOf : Subject → List FaultNote → Type 0
-AreRefusalOf who [] = ⊥
-AreRefusalOf who (n ∷ notes) = IsRefusalOf who n × AllByRecursion (IsClosingOf who) notes
-
 -- notes of closings, if there are any
 abbrev pub AllClosings : List FaultNote → Type 0
 AllClosings notes = AllByRecursion (λ (n : FaultNote). n.call ≡ Closing) notes
+
+-- Exactly one note is that of the call for which it was refused, wherever it stands. All others are of closings, and those
+-- behind it of that subject.
+pub record AreRefusalOf (who : Subject) (notes : List FaultNote) : Type 0 where
+  pub before : List FaultNote
+  pub own : FaultNote
+  pub behind : List FaultNote
+  pub are : notes ≡ before ++ own ∷ behind
+  pub refused : IsRefusalOf who own
+  pub earlier : AllClosings before
+  pub later : AllByRecursion (IsClosingOf who) behind
 
 -- the notes that are kept for a stop
 abbrev pub stop_notes : Stamp → Stop → List FaultNote
@@ -124,8 +131,8 @@ stop_notes stamp (FileFault f) = fault_note stamp f ∷ []
 stop_notes stamp stop = []
 
 -- Why an answer comes, by the notes that were kept. A file was missing only where none was kept and, if names are not told,
--- the count of openings rose. A call on a file failed only where its note is the first. A run keeps the note of the call
--- for which it stopped, if it did for one, also where the console refused a byte of the stop's text. What was done
+-- the count of openings rose. A call on a file failed only where exactly one note is of that call. A run keeps the note of the
+-- call for which it stopped, if it did for one, also where the console refused a byte of the stop's text. What was done
 -- otherwise, a file that is too long, and a tape with a fault have only notes of closings, and what was refused otherwise
 -- has none.
 abbrev pub FileCause : Stamp → Bool → Answer → List FaultNote → FileState → FileState → Type 0
@@ -231,13 +238,12 @@ MayWant spare request = want_by (nature request).takes_memory spare
 abbrev pub says_files : Bool → Request → Bool
 says_files tells request = if (nature request).reads_whole then tells else true
 
--- nothing was done
-pub record IsUndone (says : Bool) (old new : CommandState) (before after : List ℕ) (files files' : FileState) : Type 0 where
-  pub machine : new.machine ≡ old.machine
-  pub watch : new.watch ≡ old.watch
+-- nothing was done, but that a command may have flushed the disk
+pub record IsUndone (flushes says : Bool) (old new : CommandState) (before after : List ℕ) (files files' : FileState) : Type 0 where
+  pub left : AreLeft flushes old new
   pub notes : new.notes ≡ old.notes
   pub written : after ≡ before
-  pub files_are : IsTrue says → files'.files ≡ files.files
+  pub live : IsTrue says → Remains flushes (live_in old files.files) (live_in new files'.files)
 
 -- ---- the end of the input
 

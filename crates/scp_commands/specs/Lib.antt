@@ -16,6 +16,7 @@ pub mod SetEffects
 pub mod Unbuilt
 pub mod Effect
 pub mod Nature
+pub mod Remains
 pub mod Refusals
 pub mod Doing
 pub mod Parts

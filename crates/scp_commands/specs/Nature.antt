@@ -19,22 +19,30 @@ pub record Nature : Type 0 where
   pub reads_whole : Bool
   -- A call on a file that failed may leave a part of its work in that file.
   pub leaves_part : Bool
+  -- It writes what the disk holds of its file back before its own work, and that stays done where it is refused, or where
+  -- memory runs out.
+  pub flushes : Bool
 
-abbrev pub of_nature : Telling → Bool → Bool → Bool → Nature
-of_nature telling takes_memory reads_whole leaves_part =
-    record { telling = telling; takes_memory = takes_memory; reads_whole = reads_whole; leaves_part = leaves_part }
+abbrev pub of_nature : Telling → Bool → Bool → Bool → Bool → Nature
+of_nature telling takes_memory reads_whole leaves_part flushes = record {
+  telling = telling;
+  takes_memory = takes_memory;
+  reads_whole = reads_whole;
+  leaves_part = leaves_part;
+  flushes = flushes;
+}
 
 abbrev pub nature : Request → Nature
-nature (Attach option unit name) = of_nature Named true false true
-nature (Do echo strict name arguments) = of_nature Named true true false
-nature (Load name) = of_nature Named true true false
-nature (Dump from to name) = of_nature Named true false true
-nature (Run address) = of_nature Attached false false false
-nature (Go address) = of_nature Attached false false false
-nature Cont = of_nature Attached false false false
-nature (Step count) = of_nature Attached false false false
-nature (Break at count actions) = of_nature Nothing true false false
-nature (Expect count text actions) = of_nature Nothing true false false
-nature (Detach unit) = of_nature Nothing false false true
-nature (Exit status) = of_nature Nothing false false true
-nature request = of_nature Nothing false false false
+nature (Attach option unit name) = of_nature Named true false true false
+nature (Do echo strict name arguments) = of_nature Named true true false false
+nature (Load name) = of_nature Named true true false false
+nature (Dump from to name) = of_nature Named true false true false
+nature (Run address) = of_nature Attached false false false false
+nature (Go address) = of_nature Attached false false false false
+nature Cont = of_nature Attached false false false false
+nature (Step count) = of_nature Attached false false false false
+nature (Break at count actions) = of_nature Nothing true false false false
+nature (Expect count text actions) = of_nature Nothing true false false false
+nature (Detach unit) = of_nature Nothing false false true false
+nature (Exit status) = of_nature Nothing false false true false
+nature request = of_nature Nothing false false false false

@@ -61,10 +61,13 @@ written_answer whose (Err why) = Err (whole_fault whose why)
 -- ---- the notes that are kept
 
 -- the note of a call that failed, which had written so many bytes
+abbrev pub call_note : Subject → Stamp → ℕ → FailedCall → FaultNote
+call_note whose stamp done f =
+    record { command = stamp.command; time = stamp.time; subject = whose; file = f.file; call = f.call; done = done }
+
 abbrev pub call_notes : Subject → Stamp → ℕ → Option FailedCall → List FaultNote
 call_notes whose stamp done None = []
-call_notes whose stamp done (Some f) =
-    record { command = stamp.command; time = stamp.time; subject = whose; file = f.file; call = f.call; done = done } ∷ []
+call_notes whose stamp done (Some f) = call_note whose stamp done f ∷ []
 
 -- those of a file, of which one call may have failed before the closing
 abbrev pub both_notes : Subject → Stamp → ℕ → Option FailedCall → Option FailedCall → List FaultNote

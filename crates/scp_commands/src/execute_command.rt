@@ -7,6 +7,8 @@ ghost use Rattle.scp_commands.specs.declared.next.Next.TheVariants.{Ran};
 ghost use Rattle.scp_commands.specs.declared.fault.CommandFault.TheVariants.{OutOfMemory};
 ghost use Rattle.scp_commands.specs.Live.{live_in};
 ghost use Rattle.scp_commands.specs.Effect.{effect};
+ghost use Rattle.scp_commands.specs.Nature.{nature};
+ghost use Rattle.scp_commands.specs.Remains.{AreLeft};
 ghost use Rattle.scp_commands.specs.Parts.{IsPastRuns, IsPastSettings, IsPastWatches};
 ghost use Rattle.scp_commands.specs.Refusals.{IsUnrefused};
 ghost use Rattle.scp_commands.specs.Doing.{Did, IsTold, Keeps, ConsoleCounts, MayWant, IsUndone, says_files, IsExitAnswer, RunCause, IsRefusal, AttachNote};
@@ -48,13 +50,13 @@ pub fn execute<U: Unit, F: Files, S: Sink>(
 ) -> Result<Next, CommandFault>
     requires open { AllOpen session.old.machine.slots (F.state files.old).opened }
     ensures refused { IsRefusal command.now result
-        → (session.new.machine ≡ session.old.machine) × (session.new.watch ≡ session.old.watch) }
+        → AreLeft (nature command.now).flushes session.old session.new }
     ensures told { IsTold F.tells session.old.machine.slots command.now
         → Did (λ notes. effect session.old.limit notes (live_in session.old (F.state files.old).files) command.now)
         session.old.command result (live_in session.new (F.state files.new).files) S.tells (S.written out.old)
         (S.written out.new) (notes_said session.old.notes) (notes_said session.new.notes) }
-    ensures undone { result ≡ Err OutOfMemory → IsUndone (says_files F.tells command.now) session.old session.new
-        (S.written out.old) (S.written out.new) (F.state files.old) (F.state files.new) }
+    ensures undone { result ≡ Err OutOfMemory → IsUndone (nature command.now).flushes (says_files F.tells command.now)
+        session.old session.new (S.written out.old) (S.written out.new) (F.state files.old) (F.state files.new) }
     ensures want { result ≡ Err OutOfMemory → MayWant session.old.spare command.now }
     ensures unrefused { result ≡ Err OutOfMemory → 16 ≤ session.old.spare
         → IsUnrefused command.now session.old.machine session.old.watch }
@@ -81,7 +83,7 @@ pub fn execute<U: Unit, F: Files, S: Sink>(
 }
 
 // The same, where there is room for the notes.
-#[tactic(auto, unfolding(crate::specs::Effect::effect))]
+#[tactic(auto, using(crate::proofs::RemainLemmas::leaves), unfolding(crate::specs::Effect::effect))]
 fn obey<U: Unit, F: Files, S: Sink>(
     alloc: Global,
     session: &mut Session<U>,
@@ -92,13 +94,13 @@ fn obey<U: Unit, F: Files, S: Sink>(
     requires room { 16 ≤ session.old.spare }
     requires open { AllOpen session.old.machine.slots (F.state files.old).opened }
     ensures refused { IsRefusal command.now result
-        → (session.new.machine ≡ session.old.machine) × (session.new.watch ≡ session.old.watch) }
+        → AreLeft (nature command.now).flushes session.old session.new }
     ensures told { IsTold F.tells session.old.machine.slots command.now
         → Did (λ notes. effect session.old.limit notes (live_in session.old (F.state files.old).files) command.now)
         session.old.command result (live_in session.new (F.state files.new).files) S.tells (S.written out.old)
         (S.written out.new) (notes_said session.old.notes) (notes_said session.new.notes) }
-    ensures undone { result ≡ Err OutOfMemory → IsUndone (says_files F.tells command.now) session.old session.new
-        (S.written out.old) (S.written out.new) (F.state files.old) (F.state files.new) }
+    ensures undone { result ≡ Err OutOfMemory → IsUndone (nature command.now).flushes (says_files F.tells command.now)
+        session.old session.new (S.written out.old) (S.written out.new) (F.state files.old) (F.state files.new) }
     ensures want { result ≡ Err OutOfMemory → MayWant 16 command.now }
     ensures unrefused { result ≡ Err OutOfMemory
         → IsUnrefused command.now session.old.machine session.old.watch }
@@ -130,7 +132,7 @@ fn obey<U: Unit, F: Files, S: Sink>(
 }
 
 // The same of all commands but lists and runs.
-#[tactic(auto, unfolding(crate::specs::Effect::effect))]
+#[tactic(auto, using(crate::proofs::RemainLemmas::leaves), unfolding(crate::specs::Effect::effect))]
 fn obey_setting<U: Unit, F: Files, S: Sink>(
     alloc: Global,
     session: &mut Session<U>,
@@ -142,13 +144,13 @@ fn obey_setting<U: Unit, F: Files, S: Sink>(
     requires open { AllOpen session.old.machine.slots (F.state files.old).opened }
     requires part { IsPastRuns command.now }
     ensures refused { IsRefusal command.now result
-        → (session.new.machine ≡ session.old.machine) × (session.new.watch ≡ session.old.watch) }
+        → AreLeft (nature command.now).flushes session.old session.new }
     ensures told { IsTold F.tells session.old.machine.slots command.now
         → Did (λ notes. effect session.old.limit notes (live_in session.old (F.state files.old).files) command.now)
         session.old.command result (live_in session.new (F.state files.new).files) S.tells (S.written out.old)
         (S.written out.new) (notes_said session.old.notes) (notes_said session.new.notes) }
-    ensures undone { result ≡ Err OutOfMemory → IsUndone (says_files F.tells command.now) session.old session.new
-        (S.written out.old) (S.written out.new) (F.state files.old) (F.state files.new) }
+    ensures undone { result ≡ Err OutOfMemory → IsUndone (nature command.now).flushes (says_files F.tells command.now)
+        session.old session.new (S.written out.old) (S.written out.new) (F.state files.old) (F.state files.new) }
     ensures want { result ≡ Err OutOfMemory → MayWant 16 command.now }
     ensures unrefused { result ≡ Err OutOfMemory
         → IsUnrefused command.now session.old.machine session.old.watch }
@@ -181,7 +183,7 @@ fn obey_setting<U: Unit, F: Files, S: Sink>(
 }
 
 // The same of all commands but these, and those that set, show, test or print something.
-#[tactic(auto, unfolding(crate::specs::Effect::effect))]
+#[tactic(auto, using(crate::proofs::RemainLemmas::leaves), unfolding(crate::specs::Effect::effect))]
 fn obey_watch<U: Unit, F: Files, S: Sink>(
     alloc: Global,
     session: &mut Session<U>,
@@ -193,13 +195,13 @@ fn obey_watch<U: Unit, F: Files, S: Sink>(
     requires open { AllOpen session.old.machine.slots (F.state files.old).opened }
     requires part { IsPastSettings command.now }
     ensures refused { IsRefusal command.now result
-        → (session.new.machine ≡ session.old.machine) × (session.new.watch ≡ session.old.watch) }
+        → AreLeft (nature command.now).flushes session.old session.new }
     ensures told { IsTold F.tells session.old.machine.slots command.now
         → Did (λ notes. effect session.old.limit notes (live_in session.old (F.state files.old).files) command.now)
         session.old.command result (live_in session.new (F.state files.new).files) S.tells (S.written out.old)
         (S.written out.new) (notes_said session.old.notes) (notes_said session.new.notes) }
-    ensures undone { result ≡ Err OutOfMemory → IsUndone (says_files F.tells command.now) session.old session.new
-        (S.written out.old) (S.written out.new) (F.state files.old) (F.state files.new) }
+    ensures undone { result ≡ Err OutOfMemory → IsUndone (nature command.now).flushes (says_files F.tells command.now)
+        session.old session.new (S.written out.old) (S.written out.new) (F.state files.old) (F.state files.new) }
     ensures want { result ≡ Err OutOfMemory → MayWant 16 command.now }
     ensures unrefused { result ≡ Err OutOfMemory
         → IsUnrefused command.now session.old.machine session.old.watch }
@@ -233,7 +235,7 @@ fn obey_watch<U: Unit, F: Files, S: Sink>(
 }
 
 // The same of the commands that work with files, and of those that are not built.
-#[tactic(auto, unfolding(crate::specs::Effect::effect))]
+#[tactic(auto, using(crate::proofs::RemainLemmas::leaves), unfolding(crate::specs::Effect::effect))]
 fn obey_file<U: Unit, F: Files, S: Sink>(
     alloc: Global,
     session: &mut Session<U>,
@@ -245,13 +247,13 @@ fn obey_file<U: Unit, F: Files, S: Sink>(
     requires open { AllOpen session.old.machine.slots (F.state files.old).opened }
     requires part { IsPastWatches command.now }
     ensures refused { IsRefusal command.now result
-        → (session.new.machine ≡ session.old.machine) × (session.new.watch ≡ session.old.watch) }
+        → AreLeft (nature command.now).flushes session.old session.new }
     ensures told { IsTold F.tells session.old.machine.slots command.now
         → Did (λ notes. effect session.old.limit notes (live_in session.old (F.state files.old).files) command.now)
         session.old.command result (live_in session.new (F.state files.new).files) S.tells (S.written out.old)
         (S.written out.new) (notes_said session.old.notes) (notes_said session.new.notes) }
-    ensures undone { result ≡ Err OutOfMemory → IsUndone (says_files F.tells command.now) session.old session.new
-        (S.written out.old) (S.written out.new) (F.state files.old) (F.state files.new) }
+    ensures undone { result ≡ Err OutOfMemory → IsUndone (nature command.now).flushes (says_files F.tells command.now)
+        session.old session.new (S.written out.old) (S.written out.new) (F.state files.old) (F.state files.new) }
     ensures want { result ≡ Err OutOfMemory → MayWant 16 command.now }
     ensures unrefused { result ≡ Err OutOfMemory
         → IsUnrefused command.now session.old.machine session.old.watch }

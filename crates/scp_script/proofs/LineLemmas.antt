@@ -13,6 +13,7 @@ use Rattle.scp_commands.specs.Live.{Standing, standing}
 use Rattle.scp_commands.specs.Reply.{Answer, Reply}
 use Rattle.scp_commands.specs.Doing.{IsSaid}
 use Rattle.scp_commands.specs.Effect.{Asked, asked}
+use Rattle.scp_commands.specs.Remains.{Remains, flushes_of}
 use Rattle.scp_script.specs.declared.progress.Progress.{Progress}
 use Rattle.scp_script.specs.declared.progress.Progress.TheVariants.{GoesOn, IsOver}
 use Rattle.scp_script.specs.declared.progress.Finish.{Finish}
@@ -23,7 +24,7 @@ use Rattle.scp_script.specs.Reading.{AreRead}
 use Rattle.scp_script.specs.Actions.{Texts, texts_of, texts_behind}
 use Rattle.unit_trait.specs.declared.kind.UnitName.{UnitName}
 use Rattle.scp_script.specs.Session as ends
-use Rattle.scp_script.specs.Session.{emptied_in, input_end, State, Session, SessionEnd, ExitDone, AllDone, InputEnded, BudgetSpent, end_status, state_of, state_at, closed, end_state, Going, rested, Over, Ends, Comes, prompt_text, asking_input, asking, upcoming, text_reply, following, text_step, step, over_by, course, trace}
+use Rattle.scp_script.specs.Session.{emptied_in, input_end, State, Session, SessionEnd, ExitDone, AllDone, InputEnded, BudgetSpent, end_status, state_of, state_at, flushes_in, closed, end_state, Going, rested, Over, Ends, Comes, prompt_text, asking_input, asking, upcoming, text_reply, following, text_step, step, over_by, course, trace}
 use Rattle.scp_script.specs.Loop.{exit_of, IsAnswer, IsShort, LetsThrough, status_of, finish_of, Finishes, Progresses}
 use Rattle.scp_script.proofs.TextLemmas.{text-reads}
 use Rattle.scp_script.proofs.SessionLemmas.{arrival-paid, trace-is, trace-asks, trace-begins, course-over, step-comes, step-over, upcoming-input, upcoming-done, asking-is, asking-done}
@@ -292,7 +293,7 @@ left-is behind new what same state texts =
 pub answered : (old behind new : Session) (text : List ℕ) (what : Asked) (used : ℕ) (result : Progress) (tells : Bool) (before mid after : List ℕ) (kept kept' : List FaultNote) → IsTrue tells
     → upcoming old ≡ Comes text behind → asked text ≡ what → IsBehind behind new → mid ≡ before ++ text_of (asking old) → drop used behind.notes ≡ new.notes
     → AreRead (reads_of (asking old)) old.open_ old.input new.open_ new.input
-    → IsAnswer (reply_in behind what) (texts_behind behind.texts what) result new.texts (standing used new.live) tells mid after → IsShort result old.live new.live kept kept' mid after
+    → IsAnswer (reply_in behind what) (texts_behind behind.texts what) result new.texts (standing used new.live) tells mid after → IsShort (flushes_of what) result old.live new.live kept kept' mid after
     → Progresses old result new before after
 answered old behind new text what used GoesOn tells before mid after kept kept' told e c b asks notes reads a short =
     let is = step-comes old behind text what e c in
@@ -342,7 +343,10 @@ answered old behind new text what used (IsOver Console) tells before mid after k
       named = λ console _. absurd (console refl);
     }
 answered old behind new text what used (IsOver OutOfMemory) tells before mid after kept kept' told e c b asks notes reads a short = record {
-  short = record { live_is = short.0; written = inr (short.2 ∙ asks) };
+  short = record {
+    live_is = subst (λ (b : Bool). Remains b old.live new.live) (sym (ap flushes_in e ∙ ap flushes_of c)) short.0;
+    written = inr (short.2 ∙ asks);
+  };
   made = reads_of (asking old);
   few = omega arith;
   reads = reads;

@@ -12,6 +12,8 @@ use Rattle.file_commands.specs.Notes.{CommandNote, Note, notes_said, numbered, h
 use Rattle.file_commands.proofs.Handing.{handed-own, dropped}
 use Rattle.scp_commands.specs.Live.{Live, standing, CommandState}
 use Rattle.scp_commands.specs.Effect.{Asked, asked}
+use Rattle.scp_commands.specs.Remains.{Remains, flushes_of}
+use Rattle.scp_commands.proofs.RemainLemmas.{remains}
 use Rattle.unit_trait.specs.declared.kind.UnitName.{UnitName}
 use Rattle.scp_commands.specs.FileEffects.{emptied_all, emptied_live}
 use Rattle.scp_commands.specs.Doing.{Closes}
@@ -25,9 +27,9 @@ use Rattle.scp_script.specs.Lines.{InputEnds, LineComes, arrival, line_reads}
 use Rattle.scp_script.specs.Reading.{AreRead}
 use Rattle.scp_script.specs.Scripts.{Script, still_open, cost_of_line, text_of_line, echo_text, past_line}
 use Rattle.scp_script.specs.Actions.{texts_of, texts_behind}
-use Rattle.scp_script.specs.Session.{State, Session, Comes, Step, Course, prompt_text, asking, behind_line, behind_script_line, behind_action, upcoming, emptied_in, input_end, closed, text_reply, course, trace}
+use Rattle.scp_script.specs.Session.{State, Session, Upcoming, Comes, Step, flushes_in, flushes_next, Course, prompt_text, asking, behind_line, behind_script_line, behind_action, upcoming, emptied_in, input_end, closed, text_reply, course, trace}
 use Rattle.scp_script.specs.Loop.{session_of, IsAnswer, IsShort, Answers, AnswerCounts, HasExitStatus, status_of, finish_of, EndsAs, Finishes, MayFollow, MayCome, StopsShort, RunsOut, Progresses, ProgressCause, Stepped, KeptInLine}
-use Rattle.scp_script.proofs.SessionLemmas.{arrival-paid, upcoming-input, upcoming-script, asking-script, upcoming-action, asking-action, trace-is, closing, asking-still, step-still, course-still}
+use Rattle.scp_script.proofs.SessionLemmas.{arrival-paid, upcoming-input, upcoming-script, asking-script, upcoming-action, asking-action, trace-is, closing, asking-still, upcoming-still, step-still, course-still}
 use Rattle.scp_script.proofs.LineLemmas.{none-read, comes-reads, asking-text, asking-reads, IsBehind, answered, input-ended}
 
 -- a session to which these calls are still to come
@@ -79,7 +81,7 @@ pub text-stepped : (old behind new : Session) (text : List ℕ) (what : Asked) (
     → ((l : List Note) → upcoming (with_notes old l) ≡ Comes text (with_notes behind l)) → asked text ≡ what → IsBehind behind new → old.spent < new.spent
     → ((l : List Note) → text_of (asking (with_notes old l)) ≡ shown) → mid ≡ before ++ shown → ((l : List Note) → reads_of (asking (with_notes old l)) ≡ made)
     → AreRead made old.open_ old.input new.open_ new.input
-    → Answers behind.limit behind.live behind.texts what new.spent result new.live new.texts tells mid after notes notes' → IsShort result old.live new.live kept kept' mid after
+    → Answers behind.limit behind.live behind.texts what new.spent result new.live new.texts tells mid after notes notes' → IsShort (flushes_of what) result old.live new.live kept kept' mid after
     → Stepped (with_notes old) result (with_notes new) before after notes notes'
 text-stepped old behind new text what shown made result tells before mid after notes notes' kept kept' told e c b less asks prompted counts reads a short = record {
   own = numbered new.spent a.own;
@@ -130,7 +132,7 @@ behind-input old new line e b =
 -- a line of the input was done, where no action waited and no script was open
 pub line-stepped : (old new : Session) (line : List ℕ) (what : Asked) (result : Progress) (tells : Bool) (before mid after : List ℕ) (notes notes' : List Note) (kept kept' : List FaultNote) → IsTrue tells
     → old.texts ≡ texts_of [] [] → old.reads ≡ true → arrival old.budget old.open_ old.input ≡ LineComes line → asked line ≡ what → IsBehindLine old new → old.spent < new.spent → mid ≡ before ++ prompt_text old.prompt
-    → Answers old.limit old.live (texts_of [] []) what new.spent result new.live new.texts tells mid after notes notes' → IsShort result old.live new.live kept kept' mid after
+    → Answers old.limit old.live (texts_of [] []) what new.spent result new.live new.texts tells mid after notes notes' → IsShort (flushes_of what) result old.live new.live kept kept' mid after
     → Stepped (with_notes old) result (with_notes new) before after notes notes'
 unfolding behind_line
 line-stepped old new line what result tells before mid after notes notes' kept kept' told none on e c b less prompted a short =
@@ -160,7 +162,7 @@ same-read o o' i i' open_ input = subst (λ (x : Bool). AreRead 0 o i x i') (sym
 pub script-stepped : (old new : Session) (script : Script) (outer : List Script) (what : Asked) (result : Progress) (tells : Bool) (before mid after : List ℕ) (notes notes' : List Note) (kept kept' : List FaultNote) → IsTrue tells
     → old.texts ≡ texts_of [] (script ∷ outer) → script.place < length script.text → cost_of_line script ≤ old.budget → asked (text_of_line script) ≡ what → IsBehindScript old new script
     → old.spent < new.spent → mid ≡ before ++ echo_text script
-    → Answers old.limit old.live (texts_of [] (past_line script ∷ outer)) what new.spent result new.live new.texts tells mid after notes notes' → IsShort result old.live new.live kept kept' mid after
+    → Answers old.limit old.live (texts_of [] (past_line script ∷ outer)) what new.spent result new.live new.texts tells mid after notes notes' → IsShort (flushes_of what) result old.live new.live kept kept' mid after
     → Stepped (with_notes old) result (with_notes new) before after notes notes'
 unfolding behind_script_line
 script-stepped old new script outer what result tells before mid after notes notes' kept kept' told is more fits c b less prompted a short =
@@ -187,7 +189,7 @@ behind-action old new others b =
 -- the action that waited first was done
 pub action-stepped : (old new : Session) (action : List ℕ) (others : List (List ℕ)) (what : Asked) (result : Progress) (tells : Bool) (before after : List ℕ) (notes notes' : List Note) (kept kept' : List FaultNote) → IsTrue tells
     → old.texts.actions ≡ action ∷ others → 1 ≤ old.budget → asked action ≡ what → IsBehindAction old new → old.spent < new.spent
-    → Answers old.limit old.live (texts_of others old.texts.scripts) what new.spent result new.live new.texts tells before after notes notes' → IsShort result old.live new.live kept kept' before after
+    → Answers old.limit old.live (texts_of others old.texts.scripts) what new.spent result new.live new.texts tells before after notes notes' → IsShort (flushes_of what) result old.live new.live kept kept' before after
     → Stepped (with_notes old) result (with_notes new) before after notes notes'
 unfolding behind_action
 action-stepped old new action others what result tells before after notes notes' kept kept' told is fits c b less a short =
@@ -265,7 +267,7 @@ input-closed old new k before after notes notes' none_open on e c reads written 
 -- memory ran out before a text was asked for
 pub room-refused : (old new : Session) (before : List ℕ) → new ≡ old → RunsOut old new before before
 room-refused old new before same = subst (λ (x : Session). RunsOut old x before before) (sym same) (record {
-  short = record { live_is = refl; written = inl refl };
+  short = record { live_is = remains (flushes_next old) old.live old.live refl; written = inl refl };
   made = 0;
   few = omega arith;
   reads = none-read old.open_ old.input;
@@ -275,7 +277,7 @@ room-refused old new before same = subst (λ (x : Session). RunsOut old x before
 
 short-still : (s : Session) (live : Live) (before after : List ℕ) → s.texts.actions ≡ [] → StopsShort (closing s) live before after → StopsShort s live before after
 short-still s live before after none h = record {
-  live_is = h.live_is;
+  live_is = subst (λ (u : Upcoming). Remains (flushes_in u) s.live live) (upcoming-still s none) h.live_is;
   written = subst (λ (l : List (Observation State)). (after ≡ before) ⊎ (after ≡ before ++ text_of l)) (asking-still s none) h.written;
 }
 
@@ -323,15 +325,15 @@ closed-before old scripts p new before after notes notes' none is s = record {
 }
 
 -- an answer that is not for want of memory
-pub never-short : (result : Progress) (old new : Live) (kept kept' : List FaultNote) (before after : List ℕ) → result ≢ IsOver OutOfMemory → IsShort result old new kept kept' before after
-never-short GoesOn old new kept kept' before after never = tt
-never-short (IsOver OutOfMemory) old new kept kept' before after never = absurd (never refl)
-never-short (IsOver (Exit status)) old new kept kept' before after never = tt
-never-short (IsOver EndOfInput) old new kept kept' before after never = tt
-never-short (IsOver FlushFailed) old new kept kept' before after never = tt
-never-short (IsOver Commands) old new kept kept' before after never = tt
-never-short (IsOver Console) old new kept kept' before after never = tt
-never-short (IsOver Input) old new kept kept' before after never = tt
+pub never-short : (flushes : Bool) (result : Progress) (old new : Live) (kept kept' : List FaultNote) (before after : List ℕ) → result ≢ IsOver OutOfMemory → IsShort flushes result old new kept kept' before after
+never-short flushes GoesOn old new kept kept' before after never = tt
+never-short flushes (IsOver OutOfMemory) old new kept kept' before after never = absurd (never refl)
+never-short flushes (IsOver (Exit status)) old new kept kept' before after never = tt
+never-short flushes (IsOver EndOfInput) old new kept kept' before after never = tt
+never-short flushes (IsOver FlushFailed) old new kept kept' before after never = tt
+never-short flushes (IsOver Commands) old new kept kept' before after never = tt
+never-short flushes (IsOver Console) old new kept kept' before after never = tt
+never-short flushes (IsOver Input) old new kept kept' before after never = tt
 
 -- what is known of the state that is left is known where it is that
 pub left-at : (old new now : CommandState) (files : List NamedBytes) (lines lines' : CommandLoop) (input left : List ℕ) (p : Progress) (before after : List ℕ) → new ≡ now

@@ -14,13 +14,14 @@ use Rattle.file_commands.specs.Notes.{CommandNote, Note}
 use Rattle.expect_actions.specs.Watch.{WatchState}
 use Rattle.scp_commands.specs.Live.{Live}
 use Rattle.scp_commands.specs.Doing.{ComeBehind}
+use Rattle.scp_commands.proofs.RemainLemmas.{remains}
 use Rattle.file_commands.proofs.Adding.{counted-both, counted-none}
 use Rattle.scp_script.specs.declared.progress.Progress.TheVariants.{GoesOn, IsOver}
 use Rattle.scp_script.specs.declared.progress.Finish.{Finish}
 use Rattle.scp_script.specs.declared.progress.Finish.TheVariants.{Exit, EndOfInput, FlushFailed, Commands, Console, Input, OutOfMemory}
 use Rattle.scp_script.specs.Lines.{reads_left}
 use Rattle.scp_script.specs.Reading.{AreRead}
-use Rattle.scp_script.specs.Session.{State, Session, step, Going, rested, after_step, course, trace, ComesTo}
+use Rattle.scp_script.specs.Session.{flushes_next, State, Session, step, Going, rested, after_step, course, trace, ComesTo}
 use Rattle.scp_script.specs.Loop.{status_of, finish_of, Finishes, FinishCause, GoesPast, LetsThrough, RunsOut, MayFollow, Progresses, Stepped, AreKept, KeptCause}
 use Rattle.scp_script.specs.Perform.{IsSession, RunsShort, IsPerformed, Performed}
 use Rattle.scp_script.proofs.SessionLemmas.{course-going}
@@ -216,7 +217,7 @@ never-begun start before notes = record {
     made = 0;
     few = omega arith;
     rest = refl;
-    short = record { live_is = refl; written = inl refl };
+    short = record { live_is = remains (flushes_next (start [])) (start []).live (start []).live refl; written = inl refl };
   };
 }
 

@@ -22,6 +22,7 @@ use Rattle.scp_commands.specs.Live.{Live, Standing, CommandState, live_in}
 use Rattle.scp_commands.specs.Reply.{Answer, Reply}
 use Rattle.scp_commands.specs.FaultText.{fault_text}
 use Rattle.scp_commands.specs.Effect.{Asked}
+use Rattle.scp_commands.specs.Remains.{Remains}
 use Rattle.scp_commands.specs.Doing.{IsSaid, IsBrokenOff, Does, ComeBehind}
 use Rattle.scp_script.specs.declared.progress.CommandLoop.{CommandLoop}
 use Rattle.scp_script.specs.declared.progress.Finish.{Finish}
@@ -35,7 +36,7 @@ use Rattle.expect_actions.specs.Watch.{WatchState}
 use Rattle.scp_script.specs.declared.texts.Texts.{Texts as HeldTexts}
 use Rattle.scp_script.specs.Actions.{Texts, texts_of, texts_behind}
 use Rattle.scp_script.specs.Session as ends
-use Rattle.scp_script.specs.Session.{State, Session, SessionEnd, ExitDone, AllDone, InputEnded, BudgetSpent, Going, rested, asking, with_complaint, text_reply, step, course, trace}
+use Rattle.scp_script.specs.Session.{State, Session, SessionEnd, ExitDone, AllDone, InputEnded, BudgetSpent, Going, rested, asking, with_complaint, text_reply, flushes_next, step, course, trace}
 
 -- the texts that the loop holds
 abbrev pub coming : HeldTexts → Texts
@@ -146,10 +147,10 @@ finish_of InputEnded = EndOfInput
 finish_of ends.FlushFailed = FlushFailed
 finish_of BudgetSpent = Commands
 
--- where memory ran out at a text, nothing was done
-abbrev pub IsShort : Progress → Live → Live → List FaultNote → List FaultNote → List ℕ → List ℕ → Type 0
-IsShort (IsOver OutOfMemory) old new notes notes' before after = (new ≡ old) × (notes' ≡ notes) × (after ≡ before)
-IsShort result old new notes notes' before after = Unit {0}
+-- where memory ran out at a text, nothing was done, but that one that flushes the disk may have done so
+abbrev pub IsShort : Bool → Progress → Live → Live → List FaultNote → List FaultNote → List ℕ → List ℕ → Type 0
+IsShort flushes (IsOver OutOfMemory) old new notes notes' before after = Remains flushes old new × (notes' ≡ notes) × (after ≡ before)
+IsShort flushes result old new notes notes' before after = Unit {0}
 
 -- A finish that is no fault says by what the session is over. A fault comes before that, wherever the session would
 -- have ended.
@@ -182,10 +183,10 @@ pub record GoesPast (old new : Session) (before after : List ℕ) : Type 0 where
   pub written : after ≡ before ++ text_of (step old).made
   pub reads : AreRead (reads_of (step old).made) old.open_ old.input new.open_ new.input
 
--- A session for which memory ran out before its next text, or at it: nothing of the text was done, and of what is printed
--- before it is done comes all or nothing.
+-- A session for which memory ran out before its next text, or at it: nothing of the text was done, but that one that flushes
+-- the disk may have done so; and of what is printed before it is done comes all or nothing.
 pub record StopsShort (old : Session) (live : Live) (before after : List ℕ) : Type 0 where
-  pub live_is : live ≡ old.live
+  pub live_is : Remains (flushes_next old) old.live live
   pub written : (after ≡ before) ⊎ (after ≡ before ++ text_of (asking old))
 
 -- the same, with the reads that were made of its line

@@ -5,6 +5,8 @@ ghost use Rattle.unit_files.specs.Open.{AllOpen, Around};
 ghost use Rattle.file_commands.specs.Notes.{CommandNote, notes_said};
 ghost use Rattle.scp_commands.specs.Live.{live_in, standing};
 ghost use Rattle.scp_commands.specs.Effect.{Asked, asked};
+ghost use Rattle.scp_commands.specs.Nature.{nature};
+ghost use Rattle.scp_commands.specs.Remains.{flushes_of};
 ghost use Rattle.scp_commands.specs.Doing.{IsExitAnswer};
 ghost use Rattle.scp_commands.specs.FaultText.{fault_text};
 ghost use Rattle.scp_commands.specs.declared.fault.CommandFault.TheVariants.{TooDeep};
@@ -44,9 +46,9 @@ pub fn answer<U: Unit, F: Files, S: Sink>(
         (coming texts.old) (asked line.now) session.old.command result (live_in session.new (F.state files.new).files)
         (coming texts.new) S.tells (S.written out.old) (S.written out.new) (notes_said session.old.notes)
         (notes_said session.new.notes) }
-    ensures short { IsTrue F.tells → IsShort result (live_in session.old (F.state files.old).files)
-        (live_in session.new (F.state files.new).files) session.old.notes session.new.notes (S.written out.old)
-        (S.written out.new) }
+    ensures short { IsTrue F.tells → IsShort (flushes_of (asked line.now)) result
+        (live_in session.old (F.state files.old).files) (live_in session.new (F.state files.new).files)
+        session.old.notes session.new.notes (S.written out.old) (S.written out.new) }
     ensures counts { AnswerCounts result (S.fault_count out.old) (S.fault_count out.new) }
     ensures exit { HasExitStatus result }
     ensures command { session.new.command ≡ session.old.command }
@@ -83,9 +85,9 @@ fn obey<U: Unit, F: Files, S: Sink>(
         (coming texts.old) (Ok command.now) session.old.command result (live_in session.new (F.state files.new).files)
         (coming texts.new) S.tells (S.written out.old) (S.written out.new) (notes_said session.old.notes)
         (notes_said session.new.notes) }
-    ensures short { IsTrue F.tells → IsShort result (live_in session.old (F.state files.old).files)
-        (live_in session.new (F.state files.new).files) session.old.notes session.new.notes (S.written out.old)
-        (S.written out.new) }
+    ensures short { IsTrue F.tells → IsShort (nature command.now).flushes result
+        (live_in session.old (F.state files.old).files) (live_in session.new (F.state files.new).files)
+        session.old.notes session.new.notes (S.written out.old) (S.written out.new) }
     ensures counts { AnswerCounts result (S.fault_count out.old) (S.fault_count out.new) }
     ensures exit { HasExitStatus result }
     ensures command { session.new.command ≡ session.old.command }

@@ -39,7 +39,12 @@ returns-clause-undone g c = λ text is.
     let none = none-read subject.Script c.stamp_of-stamp.result (script_of c.args.echo c.args.strict) c.read_file-whole.result (λ bytes. tt) (sym c.script_answer.ensures ∙ is) in
     let kept : c.note_reading.new.notes.items ≡ s.notes.items = c.note_reading.ensures.notes ∙ ap (λ (l : List FaultNote). s.notes.items ++ l) none ∙ append-nil s.notes.items in
     rw (← c.session.view_is)
-    (record { machine = refl; watch = refl; notes = kept; written = refl; files_are = λ told. c.read_file-whole.ensures.files told })
+    (record {
+      left = record { machine = refl; watch = refl };
+      notes = kept;
+      written = refl;
+      live = λ told. ap (λ (l : List NamedBytes). seen (beside s.watch s.keys l) s.machine) (c.read_file-whole.ensures.files told);
+    })
 
 pub returns-clause-own : goal.returns-clause-own
 returns-clause-own g c =

@@ -45,7 +45,12 @@ returns-clause-undone g c = λ text is.
     let kept : c.note_writing.new.notes.items ≡ s.notes.items =
     c.note_writing.ensures.notes ∙ ap (λ (l : List FaultNote). s.notes.items ++ l) none.0 ∙ append-nil s.notes.items in
     rw (← c.session.view_is)
-    (record { machine = refl; watch = refl; notes = kept; written = refl; files_are = λ _. write.unmade none.1 })
+    (record {
+      left = record { machine = refl; watch = refl };
+      notes = kept;
+      written = refl;
+      live = λ _. ap (λ (l : List NamedBytes). seen (beside s.watch s.keys l) s.machine) (write.unmade none.1);
+    })
 
 pub returns-clause-own : goal.returns-clause-own
 returns-clause-own g c = (write-own subject.Dump c.write_file-written.result.answer c.written_answer.result c.written_answer.ensures).0

@@ -5,6 +5,7 @@ use Rattle.file_commands.specs.declared.note.Subject.TheVariants as subject
 use Rattle.file_commands.specs.declared.note.FaultNote.{FaultNote}
 use Rattle.file_commands.specs.declared.stamp.Stamp.{Stamp}
 use Rattle.nova_machine.specs.Machine.{MachineState}
+use Rattle.nova_machine.specs.Seen.{seen, beside}
 use Rattle.scp_commands.specs.Live.{CommandState}
 use Rattle.scp_commands.specs.WholeCalls.{read_notes}
 use Rattle.scp_commands.specs.Doing.{Keeps}
@@ -52,13 +53,13 @@ returns-clause-undone g c = λ text is.
     let none = none-read subject.Load c.stamp_of-stamp.result (tape_comes s.machine) whole (tape-plain s.machine) want in
     let kept : c.note_reading.new.notes.items ≡ s.notes.items =
     c.note_reading.ensures.notes ∙ ap (λ (l : List FaultNote). s.notes.items ++ l) none ∙ append-nil s.notes.items in
+    let same = c.load_bytes.ensures.machine ∙ read-none whole.bytes s.machine want in
     rw (← c.session.view_is)
     (record {
-      machine = c.load_bytes.ensures.machine ∙ read-none whole.bytes s.machine want;
-      watch = refl;
+      left = record { machine = same; watch = refl };
       notes = kept;
       written = refl;
-      files_are = λ told. c.read_file-whole.ensures.files told;
+      live = λ told. (λ i. seen (beside s.watch s.keys (c.read_file-whole.ensures.files told i)) (same i));
     })
 
 pub returns-clause-own : goal.returns-clause-own
