@@ -1,5 +1,5 @@
 -- Every command keeps what every state is, and what the disk holds of its file.
-use Rattle.std.proofs.Common.{◌≡◌, ◌⊎◌, inl, inr, ℕ, ◌+◌, ◌^◌, ◌<◌, ◌≤◌, ◌==◌, ◌&&◌, not, nat_le, nat_lt, min, unwrap_or, Bool, true, false, List, [], ◌∷◌, ◌++◌, length, Option, Some, None, option_map, Result, Ok, Err, if◌then◌else◌, refl, sym, ap, subst, ◌∙◌, arith}
+use Rattle.std.proofs.Common.{◌≡◌, ◌≢◌, ◌⊎◌, inl, inr, ℕ, ◌+◌, ◌^◌, ◌<◌, ◌≤◌, ◌==◌, ◌&&◌, not, nat_le, nat_lt, min, unwrap_or, Bool, true, false, List, [], ◌∷◌, ◌++◌, length, Option, Some, None, option_map, Result, Ok, Err, if◌then◌else◌, refl, sym, ap, subst, ◌∙◌, arith}
 use Rattle.std.proofs.lemmas.Bool.{and_parts, leb-true, ltb-true}
 use Rattle.std.proofs.lemmas.List.{length-map}
 use Rattle.observations.specs.Observations.{Prints, StandsAt, map_made}
@@ -42,6 +42,7 @@ use Rattle.scp_examine.proofs.ValidLemmas.{LeavesRest, deposited-valid, deposite
 use Rattle.scp_commands.specs.declared.next.Next.{Next}
 use Rattle.scp_commands.specs.declared.next.Next.TheVariants.{Go, Exit}
 use Rattle.scp_commands.specs.declared.fault.CommandFault.{CommandFault}
+use Rattle.scp_commands.specs.declared.fault.CommandFault.TheVariants.{Console, OutOfMemory}
 use Rattle.scp_commands.specs.Live.{Live, Standing, standing, with_machine, numberless, with_attached}
 use Rattle.scp_commands.specs.Reply.{Answer, Reply, goes, says, refused}
 use Rattle.scp_commands.specs.FaultText.{list_fault, tape_fault}
@@ -56,7 +57,9 @@ use Rattle.scp_commands.specs.SetEffects.{sized, set_size_reply}
 use Rattle.scp_commands.specs.ScriptEffects.{test_answer, assert_answer, echo_reply, assert_reply, script_of, do_answer, do_reply, goto_reply}
 use Rattle.scp_commands.specs.WholeCalls.{whole_calls, write_calls, said_answer}
 use Rattle.scp_commands.specs.TapeEffects.{tape_in, tape_answer, loaded_machine, load_answer, load_reply, can_dump, dump_of, dump_answer, dump_after, dump_reply}
-use Rattle.scp_commands.specs.Effect.{effect, Asked, does}
+use Rattle.scp_commands.specs.Effect.{effect}
+use Rattle.scp_commands.specs.Doing.{Does}
+use Rattle.scp_commands.specs.Remains.{flushed_machine, flushed, Remains}
 use Rattle.scp_commands.specs.Valid.{ValidLive, GivesBytes, IsValidReply, CommandsKeepStates}
 use Rattle.scp_commands.proofs.SeenLemmas.{attached-with}
 use Rattle.scp_commands.proofs.CloseLemmas.{none-other}
@@ -515,8 +518,39 @@ stands-effect limit notes live (request.Load name) is kept bytes = stands-load n
 stands-effect limit notes live (request.Dump from to name) is kept bytes = stands-dump notes live from to name is
 stands-effect limit notes live r is kept bytes = stands-refused _ live is
 
+-- ---- what a call has left
+
+left-valid : (reply : Reply) (answer : Answer) (at : Standing) (tells : Bool) (before after : List ℕ) → IsValidReply reply → answer ≢ Err OutOfMemory → Does reply answer at tells before after
+    → ValidLive at.live
+left-valid reply (Err Console) at tells before after is some does = is.made at does.stands
+left-valid reply (Err OutOfMemory) at tells before after is some does = absurd (some refl)
+left-valid reply answer at tells before after is some does = subst (λ (s : Standing). ValidLive s.live) (sym does.1.after_is) is.after
+
+-- what the disk held was written back
+flushed-valid : (live : Live) → ValidLive live → ValidLive (flushed live)
+flushed-valid live is =
+    changed-live live (flushed_machine live.machine) live.watch (flushed_files None disk_unit live) is
+    (record {
+      memory = is.valid.machine.memory;
+      size = is.valid.machine.size;
+      cpu = is.valid.machine.cpu;
+      mask = is.valid.machine.mask;
+      switches = is.valid.machine.switches;
+      core = record { registers = is.valid.machine.core.registers; sound = is.valid.machine.core.sound; listed = is.valid.machine.core.listed; times = is.valid.machine.core.times };
+      places = is.valid.machine.places;
+      disk = is.valid.machine.disk;
+    })
+    refl refl is.valid.watch (flushed-files None disk_unit (attachment_at (attached_in live.machine) disk_unit) live.machine.disk live.files is.valid.machine.disk is.valid.files)
+
+pub remains-valid : (flushes : Bool) (old new : Live) → ValidLive old → Remains flushes old new → ValidLive new
+remains-valid false old new is same = subst ValidLive (sym same) is
+remains-valid true old new is (inl same) = subst ValidLive (sym same) is
+remains-valid true old new is (inr same) = subst ValidLive (sym same) (flushed-valid old is)
+
 pub commands-keep-states : CommandsKeepStates
 commands-keep-states = record {
   valid = λ limit notes live r is kept bytes. (stands-effect limit notes live r is kept bytes.text).valid;
   disk = λ limit notes live r is kept bytes. (stands-effect limit notes live r is kept bytes.text).copy;
+  left = left-valid;
+  remains = remains-valid;
 }

@@ -1,5 +1,5 @@
 -- What every state is within a session, and what commands make of it.
-use Rattle.std.specs.Prelude.{◌≡◌, ◌≤◌, ℕ, false, List, Ok}
+use Rattle.std.specs.Prelude.{◌≡◌, ◌≢◌, ◌≤◌, ℕ, Bool, false, List, Ok, Err}
 use Rattle.observations.specs.Observations.{StandsAt}
 use Rattle.nova_machine.specs.Run.{last_time}
 use Rattle.nova_machine.specs.Valid.{AreBytes, Valid, DiskIsItsFile, LeavesDiskFile}
@@ -7,9 +7,12 @@ use Rattle.file_commands.specs.Notes.{CommandNote}
 use Rattle.scp_parser.specs.Command.{Request, IsKept}
 use Rattle.scp_parser.specs.Laws.{IsOfBytes}
 use Rattle.scp_commands.specs.declared.next.Next.TheVariants.{Do}
+use Rattle.scp_commands.specs.declared.fault.CommandFault.TheVariants.{OutOfMemory}
 use Rattle.scp_commands.specs.Live.{Live, Standing}
 use Rattle.scp_commands.specs.Reply.{Answer, Reply}
 use Rattle.scp_commands.specs.Effect.{effect}
+use Rattle.scp_commands.specs.Doing.{Does}
+use Rattle.scp_commands.specs.Remains.{Remains}
 
 -- a state that commands work on: all is in range, and no time comes past the end of time
 pub record ValidLive (live : Live) : Type 0 where
@@ -36,3 +39,8 @@ pub record CommandsKeepStates : Type 0 where
       → DiskIsItsFile live
       → ((effect limit notes live r).after.live.machine.disk.written ≡ false → LeavesDiskFile live (effect limit notes live r).after.live)
       → DiskIsItsFile (effect limit notes live r).after.live
+  -- what a call has left that does such a command, also where the console refused a byte; and what one has left that was
+  -- refused or that memory ran out in
+  pub left : (reply : Reply) (answer : Answer) (at : Standing) (tells : Bool) (before after : List ℕ) → IsValidReply reply
+      → answer ≢ Err OutOfMemory → Does reply answer at tells before after → ValidLive at.live
+  pub remains : (flushes : Bool) (old new : Live) → ValidLive old → Remains flushes old new → ValidLive new
