@@ -1,9 +1,9 @@
 -- A tape of bytes says words of 16 bits, and starts at an address; and the dump of a memory is of bytes.
-use Rattle.std.proofs.Common.{◌≡◌, ℕ, zero, suc, ◌+◌, ◌-◌, ◌*◌, ◌/◌, ◌%◌, ◌^◌, ◌<◌, ◌≤◌, ◌==◌, nat_lt, min, Bool, true, false, List, [], ◌∷◌, ◌++◌, length, take, drop, replicate, slice_index, sum, Option, Some, None, IfSome, Result, Ok, Err, refl, arith, length-take, length-drop, if◌then◌else◌}
+use Rattle.std.proofs.Common.{◌≡◌, ℕ, zero, suc, ◌+◌, ◌-◌, ◌*◌, ◌/◌, ◌^◌, ◌<◌, ◌≤◌, ◌==◌, nat_lt, min, Bool, true, false, List, [], ◌∷◌, ◌++◌, length, take, drop, replicate, slice_index, Option, Some, None, IfSome, Result, Ok, Err, refl, arith, length-take, length-drop, if◌then◌else◌}
 use Rattle.std.specs.List.{AllByRecursion, position}
 use Rattle.std.proofs.lemmas.Bool.{ltb-true}
 use Rattle.std.proofs.lemmas.List.Elements.{All-from_recursion, recursion_from_All, All-append, All-take, All-drop, All-replicate}
-use Rattle.nova_memory.specs.Memory.{MemoryState, IsMemory, get, put}
+use Rattle.nova_memory.specs.Memory.{MemoryState, IsMemory, put}
 use Rattle.nova_memory.proofs.Keeps.{get-word, put-memory}
 use Rattle.binary_load.specs.declared.faults.LoadFault.{LoadFault}
 use Rattle.binary_load.specs.declared.faults.LoadFault.TheVariants.{Truncated}

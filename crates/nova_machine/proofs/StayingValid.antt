@@ -1,4 +1,10 @@
 -- The law of valid states.
+use Rattle.std.proofs.Common.{List, map}
+use Rattle.unit_trait.specs.declared.kind.Kind.{Kind}
+use Rattle.unit_trait.specs.Row.{initial_unit}
+use Rattle.unit_list.proofs.Resets.{begun-fits}
+use Rattle.nova_machine.specs.Machine.{new_machine}
+use Rattle.nova_machine.specs.Valid.{ValidMachine}
 use Rattle.nova_machine.specs.ValidLaws.{RunsStayValid}
 use Rattle.nova_machine.proofs.ValidRuns.{turn-valid, run-valid, left-valid, new-valid, empty-valid}
 use Rattle.nova_machine.proofs.InTime.{run-in-time}
@@ -15,3 +21,7 @@ runs-stay-valid = record {
   turn_copy = turn-copies;
   run_copy = run-copies;
 }
+
+-- a new machine with a unit of each of these kinds, before anything was asked of it
+pub kinds-begin : (kinds : List Kind) → ValidMachine (new_machine (map initial_unit kinds))
+kinds-begin kinds = new-valid (map initial_unit kinds) (begun-fits kinds)

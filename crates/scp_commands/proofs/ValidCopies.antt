@@ -1,5 +1,5 @@
 -- What the disk holds of its file, where a unit gets or loses a file.
-use Rattle.std.proofs.Common.{◌≡◌, ◌⊎◌, inl, inr, ℕ, ◌<◌, nat_lt, Bool, true, false, List, [], ◌∷◌, length, set, get_or, drop, Option, Some, None, if◌then◌else◌, refl, sym, ap, subst, ◌∙◌, arith}
+use Rattle.std.proofs.Common.{◌≡◌, inl, inr, ℕ, ◌<◌, nat_lt, Bool, true, false, List, [], ◌∷◌, length, set, get_or, drop, Option, Some, None, if◌then◌else◌, refl, sym, ap, subst, ◌∙◌, arith}
 use Rattle.std.proofs.lemmas.List.{get_or-set_same, get_or-set_other}
 use Rattle.host_files.specs.Lists.{NamedBytes, bytes_of}
 use Rattle.unit_trait.specs.declared.kind.Kind.{Kind}
@@ -8,12 +8,12 @@ use Rattle.unit_trait.specs.declared.kind.UnitName.{UnitName}
 use Rattle.unit_trait.specs.Kinds.{units_of}
 use Rattle.unit_files.specs.Attachments.{Attachment, Held, attachments_of, attachment_at, with_attachment, file_units, kind_place, file_place, is_disk}
 use Rattle.unit_files.specs.Buffer.{Buffer, no_buffer, disk_unit}
-use Rattle.unit_files.specs.Acts.{Failure, closing_said, flush_failure, AttachSaid, Attached, DetachSaid, HadNone, StillHeld, Detached, detach_said_of, detached, buffer_by, buffer_left}
+use Rattle.unit_files.specs.Acts.{Failure, closing_said, flush_failure, Attached, DetachSaid, HadNone, StillHeld, Detached, detach_said_of, detached, buffer_by, buffer_left}
 use Rattle.file_commands.specs.Notes.{CommandNote, failure_now}
 use Rattle.file_commands.specs.declared.note.Subject.TheVariants as subject
 use Rattle.file_commands.specs.AllUnits.{Filed, Emptied, emptied_as, said_in, written_in, without_file, emptied}
 use Rattle.nova_machine.specs.Machine.{MachineState}
-use Rattle.nova_machine.specs.Seen.{Seen, attached_in}
+use Rattle.nova_machine.specs.Seen.{attached_in}
 use Rattle.nova_machine.specs.Valid.{CopyIsFile, DiskIsItsFile, KeepsFile, LeavesDiskFile}
 use Rattle.scp_parser.specs.Command.{IsDrive}
 use Rattle.scp_commands.specs.Live.{Live, with_machine}
@@ -76,6 +76,15 @@ here : (unit : UnitName) (attached : List (Option Attachment)) (a : Option Attac
     → attachment_at (with_attachment attached unit a) disk_unit ≡ a
 here unit attached a drive some is =
     ap (λ (p : ℕ). get_or (set attached p a) 0 None) (one-disk unit.kind unit.unit is drive) ∙ get_or-set_same attached 0 a None some
+
+-- the disk itself gets a file, or loses it
+pub copy-new : (a : Attachment) (attached : List (Option Attachment)) (files : List NamedBytes) → 0 < length attached
+    → CopyIsFile (attachment_at (with_attachment attached disk_unit (Some a)) disk_unit) (record { bytes = bytes_of files a.name; written = false }) files
+copy-new a attached files some =
+    subst (λ (o : Option Attachment). CopyIsFile o (record { bytes = bytes_of files a.name; written = false }) files) (sym (here disk_unit attached (Some a) (inr refl) some refl)) (λ none. refl)
+
+pub copy-gone : (attached : List (Option Attachment)) (files : List NamedBytes) → 0 < length attached → CopyIsFile (attachment_at (detached disk_unit attached) disk_unit) no_buffer files
+copy-gone attached files some = subst (λ (o : Option Attachment). CopyIsFile o no_buffer files) (sym (here disk_unit attached None (inr refl) some refl)) refl
 
 -- ---- a unit gets a file, or loses one
 

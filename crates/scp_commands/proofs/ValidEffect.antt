@@ -1,13 +1,13 @@
 -- Every command keeps what every state is, and what the disk holds of its file.
-use Rattle.std.proofs.Common.{◌≡◌, ◌⊎◌, inl, inr, ℕ, ◌+◌, ◌^◌, ◌<◌, ◌≤◌, ◌==◌, ◌&&◌, not, nat_le, nat_lt, min, unwrap_or, Bool, true, false, List, [], ◌∷◌, ◌++◌, length, Option, Some, None, option_map, Result, Ok, Err, if◌then◌else◌, refl, sym, ap, subst, ◌∙◌, arith}
+use Rattle.std.proofs.Common.{◌≡◌, ◌≢◌, inl, inr, ℕ, ◌+◌, ◌^◌, ◌<◌, ◌≤◌, ◌==◌, ◌&&◌, not, nat_le, nat_lt, min, unwrap_or, Bool, true, false, List, [], ◌∷◌, length, Option, Some, None, option_map, Result, Ok, Err, if◌then◌else◌, refl, sym, subst, ◌∙◌, arith}
 use Rattle.std.proofs.lemmas.Bool.{and_parts, leb-true, ltb-true}
 use Rattle.std.proofs.lemmas.List.{length-map}
-use Rattle.observations.specs.Observations.{Prints, StandsAt, map_made}
+use Rattle.observations.specs.Observations.{Prints, map_made}
 use Rattle.observations.proofs.MadeLemmas.{stands-either, stands-mapped}
 use Rattle.host_files.specs.Lists.{NamedBytes, bytes_of}
 use Rattle.unit_trait.specs.declared.kind.UnitName.{UnitName}
 use Rattle.unit_files.specs.Attachments.{Attachment, Held, attachment_at, with_attachment}
-use Rattle.unit_files.specs.Buffer.{disk_unit}
+use Rattle.unit_files.specs.Buffer.{no_buffer, disk_unit}
 use Rattle.unit_files.specs.Acts.{Failure, AttachSaid, Attached, UnitHasFile, OnlyWrites, NotThere, TooLong, CallFailed, attach_said, attach_files, is_read_only, DetachSaid, HadNone, StillHeld, Detached, detach_said, detached}
 use Rattle.file_commands.specs.declared.note.Subject.TheVariants as subject
 use Rattle.file_commands.specs.Notes.{CommandNote, failure_now}
@@ -25,7 +25,7 @@ use Rattle.nova_memory.specs.Memory.{fits_size}
 use Rattle.nova_machine.specs.Machine.{MachineState, reset_machine}
 use Rattle.nova_machine.specs.Seen.{attached_in}
 use Rattle.nova_machine.specs.Run.{run, last_time}
-use Rattle.nova_machine.specs.Valid.{AreBytes, ValidMachine, ValidWatch, Valid, CopyIsFile, DiskIsItsFile, LeavesDiskFile}
+use Rattle.nova_machine.specs.Valid.{AreBytes, ValidMachine, ValidWatch, CopyIsFile, DiskIsItsFile, LeavesDiskFile}
 use Rattle.nova_machine.proofs.StayingValid.{runs-stay-valid}
 use Rattle.nova_machine.specs.declared.machine.Stop.{Stop}
 use Rattle.nova_machine.proofs.ValidBytes.{AreFiles, files-found}
@@ -35,16 +35,15 @@ use Rattle.scp_parser.specs.declared.command.Shown.{Shown}
 use Rattle.scp_parser.specs.declared.command.Shown.TheVariants as shown
 use Rattle.scp_parser.specs.Command.{Request, IsKept, IsDrive}
 use Rattle.scp_parser.specs.Command as request
-use Rattle.scp_parser.specs.Laws.{IsOfBytes}
 use Rattle.scp_examine.specs.declared.fault.ExamineFault.{ExamineFault}
 use Rattle.scp_examine.specs.Effect.{examine_fault, fault_of_deposit, deposited, tested}
 use Rattle.scp_examine.proofs.ValidLemmas.{LeavesRest, deposited-valid, deposited-leaves}
 use Rattle.scp_commands.specs.declared.next.Next.{Next}
 use Rattle.scp_commands.specs.declared.next.Next.TheVariants.{Go, Exit}
 use Rattle.scp_commands.specs.declared.fault.CommandFault.{CommandFault}
+use Rattle.scp_commands.specs.declared.fault.CommandFault.TheVariants.{Console, OutOfMemory, NotBuilt}
 use Rattle.scp_commands.specs.Live.{Live, Standing, standing, with_machine, numberless, with_attached}
 use Rattle.scp_commands.specs.Reply.{Answer, Reply, goes, says, refused}
-use Rattle.scp_commands.specs.FaultText.{list_fault, tape_fault}
 use Rattle.scp_commands.specs.RunEffects.{stop_line, run_answer, used_by, run_failure, ran, address_fits, started, run_from, stepped, step_of, reset_reply, last_address}
 use Rattle.scp_commands.specs.WatchEffects.{text_of_quoted, lacks_room_for_break, can_be_expected, largest_count, break_reply, no_break_reply, expect_reply, no_expect_reply, send_reply, no_send_reply}
 use Rattle.scp_commands.specs.ListEffects.{lacks_device, examine_after, examine_reply, handed, deposit_after, deposit_reply}
@@ -53,17 +52,19 @@ use Rattle.scp_commands.specs.FileEffects.{filed_in, emptied_all, left_by, kept_
 use Rattle.scp_commands.specs.ShowEffects.{show_reply}
 use Rattle.scp_commands.specs.ExitEffects.{exit_reply}
 use Rattle.scp_commands.specs.SetEffects.{sized, set_size_reply}
-use Rattle.scp_commands.specs.ScriptEffects.{test_answer, assert_answer, echo_reply, assert_reply, script_of, do_answer, do_reply, goto_reply}
-use Rattle.scp_commands.specs.WholeCalls.{whole_calls, write_calls, said_answer}
-use Rattle.scp_commands.specs.TapeEffects.{tape_in, tape_answer, loaded_machine, load_answer, load_reply, can_dump, dump_of, dump_answer, dump_after, dump_reply}
-use Rattle.scp_commands.specs.Effect.{effect, Asked, does}
+use Rattle.scp_commands.specs.ScriptEffects.{test_answer, assert_answer, echo_reply, assert_reply, do_answer, do_reply, goto_reply}
+use Rattle.scp_commands.specs.WholeCalls.{whole_calls, write_calls}
+use Rattle.scp_commands.specs.TapeEffects.{tape_in, tape_answer, loaded_machine, load_answer, load_reply, can_dump, dump_of, dump_answer, dump_reply}
+use Rattle.scp_commands.specs.Effect.{effect}
+use Rattle.scp_commands.specs.Doing.{Does}
+use Rattle.scp_commands.specs.Remains.{flushed_machine, flushed, Remains}
 use Rattle.scp_commands.specs.Valid.{ValidLive, GivesBytes, IsValidReply, CommandsKeepStates}
 use Rattle.scp_commands.proofs.SeenLemmas.{attached-with}
 use Rattle.scp_commands.proofs.CloseLemmas.{none-other}
 use Rattle.scp_commands.proofs.ValidWatch.{quoted-bytes, break-added, break-removed, breaks-removed, expect-added, expects-removed, sends-added, sends-removed}
 use Rattle.scp_commands.proofs.ValidMachines.{sized-valid, reset-valid, reset-leaves, started-valid, started-leaves, GivesWhole, whole-bytes, loaded-valid, loaded-leaves, written-files}
 use Rattle.scp_commands.proofs.ValidFiles.{Fits, attached-files, flushed-files, attached-fits, attached-valid, detached-valid, filed-valid, IsFiled, emptied-filed}
-use Rattle.scp_commands.proofs.ValidCopies.{keeps-same, copy-same, leaves-from, copy-attached, copy-detached, copy-emptied}
+use Rattle.scp_commands.proofs.ValidCopies.{keeps-same, copy-same, leaves-from, copy-new, copy-gone, copy-attached, copy-detached, copy-emptied}
 
 attached-count : (m : MachineState) → length (attached_in m) ≡ length m.slots
 attached-count m = length-map m.slots (λ slot. option_map (λ (h : Held). h.attachment) slot)
@@ -515,8 +516,104 @@ stands-effect limit notes live (request.Load name) is kept bytes = stands-load n
 stands-effect limit notes live (request.Dump from to name) is kept bytes = stands-dump notes live from to name is
 stands-effect limit notes live r is kept bytes = stands-refused _ live is
 
+-- ---- the disk gets a file, or loses it
+
+some-attached : (live : Live) → ValidLive live → 0 < length (attached_in live.machine)
+some-attached live is = let places = is.valid.machine.places in omega (arith, attached-count live.machine, places)
+
+attach-anew : (notes : List CommandNote) (live : Live) (option : ℕ) (name : List ℕ) → ValidLive live → (attach_reply notes live option disk_unit name).answer ≡ Ok Go
+    → DiskIsItsFile (attach_reply notes live option disk_unit name).after.live
+unfolding attach_reply
+attach-anew notes live option name is done = by-lack (lacks_unit live.machine disk_unit) done
+  where
+    fault : Option Failure
+    fault = failure_now live.machine.time (subject.Unit disk_unit) notes
+
+    files : List NamedBytes
+    files = attach_files fault (mode_of option) disk_unit name (attached_in live.machine) live.files
+
+    by-said : (said : AttachSaid) → attach_answer disk_unit said ≡ Ok Go
+        → DiskIsItsFile (record live { machine = attached_machine said (mode_of option) disk_unit name (bytes_of files name) live.machine; files = files })
+    by-said (Attached count) done =
+        let a : Attachment = record { name = name; read_only = is_read_only (mode_of option) } in
+        subst (λ (l : List (Option Attachment)). CopyIsFile (attachment_at l disk_unit) (record { bytes = bytes_of files name; written = false }) files)
+        (sym (attached-with live.machine (with_attachment (attached_in live.machine) disk_unit (Some a)))) (copy-new a (attached_in live.machine) files (some-attached live is))
+    by-said UnitHasFile done = absurd (cc)
+    by-said OnlyWrites done = absurd (cc)
+    by-said NotThere done = absurd (cc)
+    by-said TooLong done = absurd (cc)
+    by-said (CallFailed f) done = absurd (cc)
+
+    by-lack : (b : Bool) → (if b then refused NotBuilt live else attach_with fault (mode_of option) disk_unit name live).answer ≡ Ok Go
+        → DiskIsItsFile (if b then refused NotBuilt live else attach_with fault (mode_of option) disk_unit name live).after.live
+    by-lack true done = absurd (cc)
+    by-lack false done = by-said (attach_said fault (mode_of option) disk_unit name (attached_in live.machine) live.files) done
+
+detach-anew : (notes : List CommandNote) (live : Live) → ValidLive live → (detach_reply notes live disk_unit).answer ≡ Ok Go → DiskIsItsFile (detach_reply notes live disk_unit).after.live
+unfolding detach_reply
+detach-anew notes live is done = by-lack (lacks_unit live.machine disk_unit) done
+  where
+    fault : Option Failure
+    fault = failure_now live.machine.time (subject.Unit disk_unit) notes
+
+    by-said : (said : DetachSaid) → detach_answer disk_unit said ≡ Ok Go
+        → DiskIsItsFile (record live { machine = detached_machine said disk_unit live.machine; files = flushed_files fault disk_unit live })
+    by-said HadNone done = absurd (cc)
+    by-said (StillHeld f) done = absurd (cc)
+    by-said (Detached failure) done =
+        subst (λ (l : List (Option Attachment)). CopyIsFile (attachment_at l disk_unit) no_buffer (flushed_files fault disk_unit live))
+        (sym (attached-with live.machine (detached disk_unit (attached_in live.machine)))) (copy-gone (attached_in live.machine) (flushed_files fault disk_unit live) (some-attached live is))
+
+    by-lack : (b : Bool) → (if b then refused NotBuilt live else detach_with fault disk_unit live).answer ≡ Ok Go
+        → DiskIsItsFile (if b then refused NotBuilt live else detach_with fault disk_unit live).after.live
+    by-lack true done = absurd (cc)
+    by-lack false done = by-said (detach_said fault disk_unit (attached_in live.machine) live.machine.disk) done
+
+attached-anew : (limit : ℕ) (notes : List CommandNote) (live : Live) (option : ℕ) (name : List ℕ) → ValidLive live → (effect limit notes live (request.Attach option disk_unit name)).answer ≡ Ok Go
+    → DiskIsItsFile (effect limit notes live (request.Attach option disk_unit name)).after.live
+unfolding effect
+attached-anew limit notes live option name is done = attach-anew notes live option name is done
+
+detached-anew : (limit : ℕ) (notes : List CommandNote) (live : Live) → ValidLive live → (effect limit notes live (request.Detach (Some disk_unit))).answer ≡ Ok Go
+    → DiskIsItsFile (effect limit notes live (request.Detach (Some disk_unit))).after.live
+unfolding effect
+detached-anew limit notes live is done = detach-anew notes live is done
+
+-- ---- what a call has left
+
+left-valid : (reply : Reply) (answer : Answer) (at : Standing) (tells : Bool) (before after : List ℕ) → IsValidReply reply → answer ≢ Err OutOfMemory → Does reply answer at tells before after
+    → ValidLive at.live
+left-valid reply (Err Console) at tells before after is some does = is.made at does.stands
+left-valid reply (Err OutOfMemory) at tells before after is some does = absurd (some refl)
+left-valid reply answer at tells before after is some does = subst (λ (s : Standing). ValidLive s.live) (sym does.1.after_is) is.after
+
+-- what the disk held was written back
+flushed-valid : (live : Live) → ValidLive live → ValidLive (flushed live)
+flushed-valid live is =
+    changed-live live (flushed_machine live.machine) live.watch (flushed_files None disk_unit live) is
+    (record {
+      memory = is.valid.machine.memory;
+      size = is.valid.machine.size;
+      cpu = is.valid.machine.cpu;
+      mask = is.valid.machine.mask;
+      switches = is.valid.machine.switches;
+      core = record { registers = is.valid.machine.core.registers; sound = is.valid.machine.core.sound; listed = is.valid.machine.core.listed; times = is.valid.machine.core.times };
+      places = is.valid.machine.places;
+      disk = is.valid.machine.disk;
+    })
+    refl refl is.valid.watch (flushed-files None disk_unit (attachment_at (attached_in live.machine) disk_unit) live.machine.disk live.files is.valid.machine.disk is.valid.files)
+
+pub remains-valid : (flushes : Bool) (old new : Live) → ValidLive old → Remains flushes old new → ValidLive new
+remains-valid false old new is same = subst ValidLive (sym same) is
+remains-valid true old new is (inl same) = subst ValidLive (sym same) is
+remains-valid true old new is (inr same) = subst ValidLive (sym same) (flushed-valid old is)
+
 pub commands-keep-states : CommandsKeepStates
 commands-keep-states = record {
   valid = λ limit notes live r is kept bytes. (stands-effect limit notes live r is kept bytes.text).valid;
   disk = λ limit notes live r is kept bytes. (stands-effect limit notes live r is kept bytes.text).copy;
+  attached = attached-anew;
+  detached = detached-anew;
+  left = left-valid;
+  remains = remains-valid;
 }

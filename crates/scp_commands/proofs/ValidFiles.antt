@@ -1,12 +1,11 @@
 -- ATTACH, DETACH and the end of a session leave files of bytes, and a machine in which all is in range.
-use Rattle.std.proofs.Common.{◌≡◌, ◌⊎◌, inl, inr, ℕ, zero, suc, ◌+◌, ◌^◌, ◌<◌, ◌≤◌, ◌&&◌, ◌||◌, nat_le, nat_lt, Bool, true, false, is_some, List, [], ◌∷◌, length, map, set, get_or, Option, Some, None, option_map, if◌then◌else◌, refl, sym, ap, subst, ◌∙◌, arith}
-use Rattle.std.specs.List.{AllByRecursion}
-use Rattle.std.proofs.lemmas.Bool.{ltb-false, cond_both}
+use Rattle.std.proofs.Common.{◌≡◌, inl, inr, ℕ, zero, suc, ◌+◌, ◌<◌, ◌≤◌, ◌&&◌, nat_le, nat_lt, Bool, true, false, is_some, List, [], ◌∷◌, length, Option, Some, None, option_map, if◌then◌else◌, refl, sym, subst, ◌∙◌, arith}
+use Rattle.std.proofs.lemmas.Bool.{ltb-false}
 use Rattle.std.proofs.lemmas.Bool.Decides.{nat_tests}
 use Rattle.std.proofs.lemmas.List.{length-set, length-map}
 use Rattle.host_files.specs.Lists.{NamedBytes, find_file, bytes_of, with_file, changed}
 use Rattle.unit_trait.specs.declared.kind.Kind.{Kind}
-use Rattle.unit_trait.specs.declared.kind.Kind.TheVariants.{Dsk, Mta, Lpt, Ptr, Ptp}
+use Rattle.unit_trait.specs.declared.kind.Kind.TheVariants.{Mta, Lpt, Ptr, Ptp}
 use Rattle.unit_trait.specs.declared.kind.UnitName.{UnitName}
 use Rattle.unit_trait.specs.Registers.{register_at}
 use Rattle.unit_trait.specs.Calls.{UnitState}
@@ -18,18 +17,18 @@ use Rattle.unit_files.specs.declared.modes.AttachMode.TheVariants.{Any, MustExis
 use Rattle.unit_files.specs.Attachments.{Attachment, Held, attachment_at, with_attachment, longest_file, is_disk, only_writes}
 use Rattle.unit_files.specs.Buffer.{Buffer}
 use Rattle.unit_files.specs.Acts.{Failure, failure_at, AttachSaid, Attached, UnitHasFile, OnlyWrites, NotThere, TooLong, CallFailed, is_read_only, refused_first, opened_files, reading_failure, read_whole, measured_as, opened_said, opening_said, said_unless, attach_said}
-use Rattle.unit_files.specs.Acts.{files_where, files_unless_opening, files_unless, attach_files, attached_by, buffer_by, is_due_back, piece_of, written_back, flush_files, DetachSaid, HadNone, StillHeld, Detached, detached, buffer_left}
+use Rattle.unit_files.specs.Acts.{files_where, files_unless_opening, files_unless, attach_files, is_due_back, piece_of, written_back, flush_files, DetachSaid, HadNone, StillHeld, Detached, detached, buffer_left}
 use Rattle.file_commands.specs.Notes.{CommandNote, failure_now}
 use Rattle.file_commands.specs.declared.note.Subject.TheVariants as subject
-use Rattle.file_commands.specs.AllUnits.{Filed, Emptied, more_used, emptied_as, said_in, written_in, without_file, emptied}
+use Rattle.file_commands.specs.AllUnits.{Filed, Emptied, emptied_as, said_in, without_file, emptied}
 use Rattle.nova_machine.specs.Machine.{MachineState}
 use Rattle.nova_machine.specs.Core.{AreListed}
 use Rattle.nova_machine.specs.Seen.{attached_in}
 use Rattle.nova_machine.specs.Valid.{AreBytes, ValidMachine}
-use Rattle.nova_machine.proofs.ValidBytes.{AreFiles, files-found, files-with, files-changed, bytes-take, bytes-overwritten}
+use Rattle.nova_machine.proofs.ValidBytes.{AreFiles, files-with, files-changed, bytes-take, bytes-overwritten}
 use Rattle.scp_parser.specs.Command.{IsDrive}
 use Rattle.scp_commands.specs.Live.{numberless, with_attached}
-use Rattle.scp_commands.specs.FileEffects.{position_number, has_files, has_position, positioned, first_place, attached_machine, detached_machine}
+use Rattle.scp_commands.specs.FileEffects.{has_position, position_number, positioned, first_place, attached_machine, detached_machine}
 use Rattle.scp_examine.proofs.UnitLemmas.{all_fit-set, kinds-set}
 
 -- ---- files

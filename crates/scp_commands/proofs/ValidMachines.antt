@@ -1,6 +1,5 @@
 -- RESET, RUN, SET CPU and LOAD leave a machine in which all is in range, and bytes are read of files of bytes.
-use Rattle.std.proofs.Common.{◌≡◌, ◌⊎◌, inl, inr, ℕ, ◌+◌, ◌-◌, ◌*◌, ◌%◌, ◌^◌, ◌<◌, ◌≤◌, ◌==◌, ◌&&◌, nat_le, nat_lt, Bool, true, false, List, [], ◌∷◌, ◌++◌, length, take, replicate, get_or, slice_index, Option, Some, None, IfSome, Result, Ok, Err, if◌then◌else◌, refl, sym, ap, subst, ◌∙◌, arith, length-append}
-use Rattle.std.specs.List.{AllByRecursion}
+use Rattle.std.proofs.Common.{◌≡◌, inl, inr, ℕ, ◌-◌, ◌*◌, ◌%◌, ◌^◌, ◌<◌, ◌≤◌, ◌==◌, ◌&&◌, nat_le, nat_lt, Bool, true, false, List, [], ◌∷◌, length, take, replicate, get_or, Option, Some, None, IfSome, Result, Ok, Err, if◌then◌else◌, refl, sym, subst, ◌∙◌, arith, length-append}
 use Rattle.std.specs.Prelude.{bytes_eq}
 use Rattle.std.proofs.lemmas.Bool.{and_parts, leb-true, eqb-true, cases_lt, cond_both}
 use Rattle.std.proofs.lemmas.List.{length-take-le, length-replicate, get_or-append_right, get_or-replicate, get_or_past}
@@ -13,7 +12,7 @@ use Rattle.unit_list.specs.Reset.{reset_events}
 use Rattle.unit_list.proofs.Resets.{reset-fits, reset-kinds, sound-resets}
 use Rattle.event_queue.proofs.SoundLists.{sound-none}
 use Rattle.whole_files.specs.Whole.{WholeSaid, WholeIs, NotThere, TooLong, CallFailed, longest_file, closed, bytes_act, open_act, found_act, whole_act}
-use Rattle.whole_files.specs.Writing.{FailingCall, WriteSaid, AllWritten, WriteFailed, WriteAct, closed_act, made_act, write_act}
+use Rattle.whole_files.specs.Writing.{FailingCall, WriteSaid, AllWritten, WriteFailed, closed_act, made_act, write_act}
 use Rattle.binary_load.specs.declared.faults.LoadFault.{LoadFault}
 use Rattle.binary_load.specs.Tape.{Tape, put_all}
 use Rattle.binary_load.proofs.StoreLemmas.{put_all-size}
@@ -32,7 +31,7 @@ use Rattle.scp_commands.specs.TapeEffects.{tape_in, tape_machine, loaded_machine
 
 -- ---- another memory
 
-memory-valid : (m : MachineState) (memory : MemoryState) → ValidMachine m → IsMemory memory → IsSize memory.size → ValidMachine (with_memory m memory)
+pub memory-valid : (m : MachineState) (memory : MemoryState) → ValidMachine m → IsMemory memory → IsSize memory.size → ValidMachine (with_memory m memory)
 memory-valid m memory is new size = record {
   memory = new;
   size = size;

@@ -1,5 +1,5 @@
 -- BREAK, NOBREAK, EXPECT, NOEXPECT, SEND and NOSEND keep the watch tables within their limits, in order, and of bytes.
-use Rattle.std.proofs.Common.{◌≡◌, ℕ, ◌+◌, ◌-◌, ◌*◌, ◌^◌, ◌<◌, ◌≤◌, ◌==◌, ◌&&◌, nat_lt, nat_le, not, min, max, Bool, true, false, List, [], ◌∷◌, ◌++◌, filter, length, Option, Some, None, option_map, unwrap_or, refl, ap, sym, ◌∙◌, arith, length-append}
+use Rattle.std.proofs.Common.{◌≡◌, ℕ, ◌+◌, ◌^◌, ◌<◌, ◌≤◌, ◌==◌, ◌&&◌, nat_lt, not, max, Bool, true, false, List, [], ◌∷◌, ◌++◌, length, Option, Some, None, IfSome, option_map, unwrap_or, refl, ap, arith, length-append}
 use Rattle.std.specs.List.{AllByRecursion}
 use Rattle.std.proofs.lemmas.Bool.{ltb-false}
 use Rattle.std.proofs.lemmas.Bool.Decides.{nat_tests}
@@ -11,9 +11,9 @@ use Rattle.expect_actions.specs.declared.expects.Expect.{Expect}
 use Rattle.expect_actions.specs.Breaks.{break_at, has_break, with_break, without_break, is_at, most_breaks, Rising}
 use Rattle.expect_actions.specs.Breaks as breaks
 use Rattle.expect_actions.specs.Expects.{expect_of, with_expect, no_expects, most_expects}
-use Rattle.expect_actions.specs.Sends.{Send, last_queued, last_time, timed, queued, most_sends}
+use Rattle.expect_actions.specs.Sends.{Send, last_queued, timed, queued, most_sends}
 use Rattle.expect_actions.specs.Watch.{WatchState, forgotten}
-use Rattle.expect_actions.proofs.BreakLemmas.{below, above, without_is, all_kept, fewer, no_more, rising_filter, rising_with, with_again}
+use Rattle.expect_actions.proofs.BreakLemmas.{below, above, without_is, all_kept, fewer, no_more, rising_filter, rising_with}
 use Rattle.expect_actions.proofs.SendLemmas.{length-timed, sends_stay}
 use Rattle.nova_machine.specs.Valid.{AreBytes, ValidBreak, ValidWatch}
 use Rattle.scp_commands.specs.WatchEffects.{text_of_quoted, lacks_room_for_break}
@@ -33,14 +33,22 @@ bytes-stood : (inside text : List ℕ) → StandFor inside text → AreBytes tex
 bytes-stood inside text none = tt
 bytes-stood inside text (more front later others b stands stand) = (byte-stood front b stands, bytes-stood later others stand)
 
-pub quoted-bytes : (quoted : List ℕ) → AreBytes (text_of_quoted quoted)
-quoted-bytes quoted = by-read (quoted_read quoted) refl
+-- so is what a quoted text reads as
+pub read-bytes : (quoted : List ℕ) → IfSome (quoted_read quoted) (λ read. AreBytes read.0)
+read-bytes quoted = by-read (quoted_read quoted) refl
   where
-    by-read : (o : Option (List ℕ × List ℕ)) → quoted_read quoted ≡ o → AreBytes (unwrap_or (option_map (λ read. read.0) o) [])
+    by-read : (o : Option (List ℕ × List ℕ)) → quoted_read quoted ≡ o → IfSome o (λ read. AreBytes read.0)
     by-read None is = tt
     by-read (Some (text, rest)) is =
         let begins = quoted_is_computed.read quoted text rest is in
         bytes-stood begins.inside text begins.stands
+
+pub quoted-bytes : (quoted : List ℕ) → AreBytes (text_of_quoted quoted)
+quoted-bytes quoted = by-read (quoted_read quoted) (read-bytes quoted)
+  where
+    by-read : (o : Option (List ℕ × List ℕ)) → IfSome o (λ read. AreBytes read.0) → AreBytes (unwrap_or (option_map (λ read. read.0) o) [])
+    by-read None bytes = tt
+    by-read (Some read) bytes = bytes
 
 -- ---- breaks
 

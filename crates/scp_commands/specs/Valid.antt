@@ -1,15 +1,19 @@
 -- What every state is within a session, and what commands make of it.
-use Rattle.std.specs.Prelude.{◌≡◌, ◌≤◌, ℕ, false, List, Ok}
+use Rattle.std.specs.Prelude.{◌≡◌, ◌≢◌, ◌≤◌, ℕ, Bool, false, List, Some, Ok, Err}
 use Rattle.observations.specs.Observations.{StandsAt}
 use Rattle.nova_machine.specs.Run.{last_time}
 use Rattle.nova_machine.specs.Valid.{AreBytes, Valid, DiskIsItsFile, LeavesDiskFile}
 use Rattle.file_commands.specs.Notes.{CommandNote}
-use Rattle.scp_parser.specs.Command.{Request, IsKept}
+use Rattle.unit_files.specs.Buffer.{disk_unit}
+use Rattle.scp_parser.specs.Command.{Request, Attach, Detach, IsKept}
 use Rattle.scp_parser.specs.Laws.{IsOfBytes}
-use Rattle.scp_commands.specs.declared.next.Next.TheVariants.{Do}
+use Rattle.scp_commands.specs.declared.next.Next.TheVariants.{Go, Do}
+use Rattle.scp_commands.specs.declared.fault.CommandFault.TheVariants.{OutOfMemory}
 use Rattle.scp_commands.specs.Live.{Live, Standing}
 use Rattle.scp_commands.specs.Reply.{Answer, Reply}
 use Rattle.scp_commands.specs.Effect.{effect}
+use Rattle.scp_commands.specs.Doing.{Does}
+use Rattle.scp_commands.specs.Remains.{Remains}
 
 -- a state that commands work on: all is in range, and no time comes past the end of time
 pub record ValidLive (live : Live) : Type 0 where
@@ -36,3 +40,15 @@ pub record CommandsKeepStates : Type 0 where
       → DiskIsItsFile live
       → ((effect limit notes live r).after.live.machine.disk.written ≡ false → LeavesDiskFile live (effect limit notes live r).after.live)
       → DiskIsItsFile (effect limit notes live r).after.live
+  -- an ATTACH of the disk and a DETACH of it make that so anew
+  pub attached : (limit : ℕ) (notes : List CommandNote) (live : Live) (option : ℕ) (name : List ℕ) → ValidLive live
+      → (effect limit notes live (Attach option disk_unit name)).answer ≡ Ok Go
+      → DiskIsItsFile (effect limit notes live (Attach option disk_unit name)).after.live
+  pub detached : (limit : ℕ) (notes : List CommandNote) (live : Live) → ValidLive live
+      → (effect limit notes live (Detach (Some disk_unit))).answer ≡ Ok Go
+      → DiskIsItsFile (effect limit notes live (Detach (Some disk_unit))).after.live
+  -- what a call has left that does such a command, also where the console refused a byte; and what one has left that was
+  -- refused or that memory ran out in
+  pub left : (reply : Reply) (answer : Answer) (at : Standing) (tells : Bool) (before after : List ℕ) → IsValidReply reply
+      → answer ≢ Err OutOfMemory → Does reply answer at tells before after → ValidLive at.live
+  pub remains : (flushes : Bool) (old new : Live) → ValidLive old → Remains flushes old new → ValidLive new

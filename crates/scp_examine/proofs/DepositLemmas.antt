@@ -1,11 +1,10 @@
 -- A DEPOSIT without a fault puts its value into the listed places, and changes no other.
 use Rattle.std.proofs.Common.{◌≡◌, ◌⊎◌, inl, inr, ℕ, ◌+◌, ◌-◌, ◌^◌, ◌<◌, ◌≤◌, zero, suc, Bool, true, false, cond, ◌&&◌, nat_le, nat_lt, List, [], ◌∷◌, ◌++◌, length, set, slice_get, Contains, Option, Some, None, is_some, unwrap_or, option_map, option_to_list, refl, sym, ap, subst, ◌∙◌, lt_of_lt_of_le, arith}
-use Rattle.std.proofs.lemmas.List.{get_or-set_other, length-set}
-use Rattle.std.proofs.lemmas.List.Elements.{All-set}
+use Rattle.std.proofs.lemmas.List.{get_or-set_other}
 use Rattle.std.proofs.lemmas.Option.{slice_get_within}
-use Rattle.std.proofs.lemmas.Bool.{cases_eq, and_parts, leb-true, ltb-true, lt-ltb}
+use Rattle.std.proofs.lemmas.Bool.{cases_eq, and_parts, leb-true, ltb-true}
 use Rattle.nova_memory.specs.Memory.{MemoryState, IsMemory, get, put}
-use Rattle.nova_memory.proofs.Keeps.{get-put-other}
+use Rattle.nova_memory.proofs.Keeps.{get-put-other, put-memory}
 use Rattle.unit_trait.specs.declared.kind.Kind.{Kind}
 use Rattle.unit_trait.specs.declared.processor.CpuReg.{CpuReg}
 use Rattle.unit_trait.specs.Device as table
@@ -32,20 +31,6 @@ use Rattle.scp_examine.proofs.ShowLemmas.{first_none, second_none}
 use Rattle.scp_examine.proofs.FillLemmas.{fits_from_none, named_fits, value_fits}
 use Rattle.scp_examine.proofs.LawLemmas.{reads_back}
 use Rattle.scp_examine.proofs.RegisterLemmas.{same_register, register_of-other}
-
--- A word is put into memory.
-
-pub IsMemory-put : (mem : MemoryState) (a v : ℕ) → IsMemory mem → a < mem.size → v < 2 ^ 16 → IsMemory (put mem a v)
-IsMemory-put mem a v is h word =
-    let after : MemoryState = record mem { words = set mem.words a v } in
-    let made : put mem a v ≡ after = rw (lt-ltb a mem.size h) refl in
-    let stands : IsMemory after = record {
-      whole = length-set mem.words a v ∙ is.whole;
-      words = All-set (λ w. w < 2 ^ 16) mem.words a v word is.words;
-      size = is.size;
-      beyond = λ b past. get_or-set_other mem.words a b v 0 (λ e. omega (arith, e)) ∙ is.beyond b past;
-    } in
-    subst IsMemory (sym made) stands
 
 -- A value is put into one place.
 
@@ -122,7 +107,7 @@ puts_one m (Cell a) v is takes = record {
   events = refl;
   machine = record {
     accumulators = is.accumulators;
-    memory = IsMemory-put m.processor.memory a v is.memory (takes.within m refl) (word_value v takes.fits);
+    memory = put-memory m.processor.memory a v is.memory (word_value v takes.fits);
     units = is.units;
   };
 }

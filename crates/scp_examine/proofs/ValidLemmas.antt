@@ -1,10 +1,10 @@
 -- A DEPOSIT without a fault leaves a machine in which all is in range, and leaves its time, the keys taken and its files.
-use Rattle.std.proofs.Common.{◌≡◌, ℕ, ◌^◌, ◌-◌, ◌<◌, ◌≤◌, nat_le, Bool, true, List, [], ◌∷◌, length, set, None, refl, sym, subst, ◌∙◌, arith}
-use Rattle.std.specs.List.{AllByRecursion}
+use Rattle.std.proofs.Common.{◌≡◌, ℕ, ◌^◌, ◌-◌, ◌<◌, ◌≤◌, nat_le, Bool, true, List, [], ◌∷◌, set, None, refl, sym, subst, ◌∙◌, arith}
 use Rattle.std.proofs.lemmas.Bool.{leb-true}
 use Rattle.std.proofs.lemmas.List.{length-set}
 use Rattle.std.proofs.lemmas.List.Elements.{All-from_recursion, recursion_from_All, All-set}
 use Rattle.nova_memory.specs.Memory.{IsSize}
+use Rattle.nova_memory.proofs.Keeps.{put-memory}
 use Rattle.unit_trait.specs.declared.kind.Kind.{Kind}
 use Rattle.unit_trait.specs.declared.processor.CpuReg.{CpuReg}
 use Rattle.unit_trait.specs.declared.processor.CpuReg.TheVariants.{Ac0, Ac1, Ac2, Ac3, C, Pc, Ion, Hold, Mask, Sr, StopDev, Size}
@@ -22,7 +22,7 @@ use Rattle.scp_examine.specs.Effect.{with_value, filled, all_places, fault_of_de
 use Rattle.scp_examine.proofs.UnitLemmas.{all_fit-set, kinds-set}
 use Rattle.scp_examine.proofs.KeepLemmas.{size-put, with_value-shape}
 use Rattle.scp_examine.proofs.FillLemmas.{fits_from_none}
-use Rattle.scp_examine.proofs.DepositLemmas.{Takes, AllTake, IsMemory-put, word_value, items_take}
+use Rattle.scp_examine.proofs.DepositLemmas.{Takes, AllTake, word_value, items_take}
 
 -- ---- all is in range
 
@@ -106,7 +106,7 @@ unit-valid m kind i v is takes = record {
 
 value-valid : (m : MachineState) (place : Place) (v : ℕ) → ValidMachine m → Takes (shape_of m) v place → ValidMachine (with_value v m place)
 value-valid m (Cell a) v is takes = record {
-  memory = IsMemory-put m.processor.memory a v is.memory (takes.within m refl) (word_value v takes.fits);
+  memory = put-memory m.processor.memory a v is.memory (word_value v takes.fits);
   size = subst IsSize (sym (size-put m.processor.memory a v)) is.size;
   cpu = is.cpu;
   mask = is.mask;

@@ -1,5 +1,5 @@
 -- What a line is read as keeps the facts of its command, and its texts are parts of the line.
-use Rattle.std.proofs.Common.{◌≡◌, ℕ, ◌-◌, ◌<◌, ◌^◌, Bool, true, false, nat_le, List, length, take, drop, Option, Some, None, Result, Ok, Err, refl, subst, ◌∙◌, if◌then◌else◌}
+use Rattle.std.proofs.Common.{◌≡◌, ℕ, ◌-◌, ◌<◌, ◌^◌, Bool, true, false, nat_le, List, length, drop, Some, None, Result, Ok, Err, refl, subst, ◌∙◌, if◌then◌else◌}
 use Rattle.std.specs.List.{AllByRecursion}
 use Rattle.std.proofs.lemmas.List.Elements.{All-from_recursion, recursion_from_All, All-take, All-drop}
 use Rattle.scp_parser.specs.declared.command.Piece.{Piece}

@@ -3,6 +3,8 @@ use Rattle.std.proofs.Common.{◌≡◌, ◌⊎◌, inl, inr, ℕ, zero, suc, �
 use Rattle.std.specs.List.{AllByRecursion}
 use Rattle.std.proofs.lemmas.Bool.{ltb-true}
 use Rattle.observations.specs.Observations.{Observation, Prints, Reads, StandsAt, map_made}
+use Rattle.observations.specs.Cut.{Outcome}
+use Rattle.observations.proofs.CutLemmas.{cut-state}
 use Rattle.observations.proofs.MadeLemmas.{stands-either, stands-mapped}
 use Rattle.unit_trait.specs.declared.kind.UnitName.{UnitName}
 use Rattle.file_commands.specs.Notes.{CommandNote, Note, handed}
@@ -21,12 +23,15 @@ use Rattle.scp_commands.specs.Reply.{Answer, Reply}
 use Rattle.scp_commands.specs.Effect.{Asked, does, asked}
 use Rattle.scp_commands.specs.Valid.{ValidLive, GivesBytes}
 use Rattle.scp_commands.proofs.ValidWatch.{watch-forgotten}
-use Rattle.scp_commands.proofs.ValidEffect.{Stands, watch-live, stands-refused, stands-emptied, stands-effect}
+use Rattle.scp_commands.proofs.ValidEffect.{Stands, watch-live, stands-refused, stands-emptied, stands-effect, remains-valid}
 use Rattle.scp_script.specs.Lines.{Arrival, InputEnds, Unpaid, LineComes, arrival}
 use Rattle.scp_script.specs.Scripts.{Script, most_scripts, still_open, cost_of_line, text_of_line, echo_text, past_line, checked, settled, settled_answer}
 use Rattle.scp_script.specs.Actions.{Texts, texts_of, texts_behind}
 use Rattle.scp_script.specs.Session.{State, Session, state_of, state_at, asking_input, asking_in, asking_at, asking, behind_line, behind_script_line, behind_action, SessionEnd, ExitDone, AllDone, InputEnded, FlushFailed, BudgetSpent}
 use Rattle.scp_script.specs.Session.{Upcoming, Ends, Comes, emptied_in, input_end, upcoming_of, upcoming_in, upcoming_at, upcoming, complaint, with_complaint, text_reply, Following, Going, Over, rested, following, Step, text_step, closed, end_state, step_upcoming, step, Course, over_by, after_step, texts, course, trace, ComesTo}
+use Rattle.scp_script.specs.declared.progress.Finish.{Finish}
+use Rattle.scp_script.specs.declared.progress.Finish.TheVariants.{OutOfMemory}
+use Rattle.scp_script.specs.Perform.{IsSession, IsPerformed}
 use Rattle.scp_script.specs.Valid.{ValidScript, ValidTexts, ValidSession, SessionsStayValid}
 use Rattle.scp_script.proofs.RoomLemmas.{RoomFor, room-effect}
 use Rattle.scp_script.proofs.LawLemmas.{lines-are-consumed}
@@ -301,17 +306,20 @@ next-valid s t is h =
     let holds = (step-good s (session-holds s is)).next.going t h in
     let behind = lines-are-consumed.texts 1 s t ((step s).made ++ []) (t, [], h, refl, (refl, refl)) in
     let budget = is.budget in
+    let sum = is.spent in
     let least = is.least in
     let most = is.limit in
     let same = behind.limit in
     let spent = behind.budget in
+    let paid = behind.paid in
     record {
       live = holds.live;
       texts = holds.texts;
       input = holds.input;
       least = omega (arith, least, same);
       limit = omega (arith, most, same);
-      budget = omega (arith, budget, spent);
+      budget = omega (arith, budget, paid);
+      spent = omega (arith, sum, spent);
     }
 
 all-valid : (count : ℕ) (s t : Session) (made : List (Observation State)) → ValidSession s → ComesTo count s made t → ValidSession t
@@ -347,6 +355,21 @@ trace-ended : (s : Session) → Holds s → ValidLive (trace s).ended.state.live
 unfolding trace course
 trace-ended s is = (texts-good (suc s.budget) s is).ended
 
+-- ---- what a call has left
+
+whole-left : (start : Session) (finish : Finish) (live : Live) (rest before after : List ℕ) → ValidSession start → IsSession start finish live rest before after → ValidLive live
+whole-left start finish live rest before after is h =
+    let holds = session-holds start is in
+    let Left : State → Type 0 = λ s. ValidLive s.live in
+    let cut = cut-state Left (trace start).made (trace start).ended (length h.end.taken) h.gives (trace-made start holds) (trace-ended start holds) in
+    subst Left (ap (λ (o : Outcome State). o.state) h.end.outcome) cut
+
+left-valid : (start : Session) (finish : Finish) (live : Live) (rest before after : List ℕ) → ValidSession start → IsPerformed start finish live rest before after → ValidLive live
+left-valid start OutOfMemory live rest before after is h =
+    let reached = all-valid h.count start h.reached h.done is h.comes in
+    remains-valid (flushes_next h.reached) h.reached.live live reached.live h.short.live_is
+left-valid start finish live rest before after is h = whole-left start finish live rest before after is h
+
 pub sessions-stay-valid : SessionsStayValid
 sessions-stay-valid = record {
   next = next-valid;
@@ -355,4 +378,5 @@ sessions-stay-valid = record {
   ended = λ s is. trace-ended s (session-holds s is);
   disk = λ s t is h. (step-good s (session-holds s is)).next.copy t h;
   closed = λ s end at is h. (step-good s (session-holds s is)).next.closed end at h;
+  left = left-valid;
 }

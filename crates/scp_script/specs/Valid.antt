@@ -4,10 +4,13 @@ use Rattle.std.specs.List.{AllByRecursion}
 use Rattle.observations.specs.Observations.{Observation, StandsAt}
 use Rattle.expect_actions.specs.Actions.{most_actions}
 use Rattle.nova_machine.specs.Valid.{AreBytes, DiskIsItsFile, LeavesDiskFile}
+use Rattle.scp_commands.specs.Live.{Live}
 use Rattle.scp_commands.specs.Valid.{ValidLive}
+use Rattle.scp_script.specs.declared.progress.Finish.{Finish}
 use Rattle.scp_script.specs.Scripts.{Script, most_scripts}
 use Rattle.scp_script.specs.Actions.{Texts}
 use Rattle.scp_script.specs.Session.{State, Session, SessionEnd, Going, Over, step, trace, ComesTo}
+use Rattle.scp_script.specs.Perform.{IsPerformed}
 
 -- a script that is open: its text is of bytes, its next line stands within it, and its name and arguments are ten at the
 -- most, of bytes
@@ -24,15 +27,15 @@ pub record ValidTexts (t : Texts) : Type 0 where
   pub open_ : length t.scripts ≤ most_scripts
   pub scripts : AllByRecursion ValidScript t.scripts
 
--- A session: its state, its texts, the rest of its input, and the numbers that it was given. What is left of the budget is a
--- part of it, and all that is spent is another.
+-- A session: its state, its texts, the rest of its input, and the numbers that it goes by.
 pub record ValidSession (s : Session) : Type 0 where
   pub live : ValidLive s.live
   pub texts : ValidTexts s.texts
   pub input : AreBytes s.input
   pub least : 1 ≤ s.limit
   pub limit : s.limit ≤ 2 ^ 48
-  pub budget : s.budget + s.spent ≤ 2 ^ 32
+  pub budget : s.budget ≤ 2 ^ 32
+  pub spent : s.spent + s.budget ≤ 2 ^ 33
 
 pub record SessionsStayValid : Type 0 where
   -- behind one text, and behind many
@@ -46,3 +49,6 @@ pub record SessionsStayValid : Type 0 where
       → (t.live.machine.disk.written ≡ false → LeavesDiskFile s.live t.live) → DiskIsItsFile t.live
   pub closed : (s : Session) (end : SessionEnd) (at : State) → ValidSession s → (step s).next ≡ Over end at → DiskIsItsFile s.live
       → (at.live.machine.disk.written ≡ false → LeavesDiskFile s.live at.live) → DiskIsItsFile at.live
+  -- what a call has left that performs a session, over whichever console and input, also where memory ran out
+  pub left : (start : Session) (finish : Finish) (live : Live) (rest before after : List ℕ) → ValidSession start
+      → IsPerformed start finish live rest before after → ValidLive live

@@ -1,8 +1,8 @@
 -- What is made of a script of bytes, with arguments of bytes, is of bytes; and a label stands within it.
-use Rattle.std.proofs.Common.{◌≡◌, ℕ, zero, suc, ◌+◌, ◌-◌, ◌<◌, ◌≤◌, ◌^◌, ◌==◌, ◌&&◌, not, nat_eq, Bool, true, false, List, [], ◌∷◌, ◌++◌, length, take, drop, slice_index, Option, Some, None, IfSome, option_map, if◌then◌else◌, subst, ap, arith, length-append}
-use Rattle.std.specs.Prelude.{slice_index_or, take_while}
+use Rattle.std.proofs.Common.{ℕ, zero, suc, ◌+◌, ◌-◌, ◌<◌, ◌≤◌, ◌^◌, ◌==◌, ◌&&◌, not, nat_eq, Bool, true, false, List, [], ◌∷◌, ◌++◌, length, take, slice_index, Option, Some, None, IfSome, option_map, if◌then◌else◌, subst, arith, length-append}
+use Rattle.std.specs.Prelude.{slice_index_or}
 use Rattle.std.specs.List.{AllByRecursion, concat}
-use Rattle.std.proofs.lemmas.List.Elements.{All-from_recursion, recursion_from_All, All-append, All-take, All-drop}
+use Rattle.std.proofs.lemmas.List.Elements.{All-from_recursion, recursion_from_All, All-append, All-take}
 use Rattle.line_text.specs.Words.{is_blank}
 use Rattle.script_text.specs.Arguments.{ends_word, words_of}
 use Rattle.script_text.specs.Filling.{is_name, named_text, filled}
