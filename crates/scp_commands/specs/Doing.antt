@@ -133,8 +133,8 @@ stop_notes stamp stop = []
 -- Why an answer comes, by the notes that were kept. A file was missing only where none was kept and, if names are not told,
 -- the count of openings rose. A call on a file failed only where exactly one note is of that call. A run keeps the note of the
 -- call for which it stopped, if it did for one, also where the console refused a byte of the stop's text. What was done
--- otherwise, a file that is too long, and a tape with a fault have only notes of closings, and what was refused otherwise
--- has none.
+-- otherwise, a file that is too long, a tape with a fault and want of memory have only notes of closings, and what was refused
+-- otherwise has none.
 abbrev pub FileCause : Stamp → Bool → Answer → List FaultNote → FileState → FileState → Type 0
 FileCause stamp tells (Err NoFile) kept old new = (kept ≡ []) × ((IsTrue tells → ⊥) → Rose old.open_faults new.open_faults)
 FileCause stamp tells (Err (FileFailed who)) kept old new = AreRefusalOf who kept
@@ -142,6 +142,7 @@ FileCause stamp tells (Err FileTooLong) kept old new = AllClosings kept
 FileCause stamp tells (Err (LoadTruncated place)) kept old new = AllClosings kept
 FileCause stamp tells (Err (LoadSum place)) kept old new = AllClosings kept
 FileCause stamp tells (Err (PastMemory origin)) kept old new = AllClosings kept
+FileCause stamp tells (Err OutOfMemory) kept old new = AllClosings kept
 FileCause stamp tells (Err Console) kept old new = (stop : Stop) × (kept ≡ stop_notes stamp stop)
 FileCause stamp tells (Err fault) kept old new = kept ≡ []
 FileCause stamp tells (Ok (Ran stop)) kept old new = kept ≡ stop_notes stamp stop
@@ -236,12 +237,23 @@ MayWant spare request = want_by (nature request).takes_memory spare
 -- Whether it is said of all files that they are as they were: behind a command that was reading one, only where files are
 -- told.
 abbrev pub says_files : Bool → Request → Bool
-says_files tells request = if (nature request).reads_whole then tells else true
+says_files tells request = if is_some (nature request).reads_whole then tells else true
 
--- nothing was done, but that a command may have flushed the disk
-pub record IsUndone (flushes says : Bool) (old new : CommandState) (before after : List ℕ) (files files' : FileState) : Type 0 where
+-- a note of a closing of that subject, in the command with that number, at that time
+abbrev pub IsShutNote : Subject → ℕ → ℕ → FaultNote → Type 0
+IsShutNote who number time n = IsStamped number time n × IsClosingOf who n
+
+-- The notes that a command leaves for which memory ran out: those that were there, and behind them, where it was reading a file
+-- whole, those of its closing.
+abbrev pub NotesRemain : Option Subject → ℕ → ℕ → List FaultNote → List FaultNote → Type 0
+NotesRemain None number time notes notes' = notes' ≡ notes
+NotesRemain (Some who) number time notes notes' =
+    (kept : List FaultNote) × (notes' ≡ notes ++ kept) × AllByRecursion (IsShutNote who number time) kept
+
+-- nothing was done, but that a command may have flushed the disk, or closed the file that it was reading
+pub record IsUndone (flushes : Bool) (reads : Option Subject) (says : Bool) (old new : CommandState) (before after : List ℕ) (files files' : FileState) : Type 0 where
   pub left : AreLeft flushes old new
-  pub notes : new.notes ≡ old.notes
+  pub notes : NotesRemain reads old.command old.machine.time old.notes new.notes
   pub written : after ≡ before
   pub live : IsTrue says → Remains flushes (live_in old files.files) (live_in new files'.files)
 

@@ -40,7 +40,8 @@ use unit_trait::Unit;
 /// their file, and DUMP may have written a first part of it; who called prints the text of its fault. `Console` means
 /// that the console refused a byte, also within a run: what comes before it was printed, and the session stands as it
 /// did when that byte was to be printed. `OutOfMemory` means that nothing was done: it comes where the room for 16
-/// notes can't be taken, and from BREAK, EXPECT, ATTACH, DO, LOAD and DUMP.
+/// notes can't be taken, and from BREAK, EXPECT, ATTACH, DO, LOAD and DUMP. A closing that fails then in DO or LOAD is
+/// noted.
 pub fn execute<U: Unit, F: Files, S: Sink>(
     alloc: Global,
     session: &mut Session<U>,
@@ -55,8 +56,9 @@ pub fn execute<U: Unit, F: Files, S: Sink>(
         → Did (λ notes. effect session.old.limit notes (live_in session.old (F.state files.old).files) command.now)
         session.old.command result (live_in session.new (F.state files.new).files) S.tells (S.written out.old)
         (S.written out.new) (notes_said session.old.notes) (notes_said session.new.notes) }
-    ensures undone { result ≡ Err OutOfMemory → IsUndone (nature command.now).flushes (says_files F.tells command.now)
-        session.old session.new (S.written out.old) (S.written out.new) (F.state files.old) (F.state files.new) }
+    ensures undone { result ≡ Err OutOfMemory → IsUndone (nature command.now).flushes (nature command.now).reads_whole
+        (says_files F.tells command.now) session.old session.new (S.written out.old) (S.written out.new)
+        (F.state files.old) (F.state files.new) }
     ensures want { result ≡ Err OutOfMemory → MayWant session.old.spare command.now }
     ensures unrefused { result ≡ Err OutOfMemory → 16 ≤ session.old.spare
         → IsUnrefused command.now session.old.machine session.old.watch }
@@ -99,8 +101,9 @@ fn obey<U: Unit, F: Files, S: Sink>(
         → Did (λ notes. effect session.old.limit notes (live_in session.old (F.state files.old).files) command.now)
         session.old.command result (live_in session.new (F.state files.new).files) S.tells (S.written out.old)
         (S.written out.new) (notes_said session.old.notes) (notes_said session.new.notes) }
-    ensures undone { result ≡ Err OutOfMemory → IsUndone (nature command.now).flushes (says_files F.tells command.now)
-        session.old session.new (S.written out.old) (S.written out.new) (F.state files.old) (F.state files.new) }
+    ensures undone { result ≡ Err OutOfMemory → IsUndone (nature command.now).flushes (nature command.now).reads_whole
+        (says_files F.tells command.now) session.old session.new (S.written out.old) (S.written out.new)
+        (F.state files.old) (F.state files.new) }
     ensures want { result ≡ Err OutOfMemory → MayWant 16 command.now }
     ensures unrefused { result ≡ Err OutOfMemory
         → IsUnrefused command.now session.old.machine session.old.watch }
@@ -149,8 +152,9 @@ fn obey_setting<U: Unit, F: Files, S: Sink>(
         → Did (λ notes. effect session.old.limit notes (live_in session.old (F.state files.old).files) command.now)
         session.old.command result (live_in session.new (F.state files.new).files) S.tells (S.written out.old)
         (S.written out.new) (notes_said session.old.notes) (notes_said session.new.notes) }
-    ensures undone { result ≡ Err OutOfMemory → IsUndone (nature command.now).flushes (says_files F.tells command.now)
-        session.old session.new (S.written out.old) (S.written out.new) (F.state files.old) (F.state files.new) }
+    ensures undone { result ≡ Err OutOfMemory → IsUndone (nature command.now).flushes (nature command.now).reads_whole
+        (says_files F.tells command.now) session.old session.new (S.written out.old) (S.written out.new)
+        (F.state files.old) (F.state files.new) }
     ensures want { result ≡ Err OutOfMemory → MayWant 16 command.now }
     ensures unrefused { result ≡ Err OutOfMemory
         → IsUnrefused command.now session.old.machine session.old.watch }
@@ -200,8 +204,9 @@ fn obey_watch<U: Unit, F: Files, S: Sink>(
         → Did (λ notes. effect session.old.limit notes (live_in session.old (F.state files.old).files) command.now)
         session.old.command result (live_in session.new (F.state files.new).files) S.tells (S.written out.old)
         (S.written out.new) (notes_said session.old.notes) (notes_said session.new.notes) }
-    ensures undone { result ≡ Err OutOfMemory → IsUndone (nature command.now).flushes (says_files F.tells command.now)
-        session.old session.new (S.written out.old) (S.written out.new) (F.state files.old) (F.state files.new) }
+    ensures undone { result ≡ Err OutOfMemory → IsUndone (nature command.now).flushes (nature command.now).reads_whole
+        (says_files F.tells command.now) session.old session.new (S.written out.old) (S.written out.new)
+        (F.state files.old) (F.state files.new) }
     ensures want { result ≡ Err OutOfMemory → MayWant 16 command.now }
     ensures unrefused { result ≡ Err OutOfMemory
         → IsUnrefused command.now session.old.machine session.old.watch }
@@ -252,8 +257,9 @@ fn obey_file<U: Unit, F: Files, S: Sink>(
         → Did (λ notes. effect session.old.limit notes (live_in session.old (F.state files.old).files) command.now)
         session.old.command result (live_in session.new (F.state files.new).files) S.tells (S.written out.old)
         (S.written out.new) (notes_said session.old.notes) (notes_said session.new.notes) }
-    ensures undone { result ≡ Err OutOfMemory → IsUndone (nature command.now).flushes (says_files F.tells command.now)
-        session.old session.new (S.written out.old) (S.written out.new) (F.state files.old) (F.state files.new) }
+    ensures undone { result ≡ Err OutOfMemory → IsUndone (nature command.now).flushes (nature command.now).reads_whole
+        (says_files F.tells command.now) session.old session.new (S.written out.old) (S.written out.new)
+        (F.state files.old) (F.state files.new) }
     ensures want { result ≡ Err OutOfMemory → MayWant 16 command.now }
     ensures unrefused { result ≡ Err OutOfMemory
         → IsUnrefused command.now session.old.machine session.old.watch }

@@ -1,5 +1,5 @@
 // LOAD.
-ghost use Rattle.std.specs.Prelude.{◌≡◌, ◌≤◌, ℕ, Bool, List, false, IsTrue, Err};
+ghost use Rattle.std.specs.Prelude.{◌≡◌, ◌≤◌, ℕ, Bool, List, false, Some, IsTrue, Err};
 ghost use Rattle.host_files.specs.State.{Opened};
 ghost use Rattle.unit_files.specs.Open.{AllOpen, Around};
 ghost use Rattle.file_commands.specs.declared.note.Subject.TheVariants.{Load as of_load};
@@ -31,7 +31,7 @@ use whole_files::{WholeFault, read_file};
 /// `NoFile` comes where there is no such file, `FileTooLong` where it is longer than 1048576 bytes, `FileFailed` where
 /// its opening, its length or a read failed, `OutOfMemory` where there is no memory for it, and `LoadTruncated`,
 /// `LoadSum` and `PastMemory` where the tape has a fault; the machine has not changed then. Each call that failed is
-/// noted, the closing too, but with `OutOfMemory`, where nothing is.
+/// noted, the closing too.
 pub fn load_file<U: Unit, F: Files>(
     alloc: Global,
     session: &mut Session<U>,
@@ -47,7 +47,7 @@ pub fn load_file<U: Unit, F: Files>(
         session.old.command result (live_in session.new (F.state files.new).files) tells text text
         (notes_said session.old.notes) (notes_said session.new.notes) }
     ensures undone { (text : List ℕ) → result ≡ Err OutOfMemory
-        → IsUndone false F.tells session.old session.new text text (F.state files.old) (F.state files.new) }
+        → IsUndone false (Some of_load) F.tells session.old session.new text text (F.state files.old) (F.state files.new) }
     ensures keeps { Keeps session.old.command session.new.machine.time F.tells result session.old.notes
         session.new.notes (F.state files.old) (F.state files.new) }
     ensures own { IsOwn result }

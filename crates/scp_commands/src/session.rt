@@ -25,8 +25,7 @@ pub struct Session<U: Unit> {
     pub keys: Keys,
     /// How many instructions a run may execute, from 1 to 2^48.
     pub limit: u64,
-    /// The calls on files that failed, in order, but for the closing that a refused ATTACH makes, and that of a script
-    /// for which memory ran out.
+    /// The calls on files that failed, in order, but for the closing that a refused ATTACH makes.
     pub notes: Vec<FaultNote>,
     /// How many units of the budget are spent, those of the command that is done included.
     pub command: u64,

@@ -1,5 +1,5 @@
 // ATTACH and DETACH.
-ghost use Rattle.std.specs.Prelude.{◌≡◌, ◌≤◌, ◌<◌, ◌^◌, ℕ, Bool, true, List, false, IsTrue, IfSome, is_some, Err};
+ghost use Rattle.std.specs.Prelude.{◌≡◌, ◌≤◌, ◌<◌, ◌^◌, ℕ, Bool, true, List, false, None, IsTrue, IfSome, is_some, Err};
 ghost use Rattle.host_files.specs.State.{Opened};
 ghost use Rattle.unit_trait.specs.Kinds.{units_of, code_of};
 ghost use Rattle.unit_list.specs.Bus.{unit_at};
@@ -51,7 +51,7 @@ pub fn attach<U: Unit, F: Files>(
         session.old.command result (live_in session.new (F.state files.new).files) tells text text
         (notes_said session.old.notes) (notes_said session.new.notes) }
     ensures undone { (text : List ℕ) → result ≡ Err OutOfMemory
-        → IsUndone false true session.old session.new text text (F.state files.old) (F.state files.new) }
+        → IsUndone false None true session.old session.new text text (F.state files.old) (F.state files.new) }
     ensures unrefused { result ≡ Err OutOfMemory
         → IsUnrefused (Attach option unit name.now) session.old.machine session.old.watch }
     ensures keeps { Keeps session.old.command session.new.machine.time F.tells result session.old.notes
