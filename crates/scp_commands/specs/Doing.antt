@@ -16,14 +16,14 @@ use Rattle.unit_files.specs.Attachments.{Held, attachment_at, is_disk}
 use Rattle.file_commands.specs.declared.note.Subject.{Subject}
 use Rattle.file_commands.specs.declared.note.Subject.TheVariants as subject
 use Rattle.file_commands.specs.declared.note.FaultNote.{FaultNote}
-use Rattle.file_commands.specs.Notes.{CommandNote, Note, numbered}
+use Rattle.file_commands.specs.Notes.{CommandNote, Note, numbered, notes_said}
 use Rattle.file_commands.specs.Counts.{AreCounted}
 use Rattle.file_commands.specs.declared.stamp.Stamp.{Stamp}
 use Rattle.file_commands.specs.Kept.{fault_note}
 use Rattle.file_commands.specs.AllUnits.{attachable}
 use Rattle.nova_machine.specs.declared.machine.Stop.{Stop}
 use Rattle.nova_machine.specs.declared.machine.Stop.TheVariants.{ConsoleFault, FileFault}
-use Rattle.nova_machine.specs.Comes.{AreFree, FileCause as StopCause}
+use Rattle.nova_machine.specs.Comes.{AreFree, AreTold, FileCause as StopCause}
 use Rattle.nova_machine.specs.Wants.{HasUnit}
 use Rattle.nova_machine.specs.Seen.{attached_in}
 use Rattle.scp_parser.specs.Command.{Request, Attach, Detach, Exit as ExitRequest}
@@ -224,6 +224,26 @@ AttachNote (Attach option unit name) (Err (FileFailed who)) stamp notes notes' o
     (f : UnitFault) × (who ≡ subject.Unit unit) × (notes' ≡ notes ++ fault_note stamp f ∷ []) × IsNewFault f unit old new
 AttachNote request answer stamp notes notes' old new = Unit {0}
 
+-- the status of an exit is 0 to 99
+abbrev pub IsExitAnswer : Answer → Type 0
+IsExitAnswer (Ok (Exit status)) = status ≤ 99
+IsExitAnswer answer = Unit {0}
+
+-- what a command that runs promises
+pub record RunDone (reply : List CommandNote → Reply) (answer : Answer) (old new : CommandState) (files files' : FileState) (named tells : Bool) (before after : List ℕ) (sink sink_now : ℕ) : Type 0 where
+  pub told : AreTold named old.machine.slots
+      → Did reply old.command answer (live_in new files'.files) tells before after (notes_said old.notes) (notes_said new.notes)
+  pub keeps : Keeps old.command new.machine.time named answer old.notes new.notes files files'
+  pub keys : new.keys ≡ old.keys
+  pub limit : new.limit ≡ old.limit
+  pub command : new.command ≡ old.command
+  pub slots : new.machine.slots ≡ old.machine.slots
+  pub opened : files'.opened ≡ files.opened
+  pub counts : ConsoleCounts answer sink sink_now
+  pub ran : RunCause answer old.machine.slots files files'
+  pub own : IsRunAnswer answer
+  pub exit : IsExitAnswer answer
+
 -- ---- want of memory
 
 -- memory may be wanted where the room of 16 notes is not there yet, and by a command that takes some of its own
@@ -268,11 +288,6 @@ pub record Closes (number : ℕ) (live new : Live) (keeper : Option UnitName) (n
   pub keeps : (emptied_all own live).kept ≡ keeper
   pub after : new ≡ emptied_live (emptied_all own live) live
   pub behind : ComeBehind live own
-
--- the status of an exit is 0 to 99
-abbrev pub IsExitAnswer : Answer → Type 0
-IsExitAnswer (Ok (Exit status)) = status ≤ 99
-IsExitAnswer answer = Unit {0}
 
 -- what a function answers that prints and then has that to say
 abbrev pub told_or_console : {T E : Type 0} → Result T E → Next → Answer

@@ -68,8 +68,7 @@ pub returns-in_default-clause-short : goal.returns-in_default-clause-short
 returns-in_default-clause-short g c = λ told own is.
     let session = c.args.session.now in
     let live = live_in session (g.F.Files.state c.args.files.now).files in
-    let n = nature c.args.command.now in
-    (
+    let n = nature c.args.command.now in (
       remains n.flushes live live refl,
       short-notes n.reads_whole session.command session.machine.time session.notes session.notes own
           (notes-remain n.reads_whole session.command session.machine.time session.notes session.notes refl) is,
