@@ -18,6 +18,7 @@ use Rattle.file_commands.specs.declared.note.Subject.TheVariants as subject
 use Rattle.file_commands.specs.declared.note.FaultNote.{FaultNote}
 use Rattle.file_commands.specs.Notes.{CommandNote, Note, numbered, notes_said}
 use Rattle.file_commands.specs.Counts.{AreCounted}
+use Rattle.file_commands.specs.OwnFiles.{AreOwn}
 use Rattle.file_commands.specs.declared.stamp.Stamp.{Stamp}
 use Rattle.file_commands.specs.Kept.{fault_note}
 use Rattle.file_commands.specs.AllUnits.{attachable}
@@ -234,6 +235,7 @@ pub record RunDone (reply : List CommandNote → Reply) (answer : Answer) (old n
   pub told : AreTold named old.machine.slots
       → Did reply old.command answer (live_in new files'.files) tells before after (notes_said old.notes) (notes_said new.notes)
   pub keeps : Keeps old.command new.machine.time named answer old.notes new.notes files files'
+  pub whose : AreOwn old.machine.slots new.machine.slots old.notes new.notes files files'
   pub keys : new.keys ≡ old.keys
   pub limit : new.limit ≡ old.limit
   pub command : new.command ≡ old.command

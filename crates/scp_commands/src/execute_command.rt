@@ -1,6 +1,7 @@
 ghost use Rattle.std.specs.Prelude.{◌≡◌, ◌≢◌, ◌≤◌, List, Ok, Err};
 ghost use Rattle.host_files.specs.State.{Opened};
 ghost use Rattle.unit_files.specs.Open.{AllOpen, Around};
+ghost use Rattle.file_commands.specs.OwnFiles.{AreOwn};
 ghost use Rattle.file_commands.specs.Notes.{notes_said};
 ghost use Rattle.nova_machine.specs.declared.machine.Stop.TheVariants.{ConsoleFault};
 ghost use Rattle.scp_commands.specs.declared.next.Next.TheVariants.{Ran};
@@ -64,6 +65,8 @@ pub fn execute<U: Unit, F: Files, S: Sink>(
         → IsUnrefused command.now session.old.machine session.old.watch }
     ensures keeps { Keeps session.old.command session.new.machine.time F.tells result session.old.notes
         session.new.notes (F.state files.old) (F.state files.new) }
+    ensures whose { AreOwn session.old.machine.slots session.new.machine.slots session.old.notes session.new.notes
+        (F.state files.old) (F.state files.new) }
     ensures keys { session.new.keys ≡ session.old.keys }
     ensures limit { session.new.limit ≡ session.old.limit }
     ensures command { session.new.command ≡ session.old.command }
@@ -85,7 +88,7 @@ pub fn execute<U: Unit, F: Files, S: Sink>(
 }
 
 // The same, where there is room for the notes.
-#[tactic(auto, using(crate::proofs::RemainLemmas::leaves), unfolding(crate::specs::Effect::effect))]
+#[tactic(auto, using(crate::proofs::RemainLemmas::leaves, file_commands::proofs::OwnFiles::unused), unfolding(crate::specs::Effect::effect))]
 fn obey<U: Unit, F: Files, S: Sink>(
     alloc: Global,
     session: &mut Session<U>,
@@ -109,6 +112,8 @@ fn obey<U: Unit, F: Files, S: Sink>(
         → IsUnrefused command.now session.old.machine session.old.watch }
     ensures keeps { Keeps session.old.command session.new.machine.time F.tells result session.old.notes
         session.new.notes (F.state files.old) (F.state files.new) }
+    ensures whose { AreOwn session.old.machine.slots session.new.machine.slots session.old.notes session.new.notes
+        (F.state files.old) (F.state files.new) }
     ensures keys { session.new.keys ≡ session.old.keys }
     ensures limit { session.new.limit ≡ session.old.limit }
     ensures command { session.new.command ≡ session.old.command }
@@ -135,7 +140,7 @@ fn obey<U: Unit, F: Files, S: Sink>(
 }
 
 // The same of all commands but lists and runs.
-#[tactic(auto, using(crate::proofs::RemainLemmas::leaves), unfolding(crate::specs::Effect::effect))]
+#[tactic(auto, using(crate::proofs::RemainLemmas::leaves, file_commands::proofs::OwnFiles::unused), unfolding(crate::specs::Effect::effect))]
 fn obey_setting<U: Unit, F: Files, S: Sink>(
     alloc: Global,
     session: &mut Session<U>,
@@ -160,6 +165,8 @@ fn obey_setting<U: Unit, F: Files, S: Sink>(
         → IsUnrefused command.now session.old.machine session.old.watch }
     ensures keeps { Keeps session.old.command session.new.machine.time F.tells result session.old.notes
         session.new.notes (F.state files.old) (F.state files.new) }
+    ensures whose { AreOwn session.old.machine.slots session.new.machine.slots session.old.notes session.new.notes
+        (F.state files.old) (F.state files.new) }
     ensures keys { session.new.keys ≡ session.old.keys }
     ensures limit { session.new.limit ≡ session.old.limit }
     ensures command { session.new.command ≡ session.old.command }
@@ -187,7 +194,7 @@ fn obey_setting<U: Unit, F: Files, S: Sink>(
 }
 
 // The same of all commands but these, and those that set, show, test or print something.
-#[tactic(auto, using(crate::proofs::RemainLemmas::leaves), unfolding(crate::specs::Effect::effect))]
+#[tactic(auto, using(crate::proofs::RemainLemmas::leaves, file_commands::proofs::OwnFiles::unused), unfolding(crate::specs::Effect::effect))]
 fn obey_watch<U: Unit, F: Files, S: Sink>(
     alloc: Global,
     session: &mut Session<U>,
@@ -212,6 +219,8 @@ fn obey_watch<U: Unit, F: Files, S: Sink>(
         → IsUnrefused command.now session.old.machine session.old.watch }
     ensures keeps { Keeps session.old.command session.new.machine.time F.tells result session.old.notes
         session.new.notes (F.state files.old) (F.state files.new) }
+    ensures whose { AreOwn session.old.machine.slots session.new.machine.slots session.old.notes session.new.notes
+        (F.state files.old) (F.state files.new) }
     ensures keys { session.new.keys ≡ session.old.keys }
     ensures limit { session.new.limit ≡ session.old.limit }
     ensures command { session.new.command ≡ session.old.command }
@@ -240,7 +249,7 @@ fn obey_watch<U: Unit, F: Files, S: Sink>(
 }
 
 // The same of the commands that work with files, and of those that are not built.
-#[tactic(auto, using(crate::proofs::RemainLemmas::leaves), unfolding(crate::specs::Effect::effect))]
+#[tactic(auto, using(crate::proofs::RemainLemmas::leaves, file_commands::proofs::OwnFiles::unused), unfolding(crate::specs::Effect::effect))]
 fn obey_file<U: Unit, F: Files, S: Sink>(
     alloc: Global,
     session: &mut Session<U>,
@@ -265,6 +274,8 @@ fn obey_file<U: Unit, F: Files, S: Sink>(
         → IsUnrefused command.now session.old.machine session.old.watch }
     ensures keeps { Keeps session.old.command session.new.machine.time F.tells result session.old.notes
         session.new.notes (F.state files.old) (F.state files.new) }
+    ensures whose { AreOwn session.old.machine.slots session.new.machine.slots session.old.notes session.new.notes
+        (F.state files.old) (F.state files.new) }
     ensures keys { session.new.keys ≡ session.old.keys }
     ensures limit { session.new.limit ≡ session.old.limit }
     ensures command { session.new.command ≡ session.old.command }

@@ -52,6 +52,7 @@ impl<U: Unit> Session<U> {
     ghost use Rattle.scp_commands.specs.Live.{CommandState, live_in};
     ghost use Rattle.scp_commands.specs.FileEffects.{kept_answer};
     ghost use Rattle.file_commands.specs.AllUnits.{keeper, IsUnwritten};
+    ghost use Rattle.file_commands.specs.OwnFiles.{AreOwn};
     ghost use Rattle.scp_commands.specs.Doing.{Closes, Keeps};
     ghost use Rattle.scp_commands.specs.declared.next.Next.TheVariants.{Go};
 
@@ -107,6 +108,8 @@ impl<U: Unit> Session<U> {
         ensures keeps { Keeps self.old.command self.new.machine.time F.tells (kept_answer (keeper result) Go)
             self.old.notes self.new.notes (F.state files.old) (F.state files.new) }
         ensures cause { OnErr result (IsUnwritten self.new.machine.slots self.new.notes (F.state files.old) (F.state files.new)) }
+        ensures whose { AreOwn self.old.machine.slots self.new.machine.slots self.old.notes self.new.notes
+            (F.state files.old) (F.state files.new) }
         ensures watch { self.new.watch ≡ self.old.watch }
         ensures keys { self.new.keys ≡ self.old.keys }
         ensures limit { self.new.limit ≡ self.old.limit }

@@ -1,6 +1,7 @@
 use Rattle.std.proofs.Common.{true, Some, None, Err, ◌≡◌, refl, ap, sym, ◌∙◌, subst}
 use Rattle.file_commands.specs.declared.note.Subject.TheVariants as subject
 use Rattle.file_commands.specs.Notes.{notes_said}
+use Rattle.file_commands.proofs.OwnFiles.{unused}
 use Rattle.scp_parser.specs.Command.{Request, Attach, Detach, Do, Exit, Load, Dump, request_of, file_name_of}
 use Rattle.scp_commands.specs.declared.fault.CommandFault.TheVariants.{NotBuilt}
 use Rattle.scp_commands.specs.Live.{live_in}
@@ -153,6 +154,7 @@ returns-in_default g c =
       attach_note = no-note c.args.command.now (record { command = s.command; time = s.machine.time }) s.notes s.notes state state;
       refused = λ is. leaves (nature c.args.command.now).flushes s s refl refl;
       keeps = keeps-none s.command s.machine.time g.F.Files.tells (Err NotBuilt) s.notes s.notes state refl tt;
+      whose = unused s.machine.slots s.machine.slots s.notes s.notes state refl refl;
       keys = refl;
       limit = refl;
       command = refl;

@@ -10,8 +10,9 @@ use Rattle.scp_commands.specs.Live.{CommandState}
 use Rattle.scp_commands.specs.WholeCalls.{read_notes}
 use Rattle.scp_commands.specs.Doing.{Keeps}
 use Rattle.scp_commands.proofs.BehindLemmas.{stamp_in}
-use Rattle.scp_commands.proofs.WholeLemmas.{read-keeps, short-read, read-own}
+use Rattle.scp_commands.proofs.WholeLemmas.{read-claims, read-keeps, short-read, read-own}
 use Rattle.scp_commands.proofs.TapeLemmas.{tape_comes, tape-plain, tape-own, tape-closings, read-slots, read-time, read-none, load-did}
+use Rattle.scp_commands.proofs.OwnFileLemmas.{whole-own}
 use Rattle.scp_commands.proofs.load_command.load_file.Goals as goal
 
 pub returns-clause-told : goal.returns-clause-told
@@ -93,3 +94,14 @@ returns-clause-around g c = λ base around.
     subst (λ l. Around l base after.«opened») (sym slots)
     (subst (λ (o : List Opened). Around s.machine.slots base o) (sym c.read_file-whole.ensures.«opened»)
     (subst (λ (x : CommandState). Around x.machine.slots base before.«opened») (sym c.session.view_is) around))
+
+pub returns-clause-whose : goal.returns-clause-whose
+returns-clause-whose g c =
+    let s = c.session.inside in
+    let w = c.read_file-whole.result in
+    let read = c.read_file-whole.ensures in
+    let slots : c.load_bytes.new.machine.slots ≡ s.machine.slots =
+    ap (λ (m : MachineState). m.slots) c.load_bytes.ensures.machine ∙ read-slots c.read_file-whole.result.bytes s.machine in
+    rw (← c.session.view_is)
+    (whole-own subject.Load c.stamp_of-stamp.result 0 w.failed w.closing s.machine.slots c.load_bytes.new.machine.slots s.notes.items c.note_reading.new.notes.items
+    (g.F.Files.state c.args.files.now) (g.F.Files.state c.read_file-whole.new.files) slots (read-claims w read.shape) read.failed read.closing read.ids c.note_reading.ensures.notes)

@@ -1,7 +1,10 @@
 use Rattle.std.proofs.Common.{rules, ◌∙◌, List, Option, Err, refl, ap, sym, subst}
 use Rattle.unit_files.specs.Attachments.{Held}
 use Rattle.unit_files.specs.Open.{AllOpen}
+use Rattle.file_commands.specs.declared.note.FaultNote.{FaultNote}
+use Rattle.file_commands.specs.OwnFiles.{AreOwn}
 use Rattle.file_commands.specs.Notes.{notes_said}
+use Rattle.file_commands.proofs.OwnFiles.{unused}
 use Rattle.nova_machine.specs.Comes.{AreTold}
 use Rattle.scp_commands.specs.declared.fault.CommandFault.TheVariants.{OutOfRange}
 use Rattle.scp_commands.specs.Live.{CommandState, live_in}
@@ -21,6 +24,7 @@ returns-then-not-address_fits-clause-done g c = record {
       did-without (λ given. run_from s.limit given c.args.resets c.args.address live) (refused OutOfRange live) s.command (Err OutOfRange) live g.S.Sink.tells text text (notes_said s.notes)
       (run_from-refused s.limit c.args.resets c.args.address live (sym c.address_fits.ensures ∙ c.if-not-address_fits.true)) (refl, refused-said OutOfRange live g.S.Sink.tells text));
   keeps = search rules;
+  whose = unused c.args.session.now.machine.slots c.args.session.now.machine.slots c.args.session.now.notes c.args.session.now.notes (g.F.Files.state c.args.files.now) refl refl;
   keys = search rules;
   limit = search rules;
   command = search rules;
@@ -50,6 +54,14 @@ returns-clause-done g c = record {
   ran = (let slots_are = ap (λ (s : CommandState). s.machine.slots) c.start.ensures ∙ started-slots c.args.resets c.args.address c.args.session.now.machine in
       subst (λ (slots : List (Option Held)). RunCause c.run.result slots (g.F.Files.state c.args.files.now) (g.F.Files.state c.run.new.files)) slots_are c.run.ensures.done.ran);
   keeps = search rules;
+  whose =
+      let s = c.args.session.now in
+      let new = c.run.new.session in
+      let slots_are = ap (λ (x : CommandState). x.machine.slots) c.start.ensures ∙ started-slots c.args.resets c.args.address s.machine in
+      let notes_are = ap (λ (x : CommandState). x.notes) c.start.ensures in
+      subst (λ (l : List (Option Held)). AreOwn l new.machine.slots s.notes new.notes (g.F.Files.state c.args.files.now) (g.F.Files.state c.run.new.files)) slots_are
+      (subst (λ (n : List FaultNote). AreOwn c.start.new.session.machine.slots new.machine.slots n new.notes (g.F.Files.state c.args.files.now) (g.F.Files.state c.run.new.files)) notes_are
+      c.run.ensures.done.whose);
   keys = search rules;
   limit = search rules;
   command = search rules;

@@ -1,11 +1,14 @@
-use Rattle.std.proofs.Common.{rules, ◌≡◌, ◌∙◌, ℕ, List, ap, sym, subst}
+use Rattle.std.proofs.Common.{rules, Some, refl, ◌≡◌, ◌∙◌, ℕ, List, ap, sym, subst}
 use Rattle.host_files.specs.Streams.{Puts}
 use Rattle.file_commands.specs.Notes.{notes_said}
+use Rattle.nova_machine.specs.declared.machine.Stop.{Stop}
+use Rattle.nova_machine.specs.Comes.{FileCause as StopCause}
 use Rattle.nova_machine.specs.Run.{run}
 use Rattle.nova_machine.specs.Seen.{seen, beside}
 use Rattle.scp_commands.specs.Live.{Live, CommandState, live_in}
 use Rattle.scp_commands.specs.RunEffects.{run_failure, ran, stop_text}
 use Rattle.scp_commands.specs.Doing.{Did, Keeps}
+use Rattle.scp_commands.proofs.OwnFileLemmas.{quiet-own, stop-own}
 use Rattle.scp_commands.proofs.RunLemmas.{cut-did, run-did, erased-text, said-more, run-keeps, cut-keeps}
 use Rattle.scp_commands.proofs.run_commands.run_up_to.Goals as goal
 
@@ -22,6 +25,13 @@ returns-then-is_console_fault-clause-done g c = record {
   keeps = (rw (← c.session.view_is)
       (cut-keeps c.session.inside.command c.run-stop.new.self.time g.F.Files.tells c.run-stop.result c.session.inside.machine.slots c.session.inside.notes.items
       (g.F.Files.state c.args.files.now) (g.F.Files.state c.run-stop.new.files) (c.is_console_fault.ensures.yes c.if-is_console_fault.true) c.run-stop.ensures.file_cause));
+  whose =
+      let slots = c.session.inside.machine.slots in
+      let old = g.F.Files.state c.args.files.now in
+      let new = g.F.Files.state c.run-stop.new.files in
+      rw (← c.session.view_is)
+      (quiet-own slots c.run-stop.new.self.slots c.session.inside.notes.items c.session.inside.notes.items old new c.run-stop.ensures.slots refl
+      (subst (λ (x : Stop). StopCause (Some x) slots old new) (c.is_console_fault.ensures.yes c.if-is_console_fault.true) c.run-stop.ensures.file_cause));
   keys = search rules;
   limit = search rules;
   command = search rules;
@@ -66,6 +76,14 @@ returns-clause-done g c = record {
       (subst (λ (time : ℕ). Keeps c.session.inside.command time g.F.Files.tells c.told_or_console.result c.session.inside.notes.items c.note_stop.new.session.notes old new) (sym time_is)
       (run-keeps c.session.inside.command m.time g.F.Files.tells stop c.put_stop-printed.result c.told_or_console.result c.session.inside.machine.slots c.session.inside.notes.items
       c.note_stop.new.session.notes old new c.told_or_console.ensures c.note_stop.ensures.notes c.run-stop.ensures.file_cause)));
+  whose =
+      let m = c.run-stop.new.self in
+      let old = g.F.Files.state c.args.files.now in
+      let new = g.F.Files.state c.run-stop.new.files in
+      let slots_are = ap (λ (s : CommandState). s.machine.slots) c.note_stop.ensures.rest ∙ c.run-stop.ensures.slots in
+      rw (← c.session.view_is)
+      (stop-own (record { command = c.session.inside.command; time = m.time }) c.run-stop.result c.session.inside.machine.slots c.note_stop.new.session.machine.slots
+      c.session.inside.notes.items c.note_stop.new.session.notes old new slots_are c.run-stop.ensures.unit c.run-stop.ensures.file_cause c.note_stop.ensures.notes);
   keys = search rules;
   limit = search rules;
   command = search rules;

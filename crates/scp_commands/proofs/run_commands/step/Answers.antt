@@ -1,5 +1,6 @@
 use Rattle.std.proofs.Common.{rules, ◌∙◌, Err, refl, sym}
 use Rattle.file_commands.specs.Notes.{notes_said}
+use Rattle.file_commands.proofs.OwnFiles.{unused}
 use Rattle.scp_commands.specs.declared.fault.CommandFault.TheVariants.{OutOfRange}
 use Rattle.scp_commands.specs.Live.{live_in}
 use Rattle.scp_commands.specs.Reply.{refused}
@@ -17,6 +18,7 @@ returns-else-is_count-clause-done g c = record {
       did-without (λ given. step_of s.limit given c.args.count live) (refused OutOfRange live) s.command (Err OutOfRange) live g.S.Sink.tells text text (notes_said s.notes)
       (step-refused s.limit c.args.count live (sym c.is_count.ensures ∙ c.if-is_count.false)) (refl, refused-said OutOfRange live g.S.Sink.tells text));
   keeps = search rules;
+  whose = unused c.args.session.now.machine.slots c.args.session.now.machine.slots c.args.session.now.notes c.args.session.now.notes (g.F.Files.state c.args.files.now) refl refl;
   keys = search rules;
   limit = search rules;
   command = search rules;
