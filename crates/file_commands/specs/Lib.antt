@@ -2,4 +2,5 @@ pub mod Notes
 pub mod Counts
 pub mod Laws
 pub mod Kept
+pub mod OwnFiles
 pub mod AllUnits

@@ -290,7 +290,7 @@ attach-cause stamp tells unit (Err attach.NoFile) old new of_unit missing = (ref
 attach-cause stamp tells unit (Err attach.TooLong) old new of_unit missing = tt
 attach-cause stamp tells unit (Err (attach.Failed f)) old new of_unit missing =
     refused-first (subject.Unit f.unit) (fault_note stamp f) [] (refl, no-closing unit f of_unit) tt
-attach-cause stamp tells unit (Err attach.OutOfMemory) old new of_unit missing = refl
+attach-cause stamp tells unit (Err attach.OutOfMemory) old new of_unit missing = tt
 
 pub attach-keeps : (number time : ℕ) (stamp : Stamp) (tells : Bool) (unit : UnitName) (r : Result ℕ AttachFault) (answer : Answer) (notes notes' : List FaultNote) (old new : FileState)
     → stamp ≡ record { command = number; time = time } → answer ≡ attach_result r → notes' ≡ notes ++ kept_of stamp (fault_of_attach r) → AreCounted (kept_of stamp (fault_of_attach r)) old new

@@ -18,6 +18,7 @@ pub mod DetachLemmas
 pub mod AttachLemmas
 pub mod ObeyLemmas
 pub mod WholeLemmas
+pub mod OwnFileLemmas
 pub mod DoLemmas
 pub mod TapeLemmas
 pub mod ScriptLemmas

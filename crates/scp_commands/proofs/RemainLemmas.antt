@@ -1,12 +1,14 @@
 -- What remains where nothing was changed, for every command.
-use Rattle.std.proofs.Common.{◌≡◌, ℕ, Bool, true, false, IsTrue, List, refl, ap, ◌∙◌, inl}
+use Rattle.std.proofs.Common.{◌≡◌, ℕ, Bool, true, false, IsTrue, List, [], Option, Some, None, refl, ap, sym, ◌∙◌, subst, inl, append-nil}
 use Rattle.host_files.specs.Lists.{NamedBytes}
 use Rattle.host_files.specs.State.{FileState}
+use Rattle.file_commands.specs.declared.note.Subject.{Subject}
+use Rattle.file_commands.specs.declared.note.FaultNote.{FaultNote}
 use Rattle.expect_actions.specs.Watch.{WatchState}
 use Rattle.nova_machine.specs.Machine.{MachineState}
 use Rattle.scp_commands.specs.Live.{Live, CommandState, live_in}
 use Rattle.scp_commands.specs.Remains.{MachineRemains, Remains, AreLeft}
-use Rattle.scp_commands.specs.Doing.{IsUndone}
+use Rattle.scp_commands.specs.Doing.{NotesRemain, IsUndone}
 
 pub machine-remains : (flushes : Bool) (old new : MachineState) → new ≡ old → MachineRemains flushes old new
 machine-remains false old new same = same
@@ -32,22 +34,26 @@ same-live old new files files' machine watch keys same =
     ∙ ap (λ (k : List (ℕ × ℕ)). live_in (record old { keys = k }) files') keys
     ∙ ap (λ (l : List NamedBytes). live_in old l) same
 
+pub notes-remain : (reads : Option Subject) (number time : ℕ) (notes notes' : List FaultNote) → notes' ≡ notes → NotesRemain reads number time notes notes'
+notes-remain None number time notes notes' same = same
+notes-remain (Some who) number time notes notes' same = ([], same ∙ sym (append-nil notes), tt)
+
 -- nothing was done at all
-pub undone-none : (flushes says : Bool) (old new : CommandState) (text : List ℕ) (files : FileState) → new.machine ≡ old.machine → new.watch ≡ old.watch
-    → new.keys ≡ old.keys → new.notes ≡ old.notes → IsUndone flushes says old new text text files files
-undone-none flushes says old new text files machine watch keys notes = record {
+pub undone-none : (flushes : Bool) (reads : Option Subject) (says : Bool) (old new : CommandState) (text : List ℕ) (files : FileState) → new.machine ≡ old.machine → new.watch ≡ old.watch
+    → new.keys ≡ old.keys → new.notes ≡ old.notes → IsUndone flushes reads says old new text text files files
+undone-none flushes reads says old new text files machine watch keys notes = record {
   left = leaves flushes old new machine watch;
-  notes = notes;
+  notes = notes-remain reads old.command old.machine.time old.notes new.notes notes;
   written = refl;
   live = λ told. remains flushes (live_in old files.files) (live_in new files.files) (same-live old new files.files files.files machine watch keys refl);
 }
 
 -- the same of a command that does not flush, where less is said
-pub undone-as : (flushes says less : Bool) (old new : CommandState) (before after : List ℕ) (files files' : FileState) → (IsTrue less → IsTrue says)
-    → IsUndone false says old new before after files files' → IsUndone flushes less old new before after files files'
-undone-as flushes says less old new before after files files' fewer undone = record {
+pub undone-as : (flushes : Bool) (reads now : Option Subject) (says less : Bool) (old new : CommandState) (before after : List ℕ) (files files' : FileState) → now ≡ reads
+    → (IsTrue less → IsTrue says) → IsUndone false reads says old new before after files files' → IsUndone flushes now less old new before after files files'
+undone-as flushes reads now says less old new before after files files' same fewer undone = record {
   left = all-left flushes old new undone.left;
-  notes = undone.notes;
+  notes = subst (λ (r : Option Subject). NotesRemain r old.command old.machine.time old.notes new.notes) (sym same) undone.notes;
   written = undone.written;
   live = λ told. remains flushes (live_in old files.files) (live_in new files'.files) (undone.live (fewer told));
 }

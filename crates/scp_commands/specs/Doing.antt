@@ -16,14 +16,15 @@ use Rattle.unit_files.specs.Attachments.{Held, attachment_at, is_disk}
 use Rattle.file_commands.specs.declared.note.Subject.{Subject}
 use Rattle.file_commands.specs.declared.note.Subject.TheVariants as subject
 use Rattle.file_commands.specs.declared.note.FaultNote.{FaultNote}
-use Rattle.file_commands.specs.Notes.{CommandNote, Note, numbered}
+use Rattle.file_commands.specs.Notes.{CommandNote, Note, numbered, notes_said}
 use Rattle.file_commands.specs.Counts.{AreCounted}
+use Rattle.file_commands.specs.OwnFiles.{AreOwn}
 use Rattle.file_commands.specs.declared.stamp.Stamp.{Stamp}
 use Rattle.file_commands.specs.Kept.{fault_note}
 use Rattle.file_commands.specs.AllUnits.{attachable}
 use Rattle.nova_machine.specs.declared.machine.Stop.{Stop}
 use Rattle.nova_machine.specs.declared.machine.Stop.TheVariants.{ConsoleFault, FileFault}
-use Rattle.nova_machine.specs.Comes.{AreFree, FileCause as StopCause}
+use Rattle.nova_machine.specs.Comes.{AreFree, AreTold, FileCause as StopCause}
 use Rattle.nova_machine.specs.Wants.{HasUnit}
 use Rattle.nova_machine.specs.Seen.{attached_in}
 use Rattle.scp_parser.specs.Command.{Request, Attach, Detach, Exit as ExitRequest}
@@ -133,8 +134,8 @@ stop_notes stamp stop = []
 -- Why an answer comes, by the notes that were kept. A file was missing only where none was kept and, if names are not told,
 -- the count of openings rose. A call on a file failed only where exactly one note is of that call. A run keeps the note of the
 -- call for which it stopped, if it did for one, also where the console refused a byte of the stop's text. What was done
--- otherwise, a file that is too long, and a tape with a fault have only notes of closings, and what was refused otherwise
--- has none.
+-- otherwise, a file that is too long, a tape with a fault and want of memory have only notes of closings, and what was refused
+-- otherwise has none.
 abbrev pub FileCause : Stamp → Bool → Answer → List FaultNote → FileState → FileState → Type 0
 FileCause stamp tells (Err NoFile) kept old new = (kept ≡ []) × ((IsTrue tells → ⊥) → Rose old.open_faults new.open_faults)
 FileCause stamp tells (Err (FileFailed who)) kept old new = AreRefusalOf who kept
@@ -142,6 +143,7 @@ FileCause stamp tells (Err FileTooLong) kept old new = AllClosings kept
 FileCause stamp tells (Err (LoadTruncated place)) kept old new = AllClosings kept
 FileCause stamp tells (Err (LoadSum place)) kept old new = AllClosings kept
 FileCause stamp tells (Err (PastMemory origin)) kept old new = AllClosings kept
+FileCause stamp tells (Err OutOfMemory) kept old new = AllClosings kept
 FileCause stamp tells (Err Console) kept old new = (stop : Stop) × (kept ≡ stop_notes stamp stop)
 FileCause stamp tells (Err fault) kept old new = kept ≡ []
 FileCause stamp tells (Ok (Ran stop)) kept old new = kept ≡ stop_notes stamp stop
@@ -223,6 +225,27 @@ AttachNote (Attach option unit name) (Err (FileFailed who)) stamp notes notes' o
     (f : UnitFault) × (who ≡ subject.Unit unit) × (notes' ≡ notes ++ fault_note stamp f ∷ []) × IsNewFault f unit old new
 AttachNote request answer stamp notes notes' old new = Unit {0}
 
+-- the status of an exit is 0 to 99
+abbrev pub IsExitAnswer : Answer → Type 0
+IsExitAnswer (Ok (Exit status)) = status ≤ 99
+IsExitAnswer answer = Unit {0}
+
+-- what a command that runs promises
+pub record RunDone (reply : List CommandNote → Reply) (answer : Answer) (old new : CommandState) (files files' : FileState) (named tells : Bool) (before after : List ℕ) (sink sink_now : ℕ) : Type 0 where
+  pub told : AreTold named old.machine.slots
+      → Did reply old.command answer (live_in new files'.files) tells before after (notes_said old.notes) (notes_said new.notes)
+  pub keeps : Keeps old.command new.machine.time named answer old.notes new.notes files files'
+  pub whose : AreOwn old.machine.slots new.machine.slots old.notes new.notes files files'
+  pub keys : new.keys ≡ old.keys
+  pub limit : new.limit ≡ old.limit
+  pub command : new.command ≡ old.command
+  pub slots : new.machine.slots ≡ old.machine.slots
+  pub opened : files'.opened ≡ files.opened
+  pub counts : ConsoleCounts answer sink sink_now
+  pub ran : RunCause answer old.machine.slots files files'
+  pub own : IsRunAnswer answer
+  pub exit : IsExitAnswer answer
+
 -- ---- want of memory
 
 -- memory may be wanted where the room of 16 notes is not there yet, and by a command that takes some of its own
@@ -236,12 +259,23 @@ MayWant spare request = want_by (nature request).takes_memory spare
 -- Whether it is said of all files that they are as they were: behind a command that was reading one, only where files are
 -- told.
 abbrev pub says_files : Bool → Request → Bool
-says_files tells request = if (nature request).reads_whole then tells else true
+says_files tells request = if is_some (nature request).reads_whole then tells else true
 
--- nothing was done, but that a command may have flushed the disk
-pub record IsUndone (flushes says : Bool) (old new : CommandState) (before after : List ℕ) (files files' : FileState) : Type 0 where
+-- a note of a closing of that subject, in the command with that number, at that time
+abbrev pub IsShutNote : Subject → ℕ → ℕ → FaultNote → Type 0
+IsShutNote who number time n = IsStamped number time n × IsClosingOf who n
+
+-- The notes that a command leaves for which memory ran out: those that were there, and behind them, where it was reading a file
+-- whole, those of its closing.
+abbrev pub NotesRemain : Option Subject → ℕ → ℕ → List FaultNote → List FaultNote → Type 0
+NotesRemain None number time notes notes' = notes' ≡ notes
+NotesRemain (Some who) number time notes notes' =
+    (kept : List FaultNote) × (notes' ≡ notes ++ kept) × AllByRecursion (IsShutNote who number time) kept
+
+-- nothing was done, but that a command may have flushed the disk, or closed the file that it was reading
+pub record IsUndone (flushes : Bool) (reads : Option Subject) (says : Bool) (old new : CommandState) (before after : List ℕ) (files files' : FileState) : Type 0 where
   pub left : AreLeft flushes old new
-  pub notes : new.notes ≡ old.notes
+  pub notes : NotesRemain reads old.command old.machine.time old.notes new.notes
   pub written : after ≡ before
   pub live : IsTrue says → Remains flushes (live_in old files.files) (live_in new files'.files)
 
@@ -256,11 +290,6 @@ pub record Closes (number : ℕ) (live new : Live) (keeper : Option UnitName) (n
   pub keeps : (emptied_all own live).kept ≡ keeper
   pub after : new ≡ emptied_live (emptied_all own live) live
   pub behind : ComeBehind live own
-
--- the status of an exit is 0 to 99
-abbrev pub IsExitAnswer : Answer → Type 0
-IsExitAnswer (Ok (Exit status)) = status ≤ 99
-IsExitAnswer answer = Unit {0}
 
 -- what a function answers that prints and then has that to say
 abbrev pub told_or_console : {T E : Type 0} → Result T E → Next → Answer

@@ -1,8 +1,9 @@
 -- What stands where a command was refused, or where memory ran out in it: all is as it was. Behind a command that flushes the
 -- disk before its own work that may be done, and it stays so.
-use Rattle.std.specs.Prelude.{◌≡◌, ◌⊎◌, Bool, true, false, None, Ok, Err}
+use Rattle.std.specs.Prelude.{◌≡◌, ◌⊎◌, Bool, true, false, Option, None, Ok, Err}
 use Rattle.unit_trait.specs.declared.kind.Kind.TheVariants.{Dsk}
 use Rattle.unit_trait.specs.declared.kind.UnitName.{UnitName}
+use Rattle.file_commands.specs.declared.note.Subject.{Subject}
 use Rattle.nova_machine.specs.Machine.{MachineState}
 use Rattle.scp_commands.specs.Live.{Live, CommandState}
 use Rattle.scp_commands.specs.Nature.{nature}
@@ -39,3 +40,8 @@ pub record AreLeft (flushes : Bool) (old new : CommandState) : Type 0 where
 abbrev pub flushes_of : Asked → Bool
 flushes_of (Ok request) = (nature request).flushes
 flushes_of (Err fault) = false
+
+-- the subject of the file that this reads whole, if it does
+abbrev pub reader_of : Asked → Option Subject
+reader_of (Ok request) = (nature request).reads_whole
+reader_of (Err fault) = None

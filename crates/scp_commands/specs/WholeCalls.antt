@@ -73,13 +73,8 @@ call_notes whose stamp done (Some f) = call_note whose stamp done f ∷ []
 abbrev pub both_notes : Subject → Stamp → ℕ → Option FailedCall → Option FailedCall → List FaultNote
 both_notes whose stamp done failed closing = call_notes whose stamp done failed ++ call_notes whose stamp 0 closing
 
--- where memory ran out, no note is kept
-abbrev pub unless_memory : Result (Vec ℕ) WholeFault → List FaultNote → List FaultNote
-unless_memory (Err fault.OutOfMemory) notes = []
-unless_memory bytes notes = notes
-
 abbrev pub read_notes : Subject → Stamp → Whole → List FaultNote
-read_notes whose stamp w = unless_memory w.bytes (both_notes whose stamp 0 w.failed w.closing)
+read_notes whose stamp w = both_notes whose stamp 0 w.failed w.closing
 
 abbrev pub write_notes : Subject → Stamp → Written → List FaultNote
 write_notes whose stamp w = both_notes whose stamp w.done w.failed w.closing

@@ -99,3 +99,16 @@ AttachCause tells (Err attach.ReadOnly) unit old new = IsQuiet old new
 AttachCause tells (Err attach.TooLong) unit old new =
     ((id : FileId) × IsRefusedFile id 0 old new) × (IsTrue tells → new.open_faults ≡ old.open_faults)
 AttachCause tells (Err attach.OutOfMemory) unit old new = new.faults ≡ old.faults
+
+-- a file was opened between these two
+abbrev pub IsNewId : FileState → FileState → ℕ → Type 0
+IsNewId old new file = (old.given ≤ file) × (file < new.given)
+
+-- each file that is attached to a unit now was attached to it before
+abbrev pub OnlyKept : List (Option Held) → List (Option Held) → Type 0
+OnlyKept slots slots' = (unit : UnitName) (h : Held) → held_at slots' unit ≡ Some h → held_at slots unit ≡ Some h
+
+-- the same, or it was opened in between
+abbrev pub AreFrom : List (Option Held) → List (Option Held) → FileState → FileState → Type 0
+AreFrom slots slots' old new =
+    (unit : UnitName) (h : Held) → held_at slots' unit ≡ Some h → (held_at slots unit ≡ Some h) ⊎ IsNewId old new h.file

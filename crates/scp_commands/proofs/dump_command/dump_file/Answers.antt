@@ -1,6 +1,7 @@
 use Rattle.std.proofs.Common.{◌≡◌, Err, refl, ap, sym, ◌∙◌}
 use Rattle.file_commands.specs.declared.note.Subject.TheVariants as subject
 use Rattle.file_commands.specs.Notes.{notes_said}
+use Rattle.file_commands.proofs.OwnFiles.{unused}
 use Rattle.whole_files.specs.Writing.{write_act}
 use Rattle.binary_load.specs.Dump.{dumped}
 use Rattle.scp_commands.specs.declared.fault.CommandFault.TheVariants.{OutOfRange, OutOfMemory}
@@ -57,3 +58,13 @@ pub returns-in-Err-clause-keeps : goal.returns-in-Err-clause-keeps
 returns-in-Err-clause-keeps g c =
     let s = c.args.session.now in
     keeps-none s.command s.machine.time g.F.Files.tells (Err OutOfMemory) s.notes s.notes (g.F.Files.state c.args.files.now) refl tt
+
+pub returns-then-not-can_dump-clause-whose : goal.returns-then-not-can_dump-clause-whose
+returns-then-not-can_dump-clause-whose g c =
+    let s = c.args.session.now in
+    unused s.machine.slots s.machine.slots s.notes s.notes (g.F.Files.state c.args.files.now) refl refl
+
+pub returns-in-Err-clause-whose : goal.returns-in-Err-clause-whose
+returns-in-Err-clause-whose g c =
+    let s = c.args.session.now in
+    unused s.machine.slots s.machine.slots s.notes s.notes (g.F.Files.state c.args.files.now) refl refl

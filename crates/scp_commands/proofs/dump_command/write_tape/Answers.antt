@@ -6,7 +6,8 @@ use Rattle.file_commands.specs.declared.stamp.Stamp.{Stamp}
 use Rattle.nova_machine.specs.Seen.{seen, beside}
 use Rattle.scp_commands.specs.WholeCalls.{write_notes}
 use Rattle.scp_commands.proofs.BehindLemmas.{stamp_in}
-use Rattle.scp_commands.proofs.WholeLemmas.{dump-is, write-did, write-keeps, none-written, write-own}
+use Rattle.scp_commands.proofs.WholeLemmas.{write-claims, dump-is, write-did, write-keeps, none-written, write-own}
+use Rattle.scp_commands.proofs.OwnFileLemmas.{whole-own}
 use Rattle.scp_commands.proofs.dump_command.write_tape.Goals as goal
 
 pub returns-clause-told : goal.returns-clause-told
@@ -57,3 +58,13 @@ returns-clause-own g c = (write-own subject.Dump c.write_file-written.result.ans
 
 pub returns-clause-exit : goal.returns-clause-exit
 returns-clause-exit g c = (write-own subject.Dump c.write_file-written.result.answer c.written_answer.result c.written_answer.ensures).1
+
+pub returns-clause-whose : goal.returns-clause-whose
+returns-clause-whose g c =
+    let s = c.session.inside in
+    let w = c.write_file-written.result in
+    let write = c.write_file-written.ensures in
+    rw (← c.session.view_is)
+    (whole-own subject.Dump c.stamp_of-stamp.result w.done w.failed w.closing s.machine.slots s.machine.slots s.notes.items c.note_writing.new.notes.items
+    (g.F.Files.state c.args.files.now) (g.F.Files.state c.write_file-written.new.files) refl (write-claims c.args.tape.now w write.shape) write.failed write.closing write.ids
+    c.note_writing.ensures.notes)

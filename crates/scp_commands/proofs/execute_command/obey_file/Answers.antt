@@ -1,5 +1,7 @@
-use Rattle.std.proofs.Common.{true, Err, ◌≡◌, refl, ap, sym, ◌∙◌, subst}
+use Rattle.std.proofs.Common.{true, Some, None, Err, ◌≡◌, refl, ap, sym, ◌∙◌, subst}
+use Rattle.file_commands.specs.declared.note.Subject.TheVariants as subject
 use Rattle.file_commands.specs.Notes.{notes_said}
+use Rattle.file_commands.proofs.OwnFiles.{unused}
 use Rattle.scp_parser.specs.Command.{Request, Attach, Detach, Do, Exit, Load, Dump, request_of, file_name_of}
 use Rattle.scp_commands.specs.declared.fault.CommandFault.TheVariants.{NotBuilt}
 use Rattle.scp_commands.specs.Live.{live_in}
@@ -35,8 +37,9 @@ returns-in-Attach-clause-told g c = λ told.
 pub returns-in-Attach-clause-undone : goal.returns-in-Attach-clause-undone
 returns-in-Attach-clause-undone g c = λ is.
     let text = g.S.Sink.written c.args.out.now in
-    undone-as (nature c.args.command.now).flushes true (says_files g.F.Files.tells c.args.command.now) c.args.session.now c.attach.new.session text text
-    (g.F.Files.state c.args.files.now) (g.F.Files.state c.attach.new.files) (λ _. refl) (c.attach.ensures.undone text is)
+    let asks = sym c.command.view_is ∙ ap (request_of _) c.in-Attach.is in
+    undone-as (nature c.args.command.now).flushes None (nature c.args.command.now).reads_whole true (says_files g.F.Files.tells c.args.command.now) c.args.session.now c.attach.new.session text text
+    (g.F.Files.state c.args.files.now) (g.F.Files.state c.attach.new.files) (ap (λ (r : Request). (nature r).reads_whole) asks) (λ _. refl) (c.attach.ensures.undone text is)
 
 pub returns-in-Detach-clause-told : goal.returns-in-Detach-clause-told
 unfolding effect
@@ -66,9 +69,10 @@ returns-in-Do-clause-told g c = λ told.
 pub returns-in-Do-clause-undone : goal.returns-in-Do-clause-undone
 returns-in-Do-clause-undone g c = λ is.
     let text = g.S.Sink.written c.args.out.now in
-    let says = ap (says_files g.F.Files.tells) (sym c.command.view_is ∙ ap (request_of _) c.in-Do.is) in
-    undone-as (nature c.args.command.now).flushes g.F.Files.tells (says_files g.F.Files.tells c.args.command.now) c.args.session.now c.do_script.new.session text text
-    (g.F.Files.state c.args.files.now) (g.F.Files.state c.do_script.new.files) (λ told. sym says ∙ told) (c.do_script.ensures.undone text is)
+    let asks = sym c.command.view_is ∙ ap (request_of _) c.in-Do.is in
+    let says = ap (says_files g.F.Files.tells) asks in
+    undone-as (nature c.args.command.now).flushes (Some subject.Script) (nature c.args.command.now).reads_whole g.F.Files.tells (says_files g.F.Files.tells c.args.command.now) c.args.session.now c.do_script.new.session text text
+    (g.F.Files.state c.args.files.now) (g.F.Files.state c.do_script.new.files) (ap (λ (r : Request). (nature r).reads_whole) asks) (λ told. sym says ∙ told) (c.do_script.ensures.undone text is)
 
 pub returns-in-Exit-clause-told : goal.returns-in-Exit-clause-told
 unfolding effect
@@ -97,9 +101,10 @@ returns-in-Load-clause-told g c = λ told.
 pub returns-in-Load-clause-undone : goal.returns-in-Load-clause-undone
 returns-in-Load-clause-undone g c = λ is.
     let text = g.S.Sink.written c.args.out.now in
-    let says = ap (says_files g.F.Files.tells) (sym c.command.view_is ∙ ap (request_of _) c.in-Load.is) in
-    undone-as (nature c.args.command.now).flushes g.F.Files.tells (says_files g.F.Files.tells c.args.command.now) c.args.session.now c.load_file.new.session text text
-    (g.F.Files.state c.args.files.now) (g.F.Files.state c.load_file.new.files) (λ told. sym says ∙ told) (c.load_file.ensures.undone text is)
+    let asks = sym c.command.view_is ∙ ap (request_of _) c.in-Load.is in
+    let says = ap (says_files g.F.Files.tells) asks in
+    undone-as (nature c.args.command.now).flushes (Some subject.Load) (nature c.args.command.now).reads_whole g.F.Files.tells (says_files g.F.Files.tells c.args.command.now) c.args.session.now c.load_file.new.session text text
+    (g.F.Files.state c.args.files.now) (g.F.Files.state c.load_file.new.files) (ap (λ (r : Request). (nature r).reads_whole) asks) (λ told. sym says ∙ told) (c.load_file.ensures.undone text is)
 
 pub returns-in-Dump-clause-told : goal.returns-in-Dump-clause-told
 unfolding effect
@@ -118,8 +123,9 @@ returns-in-Dump-clause-told g c = λ told.
 pub returns-in-Dump-clause-undone : goal.returns-in-Dump-clause-undone
 returns-in-Dump-clause-undone g c = λ is.
     let text = g.S.Sink.written c.args.out.now in
-    undone-as (nature c.args.command.now).flushes true (says_files g.F.Files.tells c.args.command.now) c.args.session.now c.dump_file.new.session text text
-    (g.F.Files.state c.args.files.now) (g.F.Files.state c.dump_file.new.files) (λ _. refl) (c.dump_file.ensures.undone text is)
+    let asks = sym c.command.view_is ∙ ap (request_of _) c.in-Dump.is in
+    undone-as (nature c.args.command.now).flushes None (nature c.args.command.now).reads_whole true (says_files g.F.Files.tells c.args.command.now) c.args.session.now c.dump_file.new.session text text
+    (g.F.Files.state c.args.files.now) (g.F.Files.state c.dump_file.new.files) (ap (λ (r : Request). (nature r).reads_whole) asks) (λ _. refl) (c.dump_file.ensures.undone text is)
 
 pub returns-in_default : goal.returns-in_default
 returns-in_default g c =
@@ -148,6 +154,7 @@ returns-in_default g c =
       attach_note = no-note c.args.command.now (record { command = s.command; time = s.machine.time }) s.notes s.notes state state;
       refused = λ is. leaves (nature c.args.command.now).flushes s s refl refl;
       keeps = keeps-none s.command s.machine.time g.F.Files.tells (Err NotBuilt) s.notes s.notes state refl tt;
+      whose = unused s.machine.slots s.machine.slots s.notes s.notes state refl refl;
       keys = refl;
       limit = refl;
       command = refl;

@@ -30,7 +30,7 @@ returns-in-Break-clause-told g c = λ told.
 pub returns-in-Break-clause-undone : goal.returns-in-Break-clause-undone
 returns-in-Break-clause-undone g c = λ is.
     let same = c.add_break.ensures.undone is in
-    undone-none (nature c.args.command.now).flushes (says_files g.F.Files.tells c.args.command.now) c.args.session.now c.add_break.new.session
+    undone-none (nature c.args.command.now).flushes (nature c.args.command.now).reads_whole (says_files g.F.Files.tells c.args.command.now) c.args.session.now c.add_break.new.session
     (g.S.Sink.written c.args.out.now) (g.F.Files.state c.args.files.now) (ap (λ (x : CommandState). x.machine) same)
     (ap (λ (x : CommandState). x.watch) same) (ap (λ (x : CommandState). x.keys) same) (ap (λ (x : CommandState). x.notes) same)
 
@@ -102,7 +102,7 @@ returns-in-Expect-clause-told g c = λ told.
 pub returns-in-Expect-clause-undone : goal.returns-in-Expect-clause-undone
 returns-in-Expect-clause-undone g c = λ is.
     let same = c.add_expect.ensures.undone is in
-    undone-none (nature c.args.command.now).flushes (says_files g.F.Files.tells c.args.command.now) c.args.session.now c.add_expect.new.session
+    undone-none (nature c.args.command.now).flushes (nature c.args.command.now).reads_whole (says_files g.F.Files.tells c.args.command.now) c.args.session.now c.add_expect.new.session
     (g.S.Sink.written c.args.out.now) (g.F.Files.state c.args.files.now) (ap (λ (x : CommandState). x.machine) same)
     (ap (λ (x : CommandState). x.watch) same) (ap (λ (x : CommandState). x.keys) same) (ap (λ (x : CommandState). x.notes) same)
 
