@@ -21,18 +21,18 @@ use Rattle.binary_load.proofs.ReadingLemmas.{tape_says, tape_behind}
 
 -- what each piece is read as
 
-front_zero : (size place : ℕ) (more : List ℕ) → front size place (0 ∷ more) ≡ Passes [] 1
+pub front_zero : (size place : ℕ) (more : List ℕ) → front size place (0 ∷ more) ≡ Passes [] 1
 unfolding front
 front_zero size place more = grind (arith, nat_tests)
 
-repeated_kind : (count n : ℕ) → 16 < n → n ≤ 2 ^ 15 → count ≡ 2 ^ 16 - n → kind_of count ≡ Repeated n
+pub repeated_kind : (count n : ℕ) → 16 < n → n ≤ 2 ^ 15 → count ≡ 2 ^ 16 - n → kind_of count ≡ Repeated n
 repeated_kind count n many most is =
     let back : 2 ^ 16 - count ≡ n = omega arith in
     let low : count < 2 ^ 16 - 16 = omega arith in
     let high : 2 ^ 15 ≤ count = omega arith in
     grind (arith, nat_tests)
 
-ignored_kind : (count : ℕ) → 1 < count → count < 2 ^ 15 → kind_of count ≡ Ignored
+pub ignored_kind : (count : ℕ) → 1 < count → count < 2 ^ 15 → kind_of count ≡ Ignored
 ignored_kind count some low = grind (arith, nat_tests)
 
 block_repeated : (size place : ℕ) (rest : List ℕ) (n : ℕ) → stores_fault size place rest 1 n ≡ None →
