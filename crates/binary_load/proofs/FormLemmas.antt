@@ -19,7 +19,6 @@ use Rattle.binary_load.specs.Grammar.{AreBlock, IsPiece, zero_byte, words_block,
 use Rattle.binary_load.specs.Grammar.{IsTape, ends, starts, goes_on}
 use Rattle.binary_load.specs.Grammar.{CountSays, says_words, says_one_word, says_start}
 use Rattle.binary_load.specs.Grammar.{IsFaulty, count_ends, block_ends, passed_ends, adds_up_wrong, is_past, fails_behind}
-use Rattle.binary_load.specs.Laws.{TapesHaveForms}
 use Rattle.binary_load.proofs.DumpLemmas.{word_back, length-bytes_of, front_block, block_fine, words_kind}
 use Rattle.binary_load.proofs.GrammarLemmas.{repeated_kind, ignored_kind, front_zero}
 use Rattle.binary_load.proofs.ReadingLemmas.{tape_says, tape_behind, front_none, forward_passes}
@@ -109,42 +108,42 @@ whole (a ∷ b ∷ c ∷ d ∷ e ∷ f ∷ tail) n long all =
 
 -- ---- a block and its fault
 
-block-cut : (place : ℕ) (rest : List ℕ) (words : ℕ) → length rest < 6 + 2 * words → block_fault place rest words ≡ Some (Truncated (place + length rest))
+pub block-cut : (place : ℕ) (rest : List ℕ) (words : ℕ) → length rest < 6 + 2 * words → block_fault place rest words ≡ Some (Truncated (place + length rest))
 unfolding block_fault
 block-cut place rest words short = grind (arith, nat_tests)
 
-block-wrong : (place : ℕ) (rest : List ℕ) (words : ℕ) → 6 + 2 * words ≤ length rest
+pub block-wrong : (place : ℕ) (rest : List ℕ) (words : ℕ) → 6 + 2 * words ≤ length rest
     → sum (words_of (take (6 + 2 * words) rest)) % 2 ^ 16 ≢ 0 → block_fault place rest words ≡ Some (BadSum place)
 unfolding block_fault
 block-wrong place rest words long wrong = grind (arith, nat_tests)
 
-past-is : (size origin addresses : ℕ) → size < origin + addresses → past_fault size origin addresses ≡ Some (PastMemory origin)
+pub past-is : (size origin addresses : ℕ) → size < origin + addresses → past_fault size origin addresses ≡ Some (PastMemory origin)
 past-is size origin addresses past = grind (arith, nat_tests)
 
 past-not : (size origin addresses : ℕ) → origin + addresses ≤ size → past_fault size origin addresses ≡ None
 past-not size origin addresses within = grind (arith, nat_tests)
 
-stores-are : (size place : ℕ) (rest : List ℕ) (words addresses : ℕ)
+pub stores-are : (size place : ℕ) (rest : List ℕ) (words addresses : ℕ)
     → stores_fault size place rest words addresses ≡ first_fault (block_fault place rest words) (past_fault size (word_at rest 2) addresses)
 unfolding stores_fault
 stores-are size place rest words addresses = refl
 
-block-words : (size place : ℕ) (rest : List ℕ) (n : ℕ)
+pub block-words : (size place : ℕ) (rest : List ℕ) (n : ℕ)
     → block size place rest (Words n) ≡ unless_faulty (stores_fault size place rest n n) (Passes (stores_from (word_at rest 2) (words_of (take (2 * n) (drop 6 rest)))) (6 + 2 * n))
 unfolding block
 block-words size place rest n = refl
 
-block-one-word : (size place : ℕ) (rest : List ℕ) (n : ℕ)
+pub block-one-word : (size place : ℕ) (rest : List ℕ) (n : ℕ)
     → block size place rest (Repeated n) ≡ unless_faulty (stores_fault size place rest 1 n) (Passes (stores_from (word_at rest 2) (replicate n (word_at rest 6))) 8)
 unfolding block
 block-one-word size place rest n = refl
 
-block-start : (size place : ℕ) (rest : List ℕ)
+pub block-start : (size place : ℕ) (rest : List ℕ)
     → block size place rest Start ≡ unless_faulty (block_fault place rest 0) (Ends (start_at (word_at rest 2)))
 unfolding block
 block-start size place rest = refl
 
-block-passed : (size place : ℕ) (rest : List ℕ) → block size place rest Ignored ≡ ignored_block place rest (position (λ b. b == 0xff) (drop 2 rest))
+pub block-passed : (size place : ℕ) (rest : List ℕ) → block size place rest Ignored ≡ ignored_block place rest (position (λ b. b == 0xff) (drop 2 rest))
 unfolding block
 block-passed size place rest = refl
 
@@ -395,8 +394,8 @@ answers zero size place bytes enough all = step size place bytes all (λ n more 
 answers (suc left) size place bytes enough all =
     step size place bytes all (λ n more shorter bytes_more. answers left size (place + n) more (omega (arith, enough, shorter)) bytes_more)
 
-pub tapes-have-forms : TapesHaveForms
-tapes-have-forms = record {
-  tapes = λ size bytes says all is. subst (λ (x : Result Tape LoadFault). IsAnswer size 0 bytes x) is (answers (length bytes) size 0 bytes (omega arith) (all-bytes bytes all));
-  faults = λ size bytes fault all is. subst (λ (x : Result Tape LoadFault). IsAnswer size 0 bytes x) is (answers (length bytes) size 0 bytes (omega arith) (all-bytes bytes all));
-}
+pub tapes-formed : (size : ℕ) (bytes : List ℕ) (says : Tape) → All (λ b. b < 2 ^ 8) bytes → tape_from size 0 bytes ≡ Ok says → IsTape size bytes says
+tapes-formed size bytes says all is = subst (λ (x : Result Tape LoadFault). IsAnswer size 0 bytes x) is (answers (length bytes) size 0 bytes (omega arith) (all-bytes bytes all))
+
+pub faults-formed : (size : ℕ) (bytes : List ℕ) (fault : LoadFault) → All (λ b. b < 2 ^ 8) bytes → tape_from size 0 bytes ≡ Err fault → IsFaulty size 0 bytes fault
+faults-formed size bytes fault all is = subst (λ (x : Result Tape LoadFault). IsAnswer size 0 bytes x) is (answers (length bytes) size 0 bytes (omega arith) (all-bytes bytes all))

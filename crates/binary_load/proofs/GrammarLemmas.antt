@@ -69,7 +69,7 @@ front_repeated size place origin check word n more many most within is =
     ∙ ap (λ (x : ℕ). Passes (stores_from x (replicate n (word_at rest 6))) 8) second
     ∙ ap (λ (x : ℕ). Passes (stores_from origin (replicate n x)) 8) fourth
 
-not_ones : (b : ℕ) → b ≢ 0xff → (b == 0xff) ≡ false
+pub not_ones : (b : ℕ) → b ≢ 0xff → (b == 0xff) ≡ false
 not_ones b other = grind (arith, nat_tests)
 
 ones_place : (others more : List ℕ) → All (λ b. b ≢ 0xff) others →
@@ -110,7 +110,7 @@ front_starts size place origin check others is =
     ∙ ap (λ (x : ℕ). Ends (start_at x)) second
 
 -- a piece in front of more
-piece_read : (size place : ℕ) (piece more : List ℕ) (stores : List Store) → IsPiece size piece stores →
+pub piece_read : (size place : ℕ) (piece more : List ℕ) (stores : List Store) → IsPiece size piece stores →
     front size place (piece ++ more) ≡ Passes stores (length piece)
 piece_read _ place _ more _ (zero_byte size) = front_zero size place more
 piece_read _ place _ more _ (words_block size origin check words some few within is) =

@@ -3,3 +3,4 @@ pub mod GrammarLemmas
 pub mod ReadingLemmas
 pub mod StoreLemmas
 pub mod FormLemmas
+pub mod FaultLemmas

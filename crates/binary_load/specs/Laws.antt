@@ -17,9 +17,12 @@ DumpsReadBack = (m : MemoryState) (from to start size : ℕ) → from ≤ to →
 abbrev pub TapesAreRead : Type 0
 TapesAreRead = (size : ℕ) (bytes : List ℕ) (says : Tape) → IsTape size bytes says → tape size bytes ≡ Ok says
 
--- .. and it is the other way round too: bytes that are read as a tape have its form, and those with a fault have it there
+-- .. and it is the other way round too: bytes that are read as a tape have its form; and a fault stands in them, where the
+-- forms say, exactly where they are read with it
 pub record TapesHaveForms : Type 0 where
   pub tapes : (size : ℕ) (bytes : List ℕ) (says : Tape) → All (λ b. b < 2 ^ 8) bytes → tape size bytes ≡ Ok says
       → IsTape size bytes says
   pub faults : (size : ℕ) (bytes : List ℕ) (fault : LoadFault) → All (λ b. b < 2 ^ 8) bytes
       → tape size bytes ≡ Err fault → IsFaulty size 0 bytes fault
+  pub found : (size : ℕ) (bytes : List ℕ) (fault : LoadFault) → IsFaulty size 0 bytes fault
+      → tape size bytes ≡ Err fault

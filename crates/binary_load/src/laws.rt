@@ -11,8 +11,8 @@ pub fn tapes_are_read()
     ensures { TapesAreRead }
 {}
 
-/// The law that bytes which are read as a tape have the form of it, and that bytes which are read with a fault have that
-/// fault where the forms of tapes say.
+/// The law that bytes which are read as a tape have its form, and that bytes are read with a fault exactly where it
+/// stands in them as the forms of tapes say.
 pub fn tapes_have_forms()
     ensures { TapesHaveForms }
 {}
