@@ -1,6 +1,6 @@
 -- A fault that stands where the forms of tapes say is the one that the bytes are read with.
-use Rattle.std.proofs.Common.{◌≡◌, ◌≢◌, ℕ, suc, ◌+◌, ◌-◌, ◌*◌, ◌%◌, ◌^◌, ◌<◌, ◌≤◌, ◌==◌, List, [], ◌∷◌, ◌++◌, length}
-use Rattle.std.proofs.Common.{take, drop, replicate, sum, get_or, refl, sym, ap, ◌∙◌, arith, cond, Option, Some, None, Ok, Err, All, Bool, false}
+use Rattle.std.proofs.Common.{◌≡◌, ℕ, ◌+◌, ◌-◌, ◌*◌, ◌%◌, ◌^◌, ◌<◌, ◌≤◌, ◌==◌, List, [], ◌∷◌, ◌++◌, length}
+use Rattle.std.proofs.Common.{take, drop, replicate, sum, get_or, refl, sym, ap, ◌∙◌, arith, cond, Option, Some, None, Err, Bool}
 use Rattle.std.specs.List.{position, position_or_len}
 use Rattle.std.proofs.lemmas.Bool.{le-ltb}
 use Rattle.std.proofs.lemmas.Bool.Decides.{nat_tests}
@@ -8,9 +8,7 @@ use Rattle.std.proofs.lemmas.List.{length-append, take_at, drop_at}
 use Rattle.std.proofs.lemmas.List.Sums.{position_or_len_is}
 use Rattle.binary_load.specs.declared.faults.LoadFault.{LoadFault}
 use Rattle.binary_load.specs.declared.faults.LoadFault.TheVariants.{Truncated, BadSum, PastMemory}
-use Rattle.binary_load.specs.declared.blocks.Kind.{Kind}
-use Rattle.binary_load.specs.declared.blocks.Kind.TheVariants.{Words, Repeated, Start, Ignored}
-use Rattle.binary_load.specs.Tape.{Front, front, block, kind_of, words_of, word_at, stores_from, start_at}
+use Rattle.binary_load.specs.Tape.{front, block, kind_of, words_of, word_at, stores_from, start_at}
 use Rattle.binary_load.specs.Tape.{block_fault, past_fault, first_fault, unless_faulty, ignored_block, with_stores, tape_from}
 use Rattle.binary_load.specs.Tape.Front.{Passes, Ends, Faulty}
 use Rattle.binary_load.specs.Dump.{bytes_of}

@@ -1,10 +1,10 @@
 -- Bytes that are read as a tape have its form, and those that are read with a fault have it there.
-use Rattle.std.proofs.Common.{◌≡◌, ◌≢◌, ◌⊎◌, inl, inr, ℕ, zero, suc, ◌+◌, ◌-◌, ◌*◌, ◌/◌, ◌%◌, ◌^◌, ◌<◌, ◌≤◌, ◌==◌, List, [], ◌∷◌, ◌++◌, length}
-use Rattle.std.proofs.Common.{take, drop, replicate, sum, get_or, refl, sym, ap, subst, ◌∙◌, arith, cond, Option, Some, None, Result, Ok, Err, All, Bool, true, false}
+use Rattle.std.proofs.Common.{◌≡◌, ◌≢◌, inl, inr, ℕ, zero, suc, ◌+◌, ◌-◌, ◌*◌, ◌/◌, ◌%◌, ◌^◌, ◌<◌, ◌≤◌, ◌==◌, List, [], ◌∷◌, ◌++◌, length}
+use Rattle.std.proofs.Common.{take, drop, replicate, sum, get_or, refl, sym, ap, subst, ◌∙◌, arith, cond, Option, Some, None, Result, Ok, Err, All, Bool, false}
 use Rattle.std.specs.List.{position, position_or_len}
 use Rattle.std.proofs.lemmas.Bool.{cases_lt, cases_eq, lt-ltb, le-ltb, eqb-true}
 use Rattle.std.proofs.lemmas.Bool.Decides.{nat_tests}
-use Rattle.std.proofs.lemmas.List.{append_assoc, get_or-take, length-append, length-take-le, length-drop, take-append-drop, drop_at}
+use Rattle.std.proofs.lemmas.List.{append_assoc, get_or-take, length-append, length-take-le, take-append-drop, drop_at}
 use Rattle.std.proofs.lemmas.List.Sums.{split_at_first, fails_before_first, passes_at_first}
 use Rattle.std.proofs.Math.Seq.{take-append-add}
 use Rattle.binary_load.specs.declared.faults.LoadFault.{LoadFault}
@@ -12,7 +12,7 @@ use Rattle.binary_load.specs.declared.faults.LoadFault.TheVariants.{Truncated, B
 use Rattle.binary_load.specs.declared.blocks.Kind.{Kind}
 use Rattle.binary_load.specs.declared.blocks.Kind.TheVariants.{Words, Repeated, Start, Ignored}
 use Rattle.binary_load.specs.Tape.{Store, Tape, Front, front, block, kind_of, words_of, word_at, stores_from}
-use Rattle.binary_load.specs.Tape.{block_fault, past_fault, first_fault, stores_fault, unless_faulty, ignored_block, start_at, with_stores, tape_from, continued}
+use Rattle.binary_load.specs.Tape.{block_fault, past_fault, first_fault, stores_fault, unless_faulty, ignored_block, start_at, with_stores, tape_from}
 use Rattle.binary_load.specs.Tape.Front.{Passes, Ends, Faulty}
 use Rattle.binary_load.specs.Dump.{bytes_of}
 use Rattle.binary_load.specs.Grammar.{AreBlock, IsPiece, zero_byte, words_block, repeated_block, passed_block}
