@@ -7,10 +7,6 @@ use Rattle.std.proofs.lemmas.List.Elements.{All-append, All-take, All-replicate}
 use Rattle.host_files.specs.declared.files.FileCall.{FileCall}
 use Rattle.host_files.specs.declared.files.FileCall.TheVariants.{Opening, Length, Read, Write, Closing}
 use Rattle.host_files.specs.Lists.{NamedBytes, find_file, with_file}
-use Rattle.unit_trait.specs.declared.kind.Kind.{Kind}
-use Rattle.unit_list.specs.Reset.{reset_events}
-use Rattle.unit_list.proofs.Resets.{reset-fits, reset-kinds, sound-resets}
-use Rattle.event_queue.proofs.SoundLists.{sound-none}
 use Rattle.whole_files.specs.Whole.{WholeSaid, WholeIs, NotThere, TooLong, CallFailed, longest_file, closed, bytes_act, open_act, found_act, whole_act}
 use Rattle.whole_files.specs.Writing.{FailingCall, WriteSaid, AllWritten, WriteFailed, closed_act, made_act, write_act}
 use Rattle.binary_load.specs.declared.faults.LoadFault.{LoadFault}
@@ -18,11 +14,10 @@ use Rattle.binary_load.specs.Tape.{Tape, put_all}
 use Rattle.binary_load.proofs.StoreLemmas.{put_all-size}
 use Rattle.binary_load.proofs.RangeLemmas.{IsTapeInRange, tape-in_range, stored-memory}
 use Rattle.nova_memory.specs.Memory.{MemoryState, IsMemory, IsSize, fits_size, resized}
-use Rattle.nova_machine.specs.Core.{AreListed}
 use Rattle.nova_machine.specs.Machine.{MachineState, reset_devices, reset_machine}
 use Rattle.nova_machine.specs.Turn.{with_memory}
 use Rattle.nova_machine.specs.Valid.{AreBytes, ValidMachine}
-use Rattle.nova_machine.proofs.Listed.{listed-reset, times_later}
+use Rattle.nova_machine.proofs.ValidInstruction.{reset-keeps}
 use Rattle.nova_machine.proofs.ValidBytes.{AreFiles, bytes-take, files-with}
 use Rattle.scp_examine.proofs.ValidLemmas.{LeavesRest, pc-valid}
 use Rattle.scp_commands.specs.RunEffects.{last_address, address_fits, starting_at, reset_where}
@@ -84,22 +79,7 @@ sized-valid m k is fits =
 -- ---- RESET, and where a run starts
 
 pub reset-valid : (m : MachineState) → ValidMachine m → ValidMachine (reset_machine m)
-unfolding reset_machine reset_devices
-reset-valid m is = record {
-  memory = is.memory;
-  size = is.size;
-  cpu = is.cpu;
-  mask = omega arith;
-  switches = is.switches;
-  core = record {
-    registers = reset-fits m.units is.core.registers;
-    sound = sound-resets m.units [] is.core.registers sound-none;
-    listed = subst (λ (kinds : List Kind). AreListed kinds (reset_events m.units [])) (sym (reset-kinds m.units)) (listed-reset m.units);
-    times = times_later m.time (reset_events m.units []);
-  };
-  places = is.places;
-  disk = is.disk;
-}
+reset-valid m is = (reset-keeps m is).valid
 
 pub reset-leaves : (m : MachineState) → LeavesRest m (reset_machine m)
 unfolding reset_machine reset_devices
