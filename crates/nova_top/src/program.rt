@@ -195,7 +195,11 @@ fn put_bad_keys<S: Sink>(place: usize, output: &mut S) -> Result<(), Failed>
 }
 
 /// The end with that status, if its text was printed.
-fn refused<U: Unit>(printed: Result<(), Failed>, status: ExitStatus, notes: Vec<FaultNote>) -> Ending<U>
+fn refused<U: Unit>(
+    printed: Result<(), Failed>,
+    status: ExitStatus,
+    notes: Vec<FaultNote>,
+) -> Ending<U>
     ensures status { result.status ≡ status_printed printed (number_of status) }
     ensures machine { result.machine ≡ None }
     ensures notes { result.faults.items ≡ notes.items }

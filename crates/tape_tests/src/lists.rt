@@ -48,11 +48,22 @@ fn a_damaged_tape_is_read_over_a_list(rt: HostRuntime) -> Result<(), Fail> {
     equal(&rt, &read_next(&mut tape, 10, &mut into), &bad, "10");
     let bad = Err(TapeFault::BadImage(16));
     equal(&rt, &read_previous(&mut tape, 20, &mut into), &bad, "20");
-    equal(&rt, &read_previous(&mut tape, 10, &mut into), &block(0), "back");
+    equal(
+        &rt,
+        &read_previous(&mut tape, 10, &mut into),
+        &block(0),
+        "back",
+    );
     Ok(())
 }
 
-fn is_spaced(rt: &impl Abort, said: Result<Spaced, TapeFault>, place: u64, passed: u16, end: TapeEnd) {
+fn is_spaced(
+    rt: &impl Abort,
+    said: Result<Spaced, TapeFault>,
+    place: u64,
+    passed: u16,
+    end: TapeEnd,
+) {
     equal(rt, &said, &Ok(Spaced { place, passed, end }), "spacing");
 }
 
@@ -60,7 +71,13 @@ fn is_spaced(rt: &impl Abort, said: Result<Spaced, TapeFault>, place: u64, passe
 fn a_damaged_tape_is_spaced_over_a_list(rt: HostRuntime) -> Result<(), Fail> {
     let mut tape = damaged(rt.alloc())?;
     is_spaced(&rt, space(&mut tape, 0, 1, true), 10, 1, TapeEnd::Plain);
-    is_spaced(&rt, space(&mut tape, 10, 2, false), 0, 1, TapeEnd::LoadPoint);
+    is_spaced(
+        &rt,
+        space(&mut tape, 10, 2, false),
+        0,
+        1,
+        TapeEnd::LoadPoint,
+    );
     let bad = Err(TapeFault::BadImage(10));
     equal(&rt, &space(&mut tape, 0, 5, true), &bad, "on");
     let bad = Err(TapeFault::BadImage(16));

@@ -2,7 +2,9 @@ ghost use Rattle.std.specs.Prelude.{◌≡◌, option_map, slice_get, IfSome};
 ghost use Rattle.unit_trait.specs.Tape.{tape};
 ghost use Rattle.unit_trait.specs.Seen.{seen, HasShortName};
 
-use crate::device::{Device, Register, cleared_register, kept_register, numbered_register, time_register};
+use crate::device::{
+    Device, Register, cleared_register, kept_register, numbered_register, time_register,
+};
 
 /// The magnetic tape.
 pub const TAPE: Device = Device {
