@@ -3,3 +3,4 @@ pub mod Adding
 pub mod Causes
 pub mod Own
 pub mod Emptying
+pub mod Possible
