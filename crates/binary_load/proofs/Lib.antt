@@ -2,3 +2,4 @@ pub mod DumpLemmas
 pub mod GrammarLemmas
 pub mod ReadingLemmas
 pub mod StoreLemmas
+pub mod RangeLemmas

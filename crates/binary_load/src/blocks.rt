@@ -5,6 +5,7 @@ ghost use Rattle.binary_load.specs.Tape.{words_of, word_at, kind_of, block_fault
 ghost use Rattle.binary_load.specs.Pieces.{found, IsWithin};
 
 use crate::faults::LoadFault;
+use byteorder::{ByteOrder, LittleEndian};
 
 /// What a block is, by its count.
 #[derive(Clone, Copy)]
@@ -195,5 +196,5 @@ fn word_at(bytes: &[u8], place: usize) -> u16
 pub(crate) fn word_of(low: u8, high: u8) -> u16
     ensures { result ≡ low + 2 ^ 8 * high }
 {
-    u16::from(low) + 256 * u16::from(high)
+    LittleEndian::read_u16(&[low, high])
 }

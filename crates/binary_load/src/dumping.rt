@@ -1,6 +1,7 @@
 ghost use Rattle.std.specs.Prelude.{◌≡◌, ◌+◌, ◌-◌, ◌%◌, ◌/◌, ◌^◌, ◌<◌, ◌≤◌, ◌∷◌, [], ◌++◌, IfOk, length, sum};
 ghost use Rattle.binary_load.specs.Dump.{dumped, words_from, block, blocks_of, checksum};
 
+use byteorder::{ByteOrder, LittleEndian};
 use nova_memory::Memory;
 use nova_word::{Addr, Word};
 use std::alloc::{AllocError, Global};
@@ -83,7 +84,9 @@ fn checksum(count: u16, origin: u16, words: &[u16]) -> u16
 fn push_word(tape: &mut Vec<u8>, word: u16) -> Result<(), AllocError>
     ensures { IfOk result (λ _. tape.new.items ≡ tape.old.items ++ (word % 2 ^ 8) ∷ (word / 2 ^ 8) ∷ []) }
 {
-    tape.push((word % 256) as u8)?;
-    tape.push((word / 256) as u8)?;
+    let mut bytes = [0; 2];
+    LittleEndian::write_u16(&mut bytes, word);
+    tape.push(bytes[0])?;
+    tape.push(bytes[1])?;
     Ok(())
 }

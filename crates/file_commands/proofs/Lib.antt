@@ -3,4 +3,5 @@ pub mod Adding
 pub mod Causes
 pub mod Own
 pub mod Emptying
+pub mod OwnFiles
 pub mod Possible

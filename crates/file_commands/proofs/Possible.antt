@@ -16,6 +16,7 @@ possible-both (n ∷ first) second (here, rest) b = (here, possible-both first s
 
 nothing-written : (who : Subject) (done : ℕ) → done ≡ 0 → IsWritten who done
 nothing-written (subject.Unit unit) done none = λ _. omega (arith, none)
+nothing-written subject.Dump done none = omega (arith, none)
 nothing-written who done none = tt
 
 -- a call that has written nothing

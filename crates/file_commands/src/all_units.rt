@@ -2,6 +2,7 @@ ghost use Rattle.std.specs.Prelude.{◌≡◌, ◌+◌, ◌≤◌, List, All, Is
 ghost use Rattle.host_files.specs.State.{Opened};
 ghost use Rattle.unit_files.specs.Attachments.{takes_attachment};
 ghost use Rattle.unit_files.specs.Open.{AllOpen, Around};
+ghost use Rattle.file_commands.specs.OwnFiles.{AreOwn};
 ghost use Rattle.file_commands.specs.AllUnits.{AreApart, attachable, Empties, IsUnwritten, keeper, filed_of, flush_fault};
 
 use crate::FaultNote;
@@ -78,6 +79,8 @@ pub fn detach_all<F: Files>(
         (filed_of attached.new (F.state files.new).files) (keeper result) notes.old.items notes.new.items
         (F.state files.old) (F.state files.new) }
     ensures cause { OnErr result (IsUnwritten attached.new.slots notes.new.items (F.state files.old) (F.state files.new)) }
+    ensures whose { AreOwn attached.old.slots attached.new.slots notes.old.items notes.new.items (F.state files.old)
+        (F.state files.new) }
     ensures capacity { vec_capacity notes.old ≤ vec_capacity notes.new }
     ensures open { AllOpen attached.new.slots (F.state files.new).opened }
     ensures around { (base : List Opened) → Around attached.old.slots base (F.state files.old).opened
@@ -103,6 +106,8 @@ fn detach_each<F: Files>(
         (filed_of attached.new (F.state files.new).files) (keeper result) notes.old.items notes.new.items
         (F.state files.old) (F.state files.new) }
     ensures cause { OnErr result (IsUnwritten attached.new.slots notes.new.items (F.state files.old) (F.state files.new)) }
+    ensures whose { AreOwn attached.old.slots attached.new.slots notes.old.items notes.new.items (F.state files.old)
+        (F.state files.new) }
     ensures capacity { vec_capacity notes.old ≤ vec_capacity notes.new }
     ensures open { AllOpen attached.new.slots (F.state files.new).opened }
     ensures around { (base : List Opened) → Around attached.old.slots base (F.state files.old).opened

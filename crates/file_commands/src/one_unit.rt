@@ -10,6 +10,7 @@ ghost use Rattle.unit_files.specs.Open.{AllOpen, Around};
 ghost use Rattle.file_commands.specs.declared.note.Subject.TheVariants as subjects;
 ghost use Rattle.file_commands.specs.Notes.{failure_now};
 ghost use Rattle.file_commands.specs.Counts.{AreCounted};
+ghost use Rattle.file_commands.specs.OwnFiles.{AreOwn};
 ghost use Rattle.file_commands.specs.Kept.{IsAttachFault, MissingCause, HoldsNothing, fault_of_attach, fault_of_detach, kept_of, own_of};
 
 use crate::stamp::{Stamp, note_of};
@@ -53,6 +54,8 @@ pub fn attach_unit<F: Files>(
     ensures own { IfSome (fault_of_attach result) (IsAttachFault unit) }
     ensures missing { MissingCause F.tells result (F.state files.old) (F.state files.new) }
     ensures cause { AttachCause F.tells result unit (F.state files.old) (F.state files.new) }
+    ensures whose { AreOwn attached.old.slots attached.new.slots notes.old.items notes.new.items (F.state files.old)
+        (F.state files.new) }
     ensures notes { notes.new.items ≡ notes.old.items ++ kept_of stamp (fault_of_attach result) }
     ensures capacity { vec_capacity notes.old ≤ vec_capacity notes.new }
     ensures counted { AreCounted (kept_of stamp (fault_of_attach result)) (F.state files.old) (F.state files.new) }
@@ -100,6 +103,8 @@ pub fn detach_unit<F: Files>(
     ensures own { IfSome (fault_of_detach result) (λ f. f.unit ≡ unit) }
     ensures nothing { is_disk unit.kind ≡ false → HoldsNothing result }
     ensures cause { DetachCause result unit attached.old.slots (F.state files.old) (F.state files.new) }
+    ensures whose { AreOwn attached.old.slots attached.new.slots notes.old.items notes.new.items (F.state files.old)
+        (F.state files.new) }
     ensures open { AllOpen attached.new.slots (F.state files.new).opened }
     ensures around { (base : List Opened) → Around attached.old.slots base (F.state files.old).opened
         → Around attached.new.slots base (F.state files.new).opened }

@@ -14,6 +14,7 @@ pub struct Piecewise {
 impl Files for Piecewise {
     ghost use Rattle.std.specs.Prelude.{false, []};
     ghost use Rattle.std.proofs.Common.{sym, true≢false};
+    ghost use Rattle.std.proofs.lemmas.List.{get_or_past};
     ghost use Rattle.host_files.specs.MemView.{mem_of};
     ghost use Rattle.host_files.specs.MemFiles.{told_state};
 
@@ -22,6 +23,8 @@ impl Files for Piecewise {
     ghost state = { λ s. record (told_state (mem_of s.files)) { files = [] } };
 
     ghost named = { λ told s file is_open. absurd (true≢false (sym told)) };
+
+    ghost unused = { λ s file past. get_or_past (mem_of s.files).table.counts file 0 past };
 
     // A missing file is answered as want of memory, since only a failed opening is counted here.
     fn open_file(

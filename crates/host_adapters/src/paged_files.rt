@@ -90,6 +90,8 @@ impl<F: Files> Files for PagedFiles<F> {
 
     ghost named = { λ tells paged file is_open. F.named tells paged.files file is_open };
 
+    ghost unused = { λ paged. F.unused paged.files };
+
     fn open_file(
         &mut self,
         alloc: Global,

@@ -1,6 +1,7 @@
 ghost use Rattle.std.specs.Prelude.{◌≡◌, ◌≤◌, length, IfOk};
 ghost use Rattle.std.specs.Io.KnownBytes.{ReadConsumes};
 ghost use Rattle.fault_counts.specs.Faults.{HasCause, CountsFault};
+ghost use Rattle.host_files.specs.Streams.{LeavesFree};
 
 use crate::retries::{RETRIES, is_tried_again};
 use fault_counts::raised_count;
@@ -61,6 +62,7 @@ impl<R: Read> Source for ReaderSource<R> {
     /// cuts short is made again, up to 64 times in a row; any other error is a fault.
     fn read(&mut self, buf: &mut [u8]) -> Result<usize, Failed>
         ensures bound { IfOk result (λ n. n ≤ length buf.new) }
+        ensures lent { LeavesFree result buf.old buf.new }
         ensures bytes { ReadConsumes self.old.left self.new.left result buf.new }
         ensures cause { HasCause self.old.faults self.new.faults result }
         ensures counts { CountsFault self.old.faults self.new.faults result }

@@ -1,7 +1,7 @@
 ghost use Rattle.std.specs.Prelude.{◌≡◌, ◌≢◌, ◌↔◌, ◌<◌, [], length, string_bytes, IfErr, false};
 ghost use Rattle.host_files.specs.declared.files.OpenFault.TheVariants.{NoFile, OutOfMemory as no_memory};
 ghost use Rattle.fault_counts.specs.Faults.{raised};
-ghost use Rattle.host_files.specs.FileCalls.{Opens};
+ghost use Rattle.host_files.specs.FileCalls.{Opens, FailsBehindLast};
 ghost use Rattle.host_adapters.specs.RealFiles.{options_for, untold_state};
 
 use crate::positioned::{read_whole, write_whole};
@@ -65,6 +65,7 @@ impl<R: System + Drop> RealFiles<R> {
         ensures opens { Opens false (untold_state self.old) (untold_state self.new) name.now mode result }
         ensures counts { (untold_state self.new).faults ≡ (untold_state self.old).faults }
         ensures openings { self.new.open_faults ≡ self.old.open_faults }
+        ensures last { FailsBehindLast (untold_state self.old) result }
     {
         if self.table.is_full() {
             return Err(OpenFault::Failed);
@@ -106,6 +107,7 @@ where
     R::File: FileExt,
 {
     ghost use Rattle.std.specs.Prelude.{false};
+    ghost use Rattle.std.proofs.lemmas.List.{get_or_past};
     ghost use Rattle.host_adapters.specs.RealFiles.{untold};
 
     ghost tells = { false };
@@ -113,6 +115,8 @@ where
     ghost state = { λ f. untold_state f };
 
     ghost named = { λ tells f file is_open. untold tells };
+
+    ghost unused = { λ f file past. get_or_past f.table.counts file 0 past };
 
     fn open_file(
         &mut self,

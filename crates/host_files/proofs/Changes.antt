@@ -1,6 +1,7 @@
 -- Files by their names, the bytes of one of which are changed.
 use Rattle.std.specs.Prelude.{bytes_eq}
-use Rattle.std.proofs.Common.{◌≡◌, Bool, true, false, List, [], ◌∷◌, Some, IsSome, refl, ap, sym, ◌∙◌, unwrap_or, if◌then◌else◌, ℕ}
+use Rattle.std.proofs.Common.{◌≡◌, ◌≢◌, Bool, true, false, List, [], ◌∷◌, Some, IsSome, refl, ap, sym, ◌∙◌, unwrap_or, if◌then◌else◌, ℕ}
+use Rattle.std.proofs.lemmas.Slice.Eq.{bytes_eq-Decides}
 use Rattle.host_files.specs.Lists.{NamedBytes, find_file, bytes_of, changed}
 
 -- the bytes under a name that is there, once they are changed
@@ -56,3 +57,16 @@ changed_at (f ∷ rest) name step = by_test f rest name step (bytes_eq f.0 name)
         ≡ (if b then (f.0, step f.1) ∷ rest else f ∷ changed rest name step)
     by_test f rest name step true later = refl
     by_test f rest name step false later = ap (λ (xs : List NamedBytes). f ∷ xs) later
+
+-- the bytes of a file where another one is changed
+pub changed_elsewhere : (files : List NamedBytes) (written name : List ℕ) (step : List ℕ → List ℕ) → written ≢ name → bytes_of (changed files written step) name ≡ bytes_of files name
+changed_elsewhere [] written name step apart = refl
+changed_elsewhere (f ∷ rest) written name step apart = by-test (bytes_eq f.0 written) (bytes_eq f.0 name) refl refl (changed_elsewhere rest written name step apart)
+  where
+    by-test : (b c : Bool) → bytes_eq f.0 written ≡ b → bytes_eq f.0 name ≡ c → bytes_of (changed rest written step) name ≡ bytes_of rest name
+        → bytes_of (if b then (f.0, step f.1) ∷ rest else f ∷ changed rest written step) name ≡ unwrap_or (if c then Some f.1 else find_file rest name) []
+    by-test true true here there later = absurd (apart (sym ((bytes_eq-Decides f.0 written).0 here) ∙ (bytes_eq-Decides f.0 name).0 there))
+    by-test true false here there later = ap (λ (x : Bool). unwrap_or (if x then Some (step f.1) else find_file rest name) []) there
+    by-test false true here there later = ap (λ (x : Bool). unwrap_or (if x then Some f.1 else find_file (changed rest written step) name) []) there
+    by-test false false here there later =
+        ap (λ (x : Bool). unwrap_or (if x then Some f.1 else find_file (changed rest written step) name) []) there ∙ later

@@ -1,5 +1,5 @@
 -- What the calls on files do.
-use Rattle.std.specs.Prelude.{if◌then◌else◌, ◌≡◌, ◌≢◌, ℕ, ◌+◌, ◌-◌, ◌≤◌, Bool, true, false, List, [], ◌∷◌, length, take, drop, min, None, is_some, IsTrue, Result, Ok, Err, IfOk}
+use Rattle.std.specs.Prelude.{if◌then◌else◌, ◌≡◌, ◌≢◌, ℕ, ◌+◌, ◌-◌, ◌^◌, ◌≤◌, Bool, true, false, List, [], ◌∷◌, length, take, drop, min, None, is_some, IsTrue, Result, Ok, Err, IfOk}
 use Rattle.fault_counts.specs.Faults.{raised, CountsFault}
 use Rattle.host_files.specs.declared.files.FileId.{FileId}
 use Rattle.host_files.specs.declared.files.WriteFault.{WriteFault}
@@ -62,6 +62,18 @@ opening_count tells old (Ok id) = old.open_faults
 opening_count tells old (Err NoFile) = if tells then old.open_faults else raised old.open_faults
 opening_count tells old (Err Failed) = raised old.open_faults
 opening_count tells old (Err OutOfMemory) = old.open_faults
+
+-- how many ids there are
+abbrev pub id_count : ℕ
+id_count = 2 ^ 32
+
+-- where every id was given, an opening fails
+abbrev pub FailsBehindLast : FileState → Result FileId OpenFault → Type 0
+FailsBehindLast old result = id_count ≤ old.given → result ≡ Err Failed
+
+-- the count of an id that was never given is 0
+abbrev pub UnusedIdsAreUncounted : FileState → Type 0
+UnusedIdsAreUncounted s = (file : ℕ) → s.given ≤ file → s.faults file ≡ 0
 
 -- a read gave the bytes from a place on, as many as fit
 abbrev pub Reads : {E : Type 0} → List ℕ → ℕ → Result ℕ E → List ℕ → Type 0

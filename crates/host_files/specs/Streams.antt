@@ -1,6 +1,11 @@
 -- What the calls on a stream of bytes do: how many bytes they take, and what that leaves.
 use Rattle.std.specs.Borrow.{Bor}
-use Rattle.std.specs.Prelude.{◌≡◌, ℕ, ◌<◌, ◌≤◌, List, [], ◌∷◌, ◌++◌, length, take, Option, Some, None, Result, Ok, Err, IfOk, MatchResult}
+use Rattle.std.specs.Prelude.{◌≡◌, ℕ, ◌<◌, ◌≤◌, List, [], ◌∷◌, ◌++◌, length, take, Option, Some, None, Result, Ok, Err, IfOk, OnErr, MatchResult}
+
+-- What a buffer holds that was lent to a call which failed is free, but for its length: first bytes of what was to be read
+-- may stand in it. A call that was refused, and made no read, leaves it as it was.
+abbrev pub LeavesFree : {T E : Type 0} → Result T E → List ℕ → List ℕ → Type 0
+LeavesFree result old new = OnErr result (length new ≡ length old)
 
 -- A read puts the first of the bytes that were left into the front of the buffer. It gives none only where none was left
 -- or the buffer is empty. A read that failed took nothing.

@@ -4,6 +4,7 @@ ghost use Rattle.host_files.specs.Lists.{overwritten, resized};
 ghost use Rattle.host_files.specs.FileCalls.{Reads, written_count};
 ghost use Rattle.host_files.specs.MemFiles.{no_failing, next_fails, with_failing, begun, has_room, piece_result};
 ghost use Rattle.host_files.specs.OneList.{longest_list, shown};
+ghost use Rattle.host_files.specs.Streams.{LeavesFree};
 ghost use Rattle.host_files.specs.ByteList.{nothing_behind};
 
 use crate::failing::Failing;
@@ -124,6 +125,8 @@ impl Bytes for ByteList {
 
     fn read_at(&mut self, place: u64, buf: &mut [u8]) -> Result<usize, Failed>
         ensures bound { IfOk result (λ n. n ≤ length buf.new) }
+        ensures lent { LeavesFree result buf.old buf.new }
+        ensures kept { OnErr result (buf.new ≡ buf.old) }
         ensures end { IfOk result (λ n. n ≤ longest_list - place) }
         ensures reads { Reads (shown self.old.bytes) place result buf.new }
         ensures same { self.new.bytes ≡ self.old.bytes }

@@ -1,6 +1,6 @@
 ghost use Rattle.std.specs.Prelude.{◌≡◌, ◌≤◌, length, IsTrue, IfOk, OnOk, OnErr};
 ghost use Rattle.fault_counts.specs.Faults.{HasCause, CountsFault};
-ghost use Rattle.host_files.specs.Streams.{ReadTakes};
+ghost use Rattle.host_files.specs.Streams.{ReadTakes, LeavesFree};
 ghost use Rattle.host_files.specs.Calls.{no_calls, with_named};
 ghost use Rattle.host_files.specs.ByteSource.{SourceReads};
 
@@ -63,6 +63,7 @@ impl Source for ByteSource {
     fn read(&mut self, buf: &mut [u8]) -> Result<usize, Failed>
         ensures exact { SourceReads self.old buf.old result buf.new self.new }
         ensures bound { IfOk result (λ n. n ≤ length buf.new) }
+        ensures lent { LeavesFree result buf.old buf.new }
         ensures bytes { ReadTakes self.old.left result buf.new self.new.left }
         ensures cause { HasCause self.old.calls.faults self.new.calls.faults result }
         ensures counts { CountsFault self.old.calls.faults self.new.calls.faults result }

@@ -2,6 +2,8 @@ ghost use Rattle.std.specs.Prelude.{◌≡◌, ℕ, ◌≤◌, Bool, IsTrue, tak
 ghost use Rattle.host_files.specs.Lists.{changed, overwritten, resized};
 ghost use Rattle.host_files.specs.State.{FileState, IsOpen, IsWritable, IsNamed, content, name_at, without};
 ghost use Rattle.host_files.specs.FileCalls.{Counted, Opens, Reads, opening_count, written_count};
+ghost use Rattle.host_files.specs.FileCalls.{FailsBehindLast, UnusedIdsAreUncounted};
+ghost use Rattle.host_files.specs.Streams.{LeavesFree};
 
 use crate::streams::Failed;
 use std::alloc::Global;
@@ -55,11 +57,12 @@ pub trait Files {
     /// What contracts see of them.
     ghost state: { Self → FileState };
 
-    /// Opens the file of that name.
+    /// Opens the file of that name. Where every id was given, the opening fails.
     fn open_file(&mut self, alloc: Global, name: &str, mode: OpenMode) -> Result<FileId, OpenFault>
         ensures opens { Opens tells (state self.old) (state self.new) name.now mode result }
         ensures counts { (state self.new).faults ≡ (state self.old).faults }
-        ensures openings { (state self.new).open_faults ≡ opening_count tells (state self.old) result };
+        ensures openings { (state self.new).open_faults ≡ opening_count tells (state self.old) result }
+        ensures last { FailsBehindLast (state self.old) result };
 
     /// How long the file is.
     fn length(&mut self, file: FileId) -> Result<u64, Failed>
@@ -69,10 +72,12 @@ pub trait Files {
         ensures opened { (state self.new).opened ≡ (state self.old).opened }
         ensures counted { Counted file.0 (state self.old) (state self.new) result };
 
-    /// Reads bytes from a place on into the front of `buf`, and answers how many.
+    /// Reads bytes from a place on into the front of `buf`, and answers how many. Where it fails, what `buf` holds is
+    /// free.
     fn read_at(&mut self, file: FileId, place: u64, buf: &mut [u8]) -> Result<usize, Failed>
         requires { IsOpen (state self.old) file.0 }
         ensures bound { IfOk result (λ n. n ≤ length buf.new) }
+        ensures lent { LeavesFree result buf.old buf.new }
         ensures reads { IsTrue tells → Reads (content (state self.old) file.0) place result buf.new }
         ensures files { (state self.new).files ≡ (state self.old).files }
         ensures opened { (state self.new).opened ≡ (state self.old).opened }
@@ -117,4 +122,7 @@ pub trait Files {
 
     /// Where names are told, each open id stands for one of them.
     ghost named: { IsTrue tells → (s : Self) (file : ℕ) → IsOpen (state s) file → IsNamed (state s) file };
+
+    /// Of an id that was never given no call has failed.
+    ghost unused: { (s : Self) → UnusedIdsAreUncounted (state s) };
 }

@@ -2,9 +2,10 @@ ghost use Rattle.std.specs.Prelude.{ℕ, ◌≡◌, ◌≢◌, ◌<◌, ◌≤�
 ghost use Rattle.host_files.specs.declared.files.OpenMode.TheVariants.{Create};
 ghost use Rattle.host_files.specs.Lists.{find_file, with_file, changed, overwritten, resized};
 ghost use Rattle.host_files.specs.State.{IsOpen, IsWritable, content, name_at, opened_at, without};
-ghost use Rattle.host_files.specs.FileCalls.{Counted, Opens, Reads, opening_count, written_count};
+ghost use Rattle.host_files.specs.FileCalls.{Counted, Opens, Reads, opening_count, written_count, FailsBehindLast};
 ghost use Rattle.host_files.specs.MemFiles.{MemState, are_there, HasRoom, named_of, told_state, next_fails, begun, with_failing, opening_failed, opening_fails, has_room, write_result};
 ghost use Rattle.host_files.specs.Named.{there_named};
+ghost use Rattle.host_files.specs.Streams.{LeavesFree};
 
 use crate::failing::Failing;
 use crate::files::{FileId, Files, OpenFault, OpenMode, WriteFault};
@@ -214,6 +215,7 @@ impl MemFiles {
 }
 
 impl Files for MemFiles {
+    ghost use Rattle.std.proofs.lemmas.List.{get_or_past};
     ghost use Rattle.host_files.specs.MemView.{mem_of};
 
     ghost tells = { true };
@@ -222,10 +224,13 @@ impl Files for MemFiles {
 
     ghost named = { λ tells s file is_open. there_named (mem_of s) file s.there is_open };
 
+    ghost unused = { λ s file past. get_or_past s.table.counts file 0 past };
+
     fn open_file(&mut self, alloc: Global, name: &str, mode: OpenMode) -> Result<FileId, OpenFault>
         ensures opens { Opens true (told_state (mem_of self.old)) (told_state (mem_of self.new)) name.now mode result }
         ensures counts { (told_state (mem_of self.new)).faults ≡ (told_state (mem_of self.old)).faults }
         ensures openings { (told_state (mem_of self.new)).open_faults ≡ opening_count true (told_state (mem_of self.old)) result }
+        ensures last { FailsBehindLast (told_state (mem_of self.old)) result }
         ensures ids { IfOk result (λ id. id.0 ≡ length self.old.table.counts) }
         ensures exact { opening_failed result ≡ opening_fails (mem_of self.old) }
         ensures calls { self.new.calls ≡ begun self.old.calls }
@@ -265,6 +270,8 @@ impl Files for MemFiles {
     fn read_at(&mut self, file: FileId, place: u64, buf: &mut [u8]) -> Result<usize, Failed>
         requires { IsOpen (told_state (mem_of self.old)) file.0 }
         ensures bound { IfOk result (λ n. n ≤ length buf.new) }
+        ensures lent { LeavesFree result buf.old buf.new }
+        ensures kept { OnErr result (buf.new ≡ buf.old) }
         ensures reads { Reads (content (told_state (mem_of self.old)) file.0) place result buf.new }
         ensures files { (told_state (mem_of self.new)).files ≡ (told_state (mem_of self.old)).files }
         ensures opened { (told_state (mem_of self.new)).opened ≡ (told_state (mem_of self.old)).opened }

@@ -3,6 +3,7 @@ ghost use Rattle.fault_counts.specs.Faults.{CountsFault};
 ghost use Rattle.host_files.specs.Lists.{overwritten, resized};
 ghost use Rattle.host_files.specs.FileCalls.{Reads, written_count};
 ghost use Rattle.host_files.specs.OneList.{Behind, longest_list, shown};
+ghost use Rattle.host_files.specs.Streams.{LeavesFree};
 
 use crate::files::WriteFault;
 use crate::streams::Failed;
@@ -35,9 +36,10 @@ pub trait Bytes {
         ensures counts { CountsFault (fault_count self.old) (fault_count self.new) result };
 
     /// Reads bytes from a place on into the front of `buf`, and answers how many. Where `buf` is not empty, 0 means the
-    /// end.
+    /// end. Where it fails, what `buf` holds is free.
     fn read_at(&mut self, place: u64, buf: &mut [u8]) -> Result<usize, Failed>
         ensures bound { IfOk result (λ n. n ≤ length buf.new) }
+        ensures lent { LeavesFree result buf.old buf.new }
         ensures end { IfOk result (λ n. n ≤ longest_list - place) }
         ensures reads { IsTrue tells → Reads (shown (content self.old)) place result buf.new }
         ensures same { content self.new ≡ content self.old }

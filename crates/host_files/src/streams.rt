@@ -1,6 +1,7 @@
 ghost use Rattle.std.specs.Prelude.{◌≡◌, ℕ, ◌≤◌, List, ◌++◌, length, Bool, IsTrue, IfOk, OnOk, OnErr};
 ghost use Rattle.fault_counts.specs.Faults.{HasCause, CountsFault};
 ghost use Rattle.host_files.specs.Streams.{ReadTakes, NextByte, WriteTakes, WriteAdds, AddsPart, Puts, joined};
+ghost use Rattle.host_files.specs.Streams.{LeavesFree};
 
 /// The answer of a call that a stream could not carry out. The stream's count of faults has risen.
 #[derive(Clone, Copy, Debug, PartialEq, Eq)]
@@ -18,9 +19,10 @@ pub trait Source {
     ghost fault_count: { Self → ℕ };
 
     /// Reads the next bytes into the front of `buf`, and answers how many. Where `buf` is not empty, 0 means the end. A
-    /// read that fails takes nothing.
+    /// read that fails takes nothing, and what `buf` holds then is free.
     fn read(&mut self, buf: &mut [u8]) -> Result<usize, Failed>
         ensures bound { IfOk result (λ n. n ≤ length buf.new) }
+        ensures lent { LeavesFree result buf.old buf.new }
         ensures bytes { IsTrue tells → ReadTakes (left self.old) result buf.new (left self.new) }
         ensures cause { HasCause (fault_count self.old) (fault_count self.new) result }
         ensures counts { CountsFault (fault_count self.old) (fault_count self.new) result };

@@ -48,7 +48,7 @@ placed-all n words from bytes memory m least most put =
 
 -- ---- a block that does not fit is not written
 
-got-length : (n from : ℕ) (m : MemoryState) → length (block_got n from m) ≡ 2 * n
+pub got-length : (n from : ℕ) (m : MemoryState) → length (block_got n from m) ≡ 2 * n
 unfolding block_got
 got-length zero from m = refl
 got-length (suc n) from m =
@@ -57,7 +57,7 @@ got-length (suc n) from m =
     omega (arith, before, more)
 
 -- how long the block of so many words is
-block-length : (n from : ℕ) (m : MemoryState) → length (block_bytes (block_got n from m)) ≡ 2 * n + 8
+pub block-length : (n from : ℕ) (m : MemoryState) → length (block_bytes (block_got n from m)) ≡ 2 * n + 8
 block-length n from m =
     let bytes = block_got n from m in
     let word = word_bytes (length bytes) in

@@ -1,10 +1,9 @@
 -- The disk's copy of its file over a turn and a run.
 use Rattle.std.proofs.Common.{◌≡◌, ◌≢◌, ◌↔◌, ◌&&◌, [], ◌∷◌, unwrap_or, ℕ, ◌==◌, inl, inr, Bool, true, false, List, length, slice_index, nat_lt, Option, Some, None, option_map, IfSome, Result, Ok, Err, refl, ap, sym, subst, ◌∙◌, arith, if◌then◌else◌}
 use Rattle.std.proofs.lemmas.Bool.{cond_both, cases_lt, le-ltb}
-use Rattle.std.specs.Prelude.{bytes_eq}
 use Rattle.std.proofs.lemmas.List.{length-map, get_or_past}
-use Rattle.std.proofs.lemmas.Slice.Eq.{bytes_eq-Decides}
-use Rattle.host_files.specs.Lists.{NamedBytes, find_file, bytes_of, changed}
+use Rattle.host_files.specs.Lists.{NamedBytes, bytes_of, changed}
+use Rattle.host_files.proofs.Changes.{changed_elsewhere}
 use Rattle.nova_memory.specs.Memory.{MemoryState}
 use Rattle.unit_trait.specs.declared.kind.Kind.{Kind}
 use Rattle.unit_trait.specs.declared.kind.Kind.TheVariants.{Dsk, Mta, Lpt, Ptr, Ptp, Clk, Tti, Tto, Tti1, Tto1}
@@ -86,33 +85,20 @@ no-file slots u twelve is none = elim (cases_lt u.unit (units_of u.kind)) [
 
 -- ---- the files
 
--- the bytes of a file where another one is changed
-changed-elsewhere : (files : List NamedBytes) (written name : List ℕ) (step : List ℕ → List ℕ) → written ≢ name → bytes_of (changed files written step) name ≡ bytes_of files name
-changed-elsewhere [] written name step apart = refl
-changed-elsewhere (f ∷ rest) written name step apart = by-test (bytes_eq f.0 written) (bytes_eq f.0 name) refl refl (changed-elsewhere rest written name step apart)
-  where
-    by-test : (b c : Bool) → bytes_eq f.0 written ≡ b → bytes_eq f.0 name ≡ c → bytes_of (changed rest written step) name ≡ bytes_of rest name
-        → bytes_of (if b then (f.0, step f.1) ∷ rest else f ∷ changed rest written step) name ≡ unwrap_or (if c then Some f.1 else find_file rest name) []
-    by-test true true here there later = absurd (apart (sym ((bytes_eq-Decides f.0 written).0 here) ∙ (bytes_eq-Decides f.0 name).0 there))
-    by-test true false here there later = ap (λ (x : Bool). unwrap_or (if x then Some (step f.1) else find_file rest name) []) there
-    by-test false true here there later = ap (λ (x : Bool). unwrap_or (if x then Some f.1 else find_file (changed rest written step) name) []) there
-    by-test false false here there later =
-        ap (λ (x : Bool). unwrap_or (if x then Some f.1 else find_file (changed rest written step) name) []) there ∙ later
-
 byte-elsewhere : (fault : Option Failure) (a : Option Attachment) (place byte : ℕ) (files : List NamedBytes) (name : List ℕ) → IfSome a (λ b. b.name ≢ name)
     → bytes_of (write_files fault a place byte files) name ≡ bytes_of files name
 unfolding write_files
 byte-elsewhere fault None place byte files name apart = refl
 byte-elsewhere fault (Some a) place byte files name apart =
     cond_both (nat_lt place most_bytes) (changed files a.name (byte_written fault place byte)) files (λ (x : List NamedBytes). bytes_of x name ≡ bytes_of files name)
-    (λ _. changed-elsewhere files a.name name (byte_written fault place byte) apart) (λ _. refl)
+    (λ _. changed_elsewhere files a.name name (byte_written fault place byte) apart) (λ _. refl)
 
 tape-elsewhere : (fault : Option Failure) (a : Option Attachment) (m : MemoryState) (files : List NamedBytes) (order : TapeOrder) (name : List ℕ) → IfSome a (λ b. b.name ≢ name)
     → bytes_of (tape_files fault a m files order) name ≡ bytes_of files name
 tape-elsewhere fault None m files order name apart = refl
 tape-elsewhere fault (Some a) m files order name apart =
     cond_both (writes_tape order && a.read_only) files (changed files a.name (image_operated fault m order)) (λ (x : List NamedBytes). bytes_of x name ≡ bytes_of files name)
-    (λ _. refl) (λ _. changed-elsewhere files a.name name (image_operated fault m order) apart)
+    (λ _. refl) (λ _. changed_elsewhere files a.name name (image_operated fault m order) apart)
 
 files-elsewhere : (fault : Option Failure) (kind : Kind) (a : Option Attachment) (m : MemoryState) (files : List NamedBytes) (w : Want) (name : List ℕ) → IsOfKind kind w
     → (kind ≢ Dsk → IfSome a (λ b. b.name ≢ name)) → bytes_of (files_after fault a m files w) name ≡ bytes_of files name

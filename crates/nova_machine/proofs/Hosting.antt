@@ -1,7 +1,6 @@
 -- What a unit wants of the machine, by its kind.
-use Rattle.std.proofs.Common.{◌≡◌, ◌==◌, if◌then◌else◌, inl, inr, ℕ, ◌<◌, ◌≤◌, Bool, true, false, IsTrue, List, [], ◌∷◌, refl, ◌∙◌, ap, sym, subst, arith, Option, Some, None, zero, suc, slice_get, slice_index, option_map, nat_lt, get_or, codes, drop}
+use Rattle.std.proofs.Common.{◌≡◌, ◌==◌, if◌then◌else◌, inl, inr, ℕ, ◌<◌, ◌≤◌, Bool, true, false, IsTrue, List, [], ◌∷◌, refl, ◌∙◌, ap, sym, subst, arith, Option, Some, None, zero, suc, slice_index, option_map, nat_lt, get_or, drop}
 use Rattle.std.specs.Prelude.{IfSome}
-use Rattle.std.proofs.lemmas.Option.{same_Some}
 use Rattle.std.proofs.lemmas.Bool.Decides.{nat_tests}
 use Rattle.unit_trait.specs.declared.kind.Kind.{Kind}
 use Rattle.unit_trait.specs.declared.kind.Kind.TheVariants.{Dsk, Mta, Lpt, Ptr, Ptp, Clk, Tti, Tto, Tti1, Tto1}
@@ -14,11 +13,13 @@ use Rattle.unit_trait.specs.Writer.{writer_row}
 use Rattle.unit_trait.specs.Clock.{clock_row}
 use Rattle.unit_trait.specs.Keyboard.{keyboard_row}
 use Rattle.unit_trait.specs.Teleprinter.{teleprinter_row}
-use Rattle.unit_trait.specs.Device.{Register, position, kept_register}
+use Rattle.unit_trait.specs.Device.{Register, position}
 use Rattle.unit_trait.specs.Registers.{registers}
 use Rattle.unit_trait.specs.Calls.{UnitState, Due}
 use Rattle.unit_trait.specs.Row.{row, row_of, InRange, Fits}
 use Rattle.unit_list.specs.Bus.{AllFit, unit_at, row_or_nothing, row_at}
+use Rattle.unit_trait.proofs.Ranges.{held-within, rest-within}
+use Rattle.unit_list.proofs.Calls.{found-fits}
 use Rattle.unit_list.proofs.Room.{kind-found}
 use Rattle.host_files.specs.Lists.{NamedBytes}
 use Rattle.host_files.specs.declared.files.FileCall.TheVariants.{Write}
@@ -39,20 +40,6 @@ use Rattle.expect_actions.specs.Expects.{ExpectTable}
 use Rattle.nova_machine.specs.Comes.{AreTold, AreFree}
 use Rattle.nova_machine.specs.Hosting.{IsTapeOrder, CanBeHosted, HasRoom, IsHosted, hosted_of}
 
-held-within : (rs : List Register) (vs : List ℕ) (i : ℕ) (r : Register) → InRange rs vs → slice_get rs i ≡ Some r → slice_index vs i ≤ r.largest
-held-within [] vs i r range at = absurd (cc)
-held-within (q ∷ rs) [] i r range at = absurd range
-held-within (q ∷ rs) (v ∷ vs) zero r range at = subst (λ (x : Register). v ≤ x.largest) (same_Some q r at) range.1
-held-within (q ∷ rs) (v ∷ vs) (suc i) r range at = held-within rs vs i r range.2 at
-
--- registers behind the first so many are within their limits too
-drop-fits : (k : ℕ) (rs : List Register) (vs : List ℕ) → InRange rs vs → InRange (drop k rs) (drop k vs)
-drop-fits zero rs vs range = range
-drop-fits (suc k) [] [] range = range
-drop-fits (suc k) [] (v ∷ vs) range = absurd range
-drop-fits (suc k) (r ∷ rs) [] range = absurd range
-drop-fits (suc k) (r ∷ rs) (v ∷ vs) range = drop-fits k rs vs range.2
-
 abbrev AllLow : ℕ → List Register → Type 0
 AllLow most [] = Unit {0}
 AllLow most (r ∷ rs) = (r.largest ≤ most) × AllLow most rs
@@ -69,10 +56,10 @@ low-all (r ∷ rs) (v ∷ vs) (suc i) most range low = low-all rs vs i most rang
 -- what the tape's registers say is an operation on it
 tape-says : (values : List ℕ) (n : ℕ) → InRange (registers Mta) values → IsTapeOrder (tape_order n values)
 tape-says values n fits =
-    let place = low-all (drop 9 (registers Mta)) (drop 9 values) n 67108864 (drop-fits 9 (registers Mta) values fits)
+    let place = low-all (drop 9 (registers Mta)) (drop 9 values) n 67108864 (rest-within 9 (registers Mta) values fits)
     (omega arith, (omega arith, (omega arith, (omega arith, (omega arith, (omega arith, (omega arith, (omega arith, tt)))))))) in
-    let address = held-within (registers Mta) values 6 (kept_register (codes "MA") 0o77777) fits refl in
-    let words = held-within (registers Mta) values 7 (kept_register (codes "WC") 0o7777) fits refl in
+    let address = held-within (registers Mta) values 6 fits in
+    let words = held-within (registers Mta) values 7 fits in
     record { place = omega (arith, place); address = omega (arith, address); some = omega (arith, words); most = omega arith }
 
 -- a tape command, or none where there is no such command
@@ -83,13 +70,13 @@ tape-wants false order is = (refl, is)
 wants-of : (kind : Kind) (values : List ℕ) (n : ℕ) → InRange (registers kind) values → CanBeHosted (row_of kind values (Due n)).want kind
 unfolding row_of reader_row writer_row clock_row keyboard_row teleprinter_row most_bytes disk_sectors
 wants-of Dsk values n fits =
-    let sector = held-within (registers Dsk) values 4 (kept_register (codes "DA") 0o17777) fits refl in
-    let address = held-within (registers Dsk) values 5 (kept_register (codes "MA") 0o77777) fits refl in
+    let sector = held-within (registers Dsk) values 4 fits in
+    let address = held-within (registers Dsk) values 5 fits in
     (refl, omega (arith, sector), omega (arith, address))
 wants-of Mta values n fits = tape-wants (slice_index values 4 == 2) (tape_order n values) (tape-says values n fits)
-wants-of Ptr values n fits = (refl, held-within (registers Ptr) values 5 position fits refl)
-wants-of Ptp values n fits = (refl, held-within (registers Ptp) values 5 position fits refl)
-wants-of Lpt values n fits = (refl, held-within (registers Lpt) values 5 position fits refl)
+wants-of Ptr values n fits = (refl, (held-within (registers Ptr) values 5 fits).1)
+wants-of Ptp values n fits = (refl, (held-within (registers Ptp) values 5 fits).1)
+wants-of Lpt values n fits = (refl, (held-within (registers Lpt) values 5 fits).1)
 wants-of Clk values n fits = tt
 wants-of Tti values n fits = tt
 wants-of Tto values n fits = tt
@@ -100,14 +87,6 @@ wants-of kind values n fits = tt
 unit-wants : (u : UnitState) (n : ℕ) → Fits u → CanBeHosted (row u (Due n)).want u.kind
 unit-wants u n fits = wants-of u.kind u.registers n fits
 
-fits-if : (b : Bool) (u : UnitState) (more : Option UnitState) → Fits u → IfSome more (λ v. Fits v) → IfSome (if b then Some u else more) (λ v. Fits v)
-fits-if true u more fit rest = fit
-fits-if false u more fit rest = rest
-
-fits-found : (code : ℕ) (us : List UnitState) → AllFit us → IfSome (unit_at code us) (λ u. Fits u)
-fits-found code [] fit = tt
-fits-found code (u ∷ us) fit = fits-if (code_of u.kind == code) u (unit_at code us) fit.0 (fits-found code us fit.1)
-
 wants-found : (kind : Kind) (n : ℕ) (there : Option UnitState) → IfSome there (λ u. Fits u) → IfSome there (λ u. u.kind ≡ kind)
     → CanBeHosted (row_or_nothing (Due n) there).want kind
 wants-found kind n None fits same = tt
@@ -115,7 +94,7 @@ wants-found kind n (Some u) fits same = subst (λ (k : Kind). CanBeHosted (row u
 
 -- what a unit of a machine wants, the machine can do for it
 pub wants-in : (kind : Kind) (n : ℕ) (us : List UnitState) → AllFit us → CanBeHosted (row_at (code_of kind) (Due n) us).want kind
-wants-in kind n us fit = wants-found kind n (unit_at (code_of kind) us) (fits-found (code_of kind) us fit) (kind-found kind us)
+wants-in kind n us fit = wants-found kind n (unit_at (code_of kind) us) (found-fits (code_of kind) us fit) (kind-found kind us)
 
 -- ---- a sector of the disk
 

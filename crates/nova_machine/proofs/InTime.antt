@@ -2,6 +2,7 @@
 use Rattle.std.proofs.Common.{◌≡◌, ℕ, zero, suc, ◌≤◌, ◌==◌, inl, inr, Bool, true, false, List, Option, Some, None, Result, Ok, Err, refl, ap, sym, subst, ◌∙◌, arith}
 use Rattle.std.proofs.lemmas.Bool.{cond_both, eqb-false}
 use Rattle.observations.specs.Observations.{Observation, StandsAt}
+use Rattle.observations.proofs.MadeLemmas.{stands-either}
 use Rattle.unit_trait.specs.declared.kind.UnitName.{UnitName}
 use Rattle.unit_trait.specs.declared.calls.Want.{Want}
 use Rattle.unit_trait.specs.declared.calls.Want.TheVariants as want
@@ -24,7 +25,6 @@ use Rattle.nova_machine.specs.Run.{last_time, expired, next_turn, turns, run}
 use Rattle.nova_machine.specs.ValidLaws.{IsInTime}
 use Rattle.nova_machine.proofs.Opened.{turn-is, turns-none, turns-some}
 use Rattle.nova_machine.proofs.Turns.{turns-turn}
-use Rattle.nova_machine.proofs.ValidService.{stands-either}
 use Rattle.nova_machine.proofs.Walks.{OfServices, OfPieces, walk-prepared}
 
 -- ---- before the instruction no time passes

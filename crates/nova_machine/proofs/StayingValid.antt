@@ -1,6 +1,12 @@
 -- The law of valid states.
+use Rattle.std.proofs.Common.{List, map}
+use Rattle.unit_trait.specs.declared.kind.Kind.{Kind}
+use Rattle.unit_trait.specs.Row.{initial_unit}
+use Rattle.unit_list.proofs.Resets.{begun-fits}
+use Rattle.nova_machine.specs.Machine.{new_machine}
+use Rattle.nova_machine.specs.Valid.{ValidMachine}
 use Rattle.nova_machine.specs.ValidLaws.{RunsStayValid}
-use Rattle.nova_machine.proofs.ValidRuns.{turn-valid, run-valid, new-valid, empty-valid}
+use Rattle.nova_machine.proofs.ValidRuns.{turn-valid, run-valid, left-valid, new-valid, empty-valid}
 use Rattle.nova_machine.proofs.InTime.{run-in-time}
 use Rattle.nova_machine.proofs.Copies.{turn-copies, run-copies}
 
@@ -10,7 +16,12 @@ runs-stay-valid = record {
   nothing_watched = empty-valid;
   turn_valid = turn-valid;
   run_valid = run-valid;
+  left_valid = left-valid;
   run_time = run-in-time;
   turn_copy = turn-copies;
   run_copy = run-copies;
 }
+
+-- a new machine with a unit of each of these kinds, before anything was asked of it
+pub kinds-begin : (kinds : List Kind) → ValidMachine (new_machine (map initial_unit kinds))
+kinds-begin kinds = new-valid (map initial_unit kinds) (begun-fits kinds)

@@ -3,8 +3,8 @@ use Rattle.std.proofs.Common.{◌≡◌, ℕ, zero, suc, ◌+◌, ◌≤◌, ◌
 use Rattle.observations.specs.Observations.{Observation}
 use Rattle.nova_word.specs.Bits.{bits}
 use Rattle.nova_memory.specs.Memory.{MemoryState, get, put}
-use Rattle.nova_memory.specs.Address.{Reference, address, indexed}
-use Rattle.nova_memory.proofs.Chains.{chain-size, put-size}
+use Rattle.nova_memory.specs.Address.{address}
+use Rattle.nova_memory.proofs.Chains.{put-size}
 use Rattle.unit_trait.specs.declared.kind.UnitName.{UnitName}
 use Rattle.unit_trait.specs.declared.calls.Want.{Want}
 use Rattle.unit_trait.specs.declared.calls.Want.TheVariants as want
@@ -41,6 +41,7 @@ use Rattle.simh_tape.specs.Image.{Met}
 use Rattle.simh_tape.specs.Image.Met.{BlockTo}
 use Rattle.simh_tape.specs.Reading.{next_act}
 use Rattle.nova_machine.proofs.Walks.{OfPieces, stages-of, walk-instruction}
+use Rattle.nova_memory.proofs.Keeps.{address-size}
 
 -- an instruction leaves the size of memory
 pub record SameSize (before after : ProcessorState) : Type 0 where
@@ -230,14 +231,6 @@ turns-stopped m after stop other a hold = record {
   unchanged = a.unchanged;
   held = λ _. hold;
 }
-
-reference-if : (b : Bool) (m : MemoryState) (x y : Reference) → x.memory.size ≡ m.size → y.memory.size ≡ m.size → (if b then x else y).memory.size ≡ m.size
-reference-if true m x y first second = first
-reference-if false m x y first second = second
-
-address-size : (m : MemoryState) (w pc : ℕ) (acs : List ℕ) → (address m w pc acs).memory.size ≡ m.size
-unfolding address
-address-size m w pc acs = reference-if (bits 5 5 w == 1) m _ _ (chain-size 16 m (indexed w pc acs)) refl
 
 acts-with_memory : (m : MachineState) (memory : MemoryState) → memory.size ≡ m.processor.memory.size → Acts m (with_memory m memory)
 acts-with_memory m memory size = record { time = refl; unchanged = record { size = size; sr = refl; stop_dev = refl; slots = refl } }

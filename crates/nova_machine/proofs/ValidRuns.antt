@@ -11,6 +11,9 @@ use Rattle.unit_list.specs.Bus.{AllFit}
 use Rattle.unit_list.specs.Reset.{reset_events}
 use Rattle.unit_list.proofs.Resets.{reset-fits, reset-kinds, sound-resets}
 use Rattle.expect_actions.specs.Watch.{empty_watch}
+use Rattle.nova_machine.specs.declared.machine.Stop.{Stop}
+use Rattle.nova_machine.specs.declared.machine.Stop.TheVariants.{ConsoleFault}
+use Rattle.nova_machine.specs.Comes.{Comes}
 use Rattle.nova_machine.specs.Core.{AreListed}
 use Rattle.nova_machine.specs.Machine.{new_machine, reset_machine, reset_devices}
 use Rattle.nova_machine.specs.Notes.{UnitNote, RunNote, at_unit}
@@ -68,6 +71,11 @@ turn-valid note first s = each-turn StaysValid each-valid note first s
 
 pub run-valid : (note : Option RunNote) (step : Bool) (n : ℕ) (s : Seen) → Valid s → IsValidPart (run note step n s)
 run-valid note step n s = each-run StaysValid each-valid (λ s stop limit is. valid-silent (Some stop) s is) note step n s
+
+-- what a call has come to that does such a part
+pub left-valid : (p : Part) (stop : Option Stop) (t : Seen) (tells : Bool) (before after : List ℕ) → IsValidPart p → Comes p stop t tells before after → Valid t
+left-valid p (Some ConsoleFault) t tells before after is comes = is.made t comes.stands
+left-valid p stop t tells before after is comes = subst Valid (sym comes.after_is) is.after
 
 -- ---- the beginning
 

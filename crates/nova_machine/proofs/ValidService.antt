@@ -1,8 +1,9 @@
 -- The service of a unit leaves a valid state, and prints in one.
-use Rattle.std.proofs.Common.{◌≡◌, ◌⊎◌, inl, inr, ℕ, ◌<◌, ◌==◌, List, [], ◌∷◌, ◌++◌, Option, Some, None, option_map, IfSome, Result, Ok, Err, refl, ap, sym, subst, ◌∙◌, length}
+use Rattle.std.proofs.Common.{◌≡◌, inl, inr, ℕ, ◌<◌, ◌==◌, List, [], ◌∷◌, Option, Some, None, option_map, IfSome, Result, Ok, Err, refl, ap, sym, subst, ◌∙◌, length}
 use Rattle.std.specs.List.{AllByRecursion}
 use Rattle.std.proofs.lemmas.Bool.{cond_both}
-use Rattle.observations.specs.Observations.{Observation, Prints, Reads, StandsAt}
+use Rattle.observations.specs.Observations.{Observation, StandsAt}
+use Rattle.observations.proofs.MadeLemmas.{stands-either}
 use Rattle.host_files.specs.Lists.{NamedBytes}
 use Rattle.unit_trait.specs.declared.kind.UnitName.{UnitName}
 use Rattle.unit_trait.specs.declared.calls.Want.{Want}
@@ -39,14 +40,6 @@ use Rattle.nova_machine.proofs.ValidWatch.{watch-after, key-typed, key-sent, key
 use Rattle.nova_machine.proofs.ValidAnswers.{writes-in, IsGiven, answer-given, files-behind, memory-hosted}
 
 -- ---- parts
-
--- a state in which one of all comes is one in which one of the first comes, or one of the others
-pub stands-either : (t : Seen) (first second : List (Observation Seen)) → StandsAt t (first ++ second) → StandsAt t first ⊎ StandsAt t second
-stands-either t [] second h = inr h
-stands-either t (Prints text at ∷ more) second (inl h) = inl (inl h)
-stands-either t (Prints text at ∷ more) second (inr h) = elim (stands-either t more second h) [ inl x ↦ inl (inr x) | inr x ↦ inr x ]
-stands-either t (Reads count at ∷ more) second (inl h) = inl (inl h)
-stands-either t (Reads count at ∷ more) second (inr h) = elim (stands-either t more second h) [ inl x ↦ inl (inr x) | inr x ↦ inr x ]
 
 pub valid-silent : (stop : Option Stop) (s : Seen) → Valid s → IsValidPart (silent stop s)
 valid-silent stop s is = record { after = is; made = λ t h. absurd h }

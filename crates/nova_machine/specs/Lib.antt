@@ -26,3 +26,4 @@ pub mod Core
 pub mod SameRun
 pub mod Valid
 pub mod ValidLaws
+pub mod WordLaws

@@ -3,6 +3,7 @@ ghost use Rattle.nova_machine.specs.SameRun.{SameStateSameRun};
 ghost use Rattle.nova_machine.specs.ServiceLaws.{ServesWhileDue};
 ghost use Rattle.nova_machine.specs.StopLaws.{TurnStops};
 ghost use Rattle.nova_machine.specs.ValidLaws.{RunsStayValid};
+ghost use Rattle.nova_machine.specs.WordLaws.{WordsReadBack};
 
 /// The law that a run of n + k is a run of n and then a run of k, with what the first made in front, where only the
 /// count or the end of time ended the first. Another stop within the first n ends the whole run.
@@ -38,4 +39,10 @@ pub fn same_state_same_run()
 /// that of its file where nothing is to be written back, as long as nothing else changes that file.
 pub fn runs_stay_valid()
     ensures { RunsStayValid }
+{}
+
+/// The law that words of memory which are written as a sector or as a block of a tape are read back from there, at
+/// each address where there is memory, and that no other word changes.
+pub fn words_read_back()
+    ensures { WordsReadBack }
 {}

@@ -16,6 +16,7 @@ mod transfer;
 mod turn;
 mod unit_registers;
 mod wait;
+mod word_bytes;
 
 pub use machine::{Machine, RunLimit, Stop, Turn};
 pub use nova_interrupts::Ints;

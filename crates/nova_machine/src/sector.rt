@@ -8,6 +8,7 @@ ghost use Rattle.nova_machine.specs.Sectors.{sector_words, words_put, bytes_got,
 
 use crate::machine::Machine;
 use crate::service::Hosted;
+use crate::word_bytes::{sector_bytes, sector_word};
 use nova_memory::Memory;
 use nova_word::{Addr, Word};
 use unit_files::{SECTOR_BYTES, SectorAnswer};
@@ -75,7 +76,7 @@ fn put_words(memory: &mut Memory, address: u16, bytes: &[u8; 512])
 {
     for n in 0..SECTOR_WORDS {
         let place = 2 * usize::from(n);
-        let word = u16::from(bytes[place]) + 256 * u16::from(bytes[place + 1]);
+        let word = sector_word(bytes[place], bytes[place + 1]);
         memory.write(Addr::of_word(Word(address + n)), Word(word));
     }
 }
@@ -90,8 +91,9 @@ fn bytes_of(memory: &Memory, address: u16) -> [u8; 512]
     for n in 0..SECTOR_WORDS {
         let word = memory.read(Addr::of_word(Word(address + n)));
         let place = 2 * usize::from(n);
-        bytes[place] = (word.0 % 256) as u8;
-        bytes[place + 1] = (word.0 / 256) as u8;
+        let [low, high] = sector_bytes(word.0);
+        bytes[place] = low;
+        bytes[place + 1] = high;
     }
     bytes
 }

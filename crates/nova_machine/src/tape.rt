@@ -11,6 +11,7 @@ ghost use Rattle.nova_machine.specs.Tapes.{failing_call, writing_failure, erasin
 ghost use Rattle.nova_machine.specs.Tapes.{memory_read, memory_operated, item_written, image_operated};
 ghost use Rattle.nova_machine.specs.Operated.{operated, failure_of, stop_of, IsOnImage, CountsStop, IsTapeCall};
 
+use crate::word_bytes::{tape_bytes, tape_word};
 use host_files::{Bytes, FileCall};
 use nova_memory::Memory;
 use nova_word::{Addr, Word};
@@ -134,7 +135,7 @@ fn put_block(memory: &mut Memory, address: u16, words: u16, bytes: &[u8; 8192])
 {
     for n in 0..words {
         let place = 2 * usize::from(n);
-        let word = 256 * u16::from(bytes[place]) + u16::from(bytes[place + 1]);
+        let word = tape_word(bytes[place], bytes[place + 1]);
         memory.write(Addr::of_word(Word(address + n)), Word(word));
     }
 }
@@ -195,8 +196,9 @@ fn block_of(memory: &Memory, address: u16, words: u16) -> [u8; 8192]
     for n in 0..words {
         let word = memory.read(Addr::of_word(Word(address + n)));
         let place = 2 * usize::from(n);
-        bytes[place] = (word.0 / 256) as u8;
-        bytes[place + 1] = (word.0 % 256) as u8;
+        let [high, low] = tape_bytes(word.0);
+        bytes[place] = high;
+        bytes[place + 1] = low;
     }
     bytes
 }

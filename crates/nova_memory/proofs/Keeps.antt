@@ -1,9 +1,9 @@
 -- A memory stays one behind a word that is put into it, and behind an indirect reference; and its words and the addresses that it
 -- gives are in range.
-use Rattle.std.proofs.Common.{◌≡◌, ℕ, ◌+◌, ◌-◌, ◌%◌, ◌^◌, ◌<◌, ◌==◌, ◌&&◌, zero, suc, nat_le, nat_lt, List, length, slice_index, Some, IfSome, refl, ◌∙◌, inl, inr, arith}
+use Rattle.std.proofs.Common.{◌≡◌, ℕ, ◌+◌, ◌-◌, ◌%◌, ◌^◌, ◌<◌, ◌==◌, ◌&&◌, ◌≤◌, ◌≢◌, zero, suc, nat_le, nat_lt, List, length, slice_index, Some, IfSome, refl, ap, cond, set, Bool, true, false, ◌∙◌, inl, inr, arith}
 use Rattle.std.specs.Prelude.{slice_set}
-use Rattle.std.proofs.lemmas.Bool.{cases_lt, cond_both, ltb-true}
-use Rattle.std.proofs.lemmas.List.{get_or_past, get_or-set_other, length-set}
+use Rattle.std.proofs.lemmas.Bool.{cases_lt, cond_both, lt-ltb, ltb-true}
+use Rattle.std.proofs.lemmas.List.{get_or_past, get_or-set_other, get_or-set_same, length-set}
 use Rattle.std.proofs.lemmas.List.Elements.{All-set}
 use Rattle.nova_word.specs.Bits.{bits}
 use Rattle.nova_memory.specs.Memory.{MemoryState, IsMemory, get, put}
@@ -32,6 +32,28 @@ put-memory m a v is word = cond_both (nat_lt a m.size) (record m { words = slice
       size = is.size;
       beyond = λ b past. get_or-set_other m.words a b v 0 (λ same. omega arith) ∙ is.beyond b past;
     }
+
+-- the word that was put at an address is the one there
+pub get-put : (m : MemoryState) (a v : ℕ) → m.size ≤ length m.words → a < m.size → get (put m a v) a ≡ v
+get-put m a v whole within =
+    let test = lt-ltb a m.size within in
+    let there : a < length m.words = omega (arith, whole, within) in
+    rw (test, test) (get_or-set_same m.words a v 0 there)
+
+-- and no other word changes
+pub get-put-other : (m : MemoryState) (a b v : ℕ) → b ≢ a → get (put m a v) b ≡ get m b
+get-put-other m a b v apart = by-place (nat_lt a m.size)
+  where
+    by-place : (within : Bool) → get (cond within (record m { words = set m.words a v }) m) b ≡ get m b
+    by-place true = ap (λ (w : ℕ). cond (nat_lt b m.size) w 0) (get_or-set_other m.words a b v 0 apart)
+    by-place false = refl
+
+pub put-long : (m : MemoryState) (a v : ℕ) → length (put m a v).words ≡ length m.words
+put-long m a v = by-place (nat_lt a m.size)
+  where
+    by-place : (within : Bool) → length (cond within (record m { words = set m.words a v }) m).words ≡ length m.words
+    by-place true = length-set m.words a v
+    by-place false = refl
 
 changed-word : (a v : ℕ) → v < 2 ^ 16 → changed a v < 2 ^ 16
 changed-word a v word =

@@ -5,3 +5,4 @@ pub mod WordFileLemmas
 pub mod ReadingLemmas
 pub mod StandardLemmas
 pub mod ProgramLemmas
+pub mod ValidProgram

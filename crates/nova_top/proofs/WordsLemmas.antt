@@ -1,16 +1,19 @@
 -- The words of the command line, one at a time.
 use Rattle.std.proofs.Common.{◌≡◌, ℕ, ◌+◌, ◌<◌, ◌≤◌, Bool, true, false, List, [], ◌∷◌, length, drop, take, length-drop, ◌-◌, get_or, Option, Some, None, IfSome, refl, ap, sym, ◌∙◌, subst, string_bytes, String, Global, arith, if◌then◌else◌, option_map, bytes_eq, codes, ◌&&◌, not, is_none}
-use Rattle.std.specs.Prelude.{◌^◌, nat_le, unwrap_or}
+use Rattle.std.specs.Prelude.{◌^◌, nat_le, nat_eq, unwrap_or, slice_index, Result, Ok, Err}
 use Rattle.std.specs.List.{list_all}
 use Rattle.std.specs.Option.{option_and_then}
-use Rattle.std.proofs.lemmas.Bool.{leb-true, le-leb}
+use Rattle.std.proofs.lemmas.Bool.{leb-true, le-leb, and_parts}
 use Rattle.std.proofs.lemmas.List.{drop_more, drop_all, take_all, length-map}
 use Rattle.std.proofs.lemmas.List.Folds.{list_all-map}
+use Rattle.nova_word.specs.declared.numbers.NumberFault.{NumberFault}
+use Rattle.nova_word.specs.Numbers.{number_read}
+use Rattle.nova_top.specs.Counts.{count_in, count_of}
 use Rattle.nova_top.specs.declared.options.Options.{Options}
 use Rattle.nova_top.specs.declared.options.Choices.{Choices}
 use Rattle.nova_top.specs.declared.options.Wanted.{Wanted}
 use Rattle.nova_top.specs.declared.options.Wanted.TheVariants as wanted
-use Rattle.nova_top.specs.Words.{options_from, options_of, all_chosen, next_choice, chosen_option, limit_of, usual_budget, within_budget, budget_of, workload_of, is_file_name, texts_of}
+use Rattle.nova_top.specs.Words.{options_from, options_of, all_chosen, next_choice, chosen_option, limit_of, usual_limit, usual_budget, within_budget, budget_of, workload_of, is_file_name, texts_of}
 use Rattle.nova_top.specs.Words.{wants_option, names_script, are_arguments, with_script, FilesAreNamed}
 use Rattle.nova_top.proofs.WordFileLemmas.{some-weaker}
 
@@ -82,9 +85,14 @@ few-arguments words few = arguments-are words ∙ ap (λ (b : Bool). b && list_a
 
 -- ---- what holds of all choices
 
--- the word that was chosen for the keys stands before that place, and the budget is one that words can choose
+-- a limit of a run that words can choose
+abbrev pub IsLimit : ℕ → Type 0
+IsLimit n = (1 ≤ n) × (n ≤ 2 ^ 48)
+
+-- the word that was chosen for the keys stands before that place, and the budget and the limit are ones that words can
+-- choose
 abbrev Allowed : ℕ → Choices → Type 0
-Allowed place c = IfSome c.keys (λ (p : ℕ). p < place) × IfSome c.budget (λ (n : ℕ). n ≤ 2 ^ 32)
+Allowed place c = IfSome c.keys (λ (p : ℕ). p < place) × IfSome c.budget (λ (n : ℕ). n ≤ 2 ^ 32) × IfSome c.limit IsLimit
 
 some-if : {A : Type 0} (P : A → Type 0) (b : Bool) (x y : Option A) → IfSome x P → IfSome y P → IfSome (if b then x else y) P
 some-if P true x y first second = first
@@ -109,6 +117,18 @@ cond-fits false n is = tt
 within-fits : (o : Option ℕ) → IfSome (within_budget o) (λ (n : ℕ). n ≤ 2 ^ 32)
 within-fits None = tt
 within-fits (Some n) = cond-fits (nat_le n usual_budget) n refl
+
+count-fits : (n : ℕ) (b : Bool) → (nat_le 1 n && nat_le n (2 ^ 48)) ≡ b → IfSome (if b then Some n else None) IsLimit
+count-fits n true is = let both = and_parts (nat_le 1 n) (nat_le n (2 ^ 48)) is in (leb-true 1 n both.0, leb-true n (2 ^ 48) both.1)
+count-fits n false is = tt
+
+read-fits : (r : Result ℕ NumberFault) → IfSome (count_in r) IsLimit
+read-fits (Ok n) = count-fits n (nat_le 1 n && nat_le n (2 ^ 48)) refl
+read-fits (Err fault) = tt
+
+limit-fits : (word : List ℕ) → IfSome (limit_of word) IsLimit
+unfolding limit_of
+limit-fits word = some-if IsLimit (nat_eq (slice_index word 0) 48) None (count_of word) tt (read-fits (number_read 10 (2 ^ 63) word))
 
 budget-fits : (word : List ℕ) → IfSome (budget_of word) (λ (n : ℕ). n ≤ 2 ^ 32)
 unfolding budget_of
@@ -141,22 +161,22 @@ by-wanted : (w : Wanted) (place : ℕ) (c : Choices) (word : List ℕ) → Allow
 ]) (Allowed (place + 1))
 by-wanted wanted.Option place c word holds = chosen-allowed place c word holds
 by-wanted wanted.Limit place c word holds =
-    some-map (Allowed (place + 1)) (λ (n : ℕ). record c { limit = Some n; wanted = wanted.Option }) (limit_of word) (λ n. holds)
+    some-map-if (Allowed (place + 1)) IsLimit (λ (n : ℕ). record c { limit = Some n; wanted = wanted.Option }) (limit_of word) (limit-fits word) (λ n fits. (holds.0, holds.1, fits))
 by-wanted wanted.Budget place c word holds =
-    some-map-if (Allowed (place + 1)) (λ (n : ℕ). n ≤ 2 ^ 32) (λ (n : ℕ). record c { budget = Some n; wanted = wanted.Option }) (budget_of word) (budget-fits word) (λ n fits. (holds.0, fits))
+    some-map-if (Allowed (place + 1)) (λ (n : ℕ). n ≤ 2 ^ 32) (λ (n : ℕ). record c { budget = Some n; wanted = wanted.Option }) (budget_of word) (budget-fits word) (λ n fits. (holds.0, fits, holds.2))
 by-wanted wanted.Keys place c word holds =
-    some-if (Allowed (place + 1)) (is_file_name word) (Some (record c { keys = Some place; wanted = wanted.Option })) None (omega arith, holds.1) tt
+    some-if (Allowed (place + 1)) (is_file_name word) (Some (record c { keys = Some place; wanted = wanted.Option })) None (omega arith, holds.1, holds.2) tt
 by-wanted wanted.Workload place c word holds =
     some-map (Allowed (place + 1)) (λ (n : ℕ). record c { workload = Some n; wanted = wanted.Option }) (workload_of word) (λ n. holds)
 
 next-some : (place : ℕ) (c : Choices) (word : List ℕ) → Allowed place c → IfSome (next_choice place c word) (Allowed (place + 1))
 unfolding next_choice
-next-some place c word holds = by-wanted c.wanted place c word (below-next c.keys place holds.0, holds.1)
+next-some place c word holds = by-wanted c.wanted place c word (below-next c.keys place holds.0, holds.1, holds.2)
 
 -- ---- what then holds of the options
 
 abbrev Fits : ℕ → Options → Type 0
-Fits n o = IfSome o.keys (λ (p : ℕ). p < n) × IfSome o.script (λ (p : ℕ). p < n) × (o.budget ≤ 2 ^ 32)
+Fits n o = IfSome o.keys (λ (p : ℕ). p < n) × IfSome o.script (λ (p : ℕ). p < n) × (o.budget ≤ 2 ^ 32) × IsLimit o.limit
 
 all-by : (w : Wanted) (n : ℕ) (made : Options) → Fits n made → IfSome (elim w [
   | wanted.Option ↦ Some made
@@ -175,22 +195,26 @@ usual-fits : (o : Option ℕ) → IfSome o (λ (n : ℕ). n ≤ 2 ^ 32) → unwr
 usual-fits None fits = omega arith
 usual-fits (Some n) fits = fits
 
+usual-limit-fits : (o : Option ℕ) → IfSome o IsLimit → IsLimit (unwrap_or o usual_limit)
+usual-limit-fits None fits = (omega arith, omega arith)
+usual-limit-fits (Some n) fits = fits
+
 all-fits : (c : Choices) (n : ℕ) → Allowed n c → IfSome (all_chosen c) (Fits n)
 unfolding all_chosen
-all-fits c n holds = all-by c.wanted n _ (holds.0, tt, usual-fits c.budget holds.1)
+all-fits c n holds = all-by c.wanted n _ (holds.0, tt, usual-fits c.budget holds.1, usual-limit-fits c.limit holds.2)
 
 below-more : (o : Option ℕ) (m n : ℕ) → m ≤ n → IfSome o (λ (p : ℕ). p < m) → IfSome o (λ (p : ℕ). p < n)
 below-more None m n more below = tt
 below-more (Some p) m n more below = omega (arith, below, more)
 
 fits-more : (m n : ℕ) (o : Options) → m ≤ n → Fits m o → Fits n o
-fits-more m n o more fits = (below-more o.keys m n more fits.0, below-more o.script m n more fits.1, fits.2)
+fits-more m n o more fits = (below-more o.keys m n more fits.0, below-more o.script m n more fits.1, fits.2, fits.3)
 
 script-fits : (place : ℕ) (c : Choices) (word : List ℕ) (more : List (List ℕ)) → Allowed place c → IfSome (with_script place c word more) (Fits (place + 1))
 script-fits place c word more holds =
     some-if (Fits (place + 1)) (is_file_name word && are_arguments more && is_none c.workload) (option_map (λ (options : Options). record options { script = Some place }) (all_chosen c)) None
     (some-map-if (Fits (place + 1)) (Fits place) (λ (options : Options). record options { script = Some place }) (all_chosen c) (all-fits c place holds)
-    (λ o fits. (below-next o.keys place fits.0, omega arith, fits.2))) tt
+    (λ o fits. (below-next o.keys place fits.0, omega arith, fits.2, fits.3))) tt
 
 then-fits : (P : Options → Type 0) (Q : Choices → Type 0) (f : Choices → Option Options) (o : Option Choices) → IfSome o Q → ((c : Choices) → Q c → IfSome (f c) P) → IfSome (option_and_then f o) P
 then-fits P Q f None holds all = tt
@@ -213,7 +237,7 @@ from-fits (word ∷ more) place n c within holds =
 
 of-fits : (words : List (List ℕ)) → IfSome (options_of words) (Fits (length words))
 unfolding options_of
-of-fits words = from-fits words 0 (length words) _ (omega arith) (tt, tt)
+of-fits words = from-fits words 0 (length words) _ (omega arith) (tt, tt, tt)
 
 -- all of them
 pub all-named : (words : List (String Global)) (answer : Option Options) → answer ≡ options_of (texts_of words) → IfSome answer (FilesAreNamed (texts_of words))
@@ -225,3 +249,8 @@ pub all-paid : (words : List (String Global)) (answer : Option Options) → answ
 all-paid words answer is =
     some-weaker (Fits (length (texts_of words))) (λ (o : Options). o.budget ≤ 2 ^ 32) answer (λ o fits. fits.2)
     (subst (λ (o : Option Options). IfSome o (Fits (length (texts_of words)))) (sym is) (of-fits (texts_of words)))
+
+-- the budget and the limit that words choose
+pub words-fit : (words : List (List ℕ)) → IfSome (options_of words) (λ (o : Options). (o.budget ≤ 2 ^ 32) × IsLimit o.limit)
+words-fit words =
+    some-weaker (Fits (length words)) (λ (o : Options). (o.budget ≤ 2 ^ 32) × IsLimit o.limit) (options_of words) (λ o fits. (fits.2, fits.3)) (of-fits words)

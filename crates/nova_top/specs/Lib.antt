@@ -6,3 +6,4 @@ pub mod Outside
 pub mod Ends
 pub mod Laws
 pub mod Program
+pub mod ValidLaws

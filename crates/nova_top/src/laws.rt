@@ -1,4 +1,5 @@
 ghost use Rattle.nova_top.specs.Laws.{MoreRoomSameEnd, TakesFirstPart, WholeWithoutFaults};
+ghost use Rattle.nova_top.specs.ValidLaws.{ProgramStaysValid};
 
 /// The law that a console that takes more comes to the same end, where none of its bytes was refused.
 pub fn more_room_same_end()
@@ -13,4 +14,10 @@ pub fn console_takes_first_part()
 /// The law that without a failing call the outcome is that of the whole trace.
 pub fn whole_without_faults()
     ensures { WholeWithoutFaults }
+{}
+
+/// The law that, with words, an input and files of bytes, the session that the program begins is what every session is,
+/// and what the program leaves is in range, wherever it ends.
+pub fn program_stays_valid()
+    ensures { ProgramStaysValid }
 {}

@@ -10,6 +10,8 @@ pub mod word_files;
 mod words;
 mod workload;
 
-pub use laws::{console_takes_first_part, more_room_same_end, whole_without_faults};
+pub use laws::{
+    console_takes_first_part, more_room_same_end, program_stays_valid, whole_without_faults,
+};
 pub use program::{Ending, simulate};
 pub use standard::is_standard;

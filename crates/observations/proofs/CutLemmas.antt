@@ -1,8 +1,8 @@
 -- Where a trace is cut, behind observations that were let through.
-use Rattle.std.proofs.Common.{ℕ, ◌≡◌, ◌≢◌, ◌+◌, ◌-◌, ◌<◌, ◌≤◌, nat_le, false, true, List, [], ◌∷◌, ◌++◌, length, take, drop, refl, ap, sym, ◌∙◌, append_assoc, append-nil, add_assoc, zero-add, add-zero, arith, length-append, length-take-le, ⊎_elim}
+use Rattle.std.proofs.Common.{ℕ, ◌≡◌, ◌≢◌, ◌+◌, ◌-◌, ◌<◌, ◌≤◌, nat_le, Bool, false, true, inl, inr, if◌then◌else◌, List, [], ◌∷◌, ◌++◌, length, take, drop, refl, ap, sym, ◌∙◌, append_assoc, append-nil, add_assoc, zero-add, add-zero, arith, length-append, length-take-le, ⊎_elim}
 use Rattle.std.proofs.lemmas.Bool.{cases_lt}
 use Rattle.std.proofs.lemmas.List.{take-append-drop}
-use Rattle.observations.specs.Observations.{Observation, Prints, Reads, Ended, text_of, reads_of, map_made, map_ended}
+use Rattle.observations.specs.Observations.{Observation, Prints, Reads, Ended, text_of, reads_of, map_made, map_ended, StandsAt}
 use Rattle.observations.specs.Cut.{Outcome, ends, behind, cut, map_outcome, BreaksOff}
 use Rattle.observations.specs.Laws.{IsWhole}
 
@@ -290,3 +290,20 @@ breaks-reads {S} made taken at b =
     let e = ap (λ o. o.reads) (b.cut_at 0 whole) in
     let few = cut-reads made whole (length taken) (b.reads + 0) in
     omega (arith, e, few)
+
+-- what holds of each state in which something comes, and of the last one, holds of that in which it is cut
+pub cut-state : {S : Type 0} (P : S → Type 0) (made : List (Observation S)) (ended : Ended S) (takes gives : ℕ) → ((at : S) → StandsAt at made → P at) → P ended.state
+    → P (cut takes gives made ended).state
+cut-state P [] ended takes gives each last = last
+cut-state P (Prints text at ∷ more) ended takes gives each last =
+    by-room (nat_le (length text) takes) (cut-state P more ended (takes - length text) gives (λ x h. each x (inr h)) last)
+  where
+    by-room : (b : Bool) → P (cut (takes - length text) gives more ended).state → P (if b then behind text 0 (cut (takes - length text) gives more ended) else ends 102 (take takes text) 0 at).state
+    by-room true later = later
+    by-room false later = each at (inl refl)
+cut-state P (Reads count at ∷ more) ended takes gives each last =
+    by-reads (nat_le count gives) (cut-state P more ended takes (gives - count) (λ x h. each x (inr h)) last)
+  where
+    by-reads : (b : Bool) → P (cut takes (gives - count) more ended).state → P (if b then behind [] count (cut takes (gives - count) more ended) else ends 106 [] gives at).state
+    by-reads true later = later
+    by-reads false later = each at (inl refl)

@@ -1,5 +1,5 @@
 -- Lists of observations, one behind another.
-use Rattle.std.proofs.Common.{◌≡◌, inl, inr, ◌+◌, List, [], ◌∷◌, ◌++◌, refl, ap, sym, ◌∙◌, append_assoc, add_assoc, zero-add}
+use Rattle.std.proofs.Common.{◌≡◌, ◌⊎◌, inl, inr, ◌+◌, List, [], ◌∷◌, ◌++◌, refl, ap, sym, ◌∙◌, append_assoc, add_assoc, zero-add}
 use Rattle.observations.specs.Observations.{Observation, Prints, Reads, Trace, after_made, text_of, reads_of, map_made, StandsAt}
 
 pub text_of-append : {S : Type 0} (first second : List (Observation S)) → text_of (first ++ second) ≡ text_of first ++ text_of second
@@ -45,3 +45,19 @@ stands-map f state (Prints text at ∷ more) (inl h) = inl (ap f h)
 stands-map f state (Prints text at ∷ more) (inr h) = inr (stands-map f state more h)
 stands-map f state (Reads count at ∷ more) (inl h) = inl (ap f h)
 stands-map f state (Reads count at ∷ more) (inr h) = inr (stands-map f state more h)
+
+-- a state in which one of all comes is one in which one of the first comes, or one of the others
+pub stands-either : {S : Type 0} (state : S) (first second : List (Observation S)) → StandsAt state (first ++ second) → StandsAt state first ⊎ StandsAt state second
+stands-either state [] second h = inr h
+stands-either state (Prints text at ∷ more) second (inl h) = inl (inl h)
+stands-either state (Prints text at ∷ more) second (inr h) = elim (stands-either state more second h) [ inl x ↦ inl (inr x) | inr x ↦ inr x ]
+stands-either state (Reads count at ∷ more) second (inl h) = inl (inl h)
+stands-either state (Reads count at ∷ more) second (inr h) = elim (stands-either state more second h) [ inl x ↦ inl (inr x) | inr x ↦ inr x ]
+
+-- where each has another state in its place, it comes from the state that it had
+pub stands-mapped : {S T : Type 0} (f : S → T) (state : T) (made : List (Observation S)) → StandsAt state (map_made f made) → (at : S) × StandsAt at made × (state ≡ f at)
+stands-mapped f state [] h = absurd h
+stands-mapped f state (Prints text at ∷ more) (inl h) = (at, inl refl, h)
+stands-mapped f state (Prints text at ∷ more) (inr h) = let x = stands-mapped f state more h in (x.0, inr x.1, x.2)
+stands-mapped f state (Reads count at ∷ more) (inl h) = (at, inl refl, h)
+stands-mapped f state (Reads count at ∷ more) (inr h) = let x = stands-mapped f state more h in (x.0, inr x.1, x.2)

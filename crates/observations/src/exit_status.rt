@@ -4,7 +4,8 @@ ghost use Rattle.observations.specs.Status.{number_of};
 /// How a session is over, as the exit status of its process says.
 #[derive(Clone, Copy, Debug, PartialEq, Eq)]
 pub enum ExitStatus {
-    /// EXIT was done with that status, from 0 to 99; or with 0 the input has ended, or all was done that was to be done.
+    /// EXIT was done with that status, from 0 to 99; or with 0 the input has ended, or all was done that was to be
+    /// done.
     Exit(u8),
     /// The words of the command line are outside their grammar.
     Usage,

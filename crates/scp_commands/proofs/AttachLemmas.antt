@@ -27,7 +27,7 @@ use Rattle.file_commands.specs.declared.note.FaultNote.{FaultNote}
 use Rattle.file_commands.specs.Notes.{CommandNote, Note, same_subject, numbered, failure_now, notes_said}
 use Rattle.file_commands.specs.Counts.{AreCounted}
 use Rattle.file_commands.specs.declared.stamp.Stamp.{Stamp}
-use Rattle.file_commands.specs.Kept.{IsAttachFault, MissingCause, fault_of_attach, kept_of, own_of, own_note}
+use Rattle.file_commands.specs.Kept.{fault_note, IsAttachFault, MissingCause, fault_of_attach, kept_of, own_of, own_note}
 use Rattle.expect_actions.specs.Watch.{WatchState}
 use Rattle.nova_machine.specs.Machine.{MachineState, attached_files, with_attached_files}
 use Rattle.nova_machine.specs.Seen.{erased, seen, beside, attached_in}
@@ -38,6 +38,7 @@ use Rattle.scp_commands.specs.Reply.{Answer, Reply, refused}
 use Rattle.scp_commands.specs.FaultText.{attach_fault}
 use Rattle.scp_commands.specs.FileEffects.{has_files, lacks_unit, mode_of, attach_answer, attach_used, first_place, positioned, attached_machine, attach_with, attach_reply}
 use Rattle.scp_commands.specs.Doing.{Does, Did, IsLastCall, ComeBehind, IsSaid, IsStamped, FileCause, Keeps}
+use Rattle.scp_commands.proofs.CloseLemmas.{refused-first}
 use Rattle.scp_commands.proofs.SeenLemmas.{attached-erased, erased-with, same-with}
 use Rattle.scp_commands.proofs.DidLemmas.{refused-did}
 use Rattle.scp_commands.proofs.BehindLemmas.{kept-said}
@@ -97,11 +98,11 @@ files-same f mode unit name attached files clear = unless (refused_first (attach
     unless (Some refusal) = refl
     unless None = ap (λ (x : Option Failure). files_unless_opening x mode name files) clear.opening
 
-closing-if : (kind : Kind) (b : Bool) (f : Failure) → IsLastCall kind f.call → IsNoFailure (if b then Some f else None)
-closing-if kind false f is = record { opening = refl; measuring = refl; reading = refl }
-closing-if kind true f is = by-call f.call is
+closing-if : (written : Bool) (kind : Kind) (b : Bool) (f : Failure) → IsLastCall written kind f.call → IsNoFailure (if b then Some f else None)
+closing-if written kind false f is = record { opening = refl; measuring = refl; reading = refl }
+closing-if written kind true f is = by-call f.call is
   where
-    by-call : (c : FileCall) → IsLastCall kind c → IsNoFailure (Some (record { call = c; done = f.done }))
+    by-call : (c : FileCall) → IsLastCall written kind c → IsNoFailure (Some (record { call = c; done = f.done }))
     by-call Closing last = record { opening = refl; measuring = refl; reading = refl }
     by-call Write last = record { opening = refl; measuring = refl; reading = refl }
     by-call Opening last = absurd last
@@ -111,7 +112,7 @@ closing-if kind true f is = by-call f.call is
 
 no-failure-behind : (live : Live) (time : ℕ) (s : Subject) (behind : List CommandNote) → ComeBehind live behind → IsNoFailure (failure_now time s behind)
 no-failure-behind live time s [] come = record { opening = refl; measuring = refl; reading = refl }
-no-failure-behind live time s (n ∷ behind) come = closing-if come.0.unit.kind ((n.time == time) && same_subject n.subject s) n.failure come.0.call
+no-failure-behind live time s (n ∷ behind) come = closing-if live.machine.disk.written come.0.unit.kind ((n.time == time) && same_subject n.subject s) n.failure come.0.call
 
 -- ---- the reply, by what was said
 
@@ -287,8 +288,9 @@ attach-cause stamp tells unit (Err attach.AlreadyAttached) old new of_unit missi
 attach-cause stamp tells unit (Err attach.ReadOnly) old new of_unit missing = refl
 attach-cause stamp tells unit (Err attach.NoFile) old new of_unit missing = (refl, missing)
 attach-cause stamp tells unit (Err attach.TooLong) old new of_unit missing = tt
-attach-cause stamp tells unit (Err (attach.Failed f)) old new of_unit missing = ((refl, no-closing unit f of_unit), tt)
-attach-cause stamp tells unit (Err attach.OutOfMemory) old new of_unit missing = refl
+attach-cause stamp tells unit (Err (attach.Failed f)) old new of_unit missing =
+    refused-first (subject.Unit f.unit) (fault_note stamp f) [] (refl, no-closing unit f of_unit) tt
+attach-cause stamp tells unit (Err attach.OutOfMemory) old new of_unit missing = tt
 
 pub attach-keeps : (number time : ℕ) (stamp : Stamp) (tells : Bool) (unit : UnitName) (r : Result ℕ AttachFault) (answer : Answer) (notes notes' : List FaultNote) (old new : FileState)
     → stamp ≡ record { command = number; time = time } → answer ≡ attach_result r → notes' ≡ notes ++ kept_of stamp (fault_of_attach r) → AreCounted (kept_of stamp (fault_of_attach r)) old new

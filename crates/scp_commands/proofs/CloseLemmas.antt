@@ -13,8 +13,8 @@ use Rattle.unit_trait.specs.declared.kind.UnitName.{UnitName}
 use Rattle.unit_trait.specs.Kinds.{code_of, same_unit}
 use Rattle.unit_trait.proofs.Codes.{same-code, same-self}
 use Rattle.unit_files.specs.Attachments.{Attachment, Held, attachments_of, file_place, attachment_at, is_disk}
-use Rattle.unit_files.specs.Buffer.{AttachedFiles}
-use Rattle.unit_files.specs.Acts.{Failure, DetachSaid, HadNone, StillHeld, Detached, same_call, detached, detach_said_of, closing_said, flush_failure, is_due_back}
+use Rattle.unit_files.specs.Buffer.{Buffer, AttachedFiles, no_buffer}
+use Rattle.unit_files.specs.Acts.{Failure, DetachSaid, HadNone, StillHeld, Detached, same_call, buffer_left, detached, detach_said_of, closing_said, flush_failure, is_due_back}
 use Rattle.file_commands.specs.declared.note.Subject.{Subject}
 use Rattle.file_commands.specs.declared.note.Subject.TheVariants as subject
 use Rattle.file_commands.specs.declared.note.FaultNote.{FaultNote}
@@ -30,7 +30,7 @@ use Rattle.scp_commands.specs.declared.next.Next.TheVariants.{Go, Exit}
 use Rattle.scp_commands.specs.Live.{Live, Standing, standing, with_attached, numberless}
 use Rattle.scp_commands.specs.Reply.{Reply, bare_answer}
 use Rattle.scp_commands.specs.FileEffects.{filed_in, emptied_all, left_by, emptied_live, kept_answer, emptied_reply}
-use Rattle.scp_commands.specs.Doing.{IsLastCall, ComeBehind, IsStamped, AreRefusalOf, AllClosings, FileCause, Closes, Keeps, Does, IsSaid, Did}
+use Rattle.scp_commands.specs.Doing.{IsLastCall, ComeBehind, IsStamped, IsRefusalOf, IsClosingOf, AreRefusalOf, AllClosings, FileCause, Closes, Keeps, Does, IsSaid, Did}
 use Rattle.scp_commands.proofs.SeenLemmas.{attached-erased, attached-numberless, unnumbered-is, seen-with}
 
 -- ---- units with one name are one
@@ -135,13 +135,13 @@ module _ (time : ℕ) (u : UnitName) (s : Filed) where
       by-flush (Some h) is = absurd (cc)
 
   some-write : (f : Failure) (a : Option Attachment) (g : Failure) → detach_said_of (Some f) u a s.disk ≡ StillHeld g
-      → (same_call f.call Write ≡ true) × (is_disk u.kind ≡ true) × IsTrue (is_some a)
+      → (same_call f.call Write ≡ true) × (is_disk u.kind ≡ true) × IsTrue (is_some a) × (s.disk.written ≡ true)
   some-write f None g is = absurd (cc)
   some-write f (Some a) g is =
-      let both = by-due (is_disk u.kind) s.disk.written (same_call f.call Write) is in (both.0, both.1, refl)
+      let all = by-due (is_disk u.kind) s.disk.written (same_call f.call Write) is in (all.0, all.1, refl, all.2)
     where
-      by-due : (d w same : Bool) → closing_said (if d && w then (if same then Some f else None) else None) (Some f) ≡ StillHeld g → (same ≡ true) × (d ≡ true)
-      by-due true true true is = (refl, refl)
+      by-due : (d w same : Bool) → closing_said (if d && w then (if same then Some f else None) else None) (Some f) ≡ StillHeld g → (same ≡ true) × (d ≡ true) × (w ≡ true)
+      by-due true true true is = (refl, refl, refl)
       by-due true true false is = absurd (cc)
       by-due true false same is = absurd (cc)
       by-due false w same is = absurd (cc)
@@ -159,25 +159,27 @@ module _ (time : ℕ) (u : UnitName) (s : Filed) where
         by-tests true false at of is = absurd (no-closing (attachment_at s.attached u) g is)
         by-tests false c at of is = absurd (no-closing (attachment_at s.attached u) g is)
 
-    write-first : says_of time u s (n ∷ own) ≡ StillHeld g → IsFirst time u s n × (n.failure.call ≡ Write) × (is_disk u.kind ≡ true)
+    write-first : says_of time u s (n ∷ own) ≡ StillHeld g
+        → IsFirst time u s n × (n.failure.call ≡ Write) × (is_disk u.kind ≡ true) × (s.disk.written ≡ true)
     write-first is = by-tests (n.time == time) (same_subject n.subject (subject.Unit u)) refl refl is
       where
         by-tests : (b c : Bool) → (n.time == time) ≡ b → same_subject n.subject (subject.Unit u) ≡ c
-            → said_in (if b && c then Some n.failure else None) u s ≡ StillHeld g → IsFirst time u s n × (n.failure.call ≡ Write) × (is_disk u.kind ≡ true)
+            → said_in (if b && c then Some n.failure else None) u s ≡ StillHeld g
+            → IsFirst time u s n × (n.failure.call ≡ Write) × (is_disk u.kind ≡ true) × (s.disk.written ≡ true)
         by-tests true true at of is =
             let some = some-write n.failure (attachment_at s.attached u) g is in
-            (record { time_is = grind (arith, nat_tests); subject_is = is-of-unit n.subject u of; there = some.2 }, write-call n.failure.call some.0, some.1)
+            (record { time_is = grind (arith, nat_tests); subject_is = is-of-unit n.subject u of; there = some.2 }, write-call n.failure.call some.0, some.1, some.3)
         by-tests true false at of is = absurd (no-write (attachment_at s.attached u) g is)
         by-tests false c at of is = absurd (no-write (attachment_at s.attached u) g is)
 
 -- ---- each note is of a unit that had a file
 
-record IsOneOf (time : ℕ) (us : List UnitName) (attached : List (Option Attachment)) (n : CommandNote) : Type 0 where
+record IsOneOf (time : ℕ) (us : List UnitName) (written : Bool) (attached : List (Option Attachment)) (n : CommandNote) : Type 0 where
   unit : UnitName
   time_is : n.time ≡ time
   subject_is : n.subject ≡ subject.Unit unit
   among : IsTrue (list_any (λ (u : UnitName). same_unit u unit) us)
-  call : IsLastCall unit.kind n.failure.call
+  call : IsLastCall written unit.kind n.failure.call
   there : IsTrue (is_some (attachment_at attached unit))
 
 was-there : (attached : List (Option Attachment)) (u v : UnitName) → IsTrue (is_some (attachment_at (detached u attached) v)) → IsTrue (is_some (attachment_at attached v))
@@ -191,62 +193,83 @@ or-last : (b c : Bool) → IsTrue c → IsTrue (b || c)
 or-last true c is = refl
 or-last false c is = is
 
-wider : (time : ℕ) (u : UnitName) (us : List UnitName) (attached : List (Option Attachment)) (own : List CommandNote)
-    → AllByRecursion (IsOneOf time us (detached u attached)) own → AllByRecursion (IsOneOf time (u ∷ us) attached) own
-wider time u us attached [] all = tt
-wider time u us attached (n ∷ own) all =
+-- what the disk holds is to be written behind a detaching only where it was before
+was-written : (said : DetachSaid) (u : UnitName) (disk : Buffer) → (buffer_left said u disk).written ≡ true → disk.written ≡ true
+was-written (Detached fault) u disk is = by-kind (is_disk u.kind) is
+  where
+    by-kind : (b : Bool) → (if b then no_buffer else disk).written ≡ true → disk.written ≡ true
+    by-kind true is = absurd (cc)
+    by-kind false is = is
+was-written HadNone u disk is = is
+was-written (StillHeld f) u disk is = is
+
+last-before : (now before : Bool) (kind : Kind) (call : FileCall) → (now ≡ true → before ≡ true) → IsLastCall now kind call → IsLastCall before kind call
+last-before now before kind Closing was last = tt
+last-before now before kind Write was last = (last.0, was last.1)
+last-before now before kind Opening was last = absurd last
+last-before now before kind Length was last = absurd last
+last-before now before kind Read was last = absurd last
+last-before now before kind SetLength was last = absurd last
+
+wider : (time : ℕ) (u : UnitName) (us : List UnitName) (now before : Bool) (attached : List (Option Attachment)) (own : List CommandNote) → (now ≡ true → before ≡ true)
+    → AllByRecursion (IsOneOf time us now (detached u attached)) own → AllByRecursion (IsOneOf time (u ∷ us) before attached) own
+wider time u us now before attached [] was all = tt
+wider time u us now before attached (n ∷ own) was all =
     let o = all.0 in (
       record {
         unit = o.unit;
         time_is = o.time_is;
         subject_is = o.subject_is;
         among = or-last (same_unit u o.unit) (list_any (λ (v : UnitName). same_unit v o.unit) us) o.among;
-        call = o.call;
+        call = last-before now before o.unit.kind n.failure.call was o.call;
         there = was-there attached u o.unit o.there;
       },
-      wider time u us attached own all.1,
+      wider time u us now before attached own was all.1,
     )
 
-first-of : (time : ℕ) (u : UnitName) (us : List UnitName) (s : Filed) (n : CommandNote) → IsFirst time u s n → IsLastCall u.kind n.failure.call → IsOneOf time (u ∷ us) s.attached n
+first-of : (time : ℕ) (u : UnitName) (us : List UnitName) (s : Filed) (n : CommandNote) → IsFirst time u s n → IsLastCall s.disk.written u.kind n.failure.call
+    → IsOneOf time (u ∷ us) s.disk.written s.attached n
 first-of time u us s n first call =
     record { unit = u; time_is = first.time_is; subject_is = first.subject_is; among = front (same_unit u u) _ (same-self u); call = call; there = first.there }
 
-closing-last : (kind : Kind) (c : FileCall) → c ≡ Closing → IsLastCall kind c
-closing-last kind c is = subst (λ (x : FileCall). IsLastCall kind x) (sym is) tt
+closing-last : (written : Bool) (kind : Kind) (c : FileCall) → c ≡ Closing → IsLastCall written kind c
+closing-last written kind c is = subst (λ (x : FileCall). IsLastCall written kind x) (sym is) tt
 
-write-last : (kind : Kind) (c : FileCall) → c ≡ Write → is_disk kind ≡ true → IsLastCall kind c
-write-last kind c is disk = subst (λ (x : FileCall). IsLastCall kind x) (sym is) disk
+write-last : (written : Bool) (kind : Kind) (c : FileCall) → c ≡ Write → is_disk kind ≡ true → written ≡ true → IsLastCall written kind c
+write-last written kind c is disk due = subst (λ (x : FileCall). IsLastCall written kind x) (sym is) (disk, due)
 
 one-step : (time : ℕ) (u : UnitName) (us : List UnitName) (s : Filed) (own : List CommandNote)
     → emptied time (u ∷ us) s own ≡ emptied_as (says_of time u s own) u (written_in (failure_now time (subject.Unit u) own) u s)
     (λ more. emptied time us (without_file (failure_now time (subject.Unit u) own) u s) more) own
 one-step time u us s own = emptied-more time u us s own _ _ refl refl
 
-are-of : (time : ℕ) (us : List UnitName) (s : Filed) (own : List CommandNote) → (emptied time us s own).used ≡ length own → AllByRecursion (IsOneOf time us s.attached) own
+are-of : (time : ℕ) (us : List UnitName) (s : Filed) (own : List CommandNote) → (emptied time us s own).used ≡ length own → AllByRecursion (IsOneOf time us s.disk.written s.attached) own
 are-of time [] s own used = none own (sym (ap (λ (e : Emptied). e.used) (emptied-nothing time s own)) ∙ used)
   where
-    none : (own : List CommandNote) → 0 ≡ length own → AllByRecursion (IsOneOf time [] s.attached) own
+    none : (own : List CommandNote) → 0 ≡ length own → AllByRecursion (IsOneOf time [] s.disk.written s.attached) own
     none [] is = tt
     none (n ∷ own) is = absurd (omega (arith, is))
 are-of time (u ∷ us) s own used =
     by-said own (says_of time u s own) refl (sym (ap (λ (e : Emptied). e.used) (one-step time u us s own)) ∙ used)
-    (are-of time us (without_file (failure_now time (subject.Unit u) own) u s))
+    (was-written (says_of time u s own) u s.disk) (are-of time us (without_file (failure_now time (subject.Unit u) own) u s))
   where
     by-said : (own : List CommandNote) (said : DetachSaid) → says_of time u s own ≡ said
         → (emptied_as said u (written_in (failure_now time (subject.Unit u) own) u s) (λ more. emptied time us (without_file (failure_now time (subject.Unit u) own) u s) more) own).used ≡ length own
-        → ((rest : List CommandNote) → (emptied time us (without_file (failure_now time (subject.Unit u) own) u s) rest).used ≡ length rest → AllByRecursion (IsOneOf time us (detached u s.attached)) rest)
-        → AllByRecursion (IsOneOf time (u ∷ us) s.attached) own
-    by-said own HadNone is used more = wider time u us s.attached own (more own used)
-    by-said own (Detached None) is used more = wider time u us s.attached own (more own used)
-    by-said [] (Detached (Some f)) is used more = absurd (no-closing time u s (attachment_at s.attached u) f is)
-    by-said (n ∷ own) (Detached (Some f)) is used more =
+        → ((buffer_left (says_of time u s own) u s.disk).written ≡ true → s.disk.written ≡ true)
+        → ((rest : List CommandNote) → (emptied time us (without_file (failure_now time (subject.Unit u) own) u s) rest).used ≡ length rest
+        → AllByRecursion (IsOneOf time us (buffer_left (says_of time u s own) u s.disk).written (detached u s.attached)) rest)
+        → AllByRecursion (IsOneOf time (u ∷ us) s.disk.written s.attached) own
+    by-said own HadNone is used was more = wider time u us _ s.disk.written s.attached own was (more own used)
+    by-said own (Detached None) is used was more = wider time u us _ s.disk.written s.attached own was (more own used)
+    by-said [] (Detached (Some f)) is used was more = absurd (no-closing time u s (attachment_at s.attached u) f is)
+    by-said (n ∷ own) (Detached (Some f)) is used was more =
         let first = closing-first time u s n own f is in
-        (first-of time u us s n first.0 (closing-last u.kind n.failure.call first.1), wider time u us s.attached own (more own (omega (arith, used))))
-    by-said [] (StillHeld f) is used more = absurd (no-write time u s (attachment_at s.attached u) f is)
-    by-said (n ∷ []) (StillHeld f) is used more =
+        (first-of time u us s n first.0 (closing-last s.disk.written u.kind n.failure.call first.1), wider time u us _ s.disk.written s.attached own was (more own (omega (arith, used))))
+    by-said [] (StillHeld f) is used was more = absurd (no-write time u s (attachment_at s.attached u) f is)
+    by-said (n ∷ []) (StillHeld f) is used was more =
         let first = write-first time u s n [] f is in
-        (first-of time u us s n first.0 (write-last u.kind n.failure.call first.1 first.2), tt)
-    by-said (n ∷ m ∷ own) (StillHeld f) is used more = absurd (omega (arith, used))
+        (first-of time u us s n first.0 (write-last s.disk.written u.kind n.failure.call first.1 first.2 first.3), tt)
+    by-said (n ∷ m ∷ own) (StillHeld f) is used was more = absurd (omega (arith, used))
 
 at-most : (time : ℕ) (us : List UnitName) (s : Filed) (own : List CommandNote) → (emptied time us s own).used ≤ length us
 at-most time [] s own = subst (λ (e : Emptied). e.used ≤ 0) (sym (emptied-nothing time s own)) (omega arith)
@@ -327,7 +350,7 @@ all-emptied time (u ∷ us) s own v kept among =
 
 -- ---- a unit has kept its file: the disk, which comes first
 
-abbrev AreOthers : List UnitName → Type 0
+abbrev pub AreOthers : List UnitName → Type 0
 AreOthers us = AllByRecursion (λ (u : UnitName). is_disk u.kind ≡ false) us
 
 not-held : (u : UnitName) (s : Filed) (fault : Option Failure) (g : Failure) → is_disk u.kind ≡ false → said_in fault u s ≡ StillHeld g → ⊥
@@ -391,14 +414,20 @@ kept-is time u us s own k others used kept =
 
 -- ---- the files of all units
 
-stamped : (number time : ℕ) (us : List UnitName) (attached : List (Option Attachment)) (kept : List FaultNote) (own : List CommandNote)
-    → notes_said kept ≡ numbered number own → AllByRecursion (IsOneOf time us attached) own → AllByRecursion (IsStamped number time) kept
-stamped number time us attached [] own said all = tt
-stamped number time us attached (k ∷ kept) [] said all = absurd (cc)
-stamped number time us attached (k ∷ kept) (n ∷ own) said all =
+-- the note of a refusal, with those of closings behind it
+pub refused-first : (who : Subject) (own : FaultNote) (behind : List FaultNote) → IsRefusalOf who own → AllByRecursion (IsClosingOf who) behind
+    → AreRefusalOf who (own ∷ behind)
+refused-first who own behind refused later =
+    record { before = []; own = own; behind = behind; are = refl; refused = refused; earlier = tt; later = later }
+
+stamped : (number time : ℕ) (us : List UnitName) (written : Bool) (attached : List (Option Attachment)) (kept : List FaultNote) (own : List CommandNote)
+    → notes_said kept ≡ numbered number own → AllByRecursion (IsOneOf time us written attached) own → AllByRecursion (IsStamped number time) kept
+stamped number time us written attached [] own said all = tt
+stamped number time us written attached (k ∷ kept) [] said all = absurd (cc)
+stamped number time us written attached (k ∷ kept) (n ∷ own) said all =
     let first : said_of k ≡ record { command = number; note = n } = cc in
     let rest : notes_said kept ≡ numbered number own = cc in
-    ((ap (λ (x : Note). x.command) first, ap (λ (x : Note). x.note.time) first ∙ all.0.time_is), stamped number time us attached kept own rest all.1)
+    ((ap (λ (x : Note). x.command) first, ap (λ (x : Note). x.note.time) first ∙ all.0.time_is), stamped number time us written attached kept own rest all.1)
 
 all-closings : (number : ℕ) (kept : List FaultNote) (own : List CommandNote) → notes_said kept ≡ numbered number own → AllByRecursion (λ (n : CommandNote). n.failure.call ≡ Closing) own → AllClosings kept
 all-closings number [] own said all = tt
@@ -408,7 +437,7 @@ all-closings number (k ∷ kept) (n ∷ own) said all =
     let rest : notes_said kept ≡ numbered number own = cc in
     (ap (λ (x : Note). x.note.failure.call) first ∙ all.0, all-closings number kept own rest all.1)
 
-come-behind : (live : Live) (own : List CommandNote) → AllByRecursion (IsOneOf live.machine.time attachable (attached_in live.machine)) own → ComeBehind live own
+come-behind : (live : Live) (own : List CommandNote) → AllByRecursion (IsOneOf live.machine.time attachable live.machine.disk.written (attached_in live.machine)) own → ComeBehind live own
 come-behind live [] all = tt
 come-behind live (n ∷ own) all =
     let o = all.0 in
@@ -444,7 +473,7 @@ module _ (number time : ℕ) (live : Live) (from to : Filed) (k : Option UnitNam
         behind = come-behind live e.own (are-of live.machine.time attachable (filed_in live) e.own used);
       }
 
-none-other : AreOthers (record { kind = Mta; unit = 0 } ∷ record { kind = Mta; unit = 1 } ∷ record { kind = Mta; unit = 2 } ∷ record { kind = Mta; unit = 3 } ∷ record { kind = Mta; unit = 4 } ∷ record { kind = Mta; unit = 5 } ∷ record { kind = Mta; unit = 6 } ∷ record { kind = Mta; unit = 7 } ∷ record { kind = Lpt; unit = 0 } ∷ record { kind = Ptr; unit = 0 } ∷ record { kind = Ptp; unit = 0 } ∷ [])
+pub none-other : AreOthers (record { kind = Mta; unit = 0 } ∷ record { kind = Mta; unit = 1 } ∷ record { kind = Mta; unit = 2 } ∷ record { kind = Mta; unit = 3 } ∷ record { kind = Mta; unit = 4 } ∷ record { kind = Mta; unit = 5 } ∷ record { kind = Mta; unit = 6 } ∷ record { kind = Mta; unit = 7 } ∷ record { kind = Lpt; unit = 0 } ∷ record { kind = Ptr; unit = 0 } ∷ record { kind = Ptp; unit = 0 } ∷ [])
 none-other = (refl, (refl, (refl, (refl, (refl, (refl, (refl, (refl, (refl, (refl, (refl, tt)))))))))))
 
 -- a unit that has kept its file is the disk, and then only files have changed
@@ -482,7 +511,7 @@ keeps-of number time now tells from to k before after old new at e =
           let most = at-most time attachable from e.own in
           omega (arith, same, most, used);
       stamped = subst (λ (t : ℕ). AllByRecursion (IsStamped number t) e.kept) at
-          (stamped number time attachable from.attached e.kept e.own e.said (are-of time attachable from e.own used));
+          (stamped number time attachable from.disk.written from.attached e.kept e.own e.said (are-of time attachable from e.own used));
       counted = e.counted;
       cause = by-keeper k e;
     }
@@ -493,7 +522,7 @@ keeps-of number time now tells from to k before after old new at e =
     refusal (x ∷ []) n u said of call =
         let first : said_of x ≡ record { command = number; note = n } = cc in
         let made : x.call ≡ Write = ap (λ (y : Note). y.note.failure.call) first ∙ call in
-        ((ap (λ (y : Note). y.note.subject) first ∙ of, λ closing. absurd (let both : Write ≡ Closing = sym made ∙ closing in cc)), tt)
+        refused-first (subject.Unit u) x [] (ap (λ (y : Note). y.note.subject) first ∙ of, λ closing. absurd (let both : Write ≡ Closing = sym made ∙ closing in cc)) tt
 
     by-keeper : (k : Option UnitName) (e : Empties number time attachable from to k before after old new)
         → FileCause (record { command = number; time = now }) tells (kept_answer k Go) e.kept old new

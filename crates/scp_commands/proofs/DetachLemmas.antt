@@ -22,7 +22,7 @@ use Rattle.file_commands.specs.declared.note.Subject.TheVariants as subject
 use Rattle.file_commands.specs.declared.note.FaultNote.{FaultNote}
 use Rattle.file_commands.specs.Notes.{CommandNote, Note, numbered, failure_now, notes_said}
 use Rattle.file_commands.specs.declared.stamp.Stamp.{Stamp}
-use Rattle.file_commands.specs.Kept.{fault_of_detach, kept_of, own_of}
+use Rattle.file_commands.specs.Kept.{fault_note, fault_of_detach, kept_of, own_of}
 use Rattle.expect_actions.specs.Watch.{WatchState}
 use Rattle.nova_machine.specs.Machine.{MachineState, attached_files, with_attached_files}
 use Rattle.nova_machine.specs.Seen.{erased, seen, beside, attached_in}
@@ -34,7 +34,7 @@ use Rattle.scp_commands.specs.FaultText.{detach_fault}
 use Rattle.scp_commands.specs.FileEffects.{lacks_unit, detach_answer, detach_used, detached_machine, flushed_files, detach_with, detach_reply}
 use Rattle.scp_commands.specs.Doing.{Does, Did, ComeBehind, FileCause, Keeps}
 use Rattle.scp_commands.proofs.SeenLemmas.{attached-erased, attached-with, seen-with, same-with}
-use Rattle.scp_commands.proofs.CloseLemmas.{closing-call, detached-none}
+use Rattle.scp_commands.proofs.CloseLemmas.{closing-call, detached-none, refused-first}
 use Rattle.scp_commands.proofs.DidLemmas.{refused-did}
 use Rattle.scp_commands.proofs.BehindLemmas.{kept-said, none-behind, handed-own}
 use Rattle.scp_commands.proofs.AttachLemmas.{one-note, stamped-note}
@@ -226,7 +226,8 @@ detach-cause stamp tells unit attached disk (Ok (Some f)) old new said of_unit =
 detach-cause stamp tells unit attached disk (Err detach.NotAttached) old new said of_unit = refl
 detach-cause stamp tells unit attached disk (Err (detach.Failed f)) old new said of_unit =
     let handed = said ∙ ap (λ (o : Option Failure). detach_said o unit attached disk) (handed-first stamp.time unit f of_unit) in
-    ((refl, not-closing f.call (failed-write unit disk (failure_in f) (failure_in f) (attachment_at attached unit) handed)), tt)
+    refused-first (subject.Unit f.unit) (fault_note stamp f) []
+    (refl, not-closing f.call (failed-write unit disk (failure_in f) (failure_in f) (attachment_at attached unit) handed)) tt
 
 pub detach-keeps : (number time : ℕ) (stamp : Stamp) (tells : Bool) (unit : UnitName) (attached : List (Option Attachment)) (disk : Buffer) (r : Result (Option UnitFault) DetachFault) (answer : Answer)
     (notes notes' : List FaultNote) (old new : FileState) → stamp ≡ record { command = number; time = time } → answer ≡ detach_result r → notes' ≡ notes ++ kept_of stamp (fault_of_detach r)

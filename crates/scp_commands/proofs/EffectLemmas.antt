@@ -18,6 +18,7 @@ use Rattle.whole_files.specs.Whole as whole
 use Rattle.file_commands.specs.Notes.{CommandNote, failure_now}
 use Rattle.nova_memory.specs.Memory.{fits_size}
 use Rattle.nova_machine.specs.Seen.{attached_in}
+use Rattle.nova_machine.specs.Machine.{MachineState}
 use Rattle.nova_machine.specs.Run.{run}
 use Rattle.nova_machine.proofs.NoReads.{run-reads}
 use Rattle.nova_machine.specs.declared.machine.Stop.{Stop}
@@ -57,33 +58,40 @@ use Rattle.binary_load.specs.declared.faults.LoadFault.TheVariants as tape
 use Rattle.binary_load.specs.Tape.{Tape}
 use Rattle.whole_files.specs.Writing.{WriteSaid, AllWritten, WriteFailed, WriteAct, write_act}
 use Rattle.scp_commands.specs.Effect.{effect, Asked, does}
+use Rattle.scp_commands.specs.Nature.{nature}
+use Rattle.scp_commands.specs.Remains.{Remains}
 use Rattle.scp_commands.specs.Laws.{LeavesTraces, IsUntouched, RefusalsChangeNothing}
 use Rattle.scp_commands.proofs.TraceLemmas.{files-kept}
 
--- what holds of a reply to a command that was given in that state, and leaves files changed only where it is refused with
--- those faults
-pub record Fair (traces : CommandFault → Type 0) (live : Live) (reply : Reply) : Type 0 where
+-- what holds of a reply to a command that was given in that state, flushes the disk or does not, and leaves files changed
+-- only where it is refused with those faults
+pub record Fair (flushes : Bool) (traces : CommandFault → Type 0) (live : Live) (reply : Reply) : Type 0 where
   pub reads : reads_of reply.made ≡ 0
   pub exit : IsExitAnswer reply.answer
-  pub untouched : (fault : CommandFault) → reply.answer ≡ Err fault → IsUntouched live reply
-  pub files : (fault : CommandFault) → reply.answer ≡ Err fault → (traces fault → ⊥) → reply.after.live.files ≡ live.files
+  pub untouched : (fault : CommandFault) → reply.answer ≡ Err fault → IsUntouched flushes live reply
+  pub all : (fault : CommandFault) → reply.answer ≡ Err fault → (traces fault → ⊥) → Remains flushes live reply.after.live
 
-fair-if : {W : CommandFault → Type 0} (b : Bool) (live : Live) (x y : Reply) → Fair W live x → Fair W live y → Fair W live (if b then x else y)
+-- what is left where machine and files were
+left-live : (live : Live) (m : MachineState) (files : List NamedBytes) → m ≡ live.machine → files ≡ live.files
+    → record live { machine = m; files = files } ≡ live
+left-live live m files machine same = λ i. record live { machine = machine i; files = same i }
+
+fair-if : {W : CommandFault → Type 0} (b : Bool) (live : Live) (x y : Reply) → Fair false W live x → Fair false W live y → Fair false W live (if b then x else y)
 fair-if true live x y first second = first
 fair-if false live x y first second = second
 
-fair-goes : {W : CommandFault → Type 0} (before live : Live) → Fair W before (goes live)
-fair-goes before live = record { reads = refl; exit = tt; untouched = λ fault h. absurd (cc); files = λ fault h none. absurd (cc) }
+fair-goes : {W : CommandFault → Type 0} (before live : Live) → Fair false W before (goes live)
+fair-goes before live = record { reads = refl; exit = tt; untouched = λ fault h. absurd (cc); all = λ fault h none. absurd (cc) }
 
-fair-says : {W : CommandFault → Type 0} (text : List ℕ) (before live : Live) → Fair W before (says text live)
-fair-says text before live = record { reads = refl; exit = tt; untouched = λ fault h. absurd (cc); files = λ fault h none. absurd (cc) }
+fair-says : {W : CommandFault → Type 0} (text : List ℕ) (before live : Live) → Fair false W before (says text live)
+fair-says text before live = record { reads = refl; exit = tt; untouched = λ fault h. absurd (cc); all = λ fault h none. absurd (cc) }
 
-fair-refused : {W : CommandFault → Type 0} (fault : CommandFault) (live : Live) → Fair W live (refused fault live)
+fair-refused : {W : CommandFault → Type 0} (fault : CommandFault) (live : Live) → Fair false W live (refused fault live)
 fair-refused fault live = record {
   reads = refl;
   exit = tt;
   untouched = λ other h. record { machine = refl; watch = refl; keys = refl; text = refl };
-  files = λ other h none. refl;
+  all = λ other h none. refl;
 }
 
 -- ---- runs
@@ -96,7 +104,7 @@ run_answer-exit : (stop : Option Stop) → IsExitAnswer (run_answer stop)
 run_answer-exit (Some stop) = tt
 run_answer-exit None = tt
 
-fair-ran : {W : CommandFault → Type 0} (notes : List CommandNote) (step : Bool) (count : ℕ) (before live : Live) → Fair W before (ran (run (run_failure notes) step count live))
+fair-ran : {W : CommandFault → Type 0} (notes : List CommandNote) (step : Bool) (count : ℕ) (before live : Live) → Fair false W before (ran (run (run_failure notes) step count live))
 unfolding ran
 fair-ran notes step count before live =
     let p = run (run_failure notes) step count live in
@@ -108,38 +116,38 @@ fair-ran notes step count before live =
           reads_of-append made (Prints (stop_line p.stop p.after.machine) (standing (used_by p.stop) p.after) ∷ []) ∙ omega (arith, same, none);
       exit = run_answer-exit p.stop;
       untouched = λ fault h. absurd (run_answer-ok p.stop fault h);
-      files = λ fault h none. absurd (run_answer-ok p.stop fault h);
+      all = λ fault h none. absurd (run_answer-ok p.stop fault h);
     }
 
-fair-run_from : {W : CommandFault → Type 0} (limit : ℕ) (notes : List CommandNote) (resets : Bool) (address : Option ℕ) (live : Live) → Fair W live (run_from limit notes resets address live)
+fair-run_from : {W : CommandFault → Type 0} (limit : ℕ) (notes : List CommandNote) (resets : Bool) (address : Option ℕ) (live : Live) → Fair false W live (run_from limit notes resets address live)
 unfolding run_from
 fair-run_from limit notes resets address live =
     fair-if (address_fits address) live _ _ (fair-ran notes false limit live (started resets address live)) (fair-refused _ live)
 
-fair-step_of : {W : CommandFault → Type 0} (limit : ℕ) (notes : List CommandNote) (count : ℕ) (live : Live) → Fair W live (step_of limit notes count live)
+fair-step_of : {W : CommandFault → Type 0} (limit : ℕ) (notes : List CommandNote) (count : ℕ) (live : Live) → Fair false W live (step_of limit notes count live)
 unfolding step_of stepped
 fair-step_of limit notes count live =
     fair-if (nat_le 1 count && nat_le count (2 ^ 48)) live _ _ (fair-ran notes (nat_le count limit) (min count limit) live live) (fair-refused _ live)
 
-fair-reset : {W : CommandFault → Type 0} (live : Live) → Fair W live (reset_reply live)
+fair-reset : {W : CommandFault → Type 0} (live : Live) → Fair false W live (reset_reply live)
 unfolding reset_reply
 fair-reset live = fair-goes live _
 
 -- ---- lists
 
-fair-examine_after : {W : CommandFault → Type 0} (fault : Option ExamineFault) (live : Live) (l : Listing) → Fair W live (examine_after fault live l)
+fair-examine_after : {W : CommandFault → Type 0} (fault : Option ExamineFault) (live : Live) (l : Listing) → Fair false W live (examine_after fault live l)
 fair-examine_after (Some fault) live l = fair-refused _ live
 fair-examine_after None live l = fair-says _ live live
 
-fair-examine : {W : CommandFault → Type 0} (live : Live) (l : Listing) → Fair W live (examine_reply live l)
+fair-examine : {W : CommandFault → Type 0} (live : Live) (l : Listing) → Fair false W live (examine_reply live l)
 unfolding examine_reply
 fair-examine live l = fair-if (lacks_device live.machine l.device) live _ _ (fair-refused _ live) (fair-examine_after (examine_fault live.machine l) live l)
 
-fair-deposit_after : {W : CommandFault → Type 0} (fault : Option ExamineFault) (live : Live) (l : Listing) (value : ℕ) → Fair W live (deposit_after fault live l value)
+fair-deposit_after : {W : CommandFault → Type 0} (fault : Option ExamineFault) (live : Live) (l : Listing) (value : ℕ) → Fair false W live (deposit_after fault live l value)
 fair-deposit_after (Some fault) live l value = fair-refused _ live
 fair-deposit_after None live l value = fair-goes live _
 
-fair-deposit : {W : CommandFault → Type 0} (live : Live) (l : Listing) (value : ℕ) → Fair W live (deposit_reply live l value)
+fair-deposit : {W : CommandFault → Type 0} (live : Live) (l : Listing) (value : ℕ) → Fair false W live (deposit_reply live l value)
 unfolding deposit_reply
 fair-deposit live l value =
     fair-if (lacks_device live.machine l.device) live _ _ (fair-refused _ live) (fair-deposit_after (fault_of_deposit live.machine l (handed value)) live l (handed value))
@@ -147,12 +155,12 @@ fair-deposit live l value =
 -- ---- files
 
 fair-attach_with : (fault : Option Failure) (mode : AttachMode) (unit : UnitName) (name : List ℕ) (option : ℕ) (live : Live)
-    → Fair (LeavesTraces (request.Attach option unit name)) live (attach_with fault mode unit name live)
+    → Fair false (LeavesTraces (request.Attach option unit name)) live (attach_with fault mode unit name live)
 fair-attach_with fault mode unit name option live = record {
   reads = refl;
   exit = answer-exit said;
   untouched = λ other h. record { machine = machine-kept said other h; watch = refl; keys = refl; text = refl };
-  files = λ other h none. files-kept fault mode unit name option (attached_in live.machine) live.files other h none;
+  all = λ other h none. left-live live _ _ (machine-kept said other h) (files-kept fault mode unit name option (attached_in live.machine) live.files other h none);
 }
   where
     said : AttachSaid
@@ -175,7 +183,7 @@ fair-attach_with fault mode unit name option live = record {
     machine-kept (CallFailed f) other h = refl
 
 fair-attach : (notes : List CommandNote) (live : Live) (option : ℕ) (unit : UnitName) (name : List ℕ)
-    → Fair (LeavesTraces (request.Attach option unit name)) live (attach_reply notes live option unit name)
+    → Fair false (LeavesTraces (request.Attach option unit name)) live (attach_reply notes live option unit name)
 unfolding attach_reply
 fair-attach notes live option unit name =
     fair-if (lacks_unit live.machine unit) live _ _ (fair-refused _ live)
@@ -192,11 +200,11 @@ none-flushed fault unit (Some a) disk files is = by-failure (flush_failure fault
     by-failure None is = absurd (cc)
     by-failure (Some f) is = absurd (cc)
 
-fair-detach_with : (where_ : Option UnitName) (fault : Option Failure) (unit : UnitName) (live : Live) → Fair (LeavesTraces (request.Detach where_)) live (detach_with fault unit live)
+fair-detach_with : (where_ : Option UnitName) (fault : Option Failure) (unit : UnitName) (live : Live) → Fair false (LeavesTraces (request.Detach where_)) live (detach_with fault unit live)
 fair-detach_with where_ fault unit live = by-said (detach_said fault unit (attached_in live.machine) live.machine.disk) refl
   where
     by-said : (said : DetachSaid) → said ≡ detach_said fault unit (attached_in live.machine) live.machine.disk
-        → Fair (LeavesTraces (request.Detach where_)) live (record {
+        → Fair false (LeavesTraces (request.Detach where_)) live (record {
           made = [];
           answer = detach_answer unit said;
           after = standing (detach_used said) (record live { machine = detached_machine said unit live.machine; files = flushed_files fault unit live });
@@ -205,49 +213,49 @@ fair-detach_with where_ fault unit live = by-said (detach_said fault unit (attac
       reads = refl;
       exit = tt;
       untouched = λ other h. record { machine = refl; watch = refl; keys = refl; text = refl };
-      files = λ other h none. none-flushed fault unit (attachment_at (attached_in live.machine) unit) live.machine.disk live.files is;
+      all = λ other h none. left-live live live.machine _ refl (none-flushed fault unit (attachment_at (attached_in live.machine) unit) live.machine.disk live.files is);
     }
     by-said (StillHeld f) is = record {
       reads = refl;
       exit = tt;
       untouched = λ other h. record { machine = refl; watch = refl; keys = refl; text = refl };
-      files = λ other h none.
+      all = λ other h none.
           let same : FileFailed (subject.Unit unit) ≡ other = cc in
           absurd (none (subst (λ (x : CommandFault). LeavesTraces (request.Detach where_) x) same tt));
     }
-    by-said (Detached f) is = record { reads = refl; exit = tt; untouched = λ other h. absurd (cc); files = λ other h none. absurd (cc) }
+    by-said (Detached f) is = record { reads = refl; exit = tt; untouched = λ other h. absurd (cc); all = λ other h none. absurd (cc) }
 
-fair-detach : (notes : List CommandNote) (live : Live) (unit : UnitName) → Fair (LeavesTraces (request.Detach (Some unit))) live (detach_reply notes live unit)
+fair-detach : (notes : List CommandNote) (live : Live) (unit : UnitName) → Fair false (LeavesTraces (request.Detach (Some unit))) live (detach_reply notes live unit)
 unfolding detach_reply
 fair-detach notes live unit =
     fair-if (lacks_unit live.machine unit) live _ _ (fair-refused _ live) (fair-detach_with (Some unit) (failure_now live.machine.time (subject.Unit unit) notes) unit live)
 
 -- all units lose their files, and then that comes
-fair-emptied : (W : CommandFault → Type 0) (next : Next) (e : Emptied) (live : Live) → IsExitAnswer (Ok next) → ((u : UnitName) → W (FileFailed (subject.Unit u))) → Fair W live (emptied_reply next e live)
+fair-emptied : (W : CommandFault → Type 0) (next : Next) (e : Emptied) (live : Live) → IsExitAnswer (Ok next) → ((u : UnitName) → W (FileFailed (subject.Unit u))) → Fair false W live (emptied_reply next e live)
 fair-emptied W next e live small leaves = by-keeper e.kept
   where
-    by-keeper : (k : Option UnitName) → Fair W live (record { made = []; answer = kept_answer k next; after = standing e.used (left_by k e.left live) })
-    by-keeper None = record { reads = refl; exit = small; untouched = λ other h. absurd (cc); files = λ other h none. absurd (cc) }
+    by-keeper : (k : Option UnitName) → Fair false W live (record { made = []; answer = kept_answer k next; after = standing e.used (left_by k e.left live) })
+    by-keeper None = record { reads = refl; exit = small; untouched = λ other h. absurd (cc); all = λ other h none. absurd (cc) }
     by-keeper (Some u) = record {
       reads = refl;
       exit = tt;
       untouched = λ other h. record { machine = refl; watch = refl; keys = refl; text = refl };
-      files = λ other h none.
+      all = λ other h none.
           let same : FileFailed (subject.Unit u) ≡ other = cc in
           absurd (none (subst W same (leaves u)));
     }
 
-fair-detach_all : (where_ : Option UnitName) (notes : List CommandNote) (live : Live) → Fair (LeavesTraces (request.Detach where_)) live (detach_all_reply notes live)
+fair-detach_all : (where_ : Option UnitName) (notes : List CommandNote) (live : Live) → Fair false (LeavesTraces (request.Detach where_)) live (detach_all_reply notes live)
 unfolding detach_all_reply
 fair-detach_all where_ notes live = fair-emptied (LeavesTraces (request.Detach where_)) Go (emptied_all notes live) live tt (λ u. tt)
 
-fair-detach_where : (notes : List CommandNote) (live : Live) (unit : Option UnitName) → Fair (LeavesTraces (request.Detach unit)) live (detach_one_or_all notes live unit)
+fair-detach_where : (notes : List CommandNote) (live : Live) (unit : Option UnitName) → Fair false (LeavesTraces (request.Detach unit)) live (detach_one_or_all notes live unit)
 fair-detach_where notes live None = fair-detach_all None notes live
 fair-detach_where notes live (Some unit) = fair-detach notes live unit
 
 -- ---- SHOW and EXIT
 
-fair-show : {W : CommandFault → Type 0} (live : Live) (subject : Shown) → Fair W live (show_reply live subject)
+fair-show : {W : CommandFault → Type 0} (live : Live) (subject : Shown) → Fair false W live (show_reply live subject)
 unfolding show_reply
 fair-show live shown.Time = fair-says _ live live
 fair-show live shown.Cpu = fair-says _ live live
@@ -258,58 +266,58 @@ fair-show live shown.Send = fair-says _ live live
 fair-show live shown.Version = fair-says _ live live
 fair-show live (shown.Unit unit) = fair-if (lacks_unit live.machine unit) live _ _ (fair-refused _ live) (fair-says _ live live)
 
-fair-exit : (notes : List CommandNote) (live : Live) (status : Option ℕ) → Fair (LeavesTraces (request.Exit status)) live (exit_reply notes live status)
+fair-exit : (notes : List CommandNote) (live : Live) (status : Option ℕ) → Fair false (LeavesTraces (request.Exit status)) live (exit_reply notes live status)
 unfolding exit_reply
 fair-exit notes live status = exit-if (nat_le (unwrap_or status 0) 99) refl
   where
     exit-if : (b : Bool) → nat_le (unwrap_or status 0) 99 ≡ b
-        → Fair (LeavesTraces (request.Exit status)) live (if b then emptied_reply (Exit (unwrap_or status 0)) (emptied_all notes live) live else refused OutOfRange live)
+        → Fair false (LeavesTraces (request.Exit status)) live (if b then emptied_reply (Exit (unwrap_or status 0)) (emptied_all notes live) live else refused OutOfRange live)
     exit-if true is =
         fair-emptied (LeavesTraces (request.Exit status)) (Exit (unwrap_or status 0)) (emptied_all notes live) live (leb-true (unwrap_or status 0) 99 is) (λ u. tt)
     exit-if false is = fair-refused OutOfRange live
 
 -- ---- SET
 
-fair-set_size : {W : CommandFault → Type 0} (live : Live) (k : ℕ) → Fair W live (set_size_reply live k)
+fair-set_size : {W : CommandFault → Type 0} (live : Live) (k : ℕ) → Fair false W live (set_size_reply live k)
 unfolding set_size_reply
 fair-set_size live k = fair-if (fits_size k) live _ _ (fair-goes live _) (fair-refused _ live)
 
 -- ---- BREAK, EXPECT and SEND
 
-fair-break : {W : CommandFault → Type 0} (live : Live) (at count : ℕ) (actions : List ℕ) → Fair W live (break_reply live at count actions)
+fair-break : {W : CommandFault → Type 0} (live : Live) (at count : ℕ) (actions : List ℕ) → Fair false W live (break_reply live at count actions)
 unfolding break_reply
 fair-break live at count actions =
     fair-if (not (nat_le at last_address && nat_le count largest_count)) live _ _ (fair-refused _ live)
     (fair-if (lacks_room_for_break at live.watch.breaks.list) live _ _ (fair-refused _ live) (fair-goes live _))
 
-fair-no_break : {W : CommandFault → Type 0} (live : Live) (at : Option ℕ) → Fair W live (no_break_reply live at)
+fair-no_break : {W : CommandFault → Type 0} (live : Live) (at : Option ℕ) → Fair false W live (no_break_reply live at)
 unfolding no_break_reply
 fair-no_break live None = fair-goes live _
 fair-no_break live (Some at) = fair-if (nat_le at last_address) live _ _ (fair-goes live _) (fair-refused _ live)
 
-fair-expect : {W : CommandFault → Type 0} (live : Live) (count : ℕ) (quoted actions : List ℕ) → Fair W live (expect_reply live count quoted actions)
+fair-expect : {W : CommandFault → Type 0} (live : Live) (count : ℕ) (quoted actions : List ℕ) → Fair false W live (expect_reply live count quoted actions)
 unfolding expect_reply
 fair-expect live count quoted actions =
     fair-if (not (can_be_expected count (text_of_quoted quoted))) live _ _ (fair-refused _ live)
     (fair-if (length live.watch.expects.list == most_expects) live _ _ (fair-refused _ live) (fair-goes live _))
 
-fair-no_expect : {W : CommandFault → Type 0} (live : Live) → Fair W live (no_expect_reply live)
+fair-no_expect : {W : CommandFault → Type 0} (live : Live) → Fair false W live (no_expect_reply live)
 unfolding no_expect_reply
 fair-no_expect live = fair-goes live _
 
-fair-send : {W : CommandFault → Type 0} (live : Live) (after delay : ℕ) (quoted : List ℕ) → Fair W live (send_reply live after delay quoted)
+fair-send : {W : CommandFault → Type 0} (live : Live) (after delay : ℕ) (quoted : List ℕ) → Fair false W live (send_reply live after delay quoted)
 unfolding send_reply
 fair-send live after delay quoted =
     fair-if (not (nat_le after largest_count && nat_le delay largest_count)) live _ _ (fair-refused _ live)
     (fair-if (nat_lt most_sends (length live.watch.sends + length (text_of_quoted quoted))) live _ _ (fair-refused _ live) (fair-goes live _))
 
-fair-no_send : {W : CommandFault → Type 0} (live : Live) → Fair W live (no_send_reply live)
+fair-no_send : {W : CommandFault → Type 0} (live : Live) → Fair false W live (no_send_reply live)
 unfolding no_send_reply
 fair-no_send live = fair-goes live _
 
 -- ---- ECHO and ASSERT
 
-fair-echo : {W : CommandFault → Type 0} (live : Live) (text : List ℕ) → Fair W live (echo_reply live text)
+fair-echo : {W : CommandFault → Type 0} (live : Live) (text : List ℕ) → Fair false W live (echo_reply live text)
 unfolding echo_reply
 fair-echo live text = fair-says _ live live
 
@@ -319,24 +327,24 @@ assert-exit false (Ok true) = tt
 assert-exit false (Ok false) = tt
 assert-exit false (Err fault) = tt
 
-fair-assert : {W : CommandFault → Type 0} (live : Live) (test : Test) → Fair W live (assert_reply live test)
+fair-assert : {W : CommandFault → Type 0} (live : Live) (test : Test) → Fair false W live (assert_reply live test)
 unfolding assert_reply
 fair-assert live test = record {
   reads = refl;
   exit = assert-exit (lacks_device live.machine test.device) (tested live.machine test);
   untouched = λ fault h. record { machine = refl; watch = refl; keys = refl; text = refl };
-  files = λ fault h none. refl;
+  all = λ fault h none. refl;
 }
 
 -- ---- DO and GOTO
 
-fair-do : {W : CommandFault → Type 0} (notes : List CommandNote) (live : Live) (echo strict : Bool) (name : List ℕ) → Fair W live (do_reply notes live echo strict name)
+fair-do : {W : CommandFault → Type 0} (notes : List CommandNote) (live : Live) (echo strict : Bool) (name : List ℕ) → Fair false W live (do_reply notes live echo strict name)
 unfolding do_reply
 fair-do notes live echo strict name = record {
   reads = refl;
   exit = do-exit (whole_act (whole_calls subject.Script live.machine.time notes) name live.files).0;
   untouched = λ fault h. record { machine = refl; watch = refl; keys = refl; text = refl };
-  files = λ fault h none. refl;
+  all = λ fault h none. refl;
 }
   where
     do-exit : (said : WholeSaid) → IsExitAnswer (do_answer echo strict said)
@@ -345,18 +353,18 @@ fair-do notes live echo strict name = record {
     do-exit whole.TooLong = tt
     do-exit whole.CallFailed = tt
 
-fair-goto : {W : CommandFault → Type 0} (live : Live) → Fair W live (goto_reply live)
-fair-goto live = record { reads = refl; exit = tt; untouched = λ fault h. absurd (cc); files = λ fault h none. absurd (cc) }
+fair-goto : {W : CommandFault → Type 0} (live : Live) → Fair false W live (goto_reply live)
+fair-goto live = record { reads = refl; exit = tt; untouched = λ fault h. absurd (cc); all = λ fault h none. absurd (cc) }
 
 -- ---- LOAD and DUMP
 
-fair-load : {W : CommandFault → Type 0} (notes : List CommandNote) (live : Live) (name : List ℕ) → Fair W live (load_reply notes live name)
+fair-load : {W : CommandFault → Type 0} (notes : List CommandNote) (live : Live) (name : List ℕ) → Fair false W live (load_reply notes live name)
 unfolding load_reply
 fair-load notes live name = record {
   reads = refl;
   exit = load-exit said;
   untouched = λ fault h. record { machine = load-kept said fault h; watch = refl; keys = refl; text = refl };
-  files = λ fault h none. refl;
+  all = λ fault h none. left-live live _ live.files (load-kept said fault h) refl;
 }
   where
     said : WholeSaid
@@ -384,30 +392,30 @@ fair-load notes live name = record {
     load-kept whole.TooLong fault h = refl
     load-kept whole.CallFailed fault h = refl
 
-fair-dump_after : (from to : ℕ) (name : List ℕ) (act : WriteAct) (live : Live) → Fair (LeavesTraces (request.Dump from to name)) live (dump_after act live)
+fair-dump_after : (from to : ℕ) (name : List ℕ) (act : WriteAct) (live : Live) → Fair false (LeavesTraces (request.Dump from to name)) live (dump_after act live)
 fair-dump_after from to name act live = by-said act.said
   where
-    by-said : (said : WriteSaid) → Fair (LeavesTraces (request.Dump from to name)) live
+    by-said : (said : WriteSaid) → Fair false (LeavesTraces (request.Dump from to name)) live
         (record { made = []; answer = dump_answer said; after = standing act.met (record live { files = act.files }) })
-    by-said AllWritten = record { reads = refl; exit = tt; untouched = λ fault h. absurd (cc); files = λ fault h none. absurd (cc) }
+    by-said AllWritten = record { reads = refl; exit = tt; untouched = λ fault h. absurd (cc); all = λ fault h none. absurd (cc) }
     by-said WriteFailed = record {
       reads = refl;
       exit = tt;
       untouched = λ fault h. record { machine = refl; watch = refl; keys = refl; text = refl };
-      files = λ fault h none.
+      all = λ fault h none.
           let same : FileFailed subject.Dump ≡ fault = cc in
           absurd (none (subst (λ (x : CommandFault). LeavesTraces (request.Dump from to name) x) same tt));
     }
 
 fair-dump : (notes : List CommandNote) (live : Live) (from to : ℕ) (name : List ℕ)
-    → Fair (LeavesTraces (request.Dump from to name)) live (dump_reply notes live from to name)
+    → Fair false (LeavesTraces (request.Dump from to name)) live (dump_reply notes live from to name)
 unfolding dump_reply
 fair-dump notes live from to name =
     fair-if (can_dump live.machine from to) live _ _
     (fair-dump_after from to name (write_act (write_calls subject.Dump live.machine.time notes) name (dump_of live.machine from to) live.files) live)
     (fair-refused _ live)
 
-pub fair-effect : (limit : ℕ) (notes : List CommandNote) (live : Live) (r : Request) → Fair (LeavesTraces r) live (effect limit notes live r)
+pub fair-effect : (limit : ℕ) (notes : List CommandNote) (live : Live) (r : Request) → Fair (nature r).flushes (LeavesTraces r) live (effect limit notes live r)
 unfolding effect
 fair-effect limit notes live request.Nothing = fair-goes live live
 fair-effect limit notes live (request.Examine l) = fair-examine live l
@@ -455,5 +463,5 @@ does-exit limit notes live r (Err fault) at tells before after h = tt
 pub refusals-change-nothing : RefusalsChangeNothing
 refusals-change-nothing = record {
   untouched = λ limit notes live r fault h. (fair-effect limit notes live r).untouched fault h;
-  files = λ limit notes live r fault h none. (fair-effect limit notes live r).files fault h none;
+  all = λ limit notes live r fault h none. (fair-effect limit notes live r).all fault h none;
 }

@@ -1,4 +1,5 @@
 pub mod ReplyLemmas
+pub mod RemainLemmas
 pub mod RunLemmas
 pub mod StartLemmas
 pub mod ListLemmas
@@ -17,6 +18,7 @@ pub mod DetachLemmas
 pub mod AttachLemmas
 pub mod ObeyLemmas
 pub mod WholeLemmas
+pub mod OwnFileLemmas
 pub mod DoLemmas
 pub mod TapeLemmas
 pub mod ScriptLemmas
@@ -25,3 +27,8 @@ pub mod AskedLemmas
 pub mod PrintedLemmas
 pub mod QuotedLemmas
 pub mod WatchLines
+pub mod ValidWatch
+pub mod ValidFiles
+pub mod ValidMachines
+pub mod ValidCopies
+pub mod ValidEffect

@@ -22,7 +22,7 @@ use Rattle.scp_examine.specs.declared.fault.ExamineFault.{ExamineFault}
 use Rattle.scp_examine.specs.declared.fault.ExamineFault.TheVariants as list
 use Rattle.scp_examine.specs.Effect.{examine_fault, fault_of_deposit, tested}
 use Rattle.scp_commands.specs.declared.next.Next.TheVariants.{Go, Goto, Ran}
-use Rattle.scp_commands.specs.declared.fault.CommandFault.TheVariants.{Console, NoFile, FileTooLong, FileFailed, NotBuilt}
+use Rattle.scp_commands.specs.declared.fault.CommandFault.TheVariants.{Console, OutOfMemory, NoFile, FileTooLong, FileFailed, NotBuilt}
 use Rattle.scp_commands.specs.declared.fault.CommandFault.TheVariants.{LoadTruncated, LoadSum, PastMemory}
 use Rattle.scp_commands.specs.Live.{Live, Standing, standing}
 use Rattle.scp_commands.specs.Reply.{Answer, Reply, goes, refused}
@@ -133,6 +133,7 @@ keeps-none number time tells answer notes notes' state none own = record {
     cause (Err (LoadSum place)) own = tt
     cause (Err (PastMemory origin)) own = tt
     cause (Err Console) own = (ConsoleFault, refl)
+    cause (Err OutOfMemory) own = tt
     cause (Err fault) own = refl
     cause (Ok (Ran (FileFault f))) own = absurd own
     cause (Ok (Ran stop)) own = refl

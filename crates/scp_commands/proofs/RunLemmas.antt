@@ -65,15 +65,15 @@ met-byte : (time : ℕ) (f : UnitFault) → IsRunCall f.unit.kind f.call → met
 met-byte time f byte =
     ap (λ (b : Bool). if b then Some (record { time = time; note = record { unit = f.unit; failure = failure_in f } }) else None) (byte-call f.unit.kind f.call byte)
 
-last-call : (kind : Kind) (call : FileCall) → IsLastCall kind call → is_run_call kind call ≡ false
-last-call kind call.Closing last = refl
-last-call kind call.Write last = ap not last
-last-call kind call last = absurd last
+last-call : (written : Bool) (kind : Kind) (call : FileCall) → IsLastCall written kind call → is_run_call kind call ≡ false
+last-call written kind call.Closing last = refl
+last-call written kind call.Write last = ap not last.0
+last-call written kind call last = absurd last
 
 met-closing : (time : ℕ) (who : Subject) (f : Failure) (live : Live) (unit_is : IsLate live (record { time = time; subject = who; failure = f })) → met_by_run time who f ≡ None
 met-closing time who f live late =
     ap (λ (s : Subject). met_by_run time s f) late.subject_is
-    ∙ ap (λ (b : Bool). if b then Some (record { time = time; note = record { unit = late.unit; failure = f } }) else None) (last-call late.unit.kind f.call late.call)
+    ∙ ap (λ (b : Bool). if b then Some (record { time = time; note = record { unit = late.unit; failure = f } }) else None) (last-call live.machine.disk.written late.unit.kind f.call late.call)
 
 -- a closing that comes behind is no failure of the run
 closing-unmet : (live : Live) (behind : List CommandNote) → ComeBehind live behind → run_failure behind ≡ None

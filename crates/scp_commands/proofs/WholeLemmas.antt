@@ -37,9 +37,9 @@ use Rattle.scp_commands.specs.declared.fault.CommandFault.TheVariants.{OutOfMemo
 use Rattle.scp_commands.specs.Live.{Live, standing}
 use Rattle.scp_commands.specs.Reply.{Answer, Reply}
 use Rattle.scp_commands.specs.WholeCalls.{is_of_whole, whole_calls, write_calls, said_answer, whole_answer, wrote_answer, written_answer}
-use Rattle.scp_commands.specs.WholeCalls.{call_notes, both_notes, unless_memory, read_notes, write_notes}
-use Rattle.scp_commands.specs.Doing.{Does, Did, ComeBehind, IsStamped, IsClosingOf, AllClosings, FileCause, Keeps, IsPlain, IsOwn, IsExitAnswer}
-use Rattle.scp_commands.proofs.CloseLemmas.{said-append}
+use Rattle.scp_commands.specs.WholeCalls.{call_note, call_notes, both_notes, read_notes, write_notes}
+use Rattle.scp_commands.specs.Doing.{Does, Did, ComeBehind, IsStamped, IsClosingOf, AllClosings, FileCause, Keeps, IsShutNote, NotesRemain, IsPlain, IsOwn, IsExitAnswer}
+use Rattle.scp_commands.proofs.CloseLemmas.{said-append, refused-first}
 use Rattle.scp_commands.proofs.ReplyLemmas.{silent-does}
 
 -- ---- the calls that fail, as the command's own notes
@@ -181,30 +181,6 @@ both-said whose number time done None (Some c) = refl
 both-said whose number time done (Some f) None = refl
 both-said whose number time done (Some f) (Some c) = refl
 
--- the notes of a reading that were kept, unless memory ran out
-abbrev own_unless : Subject → ℕ → Whole → Result (Vec ℕ) WholeFault → List CommandNote
-own_unless whose time w (Err fault.OutOfMemory) = []
-own_unless whose time w bytes = own_both whose time 0 w.failed w.closing
-
-read-said : (whose : Subject) (number time : ℕ) (w : Whole)
-    → notes_said (read_notes whose (record { command = number; time = time }) w)
-    ≡ numbered number (own_unless whose time w w.bytes)
-read-said whose number time w = by-bytes w.bytes
-  where
-    stamp : Stamp
-    stamp = record { command = number; time = time }
-
-    both : notes_said (both_notes whose stamp 0 w.failed w.closing) ≡ numbered number (own_both whose time 0 w.failed w.closing)
-    both = both-said whose number time 0 w.failed w.closing
-
-    by-bytes : (bytes : Result (Vec ℕ) WholeFault)
-        → notes_said (unless_memory bytes (both_notes whose stamp 0 w.failed w.closing)) ≡ numbered number (own_unless whose time w bytes)
-    by-bytes (Ok v) = both
-    by-bytes (Err fault.NoFile) = both
-    by-bytes (Err fault.TooLong) = both
-    by-bytes (Err fault.Failed) = both
-    by-bytes (Err fault.OutOfMemory) = refl
-
 -- ---- what a reading comes to
 
 -- a command that reads a file, by what its bytes come to and what it leaves
@@ -234,10 +210,10 @@ read-did whose comes_to after number time new name files w answer tells text not
     subst (λ (a : Answer). Did (read_reply whose comes_to after time name files) number a new tells text text (notes_said notes) (notes_said notes'))
     (sym answered)
     (record {
-      own = own_unless whose time w w.bytes;
+      own = own;
       kept =
           ap notes_said kept ∙ said-append notes (read_notes whose (record { command = number; time = time }) w)
-          ∙ ap (λ (l : List Note). notes_said notes ++ l) (read-said whose number time w);
+          ∙ ap (λ (l : List Note). notes_said notes ++ l) (both-said whose number time 0 w.failed w.closing);
       does = λ behind come. by-bytes w.bytes left told behind come;
     })
   where
@@ -265,8 +241,8 @@ read-did whose comes_to after number time new name files w answer tells text not
     by-bytes : (bytes : Result (Vec ℕ) WholeFault) → IfSome (said_of_bytes bytes) (λ (said : WholeSaid). new ≡ after said)
         → IfSome (said_of_bytes bytes) (λ (said : WholeSaid). whole_act (claimed w) name files ≡ (said, length (claimed w)))
         → (behind : List CommandNote) → ComeBehind new behind
-        → Does (read_reply whose comes_to after time name files (own_unless whose time w bytes ++ behind))
-        (whole_answer whose comes_to bytes) (standing (length (own_unless whose time w bytes)) new) tells text text
+        → Does (read_reply whose comes_to after time name files (own ++ behind)) (whole_answer whose comes_to bytes)
+        (standing (length own) new) tells text text
     by-bytes (Ok v) left told behind come = does-said (WholeIs v.items) behind left told come
     by-bytes (Err fault.NoFile) left told behind come = does-said NotThere behind left told come
     by-bytes (Err fault.TooLong) left told behind come = does-said TooLong behind left told come
@@ -357,10 +333,6 @@ raised-on n before now (later, inr end) = (omega (arith, later), inr (omega (ari
 pub rose-by : (n before : ℕ) → RoseBy n before (raised_by n before)
 rose-by zero before = (omega arith, inl (omega arith))
 rose-by (suc n) before = raised-on n before (raised_by n before) (rose-by n before)
-
-rose-fewer : (m n before now : ℕ) → m ≤ n → RoseBy n before now → RoseBy m before now
-rose-fewer m n before now fewer (later, inl rise) = (later, inl (omega (arith, fewer, rise)))
-rose-fewer m n before now fewer (later, inr end) = (later, inr end)
 
 -- what is noted of a file is what is claimed of it
 call-noted : (whose : Subject) (stamp : Stamp) (done file : ℕ) (f : Option FailedCall) (more : List FaultNote)
@@ -506,19 +478,6 @@ both-counted whose stamp done missing failed closing old new shape early rises =
   possible = possible-both whose stamp done failed closing early;
 }
 
-none-counted : (missing : Bool) (failed closing : Option FailedCall) (old new : FileState) → Rises missing failed closing old new
-    → AreCounted [] old new
-none-counted missing failed closing old new rises = record {
-  files = λ file.
-      rose-fewer 0 (claims_of failed file + claims_of closing file) (old.faults file) (new.faults file) (omega arith)
-      (subst (λ (n : ℕ). RoseBy (claims_of failed file + claims_of closing file) (old.faults file) n) (sym (rises.counts file))
-      (rose-by (claims_of failed file + claims_of closing file) (old.faults file)));
-  openings =
-      rose-fewer 0 (one_if (claims.is_opening failed)) old.open_faults new.open_faults (omega arith)
-      (rose-opening (claims.is_opening failed) missing old.open_faults new.open_faults rises.openings);
-  possible = tt;
-}
-
 -- ---- the cause
 
 closings : (whose : Subject) (stamp : Stamp) (closing : Option FailedCall) → IsShut closing → AllClosings (call_notes whose stamp 0 closing)
@@ -570,7 +529,7 @@ read-cause whose stamp tells comes_to w old new takes shape rises =
     by-bytes : (bytes : Result (Vec ℕ) WholeFault) (failed closing : Option FailedCall) → is_some failed ≡ is_failed bytes
         → IsClaimed failed closing → (bytes ≡ Err fault.NoFile → closing ≡ None)
         → new.open_faults ≡ (if claims.is_opening failed || (is_missing bytes && not tells) then raised old.open_faults else old.open_faults)
-        → FileCause stamp tells (whole_answer whose comes_to bytes) (unless_memory bytes (both_notes whose stamp 0 failed closing)) old new
+        → FileCause stamp tells (whole_answer whose comes_to bytes) (both_notes whose stamp 0 failed closing) old new
     by-bytes (Ok v) None closing is claims missing opens =
         takes v.items (call_notes whose stamp 0 closing) (closings whose stamp closing claims.shut)
     by-bytes (Ok v) (Some f) closing is claims missing opens = absurd (cc)
@@ -581,8 +540,9 @@ read-cause whose stamp tells comes_to w old new takes shape rises =
     by-bytes (Err fault.TooLong) (Some f) closing is claims missing opens = absurd (cc)
     by-bytes (Err fault.Failed) None closing is claims missing opens = absurd (cc)
     by-bytes (Err fault.Failed) (Some f) closing is claims missing opens =
-        ((refl, no-closing f claims.early), closings-of whose stamp closing claims.shut)
-    by-bytes (Err fault.OutOfMemory) failed closing is claims missing opens = refl
+        refused-first whose (call_note whose stamp 0 f) (call_notes whose stamp 0 closing) (refl, no-closing f claims.early) (closings-of whose stamp closing claims.shut)
+    by-bytes (Err fault.OutOfMemory) None closing is claims missing opens = closings whose stamp closing claims.shut
+    by-bytes (Err fault.OutOfMemory) (Some f) closing is claims missing opens = absurd (cc)
 
 pub read-keeps : (whose : Subject) (number time : ℕ) (tells : Bool) (comes_to : List ℕ → Answer) (w : Whole) (answer : Answer)
     (notes notes' : List FaultNote) (old new : FileState)
@@ -593,11 +553,9 @@ pub read-keeps : (whose : Subject) (number time : ℕ) (tells : Bool) (comes_to 
 read-keeps whose number time tells comes_to w answer notes notes' old new takes answered shape rises noted = record {
   kept = read_notes whose stamp w;
   added = noted;
-  few = by-bytes (λ (l : List FaultNote). length l ≤ 16) w.bytes (omega arith) (few-both whose stamp 0 w.failed w.closing);
-  stamped = by-bytes (AllByRecursion (IsStamped number time)) w.bytes tt (stamped-both whose number time 0 w.failed w.closing);
-  counted =
-      by-bytes (λ (l : List FaultNote). AreCounted l old new) w.bytes (none-counted _ w.failed w.closing old new rises)
-      (both-counted whose stamp 0 _ w.failed w.closing old new (read-claims w shape) (possible-read whose w.failed) rises);
+  few = few-both whose stamp 0 w.failed w.closing;
+  stamped = stamped-both whose number time 0 w.failed w.closing;
+  counted = both-counted whose stamp 0 _ w.failed w.closing old new (read-claims w shape) (possible-read whose w.failed) rises;
   cause =
       subst (λ (a : Answer). FileCause stamp tells a (read_notes whose stamp w) old new) (sym answered)
       (read-cause whose stamp tells comes_to w old new takes shape rises);
@@ -605,14 +563,6 @@ read-keeps whose number time tells comes_to w answer notes notes' old new takes 
   where
     stamp : Stamp
     stamp = record { command = number; time = time }
-
-    by-bytes : (P : List FaultNote → Type 0) (bytes : Result (Vec ℕ) WholeFault) → P [] → P (both_notes whose stamp 0 w.failed w.closing)
-        → P (unless_memory bytes (both_notes whose stamp 0 w.failed w.closing))
-    by-bytes P (Ok v) none both = both
-    by-bytes P (Err fault.NoFile) none both = both
-    by-bytes P (Err fault.TooLong) none both = both
-    by-bytes P (Err fault.Failed) none both = both
-    by-bytes P (Err fault.OutOfMemory) none both = none
 
 write-cause : (whose : Subject) (stamp : Stamp) (tells : Bool) (piece : List ℕ) (w : Written) (old new : FileState)
     → HasWriteShape piece w → Rises (is_unmade w.answer && not tells) w.failed w.closing old new
@@ -632,8 +582,8 @@ write-cause whose stamp tells piece w old new shape rises =
     by-answer (Err fault.TooLong) failed closing is claims un fits opens = absurd (fits refl)
     by-answer (Err fault.Failed) None closing is claims un fits opens = absurd (cc)
     by-answer (Err fault.Failed) (Some f) closing is claims un fits opens =
-        ((refl, no-closing f claims.early), closings-of whose stamp closing claims.shut)
-    by-answer (Err fault.OutOfMemory) None closing is claims un fits opens = ap (call_notes whose stamp 0) (un tt)
+        refused-first whose (call_note whose stamp w.done f) (call_notes whose stamp 0 closing) (refl, no-closing f claims.early) (closings-of whose stamp closing claims.shut)
+    by-answer (Err fault.OutOfMemory) None closing is claims un fits opens = closings whose stamp closing claims.shut
     by-answer (Err fault.OutOfMemory) (Some f) closing is claims un fits opens = absurd (cc)
 
 pub write-keeps : (whose : Subject) (number time : ℕ) (tells : Bool) (piece : List ℕ) (w : Written) (answer : Answer)
@@ -659,17 +609,28 @@ write-keeps whose number time tells piece w answer notes notes' old new answered
 
 -- ---- memory ran out, and other answers
 
-pub none-read : (whose : Subject) (stamp : Stamp) (comes_to : List ℕ → Answer) (w : Whole) → ((bytes : List ℕ) → IsPlain (comes_to bytes))
-    → whole_answer whose comes_to w.bytes ≡ Err OutOfMemory → read_notes whose stamp w ≡ []
-none-read whose stamp comes_to w plain is = by-bytes w.bytes is
+-- the notes of a reading for which memory ran out are of its closing
+pub short-read : (whose : Subject) (number time : ℕ) (comes_to : List ℕ → Answer) (w : Whole) (notes notes' : List FaultNote)
+    → ((bytes : List ℕ) → IsPlain (comes_to bytes)) → whole_answer whose comes_to w.bytes ≡ Err OutOfMemory → HasShape w
+    → notes' ≡ notes ++ read_notes whose (record { command = number; time = time }) w → NotesRemain (Some whose) number time notes notes'
+short-read whose number time comes_to w notes notes' plain is shape noted =
+    (read_notes whose stamp w, noted, by-bytes w.bytes w.failed w.closing is shape.failed (read-claims w shape).shut)
   where
-    by-bytes : (bytes : Result (Vec ℕ) WholeFault) → whole_answer whose comes_to bytes ≡ Err OutOfMemory
-        → unless_memory bytes (both_notes whose stamp 0 w.failed w.closing) ≡ []
-    by-bytes (Ok v) is = absurd (subst IsPlain is (plain v.items))
-    by-bytes (Err fault.NoFile) is = absurd (cc)
-    by-bytes (Err fault.TooLong) is = absurd (cc)
-    by-bytes (Err fault.Failed) is = absurd (cc)
-    by-bytes (Err fault.OutOfMemory) is = refl
+    stamp : Stamp
+    stamp = record { command = number; time = time }
+
+    shut : (closing : Option FailedCall) → IsShut closing → AllByRecursion (IsShutNote whose number time) (call_notes whose stamp 0 closing)
+    shut None has = tt
+    shut (Some c) has = (((refl, refl), (refl, has.0)), tt)
+
+    by-bytes : (bytes : Result (Vec ℕ) WholeFault) (failed closing : Option FailedCall) → whole_answer whose comes_to bytes ≡ Err OutOfMemory
+        → is_some failed ≡ is_failed bytes → IsShut closing → AllByRecursion (IsShutNote whose number time) (both_notes whose stamp 0 failed closing)
+    by-bytes (Ok v) failed closing is some has = absurd (subst IsPlain is (plain v.items))
+    by-bytes (Err fault.NoFile) failed closing is some has = absurd (cc)
+    by-bytes (Err fault.TooLong) failed closing is some has = absurd (cc)
+    by-bytes (Err fault.Failed) failed closing is some has = absurd (cc)
+    by-bytes (Err fault.OutOfMemory) None closing is some has = shut closing has
+    by-bytes (Err fault.OutOfMemory) (Some f) closing is some has = absurd (cc)
 
 pub none-written : (whose : Subject) (stamp : Stamp) (piece : List ℕ) (w : Written) → HasWriteShape piece w
     → written_answer whose w.answer ≡ Err OutOfMemory → (write_notes whose stamp w ≡ []) × WasNotOpened w.answer

@@ -16,14 +16,15 @@ use Rattle.unit_files.specs.Attachments.{Held, attachment_at, is_disk}
 use Rattle.file_commands.specs.declared.note.Subject.{Subject}
 use Rattle.file_commands.specs.declared.note.Subject.TheVariants as subject
 use Rattle.file_commands.specs.declared.note.FaultNote.{FaultNote}
-use Rattle.file_commands.specs.Notes.{CommandNote, Note, numbered}
+use Rattle.file_commands.specs.Notes.{CommandNote, Note, numbered, notes_said}
 use Rattle.file_commands.specs.Counts.{AreCounted}
+use Rattle.file_commands.specs.OwnFiles.{AreOwn}
 use Rattle.file_commands.specs.declared.stamp.Stamp.{Stamp}
 use Rattle.file_commands.specs.Kept.{fault_note}
 use Rattle.file_commands.specs.AllUnits.{attachable}
 use Rattle.nova_machine.specs.declared.machine.Stop.{Stop}
 use Rattle.nova_machine.specs.declared.machine.Stop.TheVariants.{ConsoleFault, FileFault}
-use Rattle.nova_machine.specs.Comes.{AreFree, FileCause as StopCause}
+use Rattle.nova_machine.specs.Comes.{AreFree, AreTold, FileCause as StopCause}
 use Rattle.nova_machine.specs.Wants.{HasUnit}
 use Rattle.nova_machine.specs.Seen.{attached_in}
 use Rattle.scp_parser.specs.Command.{Request, Attach, Detach, Exit as ExitRequest}
@@ -31,9 +32,10 @@ use Rattle.scp_commands.specs.declared.next.Next.{Next}
 use Rattle.scp_commands.specs.declared.next.Next.TheVariants.{Exit, Ran}
 use Rattle.scp_commands.specs.declared.fault.CommandFault.TheVariants.{Console, OutOfMemory, NoFile, FileTooLong, FileFailed}
 use Rattle.scp_commands.specs.declared.fault.CommandFault.TheVariants.{LoadTruncated, LoadSum, PastMemory}
-use Rattle.scp_commands.specs.Live.{Live, Standing, standing, CommandState}
+use Rattle.scp_commands.specs.Live.{Live, Standing, standing, CommandState, live_in}
 use Rattle.scp_commands.specs.Nature.{Telling, nature}
 use Rattle.scp_commands.specs.Nature.Telling.{Nothing, Attached, Named}
+use Rattle.scp_commands.specs.Remains.{Remains, AreLeft}
 use Rattle.scp_commands.specs.Reply.{Answer, Reply, bare_answer}
 use Rattle.scp_commands.specs.FileEffects.{emptied_all, emptied_live}
 
@@ -65,18 +67,18 @@ Does reply answer at tells before after = (bare_answer answer ≡ reply.answer) 
 
 -- ---- the notes of a command
 
--- the calls by which a unit loses its file: a closing, or a write of what the disk holds
-abbrev pub IsLastCall : Kind → FileCall → Type 0
-IsLastCall kind Closing = Unit {0}
-IsLastCall kind Write = is_disk kind ≡ true
-IsLastCall kind call = ⊥
+-- the calls by which a unit loses its file: a closing, or a write of what the disk holds, where a sector of that was written
+abbrev pub IsLastCall : Bool → Kind → FileCall → Type 0
+IsLastCall written kind Closing = Unit {0}
+IsLastCall written kind Write = (is_disk kind ≡ true) × (written ≡ true)
+IsLastCall written kind call = ⊥
 
 -- a note of such a call on a file that is still attached where a command has left off
 pub record IsLate (live : Live) (n : CommandNote) : Type 0 where
   pub unit : UnitName
   pub subject_is : n.subject ≡ subject.Unit unit
   pub among : IsTrue (list_any (λ u. same_unit u unit) attachable)
-  pub call : IsLastCall unit.kind n.failure.call
+  pub call : IsLastCall live.machine.disk.written unit.kind n.failure.call
   pub there : IsTrue (is_some (attachment_at (attached_in live.machine) unit))
 
 -- Notes that may come behind a command's own under its number: where the session ends with it, the units lose their files
@@ -109,14 +111,20 @@ IsRefusalOf who n = (n.subject ≡ who) × (n.call ≡ Closing → ⊥)
 abbrev pub IsClosingOf : Subject → FaultNote → Type 0
 IsClosingOf who n = (n.subject ≡ who) × (n.call ≡ Closing)
 
--- the note of the call for which it was refused is the first, and behind it may come those of closings
-abbrev pub AreRefusalOf : Subject → List FaultNote → Type 0
-AreRefusalOf who [] = ⊥
-AreRefusalOf who (n ∷ notes) = IsRefusalOf who n × AllByRecursion (IsClosingOf who) notes
-
 -- notes of closings, if there are any
 abbrev pub AllClosings : List FaultNote → Type 0
 AllClosings notes = AllByRecursion (λ (n : FaultNote). n.call ≡ Closing) notes
+
+-- Exactly one note is that of the call for which it was refused, wherever it stands. All others are of closings, and those
+-- behind it of that subject.
+pub record AreRefusalOf (who : Subject) (notes : List FaultNote) : Type 0 where
+  pub before : List FaultNote
+  pub own : FaultNote
+  pub behind : List FaultNote
+  pub are : notes ≡ before ++ own ∷ behind
+  pub refused : IsRefusalOf who own
+  pub earlier : AllClosings before
+  pub later : AllByRecursion (IsClosingOf who) behind
 
 -- the notes that are kept for a stop
 abbrev pub stop_notes : Stamp → Stop → List FaultNote
@@ -124,10 +132,10 @@ stop_notes stamp (FileFault f) = fault_note stamp f ∷ []
 stop_notes stamp stop = []
 
 -- Why an answer comes, by the notes that were kept. A file was missing only where none was kept and, if names are not told,
--- the count of openings rose. A call on a file failed only where its note is the first. A run keeps the note of the call
--- for which it stopped, if it did for one, also where the console refused a byte of the stop's text. What was done
--- otherwise, a file that is too long, and a tape with a fault have only notes of closings, and what was refused otherwise
--- has none.
+-- the count of openings rose. A call on a file failed only where exactly one note is of that call. A run keeps the note of the
+-- call for which it stopped, if it did for one, also where the console refused a byte of the stop's text. What was done
+-- otherwise, a file that is too long, a tape with a fault and want of memory have only notes of closings, and what was refused
+-- otherwise has none.
 abbrev pub FileCause : Stamp → Bool → Answer → List FaultNote → FileState → FileState → Type 0
 FileCause stamp tells (Err NoFile) kept old new = (kept ≡ []) × ((IsTrue tells → ⊥) → Rose old.open_faults new.open_faults)
 FileCause stamp tells (Err (FileFailed who)) kept old new = AreRefusalOf who kept
@@ -135,6 +143,7 @@ FileCause stamp tells (Err FileTooLong) kept old new = AllClosings kept
 FileCause stamp tells (Err (LoadTruncated place)) kept old new = AllClosings kept
 FileCause stamp tells (Err (LoadSum place)) kept old new = AllClosings kept
 FileCause stamp tells (Err (PastMemory origin)) kept old new = AllClosings kept
+FileCause stamp tells (Err OutOfMemory) kept old new = AllClosings kept
 FileCause stamp tells (Err Console) kept old new = (stop : Stop) × (kept ≡ stop_notes stamp stop)
 FileCause stamp tells (Err fault) kept old new = kept ≡ []
 FileCause stamp tells (Ok (Ran stop)) kept old new = kept ≡ stop_notes stamp stop
@@ -216,6 +225,27 @@ AttachNote (Attach option unit name) (Err (FileFailed who)) stamp notes notes' o
     (f : UnitFault) × (who ≡ subject.Unit unit) × (notes' ≡ notes ++ fault_note stamp f ∷ []) × IsNewFault f unit old new
 AttachNote request answer stamp notes notes' old new = Unit {0}
 
+-- the status of an exit is 0 to 99
+abbrev pub IsExitAnswer : Answer → Type 0
+IsExitAnswer (Ok (Exit status)) = status ≤ 99
+IsExitAnswer answer = Unit {0}
+
+-- what a command that runs promises
+pub record RunDone (reply : List CommandNote → Reply) (answer : Answer) (old new : CommandState) (files files' : FileState) (named tells : Bool) (before after : List ℕ) (sink sink_now : ℕ) : Type 0 where
+  pub told : AreTold named old.machine.slots
+      → Did reply old.command answer (live_in new files'.files) tells before after (notes_said old.notes) (notes_said new.notes)
+  pub keeps : Keeps old.command new.machine.time named answer old.notes new.notes files files'
+  pub whose : AreOwn old.machine.slots new.machine.slots old.notes new.notes files files'
+  pub keys : new.keys ≡ old.keys
+  pub limit : new.limit ≡ old.limit
+  pub command : new.command ≡ old.command
+  pub slots : new.machine.slots ≡ old.machine.slots
+  pub opened : files'.opened ≡ files.opened
+  pub counts : ConsoleCounts answer sink sink_now
+  pub ran : RunCause answer old.machine.slots files files'
+  pub own : IsRunAnswer answer
+  pub exit : IsExitAnswer answer
+
 -- ---- want of memory
 
 -- memory may be wanted where the room of 16 notes is not there yet, and by a command that takes some of its own
@@ -229,15 +259,25 @@ MayWant spare request = want_by (nature request).takes_memory spare
 -- Whether it is said of all files that they are as they were: behind a command that was reading one, only where files are
 -- told.
 abbrev pub says_files : Bool → Request → Bool
-says_files tells request = if (nature request).reads_whole then tells else true
+says_files tells request = if is_some (nature request).reads_whole then tells else true
 
--- nothing was done
-pub record IsUndone (says : Bool) (old new : CommandState) (before after : List ℕ) (files files' : FileState) : Type 0 where
-  pub machine : new.machine ≡ old.machine
-  pub watch : new.watch ≡ old.watch
-  pub notes : new.notes ≡ old.notes
+-- a note of a closing of that subject, in the command with that number, at that time
+abbrev pub IsShutNote : Subject → ℕ → ℕ → FaultNote → Type 0
+IsShutNote who number time n = IsStamped number time n × IsClosingOf who n
+
+-- The notes that a command leaves for which memory ran out: those that were there, and behind them, where it was reading a file
+-- whole, those of its closing.
+abbrev pub NotesRemain : Option Subject → ℕ → ℕ → List FaultNote → List FaultNote → Type 0
+NotesRemain None number time notes notes' = notes' ≡ notes
+NotesRemain (Some who) number time notes notes' =
+    (kept : List FaultNote) × (notes' ≡ notes ++ kept) × AllByRecursion (IsShutNote who number time) kept
+
+-- nothing was done, but that a command may have flushed the disk, or closed the file that it was reading
+pub record IsUndone (flushes : Bool) (reads : Option Subject) (says : Bool) (old new : CommandState) (before after : List ℕ) (files files' : FileState) : Type 0 where
+  pub left : AreLeft flushes old new
+  pub notes : NotesRemain reads old.command old.machine.time old.notes new.notes
   pub written : after ≡ before
-  pub files_are : IsTrue says → files'.files ≡ files.files
+  pub live : IsTrue says → Remains flushes (live_in old files.files) (live_in new files'.files)
 
 -- ---- the end of the input
 
@@ -250,11 +290,6 @@ pub record Closes (number : ℕ) (live new : Live) (keeper : Option UnitName) (n
   pub keeps : (emptied_all own live).kept ≡ keeper
   pub after : new ≡ emptied_live (emptied_all own live) live
   pub behind : ComeBehind live own
-
--- the status of an exit is 0 to 99
-abbrev pub IsExitAnswer : Answer → Type 0
-IsExitAnswer (Ok (Exit status)) = status ≤ 99
-IsExitAnswer answer = Unit {0}
 
 -- what a function answers that prints and then has that to say
 abbrev pub told_or_console : {T E : Type 0} → Result T E → Next → Answer

@@ -4,7 +4,7 @@ use Rattle.unit_trait.specs.declared.kind.Kind.{Kind}
 use Rattle.unit_trait.specs.declared.kind.UnitName.{UnitName}
 use Rattle.unit_trait.specs.Kinds.{code_of, unit_name}
 use Rattle.unit_trait.specs.Calls.{UnitState}
-use Rattle.unit_trait.specs.Registers.{position_number}
+use Rattle.unit_trait.specs.Registers.{pos_number, drive_pos_number}
 use Rattle.unit_list.specs.Bus.{unit_at, with_register_in}
 use Rattle.unit_files.specs.declared.modes.AttachMode.{AttachMode}
 use Rattle.unit_files.specs.declared.modes.AttachMode.TheVariants.{Any, MustExist, New, ReadOnly as Reading}
@@ -58,7 +58,11 @@ first_place kind count = if only_writes kind then count else 0
 abbrev pub has_position : Kind → Bool
 has_position kind = is_tape kind || is_paper kind
 
--- the units, where POS of a unit holds a place
+-- the number of the register that says where a unit is in its file: POS, and POS0 to POS7 of the eight drives
+abbrev pub position_number : UnitName → ℕ
+position_number unit = if is_tape unit.kind then drive_pos_number unit.unit else pos_number
+
+-- the units, where that register of a unit holds a place
 abbrev pub positioned : UnitName → ℕ → List UnitState → List UnitState
 positioned unit place units = if has_position unit.kind then with_register_in unit.kind (position_number unit) place units else units
 

@@ -15,6 +15,7 @@ use Rattle.scp_commands.specs.declared.fault.CommandFault.{CommandFault}
 use Rattle.scp_commands.specs.declared.fault.CommandFault.TheVariants.{FileFailed}
 use Rattle.scp_commands.specs.Live.{Live, with_machine}
 use Rattle.scp_commands.specs.Nature.{nature}
+use Rattle.scp_commands.specs.Remains.{MachineRemains, Remains}
 use Rattle.scp_commands.specs.Reply.{Reply}
 use Rattle.scp_commands.specs.RunEffects.{address_fits, starting_at, running}
 use Rattle.scp_commands.specs.Effect.{effect}
@@ -30,21 +31,22 @@ traces_by false fault = ⊥
 abbrev pub LeavesTraces : Request → CommandFault → Type 0
 LeavesTraces request fault = traces_by (nature request).leaves_part fault
 
--- it has printed nothing, and changed nothing but files
-pub record IsUntouched (live : Live) (reply : Reply) : Type 0 where
-  pub machine : reply.after.live.machine ≡ live.machine
+-- it has printed nothing, and changed nothing but files, and the mark of a disk that was flushed
+pub record IsUntouched (flushes : Bool) (live : Live) (reply : Reply) : Type 0 where
+  pub machine : MachineRemains flushes live.machine reply.after.live.machine
   pub watch : reply.after.live.watch ≡ live.watch
   pub keys : reply.after.live.keys ≡ live.keys
   pub text : reply.made ≡ []
 
--- a command that is refused prints nothing and leaves all as it was, but for those that may leave something behind, and
--- these in files alone
+-- A command that is refused prints nothing and leaves all as it was, but for those that may leave something behind, and
+-- these in files alone. One that flushes the disk may have done that.
 pub record RefusalsChangeNothing : Type 0 where
   pub untouched : (limit : ℕ) (notes : List CommandNote) (live : Live) (request : Request) (fault : CommandFault)
-      → (effect limit notes live request).answer ≡ Err fault → IsUntouched live (effect limit notes live request)
-  pub files : (limit : ℕ) (notes : List CommandNote) (live : Live) (request : Request) (fault : CommandFault)
+      → (effect limit notes live request).answer ≡ Err fault
+      → IsUntouched (nature request).flushes live (effect limit notes live request)
+  pub all : (limit : ℕ) (notes : List CommandNote) (live : Live) (request : Request) (fault : CommandFault)
       → (effect limit notes live request).answer ≡ Err fault → (LeavesTraces request fault → ⊥)
-      → (effect limit notes live request).after.live.files ≡ live.files
+      → Remains (nature request).flushes live (effect limit notes live request).after.live
 
 -- A machine behind a reset: interrupts are off, none waits for an instruction, and none is masked out; each unit is reset,
 -- and the events are those that the units' resets wish, in bus order, and no others. The processor with its memory, the

@@ -16,7 +16,9 @@ pub mod SetEffects
 pub mod Unbuilt
 pub mod Effect
 pub mod Nature
+pub mod Remains
 pub mod Refusals
 pub mod Doing
 pub mod Parts
 pub mod Laws
+pub mod Valid

@@ -1,5 +1,7 @@
 -- What each command is by nature. A command that joins names itself here, and what is said of every command follows.
-use Rattle.std.specs.Prelude.{Bool, true, false}
+use Rattle.std.specs.Prelude.{Bool, true, false, Option, Some, None}
+use Rattle.file_commands.specs.declared.note.Subject.{Subject}
+use Rattle.file_commands.specs.declared.note.Subject.TheVariants as subject
 use Rattle.scp_parser.specs.Command.{Request, Run, Go, Cont, Step, Break, Expect, Attach, Detach, Load, Dump, Do, Exit}
 
 -- what of files has to be told, so that all that a command does is
@@ -15,26 +17,34 @@ pub record Nature : Type 0 where
   pub telling : Telling
   -- It takes memory of its own, beside the room for notes.
   pub takes_memory : Bool
-  -- It reads a file whole, and is within that where memory runs out.
-  pub reads_whole : Bool
+  -- It reads a file whole, of that subject, and is within that where memory runs out.
+  pub reads_whole : Option Subject
   -- A call on a file that failed may leave a part of its work in that file.
   pub leaves_part : Bool
+  -- It writes what the disk holds of its file back before its own work, and that stays done where it is refused, or where
+  -- memory runs out.
+  pub flushes : Bool
 
-abbrev pub of_nature : Telling → Bool → Bool → Bool → Nature
-of_nature telling takes_memory reads_whole leaves_part =
-    record { telling = telling; takes_memory = takes_memory; reads_whole = reads_whole; leaves_part = leaves_part }
+abbrev pub of_nature : Telling → Bool → Option Subject → Bool → Bool → Nature
+of_nature telling takes_memory reads_whole leaves_part flushes = record {
+  telling = telling;
+  takes_memory = takes_memory;
+  reads_whole = reads_whole;
+  leaves_part = leaves_part;
+  flushes = flushes;
+}
 
 abbrev pub nature : Request → Nature
-nature (Attach option unit name) = of_nature Named true false true
-nature (Do echo strict name arguments) = of_nature Named true true false
-nature (Load name) = of_nature Named true true false
-nature (Dump from to name) = of_nature Named true false true
-nature (Run address) = of_nature Attached false false false
-nature (Go address) = of_nature Attached false false false
-nature Cont = of_nature Attached false false false
-nature (Step count) = of_nature Attached false false false
-nature (Break at count actions) = of_nature Nothing true false false
-nature (Expect count text actions) = of_nature Nothing true false false
-nature (Detach unit) = of_nature Nothing false false true
-nature (Exit status) = of_nature Nothing false false true
-nature request = of_nature Nothing false false false
+nature (Attach option unit name) = of_nature Named true None true false
+nature (Do echo strict name arguments) = of_nature Named true (Some subject.Script) false false
+nature (Load name) = of_nature Named true (Some subject.Load) false false
+nature (Dump from to name) = of_nature Named true None true false
+nature (Run address) = of_nature Attached false None false false
+nature (Go address) = of_nature Attached false None false false
+nature Cont = of_nature Attached false None false false
+nature (Step count) = of_nature Attached false None false false
+nature (Break at count actions) = of_nature Nothing true None false false
+nature (Expect count text actions) = of_nature Nothing true None false false
+nature (Detach unit) = of_nature Nothing false None true false
+nature (Exit status) = of_nature Nothing false None true false
+nature request = of_nature Nothing false None false false

@@ -61,22 +61,20 @@ written_answer whose (Err why) = Err (whole_fault whose why)
 -- ---- the notes that are kept
 
 -- the note of a call that failed, which had written so many bytes
+abbrev pub call_note : Subject → Stamp → ℕ → FailedCall → FaultNote
+call_note whose stamp done f =
+    record { command = stamp.command; time = stamp.time; subject = whose; file = f.file; call = f.call; done = done }
+
 abbrev pub call_notes : Subject → Stamp → ℕ → Option FailedCall → List FaultNote
 call_notes whose stamp done None = []
-call_notes whose stamp done (Some f) =
-    record { command = stamp.command; time = stamp.time; subject = whose; file = f.file; call = f.call; done = done } ∷ []
+call_notes whose stamp done (Some f) = call_note whose stamp done f ∷ []
 
 -- those of a file, of which one call may have failed before the closing
 abbrev pub both_notes : Subject → Stamp → ℕ → Option FailedCall → Option FailedCall → List FaultNote
 both_notes whose stamp done failed closing = call_notes whose stamp done failed ++ call_notes whose stamp 0 closing
 
--- where memory ran out, no note is kept
-abbrev pub unless_memory : Result (Vec ℕ) WholeFault → List FaultNote → List FaultNote
-unless_memory (Err fault.OutOfMemory) notes = []
-unless_memory bytes notes = notes
-
 abbrev pub read_notes : Subject → Stamp → Whole → List FaultNote
-read_notes whose stamp w = unless_memory w.bytes (both_notes whose stamp 0 w.failed w.closing)
+read_notes whose stamp w = both_notes whose stamp 0 w.failed w.closing
 
 abbrev pub write_notes : Subject → Stamp → Written → List FaultNote
 write_notes whose stamp w = both_notes whose stamp w.done w.failed w.closing

@@ -1,8 +1,9 @@
 // DO.
-ghost use Rattle.std.specs.Prelude.{◌≡◌, ◌≤◌, ◌^◌, ℕ, Bool, List, IsTrue, IfOk, Err, length};
+ghost use Rattle.std.specs.Prelude.{◌≡◌, ◌≤◌, ◌^◌, ℕ, Bool, List, false, Some, IsTrue, IfOk, Err, length};
 ghost use Rattle.host_files.specs.State.{Opened};
 ghost use Rattle.unit_files.specs.Open.{AllOpen, Around};
 ghost use Rattle.file_commands.specs.declared.note.Subject.TheVariants.{Script};
+ghost use Rattle.file_commands.specs.OwnFiles.{AreOwn};
 ghost use Rattle.file_commands.specs.Notes.{notes_said};
 ghost use Rattle.scp_commands.specs.declared.fault.CommandFault.TheVariants.{OutOfMemory};
 ghost use Rattle.scp_commands.specs.Live.{live_in};
@@ -26,7 +27,7 @@ use whole_files::{WholeFault, read_file};
 ///
 /// `NoFile` comes where there is no such file, `FileTooLong` where it is longer than 1048576 bytes, `FileFailed` where
 /// its opening, its length or a read failed, and `OutOfMemory` where there is no memory for it. Each call that failed
-/// is noted, the closing too, but with `OutOfMemory`, where nothing is.
+/// is noted, the closing too.
 #[tactic(auto, unfolding(whole_files::specs::Whole::longest_file))]
 pub fn do_script<U: Unit, F: Files>(
     alloc: Global,
@@ -45,9 +46,11 @@ pub fn do_script<U: Unit, F: Files>(
         session.old.command result (live_in session.new (F.state files.new).files) tells text text
         (notes_said session.old.notes) (notes_said session.new.notes) }
     ensures undone { (text : List ℕ) → result ≡ Err OutOfMemory
-        → IsUndone F.tells session.old session.new text text (F.state files.old) (F.state files.new) }
+        → IsUndone false (Some Script) F.tells session.old session.new text text (F.state files.old) (F.state files.new) }
     ensures keeps { Keeps session.old.command session.new.machine.time F.tells result session.old.notes
         session.new.notes (F.state files.old) (F.state files.new) }
+    ensures whose { AreOwn session.old.machine.slots session.new.machine.slots session.old.notes session.new.notes
+        (F.state files.old) (F.state files.new) }
     ensures own { IsOwn result }
     ensures exit { IsExitAnswer result }
     ensures watch { session.new.watch ≡ session.old.watch }

@@ -1,8 +1,9 @@
 // DUMP.
-ghost use Rattle.std.specs.Prelude.{◌≡◌, ◌≤◌, ◌<◌, ◌^◌, ℕ, Bool, true, List, IsTrue, Err};
+ghost use Rattle.std.specs.Prelude.{length, ◌≡◌, ◌≤◌, ◌<◌, ◌^◌, ℕ, Bool, true, List, false, None, IsTrue, Err};
 ghost use Rattle.host_files.specs.State.{Opened};
 ghost use Rattle.unit_files.specs.Open.{AllOpen, Around};
 ghost use Rattle.file_commands.specs.declared.note.Subject.TheVariants.{Dump as of_dump};
+ghost use Rattle.file_commands.specs.OwnFiles.{AreOwn};
 ghost use Rattle.file_commands.specs.Notes.{notes_said};
 ghost use Rattle.whole_files.specs.Writing.{write_act};
 ghost use Rattle.scp_commands.specs.declared.fault.CommandFault.TheVariants.{OutOfMemory};
@@ -52,11 +53,13 @@ pub fn dump_file<U: Unit, F: Files>(
         session.old.command result (live_in session.new (F.state files.new).files) tells text text
         (notes_said session.old.notes) (notes_said session.new.notes) }
     ensures undone { (text : List ℕ) → result ≡ Err OutOfMemory
-        → IsUndone true session.old session.new text text (F.state files.old) (F.state files.new) }
+        → IsUndone false None true session.old session.new text text (F.state files.old) (F.state files.new) }
     ensures unrefused { result ≡ Err OutOfMemory
         → IsUnrefused (Dump from to name.now) session.old.machine session.old.watch }
     ensures keeps { Keeps session.old.command session.new.machine.time F.tells result session.old.notes
         session.new.notes (F.state files.old) (F.state files.new) }
+    ensures whose { AreOwn session.old.machine.slots session.new.machine.slots session.old.notes session.new.notes
+        (F.state files.old) (F.state files.new) }
     ensures own { IsOwn result }
     ensures exit { IsExitAnswer result }
     ensures watch { session.new.watch ≡ session.old.watch }
@@ -106,6 +109,7 @@ fn write_tape<U: Unit, F: Files>(
     files: &mut F,
 ) -> Result<Next, CommandFault>
     requires room { 16 ≤ session.old.spare }
+    requires size { length tape.now ≤ 77830 }
     requires open { AllOpen session.old.machine.slots (F.state files.old).opened }
     ensures refused { IsRefused result
         → (session.new.machine ≡ session.old.machine) × (session.new.watch ≡ session.old.watch) }
@@ -115,9 +119,11 @@ fn write_tape<U: Unit, F: Files>(
         session.old.command result (live_in session.new (F.state files.new).files) tells text text
         (notes_said session.old.notes) (notes_said session.new.notes) }
     ensures undone { (text : List ℕ) → result ≡ Err OutOfMemory
-        → IsUndone true session.old session.new text text (F.state files.old) (F.state files.new) }
+        → IsUndone false None true session.old session.new text text (F.state files.old) (F.state files.new) }
     ensures keeps { Keeps session.old.command session.new.machine.time F.tells result session.old.notes
         session.new.notes (F.state files.old) (F.state files.new) }
+    ensures whose { AreOwn session.old.machine.slots session.new.machine.slots session.old.notes session.new.notes
+        (F.state files.old) (F.state files.new) }
     ensures own { IsOwn result }
     ensures exit { IsExitAnswer result }
     ensures watch { session.new.watch ≡ session.old.watch }

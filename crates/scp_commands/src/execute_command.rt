@@ -1,12 +1,15 @@
 ghost use Rattle.std.specs.Prelude.{◌≡◌, ◌≢◌, ◌≤◌, List, Ok, Err};
 ghost use Rattle.host_files.specs.State.{Opened};
 ghost use Rattle.unit_files.specs.Open.{AllOpen, Around};
+ghost use Rattle.file_commands.specs.OwnFiles.{AreOwn};
 ghost use Rattle.file_commands.specs.Notes.{notes_said};
 ghost use Rattle.nova_machine.specs.declared.machine.Stop.TheVariants.{ConsoleFault};
 ghost use Rattle.scp_commands.specs.declared.next.Next.TheVariants.{Ran};
 ghost use Rattle.scp_commands.specs.declared.fault.CommandFault.TheVariants.{OutOfMemory};
 ghost use Rattle.scp_commands.specs.Live.{live_in};
 ghost use Rattle.scp_commands.specs.Effect.{effect};
+ghost use Rattle.scp_commands.specs.Nature.{nature};
+ghost use Rattle.scp_commands.specs.Remains.{AreLeft};
 ghost use Rattle.scp_commands.specs.Parts.{IsPastRuns, IsPastSettings, IsPastWatches};
 ghost use Rattle.scp_commands.specs.Refusals.{IsUnrefused};
 ghost use Rattle.scp_commands.specs.Doing.{Did, IsTold, Keeps, ConsoleCounts, MayWant, IsUndone, says_files, IsExitAnswer, RunCause, IsRefusal, AttachNote};
@@ -38,7 +41,8 @@ use unit_trait::Unit;
 /// their file, and DUMP may have written a first part of it; who called prints the text of its fault. `Console` means
 /// that the console refused a byte, also within a run: what comes before it was printed, and the session stands as it
 /// did when that byte was to be printed. `OutOfMemory` means that nothing was done: it comes where the room for 16
-/// notes can't be taken, and from BREAK, EXPECT, ATTACH, DO, LOAD and DUMP.
+/// notes can't be taken, and from BREAK, EXPECT, ATTACH, DO, LOAD and DUMP. A closing that fails then in DO or LOAD is
+/// noted.
 pub fn execute<U: Unit, F: Files, S: Sink>(
     alloc: Global,
     session: &mut Session<U>,
@@ -48,18 +52,21 @@ pub fn execute<U: Unit, F: Files, S: Sink>(
 ) -> Result<Next, CommandFault>
     requires open { AllOpen session.old.machine.slots (F.state files.old).opened }
     ensures refused { IsRefusal command.now result
-        → (session.new.machine ≡ session.old.machine) × (session.new.watch ≡ session.old.watch) }
+        → AreLeft (nature command.now).flushes session.old session.new }
     ensures told { IsTold F.tells session.old.machine.slots command.now
         → Did (λ notes. effect session.old.limit notes (live_in session.old (F.state files.old).files) command.now)
         session.old.command result (live_in session.new (F.state files.new).files) S.tells (S.written out.old)
         (S.written out.new) (notes_said session.old.notes) (notes_said session.new.notes) }
-    ensures undone { result ≡ Err OutOfMemory → IsUndone (says_files F.tells command.now) session.old session.new
-        (S.written out.old) (S.written out.new) (F.state files.old) (F.state files.new) }
+    ensures undone { result ≡ Err OutOfMemory → IsUndone (nature command.now).flushes (nature command.now).reads_whole
+        (says_files F.tells command.now) session.old session.new (S.written out.old) (S.written out.new)
+        (F.state files.old) (F.state files.new) }
     ensures want { result ≡ Err OutOfMemory → MayWant session.old.spare command.now }
     ensures unrefused { result ≡ Err OutOfMemory → 16 ≤ session.old.spare
         → IsUnrefused command.now session.old.machine session.old.watch }
     ensures keeps { Keeps session.old.command session.new.machine.time F.tells result session.old.notes
         session.new.notes (F.state files.old) (F.state files.new) }
+    ensures whose { AreOwn session.old.machine.slots session.new.machine.slots session.old.notes session.new.notes
+        (F.state files.old) (F.state files.new) }
     ensures keys { session.new.keys ≡ session.old.keys }
     ensures limit { session.new.limit ≡ session.old.limit }
     ensures command { session.new.command ≡ session.old.command }
@@ -81,7 +88,7 @@ pub fn execute<U: Unit, F: Files, S: Sink>(
 }
 
 // The same, where there is room for the notes.
-#[tactic(auto, unfolding(crate::specs::Effect::effect))]
+#[tactic(auto, using(crate::proofs::RemainLemmas::leaves, file_commands::proofs::OwnFiles::unused), unfolding(crate::specs::Effect::effect))]
 fn obey<U: Unit, F: Files, S: Sink>(
     alloc: Global,
     session: &mut Session<U>,
@@ -92,18 +99,21 @@ fn obey<U: Unit, F: Files, S: Sink>(
     requires room { 16 ≤ session.old.spare }
     requires open { AllOpen session.old.machine.slots (F.state files.old).opened }
     ensures refused { IsRefusal command.now result
-        → (session.new.machine ≡ session.old.machine) × (session.new.watch ≡ session.old.watch) }
+        → AreLeft (nature command.now).flushes session.old session.new }
     ensures told { IsTold F.tells session.old.machine.slots command.now
         → Did (λ notes. effect session.old.limit notes (live_in session.old (F.state files.old).files) command.now)
         session.old.command result (live_in session.new (F.state files.new).files) S.tells (S.written out.old)
         (S.written out.new) (notes_said session.old.notes) (notes_said session.new.notes) }
-    ensures undone { result ≡ Err OutOfMemory → IsUndone (says_files F.tells command.now) session.old session.new
-        (S.written out.old) (S.written out.new) (F.state files.old) (F.state files.new) }
+    ensures undone { result ≡ Err OutOfMemory → IsUndone (nature command.now).flushes (nature command.now).reads_whole
+        (says_files F.tells command.now) session.old session.new (S.written out.old) (S.written out.new)
+        (F.state files.old) (F.state files.new) }
     ensures want { result ≡ Err OutOfMemory → MayWant 16 command.now }
     ensures unrefused { result ≡ Err OutOfMemory
         → IsUnrefused command.now session.old.machine session.old.watch }
     ensures keeps { Keeps session.old.command session.new.machine.time F.tells result session.old.notes
         session.new.notes (F.state files.old) (F.state files.new) }
+    ensures whose { AreOwn session.old.machine.slots session.new.machine.slots session.old.notes session.new.notes
+        (F.state files.old) (F.state files.new) }
     ensures keys { session.new.keys ≡ session.old.keys }
     ensures limit { session.new.limit ≡ session.old.limit }
     ensures command { session.new.command ≡ session.old.command }
@@ -130,7 +140,7 @@ fn obey<U: Unit, F: Files, S: Sink>(
 }
 
 // The same of all commands but lists and runs.
-#[tactic(auto, unfolding(crate::specs::Effect::effect))]
+#[tactic(auto, using(crate::proofs::RemainLemmas::leaves, file_commands::proofs::OwnFiles::unused), unfolding(crate::specs::Effect::effect))]
 fn obey_setting<U: Unit, F: Files, S: Sink>(
     alloc: Global,
     session: &mut Session<U>,
@@ -142,18 +152,21 @@ fn obey_setting<U: Unit, F: Files, S: Sink>(
     requires open { AllOpen session.old.machine.slots (F.state files.old).opened }
     requires part { IsPastRuns command.now }
     ensures refused { IsRefusal command.now result
-        → (session.new.machine ≡ session.old.machine) × (session.new.watch ≡ session.old.watch) }
+        → AreLeft (nature command.now).flushes session.old session.new }
     ensures told { IsTold F.tells session.old.machine.slots command.now
         → Did (λ notes. effect session.old.limit notes (live_in session.old (F.state files.old).files) command.now)
         session.old.command result (live_in session.new (F.state files.new).files) S.tells (S.written out.old)
         (S.written out.new) (notes_said session.old.notes) (notes_said session.new.notes) }
-    ensures undone { result ≡ Err OutOfMemory → IsUndone (says_files F.tells command.now) session.old session.new
-        (S.written out.old) (S.written out.new) (F.state files.old) (F.state files.new) }
+    ensures undone { result ≡ Err OutOfMemory → IsUndone (nature command.now).flushes (nature command.now).reads_whole
+        (says_files F.tells command.now) session.old session.new (S.written out.old) (S.written out.new)
+        (F.state files.old) (F.state files.new) }
     ensures want { result ≡ Err OutOfMemory → MayWant 16 command.now }
     ensures unrefused { result ≡ Err OutOfMemory
         → IsUnrefused command.now session.old.machine session.old.watch }
     ensures keeps { Keeps session.old.command session.new.machine.time F.tells result session.old.notes
         session.new.notes (F.state files.old) (F.state files.new) }
+    ensures whose { AreOwn session.old.machine.slots session.new.machine.slots session.old.notes session.new.notes
+        (F.state files.old) (F.state files.new) }
     ensures keys { session.new.keys ≡ session.old.keys }
     ensures limit { session.new.limit ≡ session.old.limit }
     ensures command { session.new.command ≡ session.old.command }
@@ -181,7 +194,7 @@ fn obey_setting<U: Unit, F: Files, S: Sink>(
 }
 
 // The same of all commands but these, and those that set, show, test or print something.
-#[tactic(auto, unfolding(crate::specs::Effect::effect))]
+#[tactic(auto, using(crate::proofs::RemainLemmas::leaves, file_commands::proofs::OwnFiles::unused), unfolding(crate::specs::Effect::effect))]
 fn obey_watch<U: Unit, F: Files, S: Sink>(
     alloc: Global,
     session: &mut Session<U>,
@@ -193,18 +206,21 @@ fn obey_watch<U: Unit, F: Files, S: Sink>(
     requires open { AllOpen session.old.machine.slots (F.state files.old).opened }
     requires part { IsPastSettings command.now }
     ensures refused { IsRefusal command.now result
-        → (session.new.machine ≡ session.old.machine) × (session.new.watch ≡ session.old.watch) }
+        → AreLeft (nature command.now).flushes session.old session.new }
     ensures told { IsTold F.tells session.old.machine.slots command.now
         → Did (λ notes. effect session.old.limit notes (live_in session.old (F.state files.old).files) command.now)
         session.old.command result (live_in session.new (F.state files.new).files) S.tells (S.written out.old)
         (S.written out.new) (notes_said session.old.notes) (notes_said session.new.notes) }
-    ensures undone { result ≡ Err OutOfMemory → IsUndone (says_files F.tells command.now) session.old session.new
-        (S.written out.old) (S.written out.new) (F.state files.old) (F.state files.new) }
+    ensures undone { result ≡ Err OutOfMemory → IsUndone (nature command.now).flushes (nature command.now).reads_whole
+        (says_files F.tells command.now) session.old session.new (S.written out.old) (S.written out.new)
+        (F.state files.old) (F.state files.new) }
     ensures want { result ≡ Err OutOfMemory → MayWant 16 command.now }
     ensures unrefused { result ≡ Err OutOfMemory
         → IsUnrefused command.now session.old.machine session.old.watch }
     ensures keeps { Keeps session.old.command session.new.machine.time F.tells result session.old.notes
         session.new.notes (F.state files.old) (F.state files.new) }
+    ensures whose { AreOwn session.old.machine.slots session.new.machine.slots session.old.notes session.new.notes
+        (F.state files.old) (F.state files.new) }
     ensures keys { session.new.keys ≡ session.old.keys }
     ensures limit { session.new.limit ≡ session.old.limit }
     ensures command { session.new.command ≡ session.old.command }
@@ -233,7 +249,7 @@ fn obey_watch<U: Unit, F: Files, S: Sink>(
 }
 
 // The same of the commands that work with files, and of those that are not built.
-#[tactic(auto, unfolding(crate::specs::Effect::effect))]
+#[tactic(auto, using(crate::proofs::RemainLemmas::leaves, file_commands::proofs::OwnFiles::unused), unfolding(crate::specs::Effect::effect))]
 fn obey_file<U: Unit, F: Files, S: Sink>(
     alloc: Global,
     session: &mut Session<U>,
@@ -245,18 +261,21 @@ fn obey_file<U: Unit, F: Files, S: Sink>(
     requires open { AllOpen session.old.machine.slots (F.state files.old).opened }
     requires part { IsPastWatches command.now }
     ensures refused { IsRefusal command.now result
-        → (session.new.machine ≡ session.old.machine) × (session.new.watch ≡ session.old.watch) }
+        → AreLeft (nature command.now).flushes session.old session.new }
     ensures told { IsTold F.tells session.old.machine.slots command.now
         → Did (λ notes. effect session.old.limit notes (live_in session.old (F.state files.old).files) command.now)
         session.old.command result (live_in session.new (F.state files.new).files) S.tells (S.written out.old)
         (S.written out.new) (notes_said session.old.notes) (notes_said session.new.notes) }
-    ensures undone { result ≡ Err OutOfMemory → IsUndone (says_files F.tells command.now) session.old session.new
-        (S.written out.old) (S.written out.new) (F.state files.old) (F.state files.new) }
+    ensures undone { result ≡ Err OutOfMemory → IsUndone (nature command.now).flushes (nature command.now).reads_whole
+        (says_files F.tells command.now) session.old session.new (S.written out.old) (S.written out.new)
+        (F.state files.old) (F.state files.new) }
     ensures want { result ≡ Err OutOfMemory → MayWant 16 command.now }
     ensures unrefused { result ≡ Err OutOfMemory
         → IsUnrefused command.now session.old.machine session.old.watch }
     ensures keeps { Keeps session.old.command session.new.machine.time F.tells result session.old.notes
         session.new.notes (F.state files.old) (F.state files.new) }
+    ensures whose { AreOwn session.old.machine.slots session.new.machine.slots session.old.notes session.new.notes
+        (F.state files.old) (F.state files.new) }
     ensures keys { session.new.keys ≡ session.old.keys }
     ensures limit { session.new.limit ≡ session.old.limit }
     ensures command { session.new.command ≡ session.old.command }

@@ -1,4 +1,5 @@
 ghost use Rattle.scp_commands.specs.QuotedText.{QuotedTextsReadBack};
+ghost use Rattle.scp_commands.specs.Valid.{CommandsKeepStates};
 ghost use Rattle.scp_commands.specs.Laws.{RefusalsChangeNothing, ResetsLeaveTheProgram, SetCpuLeavesTheRest};
 
 /// The law that a command that is refused prints nothing and leaves the machine, the breaks, the expects, the sent
@@ -24,4 +25,11 @@ pub fn set_cpu_leaves_the_rest()
 /// The law that what SHOW EXPECT prints of a text reads as that text.
 pub fn quoted_texts_read_back()
     ensures { QuotedTextsReadBack }
+{}
+
+/// The law of what every state is that commands work on: a command leaves such a state, each of its texts comes in one,
+/// and a script that it has read is of bytes. What the disk holds of its file is what is in it, where nothing is to be
+/// written back, as long as nothing else has changed that file.
+pub fn commands_keep_states()
+    ensures { CommandsKeepStates }
 {}

@@ -33,8 +33,8 @@ pub use execute_command::execute;
 pub use fault::CommandFault;
 pub use file_commands::{FaultNote, Subject};
 pub use laws::{
-    quoted_texts_read_back, refusals_change_nothing, resets_leave_the_program,
-    set_cpu_leaves_the_rest,
+    commands_keep_states, quoted_texts_read_back, refusals_change_nothing,
+    resets_leave_the_program, set_cpu_leaves_the_rest,
 };
 pub use next::Next;
 pub use session::Session;

@@ -1,8 +1,9 @@
 // LOAD.
-ghost use Rattle.std.specs.Prelude.{◌≡◌, ◌≤◌, ℕ, Bool, List, IsTrue, Err};
+ghost use Rattle.std.specs.Prelude.{◌≡◌, ◌≤◌, ℕ, Bool, List, false, Some, IsTrue, Err};
 ghost use Rattle.host_files.specs.State.{Opened};
 ghost use Rattle.unit_files.specs.Open.{AllOpen, Around};
 ghost use Rattle.file_commands.specs.declared.note.Subject.TheVariants.{Load as of_load};
+ghost use Rattle.file_commands.specs.OwnFiles.{AreOwn};
 ghost use Rattle.file_commands.specs.Notes.{notes_said};
 ghost use Rattle.scp_commands.specs.declared.fault.CommandFault.TheVariants.{OutOfMemory};
 ghost use Rattle.scp_commands.specs.Live.{live_in};
@@ -31,7 +32,7 @@ use whole_files::{WholeFault, read_file};
 /// `NoFile` comes where there is no such file, `FileTooLong` where it is longer than 1048576 bytes, `FileFailed` where
 /// its opening, its length or a read failed, `OutOfMemory` where there is no memory for it, and `LoadTruncated`,
 /// `LoadSum` and `PastMemory` where the tape has a fault; the machine has not changed then. Each call that failed is
-/// noted, the closing too, but with `OutOfMemory`, where nothing is.
+/// noted, the closing too.
 pub fn load_file<U: Unit, F: Files>(
     alloc: Global,
     session: &mut Session<U>,
@@ -47,9 +48,11 @@ pub fn load_file<U: Unit, F: Files>(
         session.old.command result (live_in session.new (F.state files.new).files) tells text text
         (notes_said session.old.notes) (notes_said session.new.notes) }
     ensures undone { (text : List ℕ) → result ≡ Err OutOfMemory
-        → IsUndone F.tells session.old session.new text text (F.state files.old) (F.state files.new) }
+        → IsUndone false (Some of_load) F.tells session.old session.new text text (F.state files.old) (F.state files.new) }
     ensures keeps { Keeps session.old.command session.new.machine.time F.tells result session.old.notes
         session.new.notes (F.state files.old) (F.state files.new) }
+    ensures whose { AreOwn session.old.machine.slots session.new.machine.slots session.old.notes session.new.notes
+        (F.state files.old) (F.state files.new) }
     ensures own { IsOwn result }
     ensures exit { IsExitAnswer result }
     ensures watch { session.new.watch ≡ session.old.watch }

@@ -10,8 +10,8 @@ ghost use Rattle.nova_machine.specs.Machine.{reset_machine};
 ghost use Rattle.scp_commands.specs.Live.{live_in, standing};
 ghost use Rattle.scp_commands.specs.RunEffects.{address_fits, starting_at, reset_where, running, run_from};
 ghost use Rattle.scp_commands.specs.RunEffects.{stepped, step_of, run_failure, ran, reset_reply};
-ghost use Rattle.scp_commands.specs.Doing.{Did, Does, Keeps, ConsoleCounts, RunCause, IsRefused};
-ghost use Rattle.scp_commands.specs.Doing.{IsPlain, IsRunAnswer, IsExitAnswer, stop_notes};
+ghost use Rattle.scp_commands.specs.Doing.{Does, IsRefused};
+ghost use Rattle.scp_commands.specs.Doing.{IsPlain, IsExitAnswer, stop_notes, RunDone};
 
 use crate::counts::is_count;
 use crate::fault::CommandFault;
@@ -40,21 +40,10 @@ pub fn run_from<U: Unit, F: Files, S: Sink>(
     requires open { AllOpen session.old.machine.slots (F.state files.old).opened }
     ensures refused { IsRefused result
         → (session.new.machine ≡ session.old.machine) × (session.new.watch ≡ session.old.watch) }
-    ensures told { AreTold F.tells session.old.machine.slots → Did
-        (λ notes. run_from session.old.limit notes resets address (live_in session.old (F.state files.old).files))
-        session.old.command result (live_in session.new (F.state files.new).files) S.tells (S.written out.old)
-        (S.written out.new) (notes_said session.old.notes) (notes_said session.new.notes) }
-    ensures keeps { Keeps session.old.command session.new.machine.time F.tells result session.old.notes
-        session.new.notes (F.state files.old) (F.state files.new) }
-    ensures keys { session.new.keys ≡ session.old.keys }
-    ensures limit { session.new.limit ≡ session.old.limit }
-    ensures command { session.new.command ≡ session.old.command }
-    ensures slots { session.new.machine.slots ≡ session.old.machine.slots }
-    ensures opened { (F.state files.new).opened ≡ (F.state files.old).opened }
-    ensures counts { ConsoleCounts result (S.fault_count out.old) (S.fault_count out.new) }
-    ensures ran { RunCause result session.old.machine.slots (F.state files.old) (F.state files.new) }
-    ensures own { IsRunAnswer result }
-    ensures exit { IsExitAnswer result }
+    ensures done { RunDone
+        (λ notes. run_from session.old.limit notes resets address (live_in session.old (F.state files.old).files)) result
+        session.old session.new (F.state files.old) (F.state files.new) F.tells S.tells (S.written out.old)
+        (S.written out.new) (S.fault_count out.old) (S.fault_count out.new) }
 {
     if !address_fits(address) {
         return Err(CommandFault::OutOfRange);
@@ -112,21 +101,10 @@ pub fn run<U: Unit, F: Files, S: Sink>(
     requires room { 16 ≤ session.old.spare }
     requires open { AllOpen session.old.machine.slots (F.state files.old).opened }
     ensures never { IsRefused result → ⊥ }
-    ensures told { AreTold F.tells session.old.machine.slots → Did
-        (λ notes. running session.old.limit notes (live_in session.old (F.state files.old).files))
-        session.old.command result (live_in session.new (F.state files.new).files) S.tells (S.written out.old)
-        (S.written out.new) (notes_said session.old.notes) (notes_said session.new.notes) }
-    ensures keeps { Keeps session.old.command session.new.machine.time F.tells result session.old.notes
-        session.new.notes (F.state files.old) (F.state files.new) }
-    ensures keys { session.new.keys ≡ session.old.keys }
-    ensures limit { session.new.limit ≡ session.old.limit }
-    ensures command { session.new.command ≡ session.old.command }
-    ensures slots { session.new.machine.slots ≡ session.old.machine.slots }
-    ensures opened { (F.state files.new).opened ≡ (F.state files.old).opened }
-    ensures counts { ConsoleCounts result (S.fault_count out.old) (S.fault_count out.new) }
-    ensures ran { RunCause result session.old.machine.slots (F.state files.old) (F.state files.new) }
-    ensures own { IsRunAnswer result }
-    ensures exit { IsExitAnswer result }
+    ensures done { RunDone
+        (λ notes. running session.old.limit notes (live_in session.old (F.state files.old).files)) result
+        session.old session.new (F.state files.old) (F.state files.new) F.tells S.tells (S.written out.old)
+        (S.written out.new) (S.fault_count out.old) (S.fault_count out.new) }
 {
     let limit = RunLimit {
         count: session.limit,
@@ -147,21 +125,10 @@ pub fn step<U: Unit, F: Files, S: Sink>(
     requires open { AllOpen session.old.machine.slots (F.state files.old).opened }
     ensures refused { IsRefused result
         → (session.new.machine ≡ session.old.machine) × (session.new.watch ≡ session.old.watch) }
-    ensures told { AreTold F.tells session.old.machine.slots → Did
-        (λ notes. step_of session.old.limit notes count (live_in session.old (F.state files.old).files))
-        session.old.command result (live_in session.new (F.state files.new).files) S.tells (S.written out.old)
-        (S.written out.new) (notes_said session.old.notes) (notes_said session.new.notes) }
-    ensures keeps { Keeps session.old.command session.new.machine.time F.tells result session.old.notes
-        session.new.notes (F.state files.old) (F.state files.new) }
-    ensures keys { session.new.keys ≡ session.old.keys }
-    ensures limit { session.new.limit ≡ session.old.limit }
-    ensures command { session.new.command ≡ session.old.command }
-    ensures slots { session.new.machine.slots ≡ session.old.machine.slots }
-    ensures opened { (F.state files.new).opened ≡ (F.state files.old).opened }
-    ensures counts { ConsoleCounts result (S.fault_count out.old) (S.fault_count out.new) }
-    ensures ran { RunCause result session.old.machine.slots (F.state files.old) (F.state files.new) }
-    ensures own { IsRunAnswer result }
-    ensures exit { IsExitAnswer result }
+    ensures done { RunDone
+        (λ notes. step_of session.old.limit notes count (live_in session.old (F.state files.old).files)) result
+        session.old session.new (F.state files.old) (F.state files.new) F.tells S.tells (S.written out.old)
+        (S.written out.new) (S.fault_count out.old) (S.fault_count out.new) }
 {
     if is_count(count) {
         step_by(session, count, files, out)
@@ -180,21 +147,10 @@ fn step_by<U: Unit, F: Files, S: Sink>(
     requires room { 16 ≤ session.old.spare }
     requires open { AllOpen session.old.machine.slots (F.state files.old).opened }
     ensures never { IsRefused result → ⊥ }
-    ensures told { AreTold F.tells session.old.machine.slots → Did
-        (λ notes. stepped session.old.limit notes count (live_in session.old (F.state files.old).files))
-        session.old.command result (live_in session.new (F.state files.new).files) S.tells (S.written out.old)
-        (S.written out.new) (notes_said session.old.notes) (notes_said session.new.notes) }
-    ensures keeps { Keeps session.old.command session.new.machine.time F.tells result session.old.notes
-        session.new.notes (F.state files.old) (F.state files.new) }
-    ensures keys { session.new.keys ≡ session.old.keys }
-    ensures limit { session.new.limit ≡ session.old.limit }
-    ensures command { session.new.command ≡ session.old.command }
-    ensures slots { session.new.machine.slots ≡ session.old.machine.slots }
-    ensures opened { (F.state files.new).opened ≡ (F.state files.old).opened }
-    ensures counts { ConsoleCounts result (S.fault_count out.old) (S.fault_count out.new) }
-    ensures ran { RunCause result session.old.machine.slots (F.state files.old) (F.state files.new) }
-    ensures own { IsRunAnswer result }
-    ensures exit { IsExitAnswer result }
+    ensures done { RunDone
+        (λ notes. stepped session.old.limit notes count (live_in session.old (F.state files.old).files)) result
+        session.old session.new (F.state files.old) (F.state files.new) F.tells S.tells (S.written out.old)
+        (S.written out.new) (S.fault_count out.old) (S.fault_count out.new) }
 {
     let limit = RunLimit {
         count: count.min(session.limit),
@@ -214,21 +170,10 @@ fn run_up_to<U: Unit, F: Files, S: Sink>(
     requires room { 16 ≤ session.old.spare }
     requires open { AllOpen session.old.machine.slots (F.state files.old).opened }
     ensures never { IsRefused result → ⊥ }
-    ensures told { AreTold F.tells session.old.machine.slots → Did
-        (λ notes. ran (run (run_failure notes) limit.step limit.count (live_in session.old (F.state files.old).files)))
-        session.old.command result (live_in session.new (F.state files.new).files) S.tells (S.written out.old)
-        (S.written out.new) (notes_said session.old.notes) (notes_said session.new.notes) }
-    ensures keeps { Keeps session.old.command session.new.machine.time F.tells result session.old.notes
-        session.new.notes (F.state files.old) (F.state files.new) }
-    ensures keys { session.new.keys ≡ session.old.keys }
-    ensures limit { session.new.limit ≡ session.old.limit }
-    ensures command { session.new.command ≡ session.old.command }
-    ensures slots { session.new.machine.slots ≡ session.old.machine.slots }
-    ensures opened { (F.state files.new).opened ≡ (F.state files.old).opened }
-    ensures counts { ConsoleCounts result (S.fault_count out.old) (S.fault_count out.new) }
-    ensures ran { RunCause result session.old.machine.slots (F.state files.old) (F.state files.new) }
-    ensures own { IsRunAnswer result }
-    ensures exit { IsExitAnswer result }
+    ensures done { RunDone
+        (λ notes. ran (run (run_failure notes) limit.step limit.count (live_in session.old (F.state files.old).files))) result
+        session.old session.new (F.state files.old) (F.state files.new) F.tells S.tells (S.written out.old)
+        (S.written out.new) (S.fault_count out.old) (S.fault_count out.new) }
 {
     let stop = session
         .machine

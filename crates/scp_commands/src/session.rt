@@ -25,8 +25,7 @@ pub struct Session<U: Unit> {
     pub keys: Keys,
     /// How many instructions a run may execute, from 1 to 2^48.
     pub limit: u64,
-    /// The calls on files that failed, in order, but for the closing that a refused ATTACH makes, and that of a script
-    /// for which memory ran out.
+    /// The calls on files that failed, in order, but for the closing that a refused ATTACH makes.
     pub notes: Vec<FaultNote>,
     /// How many units of the budget are spent, those of the command that is done included.
     pub command: u64,
@@ -53,6 +52,7 @@ impl<U: Unit> Session<U> {
     ghost use Rattle.scp_commands.specs.Live.{CommandState, live_in};
     ghost use Rattle.scp_commands.specs.FileEffects.{kept_answer};
     ghost use Rattle.file_commands.specs.AllUnits.{keeper, IsUnwritten};
+    ghost use Rattle.file_commands.specs.OwnFiles.{AreOwn};
     ghost use Rattle.scp_commands.specs.Doing.{Closes, Keeps};
     ghost use Rattle.scp_commands.specs.declared.next.Next.TheVariants.{Go};
 
@@ -108,6 +108,8 @@ impl<U: Unit> Session<U> {
         ensures keeps { Keeps self.old.command self.new.machine.time F.tells (kept_answer (keeper result) Go)
             self.old.notes self.new.notes (F.state files.old) (F.state files.new) }
         ensures cause { OnErr result (IsUnwritten self.new.machine.slots self.new.notes (F.state files.old) (F.state files.new)) }
+        ensures whose { AreOwn self.old.machine.slots self.new.machine.slots self.old.notes self.new.notes
+            (F.state files.old) (F.state files.new) }
         ensures watch { self.new.watch ≡ self.old.watch }
         ensures keys { self.new.keys ≡ self.old.keys }
         ensures limit { self.new.limit ≡ self.old.limit }

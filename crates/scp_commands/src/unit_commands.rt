@@ -1,10 +1,11 @@
 // ATTACH and DETACH.
-ghost use Rattle.std.specs.Prelude.{◌≡◌, ◌≤◌, ◌<◌, ◌^◌, ℕ, Bool, true, List, IsTrue, IfSome, is_some, Err};
+ghost use Rattle.std.specs.Prelude.{◌≡◌, ◌≤◌, ◌<◌, ◌^◌, ℕ, Bool, true, List, false, None, IsTrue, IfSome, is_some, Err};
 ghost use Rattle.host_files.specs.State.{Opened};
 ghost use Rattle.unit_trait.specs.Kinds.{units_of, code_of};
 ghost use Rattle.unit_list.specs.Bus.{unit_at};
 ghost use Rattle.unit_files.specs.Attachments.{IsFileName, is_paper};
 ghost use Rattle.unit_files.specs.Open.{AllOpen, Around};
+ghost use Rattle.file_commands.specs.OwnFiles.{AreOwn};
 ghost use Rattle.file_commands.specs.Notes.{notes_said};
 ghost use Rattle.scp_commands.specs.declared.fault.CommandFault.TheVariants.{OutOfMemory};
 ghost use Rattle.scp_commands.specs.Live.{live_in};
@@ -22,7 +23,7 @@ use host_files::Files;
 use nova_machine::Machine;
 use std::alloc::Global;
 use unit_files::{AttachMode, DetachFault};
-use unit_trait::{Kind, Unit, UnitName, position_register};
+use unit_trait::{Kind, POS, POS0, Unit, UnitName};
 
 /// ATTACH opens a file for a unit, and sets POS to the place where the unit goes on in it. It prints nothing.
 #[tactic(auto, unfolding(crate::specs::FileEffects::attach_reply))]
@@ -45,11 +46,13 @@ pub fn attach<U: Unit, F: Files>(
         session.old.command result (live_in session.new (F.state files.new).files) tells text text
         (notes_said session.old.notes) (notes_said session.new.notes) }
     ensures undone { (text : List ℕ) → result ≡ Err OutOfMemory
-        → IsUndone true session.old session.new text text (F.state files.old) (F.state files.new) }
+        → IsUndone false None true session.old session.new text text (F.state files.old) (F.state files.new) }
     ensures unrefused { result ≡ Err OutOfMemory
         → IsUnrefused (Attach option unit name.now) session.old.machine session.old.watch }
     ensures keeps { Keeps session.old.command session.new.machine.time F.tells result session.old.notes
         session.new.notes (F.state files.old) (F.state files.new) }
+    ensures whose { AreOwn session.old.machine.slots session.new.machine.slots session.old.notes session.new.notes
+        (F.state files.old) (F.state files.new) }
     ensures note { AttachNote (Attach option unit name.now) result
         (record { command = session.old.command; time = session.old.machine.time }) session.old.notes session.new.notes
         (F.state files.old) (F.state files.new) }
@@ -103,6 +106,8 @@ pub fn detach_one_or_every<U: Unit, F: Files>(
         (notes_said session.old.notes) (notes_said session.new.notes) }
     ensures keeps { Keeps session.old.command session.new.machine.time F.tells result session.old.notes
         session.new.notes (F.state files.old) (F.state files.new) }
+    ensures whose { AreOwn session.old.machine.slots session.new.machine.slots session.old.notes session.new.notes
+        (F.state files.old) (F.state files.new) }
     ensures own { IsPlain result }
     ensures exit { IsExitAnswer result }
     ensures watch { session.new.watch ≡ session.old.watch }
@@ -137,6 +142,8 @@ fn detach<U: Unit, F: Files>(
         (notes_said session.old.notes) (notes_said session.new.notes) }
     ensures keeps { Keeps session.old.command session.new.machine.time F.tells result session.old.notes
         session.new.notes (F.state files.old) (F.state files.new) }
+    ensures whose { AreOwn session.old.machine.slots session.new.machine.slots session.old.notes session.new.notes
+        (F.state files.old) (F.state files.new) }
     ensures own { IsPlain result }
     ensures exit { IsExitAnswer result }
     ensures watch { session.new.watch ≡ session.old.watch }
@@ -179,6 +186,8 @@ fn detach_every<U: Unit, F: Files>(
         (notes_said session.old.notes) (notes_said session.new.notes) }
     ensures keeps { Keeps session.old.command session.new.machine.time F.tells result session.old.notes
         session.new.notes (F.state files.old) (F.state files.new) }
+    ensures whose { AreOwn session.old.machine.slots session.new.machine.slots session.old.notes session.new.notes
+        (F.state files.old) (F.state files.new) }
     ensures own { IsPlain result }
     ensures exit { IsExitAnswer result }
     ensures watch { session.new.watch ≡ session.old.watch }
@@ -238,9 +247,11 @@ fn set_position<U: Unit>(machine: &mut Machine<U>, unit: UnitName, place: u64)
     ensures { machine.new ≡ record machine.old { units = positioned unit place machine.old.units } }
 {
     match unit.kind {
-        Kind::Mta | Kind::Lpt | Kind::Ptr | Kind::Ptp => {
-            let position = position_register(unit);
-            let _fits = machine.set_unit_reg(unit.kind, position, place as u32);
+        Kind::Mta => {
+            let _fits = machine.set_unit_reg(Kind::Mta, POS0 + unit.unit, place as u32);
+        }
+        Kind::Lpt | Kind::Ptr | Kind::Ptp => {
+            let _fits = machine.set_unit_reg(unit.kind, POS, place as u32);
         }
         _ => {}
     }

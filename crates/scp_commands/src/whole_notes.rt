@@ -3,21 +3,16 @@ ghost use Rattle.std.specs.Prelude.{◌≡◌, ◌≤◌, ◌+◌, ◌++◌, vec
 ghost use Rattle.scp_commands.specs.WholeCalls.{call_notes, read_notes, write_notes};
 
 use file_commands::{FaultNote, Stamp, Subject, keep};
-use whole_files::{FailedCall, Whole, WholeFault, Written};
+use whole_files::{FailedCall, Whole, Written};
 
-/// Notes the calls of a reading that failed, but where memory ran out.
+/// Notes the calls of a reading that failed.
 pub fn note_reading(notes: &mut Vec<FaultNote>, whose: Subject, whole: &Whole, stamp: Stamp)
     requires { vec_len notes.old + 2 ≤ vec_capacity notes.old }
     ensures notes { notes.new.items ≡ notes.old.items ++ read_notes whose stamp whole.now }
     ensures capacity { vec_capacity notes.old ≤ vec_capacity notes.new }
 {
-    match &whole.bytes {
-        Err(WholeFault::OutOfMemory) => (),
-        _ => {
-            note_call(notes, whose, 0, whole.failed, stamp);
-            note_call(notes, whose, 0, whole.closing, stamp);
-        }
-    }
+    note_call(notes, whose, 0, whole.failed, stamp);
+    note_call(notes, whose, 0, whole.closing, stamp);
 }
 
 /// Notes the calls of a writing that failed.

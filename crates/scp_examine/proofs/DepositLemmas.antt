@@ -1,10 +1,10 @@
 -- A DEPOSIT without a fault puts its value into the listed places, and changes no other.
 use Rattle.std.proofs.Common.{◌≡◌, ◌⊎◌, inl, inr, ℕ, ◌+◌, ◌-◌, ◌^◌, ◌<◌, ◌≤◌, zero, suc, Bool, true, false, cond, ◌&&◌, nat_le, nat_lt, List, [], ◌∷◌, ◌++◌, length, set, slice_get, Contains, Option, Some, None, is_some, unwrap_or, option_map, option_to_list, refl, sym, ap, subst, ◌∙◌, lt_of_lt_of_le, arith}
-use Rattle.std.proofs.lemmas.List.{get_or-set_other, length-set}
-use Rattle.std.proofs.lemmas.List.Elements.{All-set}
+use Rattle.std.proofs.lemmas.List.{get_or-set_other}
 use Rattle.std.proofs.lemmas.Option.{slice_get_within}
-use Rattle.std.proofs.lemmas.Bool.{cases_eq, and_parts, leb-true, ltb-true, lt-ltb}
+use Rattle.std.proofs.lemmas.Bool.{cases_eq, and_parts, leb-true, ltb-true}
 use Rattle.nova_memory.specs.Memory.{MemoryState, IsMemory, get, put}
+use Rattle.nova_memory.proofs.Keeps.{get-put-other, put-memory}
 use Rattle.unit_trait.specs.declared.kind.Kind.{Kind}
 use Rattle.unit_trait.specs.declared.processor.CpuReg.{CpuReg}
 use Rattle.unit_trait.specs.Device as table
@@ -31,27 +31,6 @@ use Rattle.scp_examine.proofs.ShowLemmas.{first_none, second_none}
 use Rattle.scp_examine.proofs.FillLemmas.{fits_from_none, named_fits, value_fits}
 use Rattle.scp_examine.proofs.LawLemmas.{reads_back}
 use Rattle.scp_examine.proofs.RegisterLemmas.{same_register, register_of-other}
-
--- A word is put into memory.
-
-IsMemory-put : (mem : MemoryState) (a v : ℕ) → IsMemory mem → a < mem.size → v < 2 ^ 16 → IsMemory (put mem a v)
-IsMemory-put mem a v is h word =
-    let after : MemoryState = record mem { words = set mem.words a v } in
-    let made : put mem a v ≡ after = rw (lt-ltb a mem.size h) refl in
-    let stands : IsMemory after = record {
-      whole = length-set mem.words a v ∙ is.whole;
-      words = All-set (λ w. w < 2 ^ 16) mem.words a v word is.words;
-      size = is.size;
-      beyond = λ b past. get_or-set_other mem.words a b v 0 (λ e. omega (arith, e)) ∙ is.beyond b past;
-    } in
-    subst IsMemory (sym made) stands
-
-get-put_other : (mem : MemoryState) (a b v : ℕ) → (b ≡ a → ⊥) → get (put mem a v) b ≡ get mem b
-get-put_other mem a b v apart = by_place (nat_lt a mem.size)
-  where
-    by_place : (within : Bool) → get (cond within (record mem { words = set mem.words a v }) mem) b ≡ get mem b
-    by_place true = ap (λ (w : ℕ). cond (nat_lt b mem.size) w 0) (get_or-set_other mem.words a b v 0 apart)
-    by_place false = refl
 
 -- A value is put into one place.
 
@@ -98,13 +77,13 @@ pub record PutsOne (place : Place) (value : ℕ) (before after : MachineState) :
   pub events : after.events ≡ before.events
   pub machine : IsMachine after
 
-word_value : (v : ℕ) → out_of_range_unless (nat_le v largest_word) ≡ None → v < 2 ^ 16
+pub word_value : (v : ℕ) → out_of_range_unless (nat_le v largest_word) ≡ None → v < 2 ^ 16
 word_value v none =
     let h : v ≤ 65535 = leb-true v 65535 (fits_from_none (nat_le v largest_word) none) in
     omega arith
 
 cell_others : (m : MachineState) (a v : ℕ) (other : Place) → (other ≡ Cell a → ⊥) → value_at (with_value v m (Cell a)) other ≡ value_at m other
-cell_others m a v (Cell b) apart = get-put_other m.processor.memory a b v (λ e. apart (ap (λ (n : ℕ). Cell n) e))
+cell_others m a v (Cell b) apart = get-put-other m.processor.memory a b v (λ e. apart (ap (λ (n : ℕ). Cell n) e))
 cell_others m a v (Register r) apart = register_of-memory m (put m.processor.memory a v) r (size-put m.processor.memory a v)
 cell_others m a v (UnitRegister l j) apart = refl
 
@@ -128,7 +107,7 @@ puts_one m (Cell a) v is takes = record {
   events = refl;
   machine = record {
     accumulators = is.accumulators;
-    memory = IsMemory-put m.processor.memory a v is.memory (takes.within m refl) (word_value v takes.fits);
+    memory = put-memory m.processor.memory a v is.memory (word_value v takes.fits);
     units = is.units;
   };
 }
@@ -315,7 +294,7 @@ item_takes shape v device (item.Reg i) named none =
 item_takes shape v device item.State named none = state_takes shape v device (name_fits (has_named shape device) named) none
 item_takes shape v device item.Unknown named none = tt
 
-items_take : (shape : Shape) (v : ℕ) (device : Name) (items : List Item) → items_fault (deposit_fault shape device v) items ≡ None → AllTake shape v (all_places shape device items)
+pub items_take : (shape : Shape) (v : ℕ) (device : Name) (items : List Item) → items_fault (deposit_fault shape device v) items ≡ None → AllTake shape v (all_places shape device items)
 unfolding items_fault all_places
 items_take shape v device [] none = tt
 items_take shape v device (i ∷ more) none =

@@ -2,7 +2,7 @@
 use Rattle.std.proofs.Common.{◌≡◌, ℕ, ◌==◌, ◌<◌, ◌≤◌, zero, suc, length, None, refl, arith, nat_le, if◌then◌else◌, ap, unwrap_or}
 use Rattle.std.proofs.lemmas.List.{get_or-set_same}
 use Rattle.std.proofs.lemmas.Bool.{lt-ltb, leb-true}
-use Rattle.nova_memory.specs.Memory.{MemoryState, IsMemory, get, put}
+use Rattle.nova_memory.proofs.Keeps.{get-put}
 use Rattle.unit_trait.specs.declared.processor.CpuReg.TheVariants.{Ac0, Ac1, Ac2, Ac3, C, Pc, Ion, Hold, Mask, Sr, StopDev, Size}
 use Rattle.unit_list.specs.Bus.{kinds_of}
 use Rattle.scp_examine.specs.Places.{Cell, Register, UnitRegister}
@@ -10,12 +10,6 @@ use Rattle.scp_examine.specs.Checks.{out_of_range_unless}
 use Rattle.scp_examine.specs.Laws.{DepositReadsBack}
 use Rattle.scp_examine.proofs.UnitLemmas.{has_kind-listed, register_in-set}
 use Rattle.scp_examine.proofs.FillLemmas.{fits_from_none}
-
-pub get_put : (mem : MemoryState) (a v : ℕ) → IsMemory mem → a < mem.size → get (put mem a v) a ≡ v
-get_put mem a v is h =
-    let e = lt-ltb a mem.size h in
-    let within : a < length mem.words = omega (arith, is.whole, is.size) in
-    rw (e, e) (get_or-set_same mem.words a v 0 within)
 
 pub flag : (v : ℕ) → v ≤ 1 → (if v == 1 then 1 else 0) ≡ v
 flag zero h = refl
@@ -26,7 +20,7 @@ pub flag_fits : (v : ℕ) → out_of_range_unless (nat_le v 1) ≡ None → (if 
 flag_fits v none = flag v (leb-true v 1 (fits_from_none (nat_le v 1) none))
 
 pub reads_back : DepositReadsBack
-reads_back m (Cell a) v is h none = get_put m.processor.memory a v is.memory h
+reads_back m (Cell a) v is h none = let n : m.processor.memory.size ≤ length m.processor.memory.words = omega (arith, is.memory.whole, is.memory.size) in get-put m.processor.memory a v n h
 reads_back m (Register Ac0) v is h none = let n : 0 < length m.processor.cpu.accumulators = omega (arith, is.accumulators) in get_or-set_same m.processor.cpu.accumulators 0 v 0 n
 reads_back m (Register Ac1) v is h none = let n : 1 < length m.processor.cpu.accumulators = omega (arith, is.accumulators) in get_or-set_same m.processor.cpu.accumulators 1 v 0 n
 reads_back m (Register Ac2) v is h none = let n : 2 < length m.processor.cpu.accumulators = omega (arith, is.accumulators) in get_or-set_same m.processor.cpu.accumulators 2 v 0 n

@@ -7,3 +7,4 @@ pub mod FillLemmas
 pub mod LawLemmas
 pub mod RegisterLemmas
 pub mod DepositLemmas
+pub mod ValidLemmas

@@ -1,7 +1,7 @@
 -- The registers of devices: where they are, what they can hold, and what setting one leaves.
-use Rattle.std.proofs.Common.{◌≡◌, inl, inr, ℕ, ◌+◌, ◌<◌, ◌≤◌, ◌==◌, ◌||◌, zero, suc, Bool, true, false, nat_le, List, [], ◌∷◌, length, Contains, slice_get, slice_set, Option, Some, None, is_some, option_map, option_and_then, if◌then◌else◌, refl, sym, ap, subst, ◌∙◌, arith}
+use Rattle.std.proofs.Common.{◌≡◌, inl, inr, ℕ, ◌+◌, ◌<◌, ◌≤◌, ◌==◌, ◌||◌, zero, suc, Bool, true, false, List, [], ◌∷◌, length, Contains, slice_get, slice_set, Option, Some, None, is_some, option_map, option_and_then, if◌then◌else◌, refl, sym, ap, subst, ◌∙◌, arith}
 use Rattle.std.proofs.lemmas.Option.{same_Some}
-use Rattle.std.proofs.lemmas.Bool.{cases_eq, and_parts, leb-true, eqb-true, eq-eqb}
+use Rattle.std.proofs.lemmas.Bool.{cases_eq, eqb-true, eq-eqb}
 use Rattle.unit_trait.specs.declared.kind.Kind.{Kind}
 use Rattle.unit_trait.specs.declared.kind.Kind.TheVariants.{Dsk, Mta, Lpt, Ptr, Ptp, Clk, Tti, Tto, Tti1, Tto1, Qty}
 use Rattle.unit_trait.specs.declared.processor.CpuReg.{CpuReg}
@@ -13,6 +13,7 @@ use Rattle.unit_trait.specs.Calls.{UnitState}
 use Rattle.unit_trait.specs.Row.{InRange, Fits, takes_value}
 use Rattle.unit_trait.proofs.Codes.{same-code}
 use Rattle.unit_trait.proofs.EveryKind.{every-kind}
+use Rattle.unit_trait.proofs.Ranges.{set-within, taken-within}
 use Rattle.unit_list.specs.Bus.{unit_at, register_in, with_register, with_register_in, kinds_of, AllFit}
 use Rattle.unit_list.proofs.Calls.{changed-here, changed-elsewhere}
 use Rattle.operand_forms.specs.declared.listing.Name.TheVariants as whose
@@ -164,15 +165,6 @@ as-many [] (w ∷ ws) range = absurd range
 as-many (r ∷ rs) [] range = absurd range
 as-many (r ∷ rs) (w ∷ ws) range = ap suc (as-many rs ws range.2)
 
-range-set : (rs : List table.Register) (vs : List ℕ) (i v : ℕ) → InRange rs vs → takes_value (slice_get rs i) v ≡ true → InRange rs (slice_set vs i v)
-range-set [] [] i v range takes = tt
-range-set [] (w ∷ ws) i v range takes = absurd range
-range-set (r ∷ rs) [] i v range takes = absurd range
-range-set (r ∷ rs) (w ∷ ws) zero v range takes =
-    let both = and_parts (nat_le r.least v) (nat_le v r.largest) takes in
-    (leb-true r.least v both.0, leb-true v r.largest both.1, range.2)
-range-set (r ∷ rs) (w ∷ ws) (suc i) v range takes = (range.0, range.1, range-set rs ws i v range.2 takes)
-
 -- the kinds stay
 pub kinds-set : (kind : Kind) (i v : ℕ) (us : List UnitState) → kinds_of (with_register_in kind i v us) ≡ kinds_of us
 kinds-set kind i v [] = refl
@@ -190,7 +182,7 @@ all_fit-set kind i v (u ∷ us) takes all = by_code (code_of u.kind == code_of k
     by_code : (b : Bool) → (code_of u.kind == code_of kind) ≡ b → AllFit (with_register_in kind i v us) → AllFit (if b then with_register i v u ∷ us else u ∷ with_register_in kind i v us)
     by_code true same later =
         let takes_here = subst (λ k. takes_value (register_at k i) v ≡ true) (sym (same-kind u kind same)) takes in
-        (range-set (registers u.kind) u.registers i v all.0 takes_here, all.1)
+        (set-within (registers u.kind) u.registers i v all.0 (taken-within (register_at u.kind i) v takes_here), all.1)
     by_code false same later = (all.0, later)
 
 -- the register holds the value

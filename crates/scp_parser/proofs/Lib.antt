@@ -38,3 +38,4 @@ pub mod BreakLemmas
 pub mod AssertLemmas
 pub mod WatchLemmas
 pub mod LengthLemmas
+pub mod RequestLemmas

@@ -6,3 +6,4 @@ pub mod Faults
 pub mod Operands
 pub mod Reading
 pub mod Views
+pub mod Laws

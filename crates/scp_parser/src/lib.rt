@@ -20,4 +20,6 @@ pub use names::{CommandName, command_named};
 pub use operand_forms::{
     Condition, Item, Items, Listing, MOST_ITEMS, Name, Rel, Test, register_name,
 };
-pub use reader::{each_line_has_a_command_or_a_fault, no_line_is_two_commands, read_command};
+pub use reader::{
+    each_line_has_a_command_or_a_fault, no_line_is_two_commands, read_command, requests_are_kept,
+};

@@ -2,6 +2,7 @@ ghost use Rattle.std.specs.Prelude.{◌≡◌, ◌↔◌, ◌⊎◌, ◌≤◌, 
 ghost use Rattle.scp_parser.specs.Command.{Request, Keeps};
 ghost use Rattle.scp_parser.specs.Faults.{Faults, placed};
 ghost use Rattle.scp_parser.specs.Grammar.{Parses};
+ghost use Rattle.scp_parser.specs.Laws.{RequestsAreKept};
 ghost use Rattle.scp_parser.specs.Reading.{operands, examine, deposit, show, asks_nothing, named, verb_of};
 ghost use Rattle.scp_parser.specs.Reading.{reading};
 ghost use Rattle.scp_parser.specs.Views.{run, go, step, exit};
@@ -216,4 +217,10 @@ pub fn each_line_has_a_command_or_a_fault()
     ensures never_both { (line : List ℕ) (c : Request) (fault : ParseFault)
         → Parses line c → Faults line fault → ⊥ }
     ensures one_fault { (line : List ℕ) (one other : ParseFault) → Faults line one → Faults line other → one ≡ other }
+{}
+
+/// The law that what a line is read as keeps the facts of its command, and that the texts which it takes from a line of
+/// bytes are of bytes.
+pub fn requests_are_kept()
+    ensures { RequestsAreKept }
 {}

@@ -12,3 +12,5 @@ pub mod WholeLemmas
 pub mod LawLemmas
 pub mod ActionLemmas
 pub mod CoreLemmas
+pub mod ValidTexts
+pub mod ValidSessions

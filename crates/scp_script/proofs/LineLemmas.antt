@@ -6,13 +6,13 @@ use Rattle.observations.specs.Observations.{Observation, Prints, Reads, text_of,
 use Rattle.observations.specs.Cut.{ends, cut, cut_trace, BreaksOff}
 use Rattle.observations.proofs.CutLemmas.{cut-refused, cut-failed-after, cut-whole, breaks-before, breaks-behind, breaks-map, before-reads, behind-reads, breaks-reads}
 use Rattle.observations.proofs.MadeLemmas.{text_of-append, reads_of-append, text_of-map, reads_of-map}
-use Rattle.file_commands.specs.declared.note.FaultNote.{FaultNote}
 use Rattle.file_commands.specs.Notes.{Note, handed}
 use Rattle.scp_commands.specs.declared.next.Next.TheVariants.{Go, Ran, Do, Goto, Exit as ExitNext}
 use Rattle.scp_commands.specs.Live.{Standing, standing}
 use Rattle.scp_commands.specs.Reply.{Answer, Reply}
 use Rattle.scp_commands.specs.Doing.{IsSaid}
 use Rattle.scp_commands.specs.Effect.{Asked, asked}
+use Rattle.scp_commands.specs.Remains.{Remains, flushes_of, reader_of}
 use Rattle.scp_script.specs.declared.progress.Progress.{Progress}
 use Rattle.scp_script.specs.declared.progress.Progress.TheVariants.{GoesOn, IsOver}
 use Rattle.scp_script.specs.declared.progress.Finish.{Finish}
@@ -23,8 +23,8 @@ use Rattle.scp_script.specs.Reading.{AreRead}
 use Rattle.scp_script.specs.Actions.{Texts, texts_of, texts_behind}
 use Rattle.unit_trait.specs.declared.kind.UnitName.{UnitName}
 use Rattle.scp_script.specs.Session as ends
-use Rattle.scp_script.specs.Session.{emptied_in, input_end, State, Session, SessionEnd, ExitDone, AllDone, InputEnded, BudgetSpent, end_status, state_of, state_at, closed, end_state, Going, rested, Over, Ends, Comes, prompt_text, asking_input, asking, upcoming, text_reply, following, text_step, step, over_by, course, trace}
-use Rattle.scp_script.specs.Loop.{exit_of, IsAnswer, IsShort, LetsThrough, status_of, finish_of, Finishes, Progresses}
+use Rattle.scp_script.specs.Session.{emptied_in, input_end, State, Session, Upcoming, SessionEnd, ExitDone, AllDone, InputEnded, BudgetSpent, end_status, state_of, state_at, flushes_in, closed, end_state, Going, rested, Over, Ends, Comes, prompt_text, asking_input, asking, upcoming, text_reply, following, text_step, step, over_by, course, trace}
+use Rattle.scp_script.specs.Loop.{exit_of, IsAnswer, AreClosings, AreShort, IsShort, LetsThrough, status_of, finish_of, Finishes, Progresses}
 use Rattle.scp_script.proofs.TextLemmas.{text-reads}
 use Rattle.scp_script.proofs.SessionLemmas.{arrival-paid, trace-is, trace-asks, trace-begins, course-over, step-comes, step-over, upcoming-input, upcoming-done, asking-is, asking-done}
 
@@ -289,12 +289,12 @@ left-is behind new what same state texts =
     ∙ sym same
 
 -- what a text comes to, which used so many of the notes
-pub answered : (old behind new : Session) (text : List ℕ) (what : Asked) (used : ℕ) (result : Progress) (tells : Bool) (before mid after : List ℕ) (kept kept' : List FaultNote) → IsTrue tells
+pub answered : (old behind new : Session) (text : List ℕ) (what : Asked) (used : ℕ) (result : Progress) (tells : Bool) (before mid after : List ℕ) → IsTrue tells
     → upcoming old ≡ Comes text behind → asked text ≡ what → IsBehind behind new → mid ≡ before ++ text_of (asking old) → drop used behind.notes ≡ new.notes
     → AreRead (reads_of (asking old)) old.open_ old.input new.open_ new.input
-    → IsAnswer (reply_in behind what) (texts_behind behind.texts what) result new.texts (standing used new.live) tells mid after → IsShort result old.live new.live kept kept' mid after
+    → IsAnswer (reply_in behind what) (texts_behind behind.texts what) result new.texts (standing used new.live) tells mid after → IsShort what behind.spent result old.live new.live old.notes mid after
     → Progresses old result new before after
-answered old behind new text what used GoesOn tells before mid after kept kept' told e c b asks notes reads a short =
+answered old behind new text what used GoesOn tells before mid after told e c b asks notes reads a short =
     let is = step-comes old behind text what e c in
     let reply = reply_in behind what in
     let made = ap (λ s. s.made) is ∙ text-made old behind what in
@@ -306,7 +306,7 @@ answered old behind new text what used GoesOn tells before mid after kept kept' 
           ∙ ap (λ t. before ++ t) (sym (ap (λ l. text_of l) made ∙ text-text old behind what));
       reads = subst (λ n. AreRead n old.open_ old.input new.open_ new.input) (sym (ap (λ l. reads_of l) made ∙ made-reads old behind what)) reads;
     }
-answered old behind new text what used (IsOver (Exit status)) tells before mid after kept kept' told e c b asks notes reads a short =
+answered old behind new text what used (IsOver (Exit status)) tells before mid after told e c b asks notes reads a short =
     let is = step-comes old behind text what e c in
     let reply = reply_in behind what in
     let said : IsSaid reply (standing used new.live) tells mid after = a.1 in
@@ -326,7 +326,7 @@ answered old behind new text what used (IsOver (Exit status)) tells before mid a
       };
       named = λ _ _. ap (λ c. finish_of c.end) (sym over);
     }
-answered old behind new text what used (IsOver Console) tells before mid after kept kept' told e c b asks notes reads a short =
+answered old behind new text what used (IsOver Console) tells before mid after told e c b asks notes reads a short =
     let off = a.told told in
     let refused = text-refused-cut old behind text what off.taken (standing used new.live) (reads_left old.open_ old.input) e c off.breaks (read-within _ old.open_ old.input new.open_ new.input reads) in
     record {
@@ -341,16 +341,20 @@ answered old behind new text what used (IsOver Console) tells before mid after k
       };
       named = λ console _. absurd (console refl);
     }
-answered old behind new text what used (IsOver OutOfMemory) tells before mid after kept kept' told e c b asks notes reads a short = record {
-  short = record { live_is = short.0; written = inr (short.2 ∙ asks) };
+answered old behind new text what used (IsOver OutOfMemory) tells before mid after told e c b asks notes reads a short = record {
+  short = record {
+    live_is = subst (λ (b : Bool). Remains b old.live new.live) (sym (ap flushes_in e ∙ ap flushes_of c)) short.0;
+    notes = subst (λ (u : Upcoming). AreShort u old.notes) (sym e) (subst (λ (a : Asked). AreClosings (reader_of a) behind.spent old.notes) (sym c) short.1);
+    written = inr (short.2 ∙ asks);
+  };
   made = reads_of (asking old);
   few = omega arith;
   reads = reads;
 }
-answered old behind new text what used (IsOver EndOfInput) tells before mid after kept kept' told e c b asks notes reads a short = absurd a
-answered old behind new text what used (IsOver FlushFailed) tells before mid after kept kept' told e c b asks notes reads a short = absurd a
-answered old behind new text what used (IsOver Commands) tells before mid after kept kept' told e c b asks notes reads a short = absurd a
-answered old behind new text what used (IsOver Input) tells before mid after kept kept' told e c b asks notes reads a short = absurd a
+answered old behind new text what used (IsOver EndOfInput) tells before mid after told e c b asks notes reads a short = absurd a
+answered old behind new text what used (IsOver FlushFailed) tells before mid after told e c b asks notes reads a short = absurd a
+answered old behind new text what used (IsOver Commands) tells before mid after told e c b asks notes reads a short = absurd a
+answered old behind new text what used (IsOver Input) tells before mid after told e c b asks notes reads a short = absurd a
 
 -- the text that a script's line is, where it is short enough
 pub some-fits : (text line : List ℕ) → Some text ≡ (if nat_le (length line) 512 then Some line else None) → text ≡ line

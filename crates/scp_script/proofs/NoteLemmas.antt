@@ -7,11 +7,14 @@ use Rattle.observations.specs.Observations.{Observation, Trace, text_of, reads_o
 use Rattle.host_files.specs.Lists.{NamedBytes}
 use Rattle.host_files.specs.State.{FileState}
 use Rattle.unit_files.specs.Attachments.{Held}
+use Rattle.file_commands.specs.declared.note.Subject.{Subject}
 use Rattle.file_commands.specs.declared.note.FaultNote.{FaultNote}
 use Rattle.file_commands.specs.Notes.{CommandNote, Note, notes_said, numbered, handed, Follow}
 use Rattle.file_commands.proofs.Handing.{handed-own, dropped}
 use Rattle.scp_commands.specs.Live.{Live, standing, CommandState}
 use Rattle.scp_commands.specs.Effect.{Asked, asked}
+use Rattle.scp_commands.specs.Remains.{Remains, reader_of}
+use Rattle.scp_commands.proofs.RemainLemmas.{remains}
 use Rattle.unit_trait.specs.declared.kind.UnitName.{UnitName}
 use Rattle.scp_commands.specs.FileEffects.{emptied_all, emptied_live}
 use Rattle.scp_commands.specs.Doing.{Closes}
@@ -25,9 +28,9 @@ use Rattle.scp_script.specs.Lines.{InputEnds, LineComes, arrival, line_reads}
 use Rattle.scp_script.specs.Reading.{AreRead}
 use Rattle.scp_script.specs.Scripts.{Script, still_open, cost_of_line, text_of_line, echo_text, past_line}
 use Rattle.scp_script.specs.Actions.{texts_of, texts_behind}
-use Rattle.scp_script.specs.Session.{State, Session, Comes, Step, Course, prompt_text, asking, behind_line, behind_script_line, behind_action, upcoming, emptied_in, input_end, closed, text_reply, course, trace}
-use Rattle.scp_script.specs.Loop.{session_of, IsAnswer, IsShort, Answers, AnswerCounts, HasExitStatus, status_of, finish_of, EndsAs, Finishes, MayFollow, MayCome, StopsShort, RunsOut, Progresses, ProgressCause, Stepped, KeptInLine}
-use Rattle.scp_script.proofs.SessionLemmas.{arrival-paid, upcoming-input, upcoming-script, asking-script, upcoming-action, asking-action, trace-is, closing, asking-still, step-still, course-still}
+use Rattle.scp_script.specs.Session.{State, Session, Upcoming, Ends, Comes, Step, flushes_in, flushes_next, Course, prompt_text, asking, behind_line, behind_script_line, behind_action, upcoming, emptied_in, input_end, closed, text_reply, course, trace}
+use Rattle.scp_script.specs.Loop.{session_of, IsAnswer, AreClosings, AreShort, IsShort, Answers, AnswerCounts, HasExitStatus, status_of, finish_of, EndsAs, Finishes, MayFollow, MayCome, StopsShort, RunsOut, Progresses, ProgressCause, Stepped, KeptInLine}
+use Rattle.scp_script.proofs.SessionLemmas.{arrival-paid, upcoming-input, upcoming-script, asking-script, upcoming-action, asking-action, trace-is, closing, asking-still, upcoming-still, step-still, course-still}
 use Rattle.scp_script.proofs.LineLemmas.{none-read, comes-reads, asking-text, asking-reads, IsBehind, answered, input-ended}
 
 -- a session to which these calls are still to come
@@ -74,14 +77,27 @@ may-follow : (p : Progress) (number : ℕ) (live : Live) (more : List Note) → 
 may-follow GoesOn number live more m = m
 may-follow (IsOver finish) number live more none = none-follow number live more none
 
+-- no more notes come behind those of a command for which memory ran out
+short-all : (what : Asked) (number : ℕ) (p : Progress) (old new now : Live) (own more : List Note) (before after : List ℕ) → MayCome p number now more
+    → IsShort what number p old new own before after → IsShort what number p old new (own ++ more) before after
+short-all what number GoesOn old new now own more before after come short = tt
+short-all what number (IsOver OutOfMemory) old new now own more before after none short =
+    subst (λ (l : List Note). IsShort what number (IsOver OutOfMemory) old new l before after) (sym (ap (λ (l : List Note). own ++ l) none ∙ append-nil own)) short
+short-all what number (IsOver (Exit status)) old new now own more before after come short = tt
+short-all what number (IsOver EndOfInput) old new now own more before after come short = tt
+short-all what number (IsOver FlushFailed) old new now own more before after come short = tt
+short-all what number (IsOver Commands) old new now own more before after come short = tt
+short-all what number (IsOver Console) old new now own more before after come short = tt
+short-all what number (IsOver Input) old new now own more before after come short = tt
+
 -- a text was done
-pub text-stepped : (old behind new : Session) (text : List ℕ) (what : Asked) (shown : List ℕ) (made : ℕ) (result : Progress) (tells : Bool) (before mid after : List ℕ) (notes notes' : List Note) (kept kept' : List FaultNote) → IsTrue tells
+pub text-stepped : (old behind new : Session) (text : List ℕ) (what : Asked) (shown : List ℕ) (made : ℕ) (result : Progress) (tells : Bool) (before mid after : List ℕ) (notes notes' : List Note) → IsTrue tells
     → ((l : List Note) → upcoming (with_notes old l) ≡ Comes text (with_notes behind l)) → asked text ≡ what → IsBehind behind new → old.spent < new.spent
     → ((l : List Note) → text_of (asking (with_notes old l)) ≡ shown) → mid ≡ before ++ shown → ((l : List Note) → reads_of (asking (with_notes old l)) ≡ made)
     → AreRead made old.open_ old.input new.open_ new.input
-    → Answers behind.limit behind.live behind.texts what new.spent result new.live new.texts tells mid after notes notes' → IsShort result old.live new.live kept kept' mid after
+    → Answers behind.limit behind.live behind.texts what new.spent result new.live new.texts tells mid after notes notes' → ((own : List Note) → notes' ≡ notes ++ own → IsShort what new.spent result old.live new.live own mid after)
     → Stepped (with_notes old) result (with_notes new) before after notes notes'
-text-stepped old behind new text what shown made result tells before mid after notes notes' kept kept' told e c b less asks prompted counts reads a short = record {
+text-stepped old behind new text what shown made result tells before mid after notes notes' told e c b less asks prompted counts reads a short = record {
   own = numbered new.spent a.own;
   kept = a.kept;
   first = λ more come. later-follow old.spent new.spent old.live new.live a.own more less (may-follow result new.spent new.live more come);
@@ -90,11 +106,13 @@ text-stepped old behind new text what shown made result tells before mid after n
       let all = numbered new.spent a.own ++ more in
       let given : handed behind.spent all ≡ a.own ++ m.behind =
       ap (λ n. handed n all) (sym (ap (λ (x : Session). x.spent) b)) ∙ handed-more new.spent new.live a.own more m in
-      answered (with_notes old all) (with_notes behind all) (with_notes new more) text what (length a.own) result tells before mid after kept kept' told (e all) c
+      answered (with_notes old all) (with_notes behind all) (with_notes new more) text what (length a.own) result tells before mid after told (e all) c
       (ap (λ (x : Session). record x { notes = more }) b) (prompted ∙ ap (λ t. before ++ t) (sym (asks all))) (dropped new.spent a.own more)
       (subst (λ n. AreRead n old.open_ old.input new.open_ new.input) (sym (counts all)) reads)
       (subst (λ l. IsAnswer (text_reply behind.limit behind.texts l behind.live what) (texts_behind behind.texts what) result new.texts (standing (length a.own) new.live) tells mid after)
-      (sym given) (a.answers m.behind m.closings)) short;
+      (sym given) (a.answers m.behind m.closings))
+      (subst (λ n. IsShort what n result old.live new.live all mid after) (ap (λ (x : Session). x.spent) b)
+      (short-all what new.spent result old.live new.live new.live (numbered new.spent a.own) more mid after come (short (numbered new.spent a.own) a.kept)));
 }
 
 session-equal : (s t : Session) → s.live ≡ t.live → s.notes ≡ t.notes → s.spent ≡ t.spent → s.limit ≡ t.limit → s.budget ≡ t.budget → s.texts ≡ t.texts → s.reads ≡ t.reads → s.prompt ≡ t.prompt → s.input ≡ t.input → s.open_ ≡ t.open_ → s ≡ t
@@ -128,13 +146,13 @@ behind-input old new line e b =
     (b.reads.rest ∙ ap (λ n. drop n old.input) (comes-reads old.budget old.open_ old.input line e)) b.open_
 
 -- a line of the input was done, where no action waited and no script was open
-pub line-stepped : (old new : Session) (line : List ℕ) (what : Asked) (result : Progress) (tells : Bool) (before mid after : List ℕ) (notes notes' : List Note) (kept kept' : List FaultNote) → IsTrue tells
+pub line-stepped : (old new : Session) (line : List ℕ) (what : Asked) (result : Progress) (tells : Bool) (before mid after : List ℕ) (notes notes' : List Note) → IsTrue tells
     → old.texts ≡ texts_of [] [] → old.reads ≡ true → arrival old.budget old.open_ old.input ≡ LineComes line → asked line ≡ what → IsBehindLine old new → old.spent < new.spent → mid ≡ before ++ prompt_text old.prompt
-    → Answers old.limit old.live (texts_of [] []) what new.spent result new.live new.texts tells mid after notes notes' → IsShort result old.live new.live kept kept' mid after
+    → Answers old.limit old.live (texts_of [] []) what new.spent result new.live new.texts tells mid after notes notes' → ((own : List Note) → notes' ≡ notes ++ own → IsShort what new.spent result old.live new.live own mid after)
     → Stepped (with_notes old) result (with_notes new) before after notes notes'
 unfolding behind_line
-line-stepped old new line what result tells before mid after notes notes' kept kept' told none on e c b less prompted a short =
-    text-stepped old (behind_line old) new line what (prompt_text old.prompt) (line_reads old.budget old.open_ old.input) result tells before mid after notes notes' kept kept' told
+line-stepped old new line what result tells before mid after notes notes' told none on e c b less prompted a short =
+    text-stepped old (behind_line old) new line what (prompt_text old.prompt) (line_reads old.budget old.open_ old.input) result tells before mid after notes notes' told
     (λ l. upcoming-input (with_notes old l) (LineComes line) none on e) c (behind-input old new line e b) less (λ l. asking-text (with_notes old l) none on) prompted
     (λ l. asking-reads (with_notes old l) none on) b.reads a short
 
@@ -157,14 +175,14 @@ pub same-read : (o o' : Bool) (i i' : List ℕ) → o' ≡ o → i' ≡ i → Ar
 same-read o o' i i' open_ input = subst (λ (x : Bool). AreRead 0 o i x i') (sym open_) (subst (λ (x : List ℕ). AreRead 0 o i o x) (sym input) (none-read o i))
 
 -- a line of the innermost script was done
-pub script-stepped : (old new : Session) (script : Script) (outer : List Script) (what : Asked) (result : Progress) (tells : Bool) (before mid after : List ℕ) (notes notes' : List Note) (kept kept' : List FaultNote) → IsTrue tells
+pub script-stepped : (old new : Session) (script : Script) (outer : List Script) (what : Asked) (result : Progress) (tells : Bool) (before mid after : List ℕ) (notes notes' : List Note) → IsTrue tells
     → old.texts ≡ texts_of [] (script ∷ outer) → script.place < length script.text → cost_of_line script ≤ old.budget → asked (text_of_line script) ≡ what → IsBehindScript old new script
     → old.spent < new.spent → mid ≡ before ++ echo_text script
-    → Answers old.limit old.live (texts_of [] (past_line script ∷ outer)) what new.spent result new.live new.texts tells mid after notes notes' → IsShort result old.live new.live kept kept' mid after
+    → Answers old.limit old.live (texts_of [] (past_line script ∷ outer)) what new.spent result new.live new.texts tells mid after notes notes' → ((own : List Note) → notes' ≡ notes ++ own → IsShort what new.spent result old.live new.live own mid after)
     → Stepped (with_notes old) result (with_notes new) before after notes notes'
 unfolding behind_script_line
-script-stepped old new script outer what result tells before mid after notes notes' kept kept' told is more fits c b less prompted a short =
-    text-stepped old (behind_script_line old script outer) new (text_of_line script) what (echo_text script) 0 result tells before mid after notes notes' kept kept' told
+script-stepped old new script outer what result tells before mid after notes notes' told is more fits c b less prompted a short =
+    text-stepped old (behind_script_line old script outer) new (text_of_line script) what (echo_text script) 0 result tells before mid after notes notes' told
     (λ l. upcoming-script (with_notes old l) script outer is more fits) c (behind-script old new script outer b) less
     (λ l. ap text_of (asking-script (with_notes old l) script outer is more fits) ∙ append-nil (echo_text script)) prompted
     (λ l. ap reads_of (asking-script (with_notes old l) script outer is more fits)) (same-read old.open_ new.open_ old.input new.input b.open_ b.input) a short
@@ -185,13 +203,13 @@ behind-action old new others b =
     session-equal new (record (behind_action old others) { live = new.live; notes = new.notes; texts = new.texts }) refl refl b.spent b.limit b.budget refl b.reading b.prompt b.input b.open_
 
 -- the action that waited first was done
-pub action-stepped : (old new : Session) (action : List ℕ) (others : List (List ℕ)) (what : Asked) (result : Progress) (tells : Bool) (before after : List ℕ) (notes notes' : List Note) (kept kept' : List FaultNote) → IsTrue tells
+pub action-stepped : (old new : Session) (action : List ℕ) (others : List (List ℕ)) (what : Asked) (result : Progress) (tells : Bool) (before after : List ℕ) (notes notes' : List Note) → IsTrue tells
     → old.texts.actions ≡ action ∷ others → 1 ≤ old.budget → asked action ≡ what → IsBehindAction old new → old.spent < new.spent
-    → Answers old.limit old.live (texts_of others old.texts.scripts) what new.spent result new.live new.texts tells before after notes notes' → IsShort result old.live new.live kept kept' before after
+    → Answers old.limit old.live (texts_of others old.texts.scripts) what new.spent result new.live new.texts tells before after notes notes' → ((own : List Note) → notes' ≡ notes ++ own → IsShort what new.spent result old.live new.live own before after)
     → Stepped (with_notes old) result (with_notes new) before after notes notes'
 unfolding behind_action
-action-stepped old new action others what result tells before after notes notes' kept kept' told is fits c b less a short =
-    text-stepped old (behind_action old others) new action what [] 0 result tells before before after notes notes' kept kept' told
+action-stepped old new action others what result tells before after notes notes' told is fits c b less a short =
+    text-stepped old (behind_action old others) new action what [] 0 result tells before before after notes notes' told
     (λ l. upcoming-action (with_notes old l) action others is fits) c (behind-action old new others b) less
     (λ l. ap text_of (asking-action (with_notes old l) action others is)) (sym (append-nil before))
     (λ l. ap reads_of (asking-action (with_notes old l) action others is)) (same-read old.open_ new.open_ old.input new.input b.open_ b.input) a short
@@ -262,10 +280,18 @@ input-closed old new k before after notes notes' none_open on e c reads written 
           (ended-so k (with_notes old (own ++ [])) (with_notes new []) before after over);
     }
 
+pub none-short : (u : Upcoming) (notes : List Note) → notes ≡ [] → AreShort u notes
+none-short (Ends end) notes none = none
+none-short (Comes text behind) notes none = by-reader (reader_of (asked text))
+  where
+    by-reader : (who : Option Subject) → AreClosings who behind.spent notes
+    by-reader None = none
+    by-reader (Some who) = subst (λ (l : List Note). AreClosings (Some who) behind.spent l) (sym none) tt
+
 -- memory ran out before a text was asked for
-pub room-refused : (old new : Session) (before : List ℕ) → new ≡ old → RunsOut old new before before
-room-refused old new before same = subst (λ (x : Session). RunsOut old x before before) (sym same) (record {
-  short = record { live_is = refl; written = inl refl };
+pub room-refused : (old new : Session) (before : List ℕ) → old.notes ≡ [] → new ≡ old → RunsOut old new before before
+room-refused old new before none same = subst (λ (x : Session). RunsOut old x before before) (sym same) (record {
+  short = record { live_is = remains (flushes_next old) old.live old.live refl; notes = none-short (upcoming old) old.notes none; written = inl refl };
   made = 0;
   few = omega arith;
   reads = none-read old.open_ old.input;
@@ -275,7 +301,8 @@ room-refused old new before same = subst (λ (x : Session). RunsOut old x before
 
 short-still : (s : Session) (live : Live) (before after : List ℕ) → s.texts.actions ≡ [] → StopsShort (closing s) live before after → StopsShort s live before after
 short-still s live before after none h = record {
-  live_is = h.live_is;
+  live_is = subst (λ (u : Upcoming). Remains (flushes_in u) s.live live) (upcoming-still s none) h.live_is;
+  notes = subst (λ (u : Upcoming). AreShort u s.notes) (upcoming-still s none) h.notes;
   written = subst (λ (l : List (Observation State)). (after ≡ before) ⊎ (after ≡ before ++ text_of l)) (asking-still s none) h.written;
 }
 
@@ -323,15 +350,16 @@ closed-before old scripts p new before after notes notes' none is s = record {
 }
 
 -- an answer that is not for want of memory
-pub never-short : (result : Progress) (old new : Live) (kept kept' : List FaultNote) (before after : List ℕ) → result ≢ IsOver OutOfMemory → IsShort result old new kept kept' before after
-never-short GoesOn old new kept kept' before after never = tt
-never-short (IsOver OutOfMemory) old new kept kept' before after never = absurd (never refl)
-never-short (IsOver (Exit status)) old new kept kept' before after never = tt
-never-short (IsOver EndOfInput) old new kept kept' before after never = tt
-never-short (IsOver FlushFailed) old new kept kept' before after never = tt
-never-short (IsOver Commands) old new kept kept' before after never = tt
-never-short (IsOver Console) old new kept kept' before after never = tt
-never-short (IsOver Input) old new kept kept' before after never = tt
+pub never-short : (what : Asked) (number : ℕ) (result : Progress) (old new : Live) (own : List Note) (before after : List ℕ) → result ≢ IsOver OutOfMemory
+    → IsShort what number result old new own before after
+never-short what number GoesOn old new own before after never = tt
+never-short what number (IsOver OutOfMemory) old new own before after never = absurd (never refl)
+never-short what number (IsOver (Exit status)) old new own before after never = tt
+never-short what number (IsOver EndOfInput) old new own before after never = tt
+never-short what number (IsOver FlushFailed) old new own before after never = tt
+never-short what number (IsOver Commands) old new own before after never = tt
+never-short what number (IsOver Console) old new own before after never = tt
+never-short what number (IsOver Input) old new own before after never = tt
 
 -- what is known of the state that is left is known where it is that
 pub left-at : (old new now : CommandState) (files : List NamedBytes) (lines lines' : CommandLoop) (input left : List ℕ) (p : Progress) (before after : List ℕ) → new ≡ now

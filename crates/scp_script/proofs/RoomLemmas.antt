@@ -215,7 +215,7 @@ dump-none notes live from to name =
     (dump_answer-none (write_act (write_calls subject.Dump live.machine.time notes) name (dump_of live.machine from to) live.files).said) tt
 
 -- there is room for the script that an answer begins
-abbrev RoomFor : List Script → Answer → Type 0
+abbrev pub RoomFor : List Script → Answer → Type 0
 RoomFor scripts (Ok (Do file)) = length scripts < most_scripts
 RoomFor scripts answer = Unit {0}
 
@@ -235,7 +235,7 @@ room-none scripts (Ok Goto) none = tt
 room-none scripts (Ok (Exit status)) none = tt
 room-none scripts (Err fault) none = tt
 
-room-effect : (scripts : List Script) (limit : ℕ) (notes : List CommandNote) (live : Live) (r : Request) → FitsIn scripts r → RoomFor scripts (effect limit notes live r).answer
+pub room-effect : (scripts : List Script) (limit : ℕ) (notes : List CommandNote) (live : Live) (r : Request) → FitsIn scripts r → RoomFor scripts (effect limit notes live r).answer
 unfolding effect
 room-effect scripts limit notes live request.Nothing fits = tt
 room-effect scripts limit notes live (request.Examine l) fits = room-none scripts _ (examine-none live l)

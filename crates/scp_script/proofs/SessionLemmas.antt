@@ -309,7 +309,7 @@ unfolding behind_script_line
 upcoming-closing s [] = ap (λ (u : Upcoming). if s.reads then u else Ends AllDone) (arrival-closing s (arrival s.budget s.open_ s.input))
 upcoming-closing s (script ∷ outer) = refl
 
-upcoming-still : (s : Session) → s.texts.actions ≡ [] → upcoming (closing s) ≡ upcoming s
+pub upcoming-still : (s : Session) → s.texts.actions ≡ [] → upcoming (closing s) ≡ upcoming s
 upcoming-still s none =
     upcoming-lines (closing s) none ∙ ap (upcoming_in (closing s)) (still-still s.texts.scripts) ∙ upcoming-closing s (still_open s.texts.scripts) ∙ sym (upcoming-lines s none)
 

@@ -1,10 +1,67 @@
--- What is said of the files of a command that was not done.
-use Rattle.std.proofs.Common.{Bool, IsTrue, refl}
+-- What stands behind a command for which memory ran out.
+use Rattle.std.proofs.Common.{◌≡◌, ℕ, Bool, IsTrue, List, [], ◌∷◌, ◌++◌, Option, Some, None, refl, ap, sym, ◌∙◌, subst, append-nil}
+use Rattle.std.specs.List.{AllByRecursion}
+use Rattle.file_commands.specs.declared.note.Subject.{Subject}
+use Rattle.file_commands.specs.declared.note.FaultNote.{FaultNote}
+use Rattle.file_commands.specs.Notes.{Note, notes_said, said_of}
 use Rattle.scp_parser.specs.Command.{Request, Do, Load}
-use Rattle.scp_commands.specs.Doing.{says_files}
+use Rattle.scp_commands.specs.declared.fault.CommandFault.{CommandFault}
+use Rattle.scp_commands.specs.declared.fault.CommandFault.TheVariants as fault
+use Rattle.scp_commands.specs.Live.{Live}
+use Rattle.scp_commands.specs.Effect.{Asked}
+use Rattle.scp_commands.specs.FaultText.{fault_text}
+use Rattle.scp_commands.specs.Remains.{Remains, flushes_of, reader_of}
+use Rattle.scp_commands.specs.Doing.{says_files, IsShutNote, NotesRemain}
+use Rattle.scp_commands.proofs.CloseLemmas.{said-append}
+use Rattle.scp_script.specs.declared.progress.Progress.{Progress}
+use Rattle.scp_script.specs.declared.progress.Progress.TheVariants.{GoesOn, IsOver}
+use Rattle.scp_script.specs.declared.progress.Finish.TheVariants.{Exit, EndOfInput, FlushFailed, Commands, Console, Input, OutOfMemory}
+use Rattle.scp_script.specs.Loop.{AreClosings, IsShort, Complains, Denies}
 
 -- where files are told, it is said of every command that they are as they were
 pub says : (tells : Bool) (request : Request) → IsTrue tells → IsTrue (says_files tells request)
 says tells (Do echo strict name arguments) told = told
 says tells (Load name) told = told
 says tells request told = refl
+
+same-behind : (before more own : List Note) → before ++ more ≡ before ++ own → more ≡ own
+same-behind [] more own same = same
+same-behind (n ∷ before) more own same = let rest : before ++ more ≡ before ++ own = cc in same-behind before more own rest
+
+-- its notes are those of the closing
+pub short-notes : (reads : Option Subject) (number time : ℕ) (notes notes' : List FaultNote) (own : List Note) → NotesRemain reads number time notes notes'
+    → notes_said notes' ≡ notes_said notes ++ own → AreClosings reads number own
+short-notes None number time notes notes' own same is =
+    sym (same-behind (notes_said notes) [] own (append-nil (notes_said notes) ∙ sym (ap notes_said same) ∙ is))
+short-notes (Some who) number time notes notes' own (kept, added, all) is =
+    subst (λ (l : List Note). AreClosings (Some who) number l)
+    (same-behind (notes_said notes) (notes_said kept) own (sym (ap notes_said added ∙ said-append notes kept) ∙ is))
+    (closed kept all)
+  where
+    closed : (kept : List FaultNote) → AllByRecursion (IsShutNote who number time) kept → AreClosings (Some who) number (notes_said kept)
+    closed [] all = tt
+    closed (n ∷ kept) all = ((all.0.0.0, all.0.1.0, all.0.1.1), closed kept all.1)
+
+-- an answer by a text is not for want of memory
+complained-short : (what : Asked) (number : ℕ) (result : Progress) (tells : Bool) (old new : Live) (own : List Note) (before mid text after : List ℕ)
+    → Complains tells mid text result after → IsShort what number result old new own before after
+complained-short what number GoesOn tells old new own before mid text after told = tt
+complained-short what number (IsOver OutOfMemory) tells old new own before mid text after told = absurd told
+complained-short what number (IsOver (Exit status)) tells old new own before mid text after told = tt
+complained-short what number (IsOver EndOfInput) tells old new own before mid text after told = tt
+complained-short what number (IsOver FlushFailed) tells old new own before mid text after told = tt
+complained-short what number (IsOver Commands) tells old new own before mid text after told = tt
+complained-short what number (IsOver Console) tells old new own before mid text after told = tt
+complained-short what number (IsOver Input) tells old new own before mid text after told = tt
+
+-- what stands behind a command that was refused, where it was for that
+pub refused-short : (what : Asked) (number : ℕ) (why : CommandFault) (result : Progress) (tells : Bool) (old new : Live) (own : List Note) (before mid after : List ℕ) (sink sink_now : ℕ)
+    → (why ≡ fault.OutOfMemory → Remains (flushes_of what) old new × AreClosings (reader_of what) number own × (mid ≡ before))
+    → Denies why tells result mid after sink sink_now → IsShort what number result old new own before after
+refused-short what number fault.OutOfMemory result tells old new own before mid after sink sink_now left told =
+    let all = left refl in
+    subst (λ (p : Progress). IsShort what number p old new own before after) (sym told.0) (all.0, all.1, told.1 ∙ all.2)
+refused-short what number fault.Console result tells old new own before mid after sink sink_now left told =
+    subst (λ (p : Progress). IsShort what number p old new own before after) (sym told.0) tt
+refused-short what number why result tells old new own before mid after sink sink_now left told =
+    complained-short what number result tells old new own before mid (fault_text why) after told.0

@@ -14,17 +14,18 @@ use Rattle.file_commands.specs.Notes.{CommandNote, Note}
 use Rattle.expect_actions.specs.Watch.{WatchState}
 use Rattle.scp_commands.specs.Live.{Live}
 use Rattle.scp_commands.specs.Doing.{ComeBehind}
+use Rattle.scp_commands.proofs.RemainLemmas.{remains}
 use Rattle.file_commands.proofs.Adding.{counted-both, counted-none}
 use Rattle.scp_script.specs.declared.progress.Progress.TheVariants.{GoesOn, IsOver}
 use Rattle.scp_script.specs.declared.progress.Finish.{Finish}
 use Rattle.scp_script.specs.declared.progress.Finish.TheVariants.{Exit, EndOfInput, FlushFailed, Commands, Console, Input, OutOfMemory}
 use Rattle.scp_script.specs.Lines.{reads_left}
 use Rattle.scp_script.specs.Reading.{AreRead}
-use Rattle.scp_script.specs.Session.{State, Session, step, Going, rested, after_step, course, trace, ComesTo}
+use Rattle.scp_script.specs.Session.{upcoming, flushes_next, State, Session, step, Going, rested, after_step, course, trace, ComesTo}
 use Rattle.scp_script.specs.Loop.{status_of, finish_of, Finishes, FinishCause, GoesPast, LetsThrough, RunsOut, MayFollow, Progresses, Stepped, AreKept, KeptCause}
 use Rattle.scp_script.specs.Perform.{IsSession, RunsShort, IsPerformed, Performed}
 use Rattle.scp_script.proofs.SessionLemmas.{course-going}
-use Rattle.scp_script.proofs.NoteLemmas.{with_notes}
+use Rattle.scp_script.proofs.NoteLemmas.{with_notes, none-short}
 
 -- one text more
 comes-more : (count : ℕ) (s t u : Session) (made : List (Observation State)) → ComesTo count s made t → (step t).next ≡ Going u → ComesTo (suc count) s (made ++ (step t).made) u
@@ -201,8 +202,9 @@ over start now new finish before mid after notes notes' notes'' s st =
     }
 
 -- memory ran out before the first text
-pub never-begun : (start : List Note → Session) (before : List ℕ) (notes : List Note) → Performed start OutOfMemory (start []).live (start []).input before before notes notes
-never-begun start before notes = record {
+pub never-begun : (start : List Note → Session) (before : List ℕ) (notes : List Note) → (start []).notes ≡ []
+    → Performed start OutOfMemory (start []).live (start []).input before before notes notes
+never-begun start before notes none = record {
   own = [];
   kept = sym (append-nil notes);
   first = record { behind = []; later = []; are = refl; closings = tt; follows = tt };
@@ -216,7 +218,11 @@ never-begun start before notes = record {
     made = 0;
     few = omega arith;
     rest = refl;
-    short = record { live_is = refl; written = inl refl };
+    short = record {
+      live_is = remains (flushes_next (start [])) (start []).live (start []).live refl;
+      notes = none-short (upcoming (start [])) (start []).notes none;
+      written = inl refl;
+    };
   };
 }
 

@@ -7,3 +7,4 @@ pub mod Loop
 pub mod Perform
 pub mod Laws
 pub mod Core
+pub mod Valid

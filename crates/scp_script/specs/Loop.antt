@@ -1,7 +1,9 @@
 -- What the calls of the loop over texts come to, for a console that had and has these bytes and an input that let so many
 -- reads through.
 use Rattle.std.specs.Prelude.{◌≡◌, ◌≢◌, ◌⊎◌, ℕ, ◌<◌, ◌≤◌, Bool, IsTrue, List, [], ◌++◌, length, Option, Some, None, Ok}
+use Rattle.std.specs.List.{AllByRecursion}
 use Rattle.fault_counts.specs.Faults.{raised}
+use Rattle.host_files.specs.declared.files.FileCall.TheVariants.{Closing}
 use Rattle.host_files.specs.Streams.{AddsPart}
 use Rattle.observations.specs.declared.exit_status.ExitStatus.{ExitStatus}
 use Rattle.observations.specs.declared.exit_status.ExitStatus.TheVariants as exits
@@ -18,13 +20,15 @@ use Rattle.scp_commands.specs.declared.fault.CommandFault.TheVariants as fault
 use Rattle.host_files.specs.Lists.{NamedBytes}
 use Rattle.host_files.specs.State.{FileState}
 use Rattle.unit_files.specs.Attachments.{Held}
+use Rattle.file_commands.specs.declared.note.Subject.{Subject}
 use Rattle.file_commands.specs.declared.note.FaultNote.{FaultNote}
 use Rattle.file_commands.specs.Notes.{CommandNote, Note, numbered, Follow}
 use Rattle.file_commands.specs.Counts.{AreCounted}
 use Rattle.scp_commands.specs.Live.{Live, Standing, CommandState, live_in}
 use Rattle.scp_commands.specs.Reply.{Answer, Reply}
 use Rattle.scp_commands.specs.FaultText.{fault_text}
-use Rattle.scp_commands.specs.Effect.{Asked}
+use Rattle.scp_commands.specs.Effect.{Asked, asked}
+use Rattle.scp_commands.specs.Remains.{Remains, flushes_of, reader_of}
 use Rattle.scp_commands.specs.Doing.{IsSaid, IsBrokenOff, Does, ComeBehind}
 use Rattle.scp_script.specs.declared.progress.CommandLoop.{CommandLoop}
 use Rattle.scp_script.specs.declared.progress.Finish.{Finish}
@@ -38,7 +42,7 @@ use Rattle.expect_actions.specs.Watch.{WatchState}
 use Rattle.scp_script.specs.declared.texts.Texts.{Texts as HeldTexts}
 use Rattle.scp_script.specs.Actions.{Texts, texts_of, texts_behind}
 use Rattle.scp_script.specs.Session as ends
-use Rattle.scp_script.specs.Session.{State, Session, SessionEnd, ExitDone, AllDone, InputEnded, BudgetSpent, Going, rested, asking, with_complaint, text_reply, step, course, trace}
+use Rattle.scp_script.specs.Session.{State, Session, SessionEnd, ExitDone, AllDone, InputEnded, BudgetSpent, Going, rested, asking, with_complaint, Upcoming, Ends, Comes, upcoming, text_reply, flushes_next, step, course, trace}
 
 -- the texts that the loop holds
 abbrev pub coming : HeldTexts → Texts
@@ -152,10 +156,18 @@ finish_of InputEnded = EndOfInput
 finish_of ends.FlushFailed = FlushFailed
 finish_of BudgetSpent = Commands
 
--- where memory ran out at a text, nothing was done
-abbrev pub IsShort : Progress → Live → Live → List FaultNote → List FaultNote → List ℕ → List ℕ → Type 0
-IsShort (IsOver OutOfMemory) old new notes notes' before after = (new ≡ old) × (notes' ≡ notes) × (after ≡ before)
-IsShort result old new notes notes' before after = Unit {0}
+-- the notes of a command for which memory ran out: where it was reading a file whole those of its closing, and else none
+abbrev pub AreClosings : Option Subject → ℕ → List Note → Type 0
+AreClosings None number notes = notes ≡ []
+AreClosings (Some who) number notes =
+    AllByRecursion (λ (n : Note). (n.command ≡ number) × (n.note.subject ≡ who) × (n.note.failure.call ≡ Closing)) notes
+
+-- Where memory ran out at a text, nothing was done, but that one that flushes the disk may have done so, and one that was reading a
+-- file has closed it, with these notes.
+abbrev pub IsShort : Asked → ℕ → Progress → Live → Live → List Note → List ℕ → List ℕ → Type 0
+IsShort what number (IsOver OutOfMemory) old new own before after =
+    Remains (flushes_of what) old new × AreClosings (reader_of what) number own × (after ≡ before)
+IsShort what number result old new own before after = Unit {0}
 
 -- A finish that is no fault says by what the session is over. A fault comes before that, wherever the session would
 -- have ended.
@@ -188,10 +200,17 @@ pub record GoesPast (old new : Session) (before after : List ℕ) : Type 0 where
   pub written : after ≡ before ++ text_of (step old).made
   pub reads : AreRead (reads_of (step old).made) old.open_ old.input new.open_ new.input
 
--- A session for which memory ran out before its next text, or at it: nothing of the text was done, and of what is printed
--- before it is done comes all or nothing.
+-- the notes that are left where memory ran out at the next text, or before it
+abbrev pub AreShort : Upcoming → List Note → Type 0
+AreShort (Ends end) notes = notes ≡ []
+AreShort (Comes text behind) notes = AreClosings (reader_of (asked text)) behind.spent notes
+
+-- A session for which memory ran out before its next text, or at it: nothing of the text was done, but that one that flushes the
+-- disk may have done so, and one that was reading a file has closed it; the notes that are left are of that closing. Of what is
+-- printed before the text is done comes all or nothing.
 pub record StopsShort (old : Session) (live : Live) (before after : List ℕ) : Type 0 where
-  pub live_is : live ≡ old.live
+  pub live_is : Remains (flushes_next old) old.live live
+  pub notes : AreShort (upcoming old) old.notes
   pub written : (after ≡ before) ⊎ (after ≡ before ++ text_of (asking old))
 
 -- the same, with the reads that were made of its line

@@ -1,5 +1,5 @@
 -- A session: one text after another, to EXIT, the end of the input, or the end of the budget.
-use Rattle.std.specs.Prelude.{◌≡◌, ℕ, zero, suc, ◌+◌, ◌-◌, nat_le, Bool, List, [], ◌∷◌, ◌++◌, length, drop, codes, Option, Some, None, Ok, Err, if◌then◌else◌}
+use Rattle.std.specs.Prelude.{◌≡◌, ℕ, zero, suc, ◌+◌, ◌-◌, nat_le, Bool, false, List, [], ◌∷◌, ◌++◌, length, drop, codes, Option, Some, None, Ok, Err, if◌then◌else◌}
 use Rattle.observations.specs.declared.exit_status.ExitStatus.TheVariants as exits
 use Rattle.observations.specs.Status.{number_of}
 use Rattle.observations.specs.Observations.{Observation, Prints, Reads, Trace, after_made, map_made}
@@ -13,6 +13,7 @@ use Rattle.expect_actions.specs.Watch.{forgotten}
 use Rattle.file_commands.specs.AllUnits.{Emptied}
 use Rattle.scp_commands.specs.FileEffects.{emptied_all, emptied_live}
 use Rattle.scp_commands.specs.Effect.{Asked, does, asked}
+use Rattle.scp_commands.specs.Remains.{flushes_of}
 use Rattle.scp_script.specs.Scripts.{Script, still_open, cost_of_line, text_of_line, echo_text, past_line, checked, settled}
 use Rattle.scp_script.specs.Actions.{Texts, texts_of, text_of_stop, overflow_text, texts_behind}
 use Rattle.script_text.specs.Lines.{first_line, line_cost, has_lf}
@@ -143,6 +144,14 @@ upcoming_at s (action ∷ others) = if nat_le 1 s.budget then Comes action (behi
 
 unfoldable pub upcoming : Session → Upcoming
 upcoming s = upcoming_at s s.texts.actions
+
+-- whether the next text asks for what flushes the disk
+abbrev pub flushes_in : Upcoming → Bool
+flushes_in (Ends end) = false
+flushes_in (Comes text behind) = flushes_of (asked text)
+
+abbrev pub flushes_next : Session → Bool
+flushes_next s = flushes_in (upcoming s)
 
 -- the text of a fault is printed behind what its command has made, and so it is where the actions of a stop do not fit
 -- in front of those that wait

@@ -1,8 +1,8 @@
-ghost use Rattle.std.specs.Prelude.{◌≡◌, ◌≢◌, ◌≤◌, List, length, IsTrue, true, false, Ok, Err, IfOk};
+ghost use Rattle.std.specs.Prelude.{◌≡◌, ◌≢◌, ◌≤◌, ◌++◌, List, length, IsTrue, true, false, Ok, Err, IfOk};
 ghost use Rattle.host_files.specs.Lists.{NamedBytes};
 ghost use Rattle.host_files.specs.State.{Opened};
 ghost use Rattle.unit_files.specs.Open.{AllOpen, Around};
-ghost use Rattle.file_commands.specs.Notes.{CommandNote, notes_said};
+ghost use Rattle.file_commands.specs.Notes.{CommandNote, Note, notes_said};
 ghost use Rattle.scp_commands.specs.Live.{live_in, standing};
 ghost use Rattle.scp_commands.specs.Effect.{Asked, asked};
 ghost use Rattle.scp_commands.specs.Doing.{IsExitAnswer};
@@ -44,9 +44,9 @@ pub fn answer<U: Unit, F: Files, S: Sink>(
         (coming texts.old) (asked line.now) session.old.command result (live_in session.new (F.state files.new).files)
         (coming texts.new) S.tells (S.written out.old) (S.written out.new) (notes_said session.old.notes)
         (notes_said session.new.notes) }
-    ensures short { IsTrue F.tells → IsShort result (live_in session.old (F.state files.old).files)
-        (live_in session.new (F.state files.new).files) session.old.notes session.new.notes (S.written out.old)
-        (S.written out.new) }
+    ensures short { IsTrue F.tells → (own : List Note) → notes_said session.new.notes ≡ notes_said session.old.notes ++ own
+        → IsShort (asked line.now) session.old.command result (live_in session.old (F.state files.old).files)
+        (live_in session.new (F.state files.new).files) own (S.written out.old) (S.written out.new) }
     ensures counts { AnswerCounts result (S.fault_count out.old) (S.fault_count out.new) }
     ensures exit { HasExitStatus result }
     ensures command { session.new.command ≡ session.old.command }
@@ -69,7 +69,6 @@ pub fn answer<U: Unit, F: Files, S: Sink>(
 
 /// Does a command, and prints the text of its fault where it is refused. A DO is refused where no more scripts can be
 /// open; the memory for its arguments is taken before its file is read.
-#[tactic(auto, using(crate::proofs::UndoneLemmas::says))]
 fn obey<U: Unit, F: Files, S: Sink>(
     alloc: Global,
     session: &mut Session<U>,
@@ -83,9 +82,9 @@ fn obey<U: Unit, F: Files, S: Sink>(
         (coming texts.old) (Ok command.now) session.old.command result (live_in session.new (F.state files.new).files)
         (coming texts.new) S.tells (S.written out.old) (S.written out.new) (notes_said session.old.notes)
         (notes_said session.new.notes) }
-    ensures short { IsTrue F.tells → IsShort result (live_in session.old (F.state files.old).files)
-        (live_in session.new (F.state files.new).files) session.old.notes session.new.notes (S.written out.old)
-        (S.written out.new) }
+    ensures short { IsTrue F.tells → (own : List Note) → notes_said session.new.notes ≡ notes_said session.old.notes ++ own
+        → IsShort (Ok command.now) session.old.command result (live_in session.old (F.state files.old).files)
+        (live_in session.new (F.state files.new).files) own (S.written out.old) (S.written out.new) }
     ensures counts { AnswerCounts result (S.fault_count out.old) (S.fault_count out.new) }
     ensures exit { HasExitStatus result }
     ensures command { session.new.command ≡ session.old.command }

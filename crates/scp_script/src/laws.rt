@@ -1,3 +1,4 @@
+ghost use Rattle.scp_script.specs.Valid.{SessionsStayValid};
 ghost use Rattle.scp_script.specs.Core.{SameCoreSameFuture, CutBehindTexts};
 ghost use Rattle.scp_script.specs.Laws.{ActionsAreForgotten, EndedScriptsDoNotMatter, LineByLine, LinesAreConsumed};
 
@@ -30,4 +31,11 @@ pub fn actions_are_forgotten()
 /// The law that where no action waits, nothing depends on the innermost scripts whose last line was done.
 pub fn ended_scripts_do_not_matter()
     ensures { EndedScriptsDoNotMatter }
+{}
+
+/// The law of what every session is: behind a text it still is, what is made comes in states of its kind, and so does
+/// the end. What the disk holds of its file is what is in it, where nothing is to be written back, as long as nothing
+/// else has changed that file.
+pub fn sessions_stay_valid()
+    ensures { SessionsStayValid }
 {}

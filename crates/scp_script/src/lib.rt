@@ -14,7 +14,7 @@ mod texts;
 
 pub use laws::{
     actions_are_forgotten, ended_scripts_do_not_matter, lines_are_consumed, same_core_same_future,
-    session_goes_line_by_line, session_is_cut_behind_texts,
+    session_goes_line_by_line, session_is_cut_behind_texts, sessions_stay_valid,
 };
 pub use perform_session::{Opening, perform};
 pub use progress::Finish;

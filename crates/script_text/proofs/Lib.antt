@@ -4,3 +4,4 @@ pub mod LawLemmas
 pub mod LineLemmas
 pub mod StorageLemmas
 pub mod WordLemmas
+pub mod ByteLemmas

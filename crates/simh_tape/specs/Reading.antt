@@ -79,14 +79,14 @@ PreviousData bytes (Ok EndOfMedium) old new = Unit {0}
 PreviousData bytes (Ok LoadPoint) old new = Unit {0}
 PreviousData bytes (Err fault) old new = Unit {0}
 
--- where the answer is neither a block nor a failed call, a buffer is as it was
+-- where the answer is neither a block nor a failed call, a buffer is as it was; behind a failed call it is free
 abbrev pub KeepsBuffer : Result Item TapeFault → List ℕ → List ℕ → Type 0
 KeepsBuffer (Ok (Block count flagged taken place)) old new = Unit {0}
 KeepsBuffer (Ok (Mark place)) old new = new ≡ old
 KeepsBuffer (Ok EndOfMedium) old new = new ≡ old
 KeepsBuffer (Ok LoadPoint) old new = new ≡ old
 KeepsBuffer (Err (BadImage place)) old new = new ≡ old
-KeepsBuffer (Err (Failed call)) old new = Unit {0}
+KeepsBuffer (Err (Failed call)) old new = length new ≡ length old
 
 -- places lie within what can be read, a block has 1 to 16777215 data bytes, and no more of them are taken than a buffer
 -- has room for

@@ -5,6 +5,7 @@ ghost use Rattle.host_files.specs.OneList.{longest_list, shown};
 ghost use Rattle.simh_tape.specs.Image.{word_at, is_length_word, with_front};
 ghost use Rattle.simh_tape.specs.Pieces.{word_said, WordEnds};
 
+use byteorder::{ByteOrder, LittleEndian};
 use host_files::{Bytes, Failed};
 
 /// The place behind the last byte that can be read: 64 MiB.
@@ -42,7 +43,7 @@ pub(crate) fn read_word<B: Bytes>(tape: &mut B, place: u64) -> Result<Word, Fail
     if count < 4 {
         return Ok(Word::Cut);
     }
-    Ok(Word::Is(u32::from_le_bytes(buf)))
+    Ok(Word::Is(LittleEndian::read_u32(&buf)))
 }
 
 /// Reads the data of a block, which has so many bytes from that place on, into the front of `into`: as much as fits.

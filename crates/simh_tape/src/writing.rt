@@ -5,8 +5,9 @@ ghost use Rattle.host_files.specs.declared.files.FileCall.TheVariants.{SetLength
 ghost use Rattle.host_files.specs.OneList.{longest_list};
 ghost use Rattle.host_files.specs.Streams.{joined};
 ghost use Rattle.simh_tape.specs.Image.{block_size};
-ghost use Rattle.simh_tape.specs.Writing.{block_bytes, mark_bytes, after_writing, after_erasing, part_written, FailsWriting};
+ghost use Rattle.simh_tape.specs.Writing.{word_bytes, block_bytes, mark_bytes, after_writing, after_erasing, part_written, FailsWriting};
 
+use byteorder::{ByteOrder, LittleEndian};
 use host_files::{Bytes, Failed, FileCall, WriteFault};
 
 /// A call on the image that failed, and how many bytes of the item were written then.
@@ -31,7 +32,7 @@ pub fn write_block<B: Bytes>(tape: &mut B, place: u64, bytes: &[u8]) -> Result<u
     ensures behind { B.behind tape.new ≡ B.behind tape.old }
     ensures counts { CountsFault (B.fault_count tape.old) (B.fault_count tape.new) result }
 {
-    let word = (bytes.len() as u32).to_le_bytes();
+    let word = length_word(bytes.len() as u32);
     let padding = [0u8];
     write_item(
         tape,
@@ -53,8 +54,17 @@ pub fn write_mark<B: Bytes>(tape: &mut B, place: u64) -> Result<u64, PutFault>
     ensures behind { B.behind tape.new ≡ B.behind tape.old }
     ensures counts { CountsFault (B.fault_count tape.old) (B.fault_count tape.new) result }
 {
-    let word = 0u32.to_le_bytes();
+    let word = length_word(0);
     write_item(tape, place, &[&word])
+}
+
+// The bytes of a length, the lowest first.
+fn length_word(length: u32) -> [u8; 4]
+    ensures { result ≡ word_bytes length }
+{
+    let mut bytes = [0; 4];
+    LittleEndian::write_u32(&mut bytes, length);
+    bytes
 }
 
 /// Ends the tape at a place. A gap in front of it is filled with zero bytes. Where the call fails, nothing has changed.

@@ -1,8 +1,10 @@
 -- What is open and what is attached, once a file was attached or detached.
 use Rattle.std.proofs.Common.{inl, inr, ◌⊎◌, ◌≡◌, ◌≢◌, ℕ, zero, suc, ◌<◌, List, [], ◌∷◌, Option, Some, None, length}
 use Rattle.std.proofs.Common.{get_or, set, replicate, refl, ap, sym, ◌∙◌, subst, arith}
-use Rattle.host_files.specs.State.{Opened, opened_at, without}
-use Rattle.unit_files.specs.Attachments.{Held}
+use Rattle.host_files.specs.State.{FileState, Opened, opened_at, without}
+use Rattle.unit_trait.specs.declared.kind.UnitName.{UnitName}
+use Rattle.unit_files.specs.Attachments.{Held, file_place, held_at, with_held}
+use Rattle.unit_files.specs.Causes.{IsNewId, OnlyKept, AreFrom}
 use Rattle.unit_files.specs.Open.{is_reading, AllOpen, IsHeldOpen, Around, without_held}
 use Rattle.unit_files.proofs.Entries.{other-kept, closed-both}
 use Rattle.host_files.proofs.Tables.{front-found, front-out, front-passed, front-kept}
@@ -208,3 +210,24 @@ around-none n opened = record {
   rest = rest-none n opened;
   own = λ place h is. absurd (none-some h (sym (empty n place) ∙ is));
 }
+
+-- ---- what is attached to the units then
+
+pub kept-without : (slots : List (Option Held)) (unit : UnitName) → OnlyKept slots (with_held slots unit None)
+kept-without slots unit = λ other h is. elim (found-after slots (file_place unit) (file_place other) None h is) [
+  | inl here ↦ absurd (none-some h here.1)
+  | inr there ↦ there.1
+]
+
+pub kept-same : (slots slots' : List (Option Held)) → slots' ≡ slots → OnlyKept slots slots'
+kept-same slots slots' same = λ unit h is. ap (λ (l : List (Option Held)). held_at l unit) (sym same) ∙ is
+
+pub from-with : (slots : List (Option Held)) (unit : UnitName) (g : Held) (old new : FileState) → IsNewId old new g.file
+    → AreFrom slots (with_held slots unit (Some g)) old new
+from-with slots unit g old new fresh = λ other h is. elim (found-after slots (file_place unit) (file_place other) (Some g) h is) [
+  | inl here ↦ inr (subst (λ (x : Held). IsNewId old new x.file) (held-is h g here.1) fresh)
+  | inr there ↦ inl there.1
+]
+
+pub from-same : (slots slots' : List (Option Held)) (old new : FileState) → slots' ≡ slots → AreFrom slots slots' old new
+from-same slots slots' old new same = λ unit h is. inl (kept-same slots slots' same unit h is)

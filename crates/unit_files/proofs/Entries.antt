@@ -1,10 +1,9 @@
 -- The list of open files: one is put in front, or one is closed.
-use Rattle.std.proofs.Common.{inl, inr, ◌≡◌, ◌≢◌, ℕ, ◌==◌, Bool, true, false, List, [], ◌∷◌, Some, Option, refl, ap}
-use Rattle.std.proofs.Common.{sym, ◌∙◌, arith, if◌then◌else◌}
+use Rattle.std.proofs.Common.{inl, inr, ◌≡◌, ◌≢◌, ℕ, ◌==◌, List, [], ◌∷◌, Some, Option, refl, ap}
+use Rattle.std.proofs.Common.{sym, ◌∙◌, if◌then◌else◌}
 use Rattle.std.proofs.lemmas.Bool.{cases_eq}
-use Rattle.std.proofs.lemmas.Bool.Decides.{nat_tests}
 use Rattle.host_files.specs.State.{Opened, opened_at, without}
-use Rattle.host_files.proofs.Tables.{test-is, test-not, front-found, front-out, front-passed, front-kept}
+use Rattle.host_files.proofs.Tables.{front-out, front-passed, front-kept}
 
 -- closing one leaves every other as it was
 pub other-kept : (opened : List Opened) (file other : ℕ) → other ≢ file → opened_at (without opened file) other

@@ -4,3 +4,5 @@ pub mod Entries
 pub mod Attaching
 pub mod Copies
 pub mod Sectors
+pub mod FlushLaws
+pub mod SectorLaws

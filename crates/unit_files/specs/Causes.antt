@@ -1,9 +1,10 @@
 -- Each failing call that is answered has raised a count in this very call: that of its file, or of openings.
-use Rattle.std.specs.Prelude.{◌≡◌, ◌⊎◌, ℕ, ◌<◌, ◌≤◌, Bool, IsTrue, List, Option, Some, None, Result, Ok, Err}
+use Rattle.std.specs.Prelude.{◌≡◌, ◌≢◌, ◌⊎◌, ℕ, ◌<◌, ◌≤◌, Bool, IsTrue, List, Option, Some, None, Result, Ok, Err}
 use Rattle.fault_counts.specs.Faults.{raised, Rose}
 use Rattle.host_files.specs.declared.files.FileId.{FileId}
 use Rattle.host_files.specs.declared.files.FileCall.TheVariants.{Opening, Length, Read, Write, Closing}
 use Rattle.host_files.specs.State.{FileState}
+use Rattle.whole_files.specs.Claims.{raised_by}
 use Rattle.unit_trait.specs.declared.kind.UnitName.{UnitName}
 use Rattle.unit_files.specs.declared.faults.UnitFault.{UnitFault}
 use Rattle.unit_files.specs.declared.faults.AttachFault.{AttachFault}
@@ -63,17 +64,28 @@ pub record OnlyNewCounts (old new : FileState) : Type 0 where
   pub openings : old.open_faults ≤ new.open_faults
   pub ids : old.given ≤ new.given
 
+-- the count after at most one fault more
+abbrev pub AtMostOnceMore : ℕ → ℕ → Type 0
+AtMostOnceMore before now = (now ≡ before) ⊎ (now ≡ raised before)
+
+-- A file was opened in this call and is refused behind so many failed calls on it: its count has risen by these, and may
+-- have risen by one more for its closing. No other count of a file has changed.
+pub record IsRefusedFile (id : FileId) (failed : ℕ) (old new : FileState) : Type 0 where
+  pub rising : old.given ≤ id.0
+  pub given : id.0 < new.given
+  pub count : AtMostOnceMore (raised_by failed (old.faults id.0)) (new.faults id.0)
+  pub others : (other : ℕ) → other ≢ id.0 → new.faults other ≡ old.faults other
+
 -- an opening failed, or a call on the file that was opened in this call
 pub record IsNewFault (f : UnitFault) (unit : UnitName) (old new : FileState) : Type 0 where
   pub unit_is : f.unit ≡ unit
   pub none_done : f.done ≡ 0
   pub calls : (f.call ≡ Opening) ⊎ (f.call ≡ Length) ⊎ ((f.call ≡ Read) × IsTrue (is_disk unit.kind))
-  pub opening : f.call ≡ Opening → (f.file ≡ None) × Rose old.open_faults new.open_faults
-  pub other : (f.call ≡ Opening → ⊥) → (id : FileId) × (f.file ≡ Some id) × (old.given ≤ id.0) × (id.0 < new.given)
-      × Rose (old.faults id.0) (new.faults id.0)
+  pub opening : f.call ≡ Opening → (f.file ≡ None) × Rose old.open_faults new.open_faults × (new.faults ≡ old.faults)
+  pub other : (f.call ≡ Opening → ⊥) → (id : FileId) × (f.file ≡ Some id) × IsRefusedFile id 1 old new
 
 -- What an attaching leaves of the counts, by its answer. Where names are not told, a file is missing only where the
--- count of openings rose.
+-- count of openings rose. The closing of a file that was refused is told by its count alone.
 abbrev pub AttachCause : Bool → Result ℕ AttachFault → UnitName → FileState → FileState → Type 0
 AttachCause tells (Ok count) unit old new =
     (new.faults ≡ old.faults) × (IsTrue tells → new.open_faults ≡ old.open_faults)
@@ -84,5 +96,19 @@ AttachCause tells (Err attach.NoFile) unit old new =
     × (IsTrue tells → new.open_faults ≡ old.open_faults)
 AttachCause tells (Err attach.AlreadyAttached) unit old new = IsQuiet old new
 AttachCause tells (Err attach.ReadOnly) unit old new = IsQuiet old new
-AttachCause tells (Err attach.TooLong) unit old new = Unit {0}
-AttachCause tells (Err attach.OutOfMemory) unit old new = Unit {0}
+AttachCause tells (Err attach.TooLong) unit old new =
+    ((id : FileId) × IsRefusedFile id 0 old new) × (IsTrue tells → new.open_faults ≡ old.open_faults)
+AttachCause tells (Err attach.OutOfMemory) unit old new = new.faults ≡ old.faults
+
+-- a file was opened between these two
+abbrev pub IsNewId : FileState → FileState → ℕ → Type 0
+IsNewId old new file = (old.given ≤ file) × (file < new.given)
+
+-- each file that is attached to a unit now was attached to it before
+abbrev pub OnlyKept : List (Option Held) → List (Option Held) → Type 0
+OnlyKept slots slots' = (unit : UnitName) (h : Held) → held_at slots' unit ≡ Some h → held_at slots unit ≡ Some h
+
+-- the same, or it was opened in between
+abbrev pub AreFrom : List (Option Held) → List (Option Held) → FileState → FileState → Type 0
+AreFrom slots slots' old new =
+    (unit : UnitName) (h : Held) → held_at slots' unit ≡ Some h → (held_at slots unit ≡ Some h) ⊎ IsNewId old new h.file

@@ -7,3 +7,4 @@ pub mod Causes
 pub mod Shapes
 pub mod Opening
 pub mod View
+pub mod Laws

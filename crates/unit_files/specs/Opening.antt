@@ -1,6 +1,6 @@
 -- A file is opened for a unit, its length is asked for, and the disk reads it whole.
 use Rattle.std.specs.Prelude.{◌≡◌, ◌≢◌, ◌⊎◌, ℕ, ◌+◌, ◌<◌, ◌≤◌, Bool, IsTrue, List, ◌∷◌, Some, None, Result, Ok, Err}
-use Rattle.fault_counts.specs.Faults.{Rose}
+use Rattle.fault_counts.specs.Faults.{raised, Rose}
 use Rattle.host_files.specs.declared.files.FileId.{FileId}
 use Rattle.host_files.specs.declared.files.FileCall.{FileCall}
 use Rattle.host_files.specs.declared.files.FileCall.TheVariants as call
@@ -16,6 +16,7 @@ use Rattle.unit_files.specs.declared.faults.AttachFault.TheVariants as attach
 use Rattle.unit_files.specs.declared.opening.Taken.{Taken}
 use Rattle.unit_files.specs.Attachments.{is_disk, longest_file}
 use Rattle.unit_files.specs.Acts.{is_read_only, opened_files}
+use Rattle.unit_files.specs.Causes.{AtMostOnceMore}
 use Rattle.unit_files.specs.Open.{is_reading}
 
 -- a file is open now, under an id that was never given before
@@ -74,19 +75,31 @@ HasLength unit all (Err fault) = Unit {0}
 -- .. with what it leaves of the counts of that file
 abbrev pub LengthCause : Result ℕ AttachFault → UnitName → FileId → FileState → FileState → Type 0
 LengthCause (Ok count) unit id old new = new.faults ≡ old.faults
-LengthCause (Err attach.TooLong) unit id old new = Unit {0}
+LengthCause (Err attach.TooLong) unit id old new = new.faults ≡ old.faults
 LengthCause (Err (attach.Failed f)) unit id old new =
-    (f ≡ failed_at call.Length unit id) × Rose (old.faults id.0) (new.faults id.0)
+    (f ≡ failed_at call.Length unit id) × (new.faults id.0 ≡ raised (old.faults id.0))
 LengthCause (Err fault) unit id old new = ⊥
 
--- the answer of a measuring and reading, with what it leaves of the counts of its file
+-- a failed call of a measuring and reading: the length, or the read, which the disk alone makes
+abbrev pub IsMeasureFault : UnitFault → UnitName → FileId → Type 0
+IsMeasureFault f unit id =
+    (f ≡ failed_at call.Length unit id) ⊎ ((f ≡ failed_at call.Read unit id) × IsTrue (is_disk unit.kind))
+
+-- the answer of a measuring and reading, with what it leaves of the counts of its file, which is still open
 abbrev pub MeasureCause : Result ℕ AttachFault → UnitName → FileId → FileState → FileState → Type 0
 MeasureCause (Ok count) unit id old new = new.faults ≡ old.faults
-MeasureCause (Err attach.TooLong) unit id old new = Unit {0}
+MeasureCause (Err attach.TooLong) unit id old new = new.faults ≡ old.faults
 MeasureCause (Err (attach.Failed f)) unit id old new =
-    ((f ≡ failed_at call.Length unit id) ⊎ ((f ≡ failed_at call.Read unit id) × IsTrue (is_disk unit.kind)))
-    × Rose (old.faults id.0) (new.faults id.0)
+    IsMeasureFault f unit id × (new.faults id.0 ≡ raised (old.faults id.0))
 MeasureCause (Err fault) unit id old new = ⊥
+
+-- .. and once a file that the unit does not get was closed, which may fail too
+abbrev pub ClosedCause : Result ℕ AttachFault → UnitName → FileId → FileState → FileState → Type 0
+ClosedCause (Ok count) unit id old new = new.faults ≡ old.faults
+ClosedCause (Err attach.TooLong) unit id old new = AtMostOnceMore (old.faults id.0) (new.faults id.0)
+ClosedCause (Err (attach.Failed f)) unit id old new =
+    IsMeasureFault f unit id × AtMostOnceMore (raised (old.faults id.0)) (new.faults id.0)
+ClosedCause (Err fault) unit id old new = ⊥
 
 -- no count but that of one file has changed, and that one has not fallen
 pub record OnlyCountOf (file : ℕ) (old new : FileState) : Type 0 where

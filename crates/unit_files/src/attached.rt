@@ -11,7 +11,7 @@ ghost use Rattle.unit_files.specs.Acts.{detach_said, detached_by, buffer_left, f
 ghost use Rattle.unit_files.specs.Answers.{said_of_attach, failure_of_attach, first_refusal, IfNoMemory};
 ghost use Rattle.unit_files.specs.Answers.{said_of_detach, failure_of_detach, said_of_flush, failure_of_flush};
 ghost use Rattle.unit_files.specs.Open.{AllOpen, Around};
-ghost use Rattle.unit_files.specs.Causes.{OnlyNewCounts, AttachCause, DetachCause, FlushCause};
+ghost use Rattle.unit_files.specs.Causes.{OnlyNewCounts, AttachCause, DetachCause, FlushCause, OnlyKept, AreFrom};
 ghost use Rattle.unit_files.specs.Shapes.{CloseCause, WriteCause, IsPart};
 ghost use Rattle.unit_files.specs.Acts.{detached, is_due_back, written_back};
 ghost use Rattle.unit_files.specs.Answers.{failure_in};
@@ -93,6 +93,8 @@ impl Attached {
             ≡ attached_by said mode unit name.now (attachments_of self.old.slots)) }
         ensures disk { IsTrue F.tells → IfSome (said_of_attach result) (λ said. self.new.disk
             ≡ buffer_by said unit (bytes_of (F.state files.new).files name.now) self.old.disk) }
+        ensures there { IfOk result (λ n. IsTrue (is_some (attachment_at (attachments_of self.new.slots) unit))) }
+        ensures unwritten { IfOk result (λ n. is_disk unit.kind ≡ true → self.new.disk.written ≡ false) }
         ensures other { is_disk unit.kind ≡ false → self.new.disk ≡ self.old.disk }
         ensures refused { OnErr result (self.new ≡ self.old) }
         ensures files { IsTrue F.tells → IfSome (said_of_attach result) (λ said. (F.state files.new).files
@@ -103,6 +105,7 @@ impl Attached {
         ensures open { AllOpen self.new.slots (F.state files.new).opened }
         ensures around { (base : List Opened) → Around self.old.slots base (F.state files.old).opened
             → Around self.new.slots base (F.state files.new).opened }
+        ensures from { AreFrom self.old.slots self.new.slots (F.state files.old) (F.state files.new) }
         ensures counts { OnlyNewCounts (F.state files.old) (F.state files.new) }
         ensures cause { AttachCause F.tells result unit (F.state files.old) (F.state files.new) }
     {
@@ -159,6 +162,7 @@ impl Attached {
         ensures open { AllOpen self.new.slots (F.state files.new).opened }
         ensures around { (base : List Opened) → Around self.old.slots base (F.state files.old).opened
             → Around self.new.slots base (F.state files.new).opened }
+        ensures kept { OnlyKept self.old.slots self.new.slots }
         ensures cause { DetachCause result unit self.old.slots (F.state files.old) (F.state files.new) }
     {
         match self.flush(unit, files) {
@@ -217,6 +221,7 @@ impl Attached {
         ensures open { AllOpen self.new.slots (F.state files.new).opened }
         ensures around { (base : List Opened) → Around self.old.slots base (F.state files.old).opened
             → Around self.new.slots base (F.state files.new).opened }
+        ensures kept { OnlyKept self.old.slots self.new.slots }
         ensures cause { DetachCause (Ok result) unit self.old.slots (F.state files.old) (F.state files.new) }
     {
         match self.held_file(unit) {

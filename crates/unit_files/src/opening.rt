@@ -10,6 +10,7 @@ ghost use Rattle.unit_files.specs.View.{disk_bytes};
 ghost use Rattle.unit_files.specs.Answers.{said_of_attach, failure_of_attach, first_refusal, IfNoMemory};
 ghost use Rattle.unit_files.specs.Causes.{AttachCause, OnlyNewCounts};
 ghost use Rattle.unit_files.specs.Opening.{OpensFor, IsNewlyOpen, length_of, fault_of_opening, MeasureCause};
+ghost use Rattle.unit_files.specs.Opening.{ClosedCause};
 ghost use Rattle.unit_files.specs.Opening.{OnlyCountOf, HasLength, LengthCause, failed_at};
 ghost use Rattle.unit_files.specs.declared.faults.AttachFault.TheVariants as attach_faults;
 ghost use Rattle.host_files.specs.FileCalls.{Counted};
@@ -184,7 +185,7 @@ fn measure_or_close<F: Files>(
     ensures bytes { IsTrue F.tells → IsTrue (is_disk unit.kind)
         → OnOk result (bytes.new.items ≡ content (F.state files.old) file.0) }
     ensures kept { vec_capacity bytes.old ≤ vec_capacity bytes.new }
-    ensures cause { MeasureCause result unit file (F.state files.old) (F.state files.new) }
+    ensures cause { ClosedCause result unit file (F.state files.old) (F.state files.new) }
     ensures counts { OnlyCountOf file.0 (F.state files.old) (F.state files.new) }
     ensures files { (F.state files.new).files ≡ (F.state files.old).files }
     ensures opened { OnOk result ((F.state files.new).opened ≡ (F.state files.old).opened) }

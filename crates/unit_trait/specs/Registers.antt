@@ -1,8 +1,6 @@
 -- The registers of each kind of unit, by their numbers.
 use Rattle.std.specs.Prelude.{ℕ, ◌+◌, List, [], Option, Some, None, slice_get}
 use Rattle.unit_trait.specs.declared.kind.Kind.{Kind}
-use Rattle.unit_trait.specs.declared.kind.Kind.TheVariants.{Mta}
-use Rattle.unit_trait.specs.declared.kind.UnitName.{UnitName}
 pub use Rattle.unit_trait.specs.Device.{Register}
 use Rattle.unit_trait.specs.Kinds.{device_of}
 
@@ -29,9 +27,8 @@ busy_number = 0
 abbrev pub done_number : ℕ
 done_number = 1
 
-abbrev pub position_of : Kind → ℕ → ℕ
-position_of Mta drive = 9 + drive
-position_of kind unit = 5
+abbrev pub pos_number : ℕ
+pos_number = 5
 
-abbrev pub position_number : UnitName → ℕ
-position_number unit = position_of unit.kind unit.unit
+abbrev pub drive_pos_number : ℕ → ℕ
+drive_pos_number drive = 9 + drive

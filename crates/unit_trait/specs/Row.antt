@@ -10,7 +10,7 @@ use Rattle.unit_trait.specs.declared.calls.Want.TheVariants.{Key, LineKey, Conso
 use Rattle.unit_trait.specs.declared.calls.Got.{Got}
 use Rattle.unit_trait.specs.declared.calls.Got.TheVariants.{Done, Byte, Tape}
 use Rattle.unit_trait.specs.Device.{Register, position}
-use Rattle.unit_trait.specs.Registers.{registers, position_of}
+use Rattle.unit_trait.specs.Registers.{registers, pos_number}
 use Rattle.unit_trait.specs.Calls.{UnitState, UnitCall, Row, holds}
 use Rattle.unit_trait.specs.Disk.{disk_row}
 use Rattle.unit_trait.specs.Tape.{tape_length, tape_row}
@@ -93,7 +93,7 @@ moves_on got = false
 
 -- .. which can be done while POS is below its largest value
 abbrev pub CanMoveOn : List ℕ → Type 0
-CanMoveOn registers = slice_index registers (position_of Ptr 0) < position.largest
+CanMoveOn registers = slice_index registers pos_number < position.largest
 
 -- a tape stands at a place that its register can hold
 abbrev pub IsOnTape : Got → Type 0

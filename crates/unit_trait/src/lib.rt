@@ -25,5 +25,5 @@ pub use calls::{
 pub use kind::{Kind, UnitName, code_of, mask_of, takes_file, unit_text, units_of};
 pub use laws::{codes_tell_kinds, registers_have_their_names};
 pub use processor::{CpuReg, RegFault};
-pub use registers::{BUSY, DONE, is_cleared, position_register, reg_initial, reg_limit, reg_name, reg_text};
+pub use registers::{BUSY, DONE, POS, POS0, is_cleared, reg_initial, reg_limit, reg_name, reg_text};
 pub use unit::Unit;

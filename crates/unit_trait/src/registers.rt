@@ -1,10 +1,9 @@
-ghost use Rattle.std.specs.Prelude.{◌≡◌, ◌<◌, ◌++◌, Some, option_map, MatchOption, drop, length, IfSome};
-ghost use Rattle.unit_trait.specs.Registers.{register_at, name_at, position_number};
-ghost use Rattle.unit_trait.specs.Kinds.{units_of};
+ghost use Rattle.std.specs.Prelude.{◌≡◌, ◌++◌, Some, option_map, MatchOption, drop, length, IfSome};
+ghost use Rattle.unit_trait.specs.Registers.{register_at, name_at};
 ghost use Rattle.unit_trait.specs.Seen.{seen, HasShortName};
 
 use crate::device::{Register, register_name};
-use crate::kind::{Kind, UnitName};
+use crate::kind::Kind;
 use crate::{clock, disk, keyboard, printer, punch, reader, tape, teleprinter};
 use line_text::Text;
 
@@ -14,17 +13,11 @@ pub const BUSY: u8 = 0;
 /// The number of DONE, in every device.
 pub const DONE: u8 = 1;
 
-/// The number of POS, of a unit that goes through its file from place to place: a tape drive, or one that reads or writes
-/// byte by byte.
-pub fn position_register(unit: UnitName) -> u8
-    requires { unit.unit < units_of unit.kind }
-    ensures { result ≡ position_number unit }
-{
-    match unit.kind {
-        Kind::Mta => 9 + unit.unit,
-        _ => 5,
-    }
-}
+/// The number of POS, in every unit that reads or writes its file byte by byte.
+pub const POS: u8 = 5;
+
+/// The number of POS0, in the tape; those of the other drives follow.
+pub const POS0: u8 = 9;
 
 // A register of a kind, by its number from 0.
 fn register_at(kind: Kind, i: u8) -> Option<Register>

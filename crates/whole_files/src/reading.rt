@@ -18,7 +18,7 @@ pub(crate) enum Refusal {
 }
 
 /// Fills a buffer from the front of an open file, and answers how many bytes it got: fewer than it takes only where the
-/// file ends before. Where a read fails, what the buffer holds is not told.
+/// file ends before. Where a read fails, what the buffer holds is free.
 pub fn fill<F: Files>(file: FileId, buf: &mut [u8], files: &mut F) -> Result<usize, Failed>
     requires { IsOpen (F.state files.old) file.0 }
     ensures bound { IfOk result (λ n. n ≤ length buf.new) }

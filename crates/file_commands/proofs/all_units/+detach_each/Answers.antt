@@ -4,6 +4,7 @@ use Rattle.unit_files.specs.Attachments.{takes_attachment}
 use Rattle.unit_files.specs.Buffer.{AttachedFiles}
 use Rattle.file_commands.specs.AllUnits.{filed_of}
 use Rattle.file_commands.proofs.Emptying.{Calls, empties-none, empties-kept, empties-more, kept-whole, unwritten-here, still-unwritten, nothing-left, all-tail, apart-tail, apart-head}
+use Rattle.file_commands.proofs.OwnFiles.{own-both}
 use Rattle.file_commands.proofs.all_units.+detach_each.Goals as goal
 
 pub detach_each-requires : goal.detach_each-requires
@@ -72,3 +73,10 @@ returns-in-None-flush_fault-clause-empties g t c =
     let new = g.F.Files.state c.detach_each.new.files in
     empties-more c.args.stamp u c.in-Some.others.now c.args.units.now _ (filed_of first.new.attached mid.files) _ first.result _ c.args.notes.now.items first.new.notes.items c.detach_each.new.notes.items
     old mid new are (apart-head u c.in-Some.others.now c.args.units.now are c.requires.apart) (sym c.in-None-flush_fault.ensures) calls c.detach_each.ensures.empties
+
+pub returns-in-None-flush_fault-clause-whose : goal.returns-in-None-flush_fault-clause-whose
+returns-in-None-flush_fault-clause-whose g t c =
+    let first = c.detach_unit-result in
+    let rest = c.detach_each in
+    own-both c.args.attached.now.slots first.new.attached.slots rest.new.attached.slots c.args.notes.now.items first.new.notes.items rest.new.notes.items
+    (g.F.Files.state c.args.files.now) (g.F.Files.state first.new.files) (g.F.Files.state rest.new.files) first.ensures.whose rest.ensures.whose

@@ -1,7 +1,7 @@
-use Rattle.std.proofs.Common.{◌%◌, ◌*◌, ◌/◌, ◌+◌, ◌∙◌, ◌≡◌, ap, ℕ, set}
+use Rattle.std.proofs.Common.{◌%◌, ◌*◌, ◌/◌, ◌+◌, ◌∙◌, ◌≡◌, ap, ℕ, List, [], ◌∷◌, set, take, get_or, subst, sym}
 use Rattle.std.proofs.lemmas.List.{length-set}
 use Rattle.nova_memory.specs.Memory.{get}
-use Rattle.nova_machine.specs.Sectors.{address_on}
+use Rattle.nova_machine.specs.Sectors.{address_on, bytes_got}
 use Rattle.nova_machine.proofs.Moving.{got-more, got-all}
 use Rattle.nova_machine.proofs.sector.bytes_of.Goals as goal
 
@@ -11,11 +11,14 @@ loop-n-preserved c =
     let bytes = c.loop-n.bytes in
     let word : c.word.inside.0 ≡ get c.args.memory.now (address_on c.args.address c.loop-n.n) =
     c.word.view_is ∙ c.read-word.ensures.word ∙ ap (λ (a : ℕ). get c.args.memory.now a) c.of_word.ensures in
+    let two : c.sector_bytes.result ≡ (c.word.inside.0 % 256) ∷ (c.word.inside.0 / 256) ∷ [] = c.sector_bytes.ensures in
+    let put : List ℕ → List ℕ = λ b. set (set bytes (2 * place) (get_or b 0 0)) (2 * place + 1) (get_or b 1 0) in
     record {
-      got = got-more c.loop-n.n place c.args.address c.word.inside.0 bytes c.args.memory.now c.from-place.ensures c.loop-n-test.true c.loop-n.invariant.long word
-          c.loop-n.invariant.got;
-      long = length-set (set bytes (2 * place) (c.word.inside.0 % 256)) (2 * place + 1) (c.word.inside.0 / 256) ∙ length-set bytes (2 * place) (c.word.inside.0 % 256)
-          ∙ c.loop-n.invariant.long;
+      got = subst (λ (b : List ℕ). take (2 * (c.loop-n.n + 1)) (put b) ≡ bytes_got (c.loop-n.n + 1) c.args.address c.args.memory.now) (sym two)
+          (got-more c.loop-n.n place c.args.address c.word.inside.0 bytes c.args.memory.now c.from-place.ensures c.loop-n-test.true c.loop-n.invariant.long word
+          c.loop-n.invariant.got);
+      long = length-set (set bytes (2 * place) (get_or c.sector_bytes.result 0 0)) (2 * place + 1) (get_or c.sector_bytes.result 1 0)
+          ∙ length-set bytes (2 * place) (get_or c.sector_bytes.result 0 0) ∙ c.loop-n.invariant.long;
     }
 
 pub returns : goal.returns

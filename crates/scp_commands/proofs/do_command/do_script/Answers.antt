@@ -8,7 +8,8 @@ use Rattle.scp_commands.specs.ScriptEffects.{script_of}
 use Rattle.scp_commands.specs.WholeCalls.{read_notes}
 use Rattle.scp_commands.proofs.BehindLemmas.{stamp_in}
 use Rattle.scp_commands.proofs.DoLemmas.{do-did}
-use Rattle.scp_commands.proofs.WholeLemmas.{read-keeps, none-read, read-own}
+use Rattle.scp_commands.proofs.WholeLemmas.{read-claims, read-keeps, short-read, read-own}
+use Rattle.scp_commands.proofs.OwnFileLemmas.{whole-own}
 use Rattle.scp_commands.proofs.do_command.do_script.Goals as goal
 
 pub returns-clause-told : goal.returns-clause-told
@@ -36,10 +37,17 @@ returns-clause-keeps g c =
 pub returns-clause-undone : goal.returns-clause-undone
 returns-clause-undone g c = λ text is.
     let s = c.session.inside in
-    let none = none-read subject.Script c.stamp_of-stamp.result (script_of c.args.echo c.args.strict) c.read_file-whole.result (λ bytes. tt) (sym c.script_answer.ensures ∙ is) in
-    let kept : c.note_reading.new.notes.items ≡ s.notes.items = c.note_reading.ensures.notes ∙ ap (λ (l : List FaultNote). s.notes.items ++ l) none ∙ append-nil s.notes.items in
+    let read = c.read_file-whole.ensures in
+    let stamped = c.stamp_of-stamp.ensures ∙ ap stamp_in (sym c.session.view_is) in
     rw (← c.session.view_is)
-    (record { machine = refl; watch = refl; notes = kept; written = refl; files_are = λ told. c.read_file-whole.ensures.files told })
+    (record {
+      left = record { machine = refl; watch = refl };
+      notes = short-read subject.Script s.command s.machine.time (script_of c.args.echo c.args.strict) c.read_file-whole.result s.notes.items c.note_reading.new.notes.items
+          (λ bytes. tt) (sym c.script_answer.ensures ∙ is) read.shape
+          (c.note_reading.ensures.notes ∙ ap (λ (t : Stamp). s.notes.items ++ read_notes subject.Script t c.read_file-whole.result) stamped);
+      written = refl;
+      live = λ told. ap (λ (l : List NamedBytes). seen (beside s.watch s.keys l) s.machine) (read.files told);
+    })
 
 pub returns-clause-own : goal.returns-clause-own
 returns-clause-own g c =
@@ -48,3 +56,12 @@ returns-clause-own g c =
 pub returns-clause-exit : goal.returns-clause-exit
 returns-clause-exit g c =
     (read-own subject.Script (script_of c.args.echo c.args.strict) c.read_file-whole.result.bytes c.script_answer.result (λ bytes. (tt, tt)) c.script_answer.ensures).1
+
+pub returns-clause-whose : goal.returns-clause-whose
+returns-clause-whose g c =
+    let s = c.session.inside in
+    let w = c.read_file-whole.result in
+    let read = c.read_file-whole.ensures in
+    rw (← c.session.view_is)
+    (whole-own subject.Script c.stamp_of-stamp.result 0 w.failed w.closing s.machine.slots s.machine.slots s.notes.items c.note_reading.new.notes.items
+    (g.F.Files.state c.args.files.now) (g.F.Files.state c.read_file-whole.new.files) refl (read-claims w read.shape) read.failed read.closing read.ids c.note_reading.ensures.notes)

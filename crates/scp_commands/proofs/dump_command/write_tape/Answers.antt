@@ -1,4 +1,4 @@
-use Rattle.std.proofs.Common.{◌≡◌, ◌++◌, List, refl, ap, sym, ◌∙◌, append-nil}
+use Rattle.std.proofs.Common.{◌≡◌, ◌++◌, List, refl, ap, sym, ◌∙◌, append-nil, arith}
 use Rattle.host_files.specs.Lists.{NamedBytes}
 use Rattle.file_commands.specs.declared.note.Subject.TheVariants as subject
 use Rattle.file_commands.specs.declared.note.FaultNote.{FaultNote}
@@ -6,7 +6,8 @@ use Rattle.file_commands.specs.declared.stamp.Stamp.{Stamp}
 use Rattle.nova_machine.specs.Seen.{seen, beside}
 use Rattle.scp_commands.specs.WholeCalls.{write_notes}
 use Rattle.scp_commands.proofs.BehindLemmas.{stamp_in}
-use Rattle.scp_commands.proofs.WholeLemmas.{dump-is, write-did, write-keeps, none-written, write-own}
+use Rattle.scp_commands.proofs.WholeLemmas.{write-claims, dump-is, write-did, write-keeps, none-written, write-own}
+use Rattle.scp_commands.proofs.OwnFileLemmas.{whole-own}
 use Rattle.scp_commands.proofs.dump_command.write_tape.Goals as goal
 
 pub returns-clause-told : goal.returns-clause-told
@@ -33,7 +34,7 @@ returns-clause-keeps g c =
     rw (← c.session.view_is)
     (write-keeps subject.Dump s.command s.machine.time g.F.Files.tells c.args.tape.now w c.written_answer.result s.notes.items
     c.note_writing.new.notes.items (g.F.Files.state c.args.files.now) (g.F.Files.state c.write_file-written.new.files)
-    c.written_answer.ensures write.shape tt (record { counts = write.counts; openings = write.openings })
+    c.written_answer.ensures write.shape (omega (arith, write.shape.done, c.requires.size)) (record { counts = write.counts; openings = write.openings })
     (c.note_writing.ensures.notes ∙ ap (λ (t : Stamp). s.notes.items ++ write_notes subject.Dump t w) stamped))
 
 pub returns-clause-undone : goal.returns-clause-undone
@@ -45,10 +46,25 @@ returns-clause-undone g c = λ text is.
     let kept : c.note_writing.new.notes.items ≡ s.notes.items =
     c.note_writing.ensures.notes ∙ ap (λ (l : List FaultNote). s.notes.items ++ l) none.0 ∙ append-nil s.notes.items in
     rw (← c.session.view_is)
-    (record { machine = refl; watch = refl; notes = kept; written = refl; files_are = λ _. write.unmade none.1 })
+    (record {
+      left = record { machine = refl; watch = refl };
+      notes = kept;
+      written = refl;
+      live = λ _. ap (λ (l : List NamedBytes). seen (beside s.watch s.keys l) s.machine) (write.unmade none.1);
+    })
 
 pub returns-clause-own : goal.returns-clause-own
 returns-clause-own g c = (write-own subject.Dump c.write_file-written.result.answer c.written_answer.result c.written_answer.ensures).0
 
 pub returns-clause-exit : goal.returns-clause-exit
 returns-clause-exit g c = (write-own subject.Dump c.write_file-written.result.answer c.written_answer.result c.written_answer.ensures).1
+
+pub returns-clause-whose : goal.returns-clause-whose
+returns-clause-whose g c =
+    let s = c.session.inside in
+    let w = c.write_file-written.result in
+    let write = c.write_file-written.ensures in
+    rw (← c.session.view_is)
+    (whole-own subject.Dump c.stamp_of-stamp.result w.done w.failed w.closing s.machine.slots s.machine.slots s.notes.items c.note_writing.new.notes.items
+    (g.F.Files.state c.args.files.now) (g.F.Files.state c.write_file-written.new.files) refl (write-claims c.args.tape.now w write.shape) write.failed write.closing write.ids
+    c.note_writing.ensures.notes)

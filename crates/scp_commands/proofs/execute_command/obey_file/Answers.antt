@@ -1,5 +1,7 @@
-use Rattle.std.proofs.Common.{Err, ◌≡◌, refl, ap, sym, ◌∙◌, subst}
+use Rattle.std.proofs.Common.{true, Some, None, Err, ◌≡◌, refl, ap, sym, ◌∙◌, subst}
+use Rattle.file_commands.specs.declared.note.Subject.TheVariants as subject
 use Rattle.file_commands.specs.Notes.{notes_said}
+use Rattle.file_commands.proofs.OwnFiles.{unused}
 use Rattle.scp_parser.specs.Command.{Request, Attach, Detach, Do, Exit, Load, Dump, request_of, file_name_of}
 use Rattle.scp_commands.specs.declared.fault.CommandFault.TheVariants.{NotBuilt}
 use Rattle.scp_commands.specs.Live.{live_in}
@@ -10,7 +12,9 @@ use Rattle.scp_commands.specs.TapeEffects.{load_reply, dump_reply}
 use Rattle.scp_commands.specs.ScriptEffects.{do_reply}
 use Rattle.scp_commands.specs.Effect.{effect}
 use Rattle.scp_commands.specs.Parts.{IsPastWatches}
+use Rattle.scp_commands.specs.Nature.{nature}
 use Rattle.scp_commands.specs.Doing.{IsTold, says_files}
+use Rattle.scp_commands.proofs.RemainLemmas.{leaves, undone-as}
 use Rattle.scp_commands.proofs.ObeyLemmas.{plain-did, noted-did, do-named, load-named, dump-named, keeps-none, IsNoFile, other-is, no-note}
 use Rattle.scp_commands.proofs.DidLemmas.{refused-does}
 use Rattle.scp_commands.proofs.execute_command.obey_file.Goals as goal
@@ -32,8 +36,10 @@ returns-in-Attach-clause-told g c = λ told.
 
 pub returns-in-Attach-clause-undone : goal.returns-in-Attach-clause-undone
 returns-in-Attach-clause-undone g c = λ is.
-    let undone = c.attach.ensures.undone (g.S.Sink.written c.args.out.now) is in
-    record { machine = undone.machine; watch = undone.watch; notes = undone.notes; written = undone.written; files_are = λ _. undone.files_are refl }
+    let text = g.S.Sink.written c.args.out.now in
+    let asks = sym c.command.view_is ∙ ap (request_of _) c.in-Attach.is in
+    undone-as (nature c.args.command.now).flushes None (nature c.args.command.now).reads_whole true (says_files g.F.Files.tells c.args.command.now) c.args.session.now c.attach.new.session text text
+    (g.F.Files.state c.args.files.now) (g.F.Files.state c.attach.new.files) (ap (λ (r : Request). (nature r).reads_whole) asks) (λ _. refl) (c.attach.ensures.undone text is)
 
 pub returns-in-Detach-clause-told : goal.returns-in-Detach-clause-told
 unfolding effect
@@ -62,9 +68,11 @@ returns-in-Do-clause-told g c = λ told.
 
 pub returns-in-Do-clause-undone : goal.returns-in-Do-clause-undone
 returns-in-Do-clause-undone g c = λ is.
-    let undone = c.do_script.ensures.undone (g.S.Sink.written c.args.out.now) is in
-    let says = ap (says_files g.F.Files.tells) (sym c.command.view_is ∙ ap (request_of _) c.in-Do.is) in
-    record { machine = undone.machine; watch = undone.watch; notes = undone.notes; written = undone.written; files_are = λ told. undone.files_are (sym says ∙ told) }
+    let text = g.S.Sink.written c.args.out.now in
+    let asks = sym c.command.view_is ∙ ap (request_of _) c.in-Do.is in
+    let says = ap (says_files g.F.Files.tells) asks in
+    undone-as (nature c.args.command.now).flushes (Some subject.Script) (nature c.args.command.now).reads_whole g.F.Files.tells (says_files g.F.Files.tells c.args.command.now) c.args.session.now c.do_script.new.session text text
+    (g.F.Files.state c.args.files.now) (g.F.Files.state c.do_script.new.files) (ap (λ (r : Request). (nature r).reads_whole) asks) (λ told. sym says ∙ told) (c.do_script.ensures.undone text is)
 
 pub returns-in-Exit-clause-told : goal.returns-in-Exit-clause-told
 unfolding effect
@@ -92,9 +100,11 @@ returns-in-Load-clause-told g c = λ told.
 
 pub returns-in-Load-clause-undone : goal.returns-in-Load-clause-undone
 returns-in-Load-clause-undone g c = λ is.
-    let undone = c.load_file.ensures.undone (g.S.Sink.written c.args.out.now) is in
-    let says = ap (says_files g.F.Files.tells) (sym c.command.view_is ∙ ap (request_of _) c.in-Load.is) in
-    record { machine = undone.machine; watch = undone.watch; notes = undone.notes; written = undone.written; files_are = λ told. undone.files_are (sym says ∙ told) }
+    let text = g.S.Sink.written c.args.out.now in
+    let asks = sym c.command.view_is ∙ ap (request_of _) c.in-Load.is in
+    let says = ap (says_files g.F.Files.tells) asks in
+    undone-as (nature c.args.command.now).flushes (Some subject.Load) (nature c.args.command.now).reads_whole g.F.Files.tells (says_files g.F.Files.tells c.args.command.now) c.args.session.now c.load_file.new.session text text
+    (g.F.Files.state c.args.files.now) (g.F.Files.state c.load_file.new.files) (ap (λ (r : Request). (nature r).reads_whole) asks) (λ told. sym says ∙ told) (c.load_file.ensures.undone text is)
 
 pub returns-in-Dump-clause-told : goal.returns-in-Dump-clause-told
 unfolding effect
@@ -112,8 +122,10 @@ returns-in-Dump-clause-told g c = λ told.
 
 pub returns-in-Dump-clause-undone : goal.returns-in-Dump-clause-undone
 returns-in-Dump-clause-undone g c = λ is.
-    let undone = c.dump_file.ensures.undone (g.S.Sink.written c.args.out.now) is in
-    record { machine = undone.machine; watch = undone.watch; notes = undone.notes; written = undone.written; files_are = λ _. undone.files_are refl }
+    let text = g.S.Sink.written c.args.out.now in
+    let asks = sym c.command.view_is ∙ ap (request_of _) c.in-Dump.is in
+    undone-as (nature c.args.command.now).flushes None (nature c.args.command.now).reads_whole true (says_files g.F.Files.tells c.args.command.now) c.args.session.now c.dump_file.new.session text text
+    (g.F.Files.state c.args.files.now) (g.F.Files.state c.dump_file.new.files) (ap (λ (r : Request). (nature r).reads_whole) asks) (λ _. refl) (c.dump_file.ensures.undone text is)
 
 pub returns-in_default : goal.returns-in_default
 returns-in_default g c =
@@ -140,8 +152,9 @@ returns-in_default g c =
       unrefused = λ is. absurd (cc);
       ran = tt;
       attach_note = no-note c.args.command.now (record { command = s.command; time = s.machine.time }) s.notes s.notes state state;
-      refused = λ is. (refl, refl);
+      refused = λ is. leaves (nature c.args.command.now).flushes s s refl refl;
       keeps = keeps-none s.command s.machine.time g.F.Files.tells (Err NotBuilt) s.notes s.notes state refl tt;
+      whose = unused s.machine.slots s.machine.slots s.notes s.notes state refl refl;
       keys = refl;
       limit = refl;
       command = refl;

@@ -1,6 +1,7 @@
 use Rattle.std.proofs.Common.{Ok, ◌≡◌, refl, ap, sym, ◌∙◌, subst}
 use Rattle.unit_files.specs.Open.{AllOpen, Around}
 use Rattle.file_commands.specs.Notes.{notes_said}
+use Rattle.file_commands.proofs.OwnFiles.{unused}
 use Rattle.scp_parser.specs.Command.{Nothing, Reset, SetSize, Show, Assert, Echo, request_of, given_text}
 use Rattle.scp_commands.specs.declared.next.Next.TheVariants.{Go}
 use Rattle.scp_commands.specs.declared.next.Next.TheVariants as next
@@ -53,6 +54,13 @@ returns-in-Reset-clause-open g c =
 pub returns-in-Reset-clause-around : goal.returns-in-Reset-clause-around
 returns-in-Reset-clause-around g c = λ base around.
     subst (λ l. Around l base (g.F.Files.state c.args.files.now).opened) (sym (ap (λ (x : CommandState). x.machine.slots) c.reset.ensures.rest ∙ reset-slots c.args.session.now.machine)) around
+
+pub returns-in-Reset-clause-whose : goal.returns-in-Reset-clause-whose
+returns-in-Reset-clause-whose g c =
+    let s = c.args.session.now in
+    let new = c.reset.new.session in
+    unused s.machine.slots new.machine.slots s.notes new.notes (g.F.Files.state c.args.files.now)
+    (ap (λ (x : CommandState). x.machine.slots) c.reset.ensures.rest ∙ reset-slots s.machine) (ap (λ (x : CommandState). x.notes) c.reset.ensures.rest)
 
 pub returns-in-SetSize-clause-told : goal.returns-in-SetSize-clause-told
 unfolding effect

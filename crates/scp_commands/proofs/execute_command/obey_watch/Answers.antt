@@ -6,6 +6,9 @@ use Rattle.scp_commands.specs.Live.{CommandState, live_in}
 use Rattle.scp_commands.specs.WatchEffects.{break_reply, no_break_reply, expect_reply, no_expect_reply, send_reply, no_send_reply}
 use Rattle.scp_commands.specs.Effect.{effect}
 use Rattle.scp_commands.specs.Parts.{IsPastSettings, IsPastWatches}
+use Rattle.scp_commands.specs.Nature.{nature}
+use Rattle.scp_commands.specs.Doing.{says_files}
+use Rattle.scp_commands.proofs.RemainLemmas.{undone-none}
 use Rattle.scp_commands.proofs.ObeyLemmas.{plain-did, keeps-none, does-of-no-file, IsNoWatch, past-watches}
 use Rattle.scp_commands.proofs.ObeyLemmas.{break-given, expect-given, send-given, break-no-file, no_break-no-file, expect-no-file, no_expect-no-file, send-no-file, no_send-no-file}
 use Rattle.scp_commands.proofs.execute_command.obey_watch.Goals as goal
@@ -27,13 +30,9 @@ returns-in-Break-clause-told g c = λ told.
 pub returns-in-Break-clause-undone : goal.returns-in-Break-clause-undone
 returns-in-Break-clause-undone g c = λ is.
     let same = c.add_break.ensures.undone is in
-    record {
-      machine = ap (λ (x : CommandState). x.machine) same;
-      watch = ap (λ (x : CommandState). x.watch) same;
-      notes = ap (λ (x : CommandState). x.notes) same;
-      written = refl;
-      files_are = λ _. refl;
-    }
+    undone-none (nature c.args.command.now).flushes (nature c.args.command.now).reads_whole (says_files g.F.Files.tells c.args.command.now) c.args.session.now c.add_break.new.session
+    (g.S.Sink.written c.args.out.now) (g.F.Files.state c.args.files.now) (ap (λ (x : CommandState). x.machine) same)
+    (ap (λ (x : CommandState). x.watch) same) (ap (λ (x : CommandState). x.keys) same) (ap (λ (x : CommandState). x.notes) same)
 
 pub returns-in-Break-clause-keeps : goal.returns-in-Break-clause-keeps
 returns-in-Break-clause-keeps g c =
@@ -103,13 +102,9 @@ returns-in-Expect-clause-told g c = λ told.
 pub returns-in-Expect-clause-undone : goal.returns-in-Expect-clause-undone
 returns-in-Expect-clause-undone g c = λ is.
     let same = c.add_expect.ensures.undone is in
-    record {
-      machine = ap (λ (x : CommandState). x.machine) same;
-      watch = ap (λ (x : CommandState). x.watch) same;
-      notes = ap (λ (x : CommandState). x.notes) same;
-      written = refl;
-      files_are = λ _. refl;
-    }
+    undone-none (nature c.args.command.now).flushes (nature c.args.command.now).reads_whole (says_files g.F.Files.tells c.args.command.now) c.args.session.now c.add_expect.new.session
+    (g.S.Sink.written c.args.out.now) (g.F.Files.state c.args.files.now) (ap (λ (x : CommandState). x.machine) same)
+    (ap (λ (x : CommandState). x.watch) same) (ap (λ (x : CommandState). x.keys) same) (ap (λ (x : CommandState). x.notes) same)
 
 pub returns-in-Expect-clause-keeps : goal.returns-in-Expect-clause-keeps
 returns-in-Expect-clause-keeps g c =

@@ -5,12 +5,14 @@ use Rattle.file_commands.specs.declared.note.Subject.TheVariants as subject
 use Rattle.file_commands.specs.declared.note.FaultNote.{FaultNote}
 use Rattle.file_commands.specs.declared.stamp.Stamp.{Stamp}
 use Rattle.nova_machine.specs.Machine.{MachineState}
+use Rattle.nova_machine.specs.Seen.{seen, beside}
 use Rattle.scp_commands.specs.Live.{CommandState}
 use Rattle.scp_commands.specs.WholeCalls.{read_notes}
 use Rattle.scp_commands.specs.Doing.{Keeps}
 use Rattle.scp_commands.proofs.BehindLemmas.{stamp_in}
-use Rattle.scp_commands.proofs.WholeLemmas.{read-keeps, none-read, read-own}
+use Rattle.scp_commands.proofs.WholeLemmas.{read-claims, read-keeps, short-read, read-own}
 use Rattle.scp_commands.proofs.TapeLemmas.{tape_comes, tape-plain, tape-own, tape-closings, read-slots, read-time, read-none, load-did}
+use Rattle.scp_commands.proofs.OwnFileLemmas.{whole-own}
 use Rattle.scp_commands.proofs.load_command.load_file.Goals as goal
 
 pub returns-clause-told : goal.returns-clause-told
@@ -48,17 +50,17 @@ pub returns-clause-undone : goal.returns-clause-undone
 returns-clause-undone g c = λ text is.
     let s = c.session.inside in
     let whole = c.read_file-whole.result in
+    let read = c.read_file-whole.ensures in
     let want = sym c.load_bytes.ensures.answer ∙ is in
-    let none = none-read subject.Load c.stamp_of-stamp.result (tape_comes s.machine) whole (tape-plain s.machine) want in
-    let kept : c.note_reading.new.notes.items ≡ s.notes.items =
-    c.note_reading.ensures.notes ∙ ap (λ (l : List FaultNote). s.notes.items ++ l) none ∙ append-nil s.notes.items in
+    let stamped = c.stamp_of-stamp.ensures ∙ ap stamp_in (sym c.session.view_is) in
+    let same = c.load_bytes.ensures.machine ∙ read-none whole.bytes s.machine want in
     rw (← c.session.view_is)
     (record {
-      machine = c.load_bytes.ensures.machine ∙ read-none whole.bytes s.machine want;
-      watch = refl;
-      notes = kept;
+      left = record { machine = same; watch = refl };
+      notes = short-read subject.Load s.command s.machine.time (tape_comes s.machine) whole s.notes.items c.note_reading.new.notes.items (tape-plain s.machine) want read.shape
+          (c.note_reading.ensures.notes ∙ ap (λ (t : Stamp). s.notes.items ++ read_notes subject.Load t whole) stamped);
       written = refl;
-      files_are = λ told. c.read_file-whole.ensures.files told;
+      live = λ told. (λ i. seen (beside s.watch s.keys (read.files told i)) (same i));
     })
 
 pub returns-clause-own : goal.returns-clause-own
@@ -92,3 +94,14 @@ returns-clause-around g c = λ base around.
     subst (λ l. Around l base after.«opened») (sym slots)
     (subst (λ (o : List Opened). Around s.machine.slots base o) (sym c.read_file-whole.ensures.«opened»)
     (subst (λ (x : CommandState). Around x.machine.slots base before.«opened») (sym c.session.view_is) around))
+
+pub returns-clause-whose : goal.returns-clause-whose
+returns-clause-whose g c =
+    let s = c.session.inside in
+    let w = c.read_file-whole.result in
+    let read = c.read_file-whole.ensures in
+    let slots : c.load_bytes.new.machine.slots ≡ s.machine.slots =
+    ap (λ (m : MachineState). m.slots) c.load_bytes.ensures.machine ∙ read-slots c.read_file-whole.result.bytes s.machine in
+    rw (← c.session.view_is)
+    (whole-own subject.Load c.stamp_of-stamp.result 0 w.failed w.closing s.machine.slots c.load_bytes.new.machine.slots s.notes.items c.note_reading.new.notes.items
+    (g.F.Files.state c.args.files.now) (g.F.Files.state c.read_file-whole.new.files) slots (read-claims w read.shape) read.failed read.closing read.ids c.note_reading.ensures.notes)

@@ -1,7 +1,10 @@
-use Rattle.std.proofs.Common.{◌∙◌, List, Option, Err, refl, ap, sym, subst}
+use Rattle.std.proofs.Common.{rules, ◌∙◌, List, Option, Err, refl, ap, sym, subst}
 use Rattle.unit_files.specs.Attachments.{Held}
 use Rattle.unit_files.specs.Open.{AllOpen}
+use Rattle.file_commands.specs.declared.note.FaultNote.{FaultNote}
+use Rattle.file_commands.specs.OwnFiles.{AreOwn}
 use Rattle.file_commands.specs.Notes.{notes_said}
+use Rattle.file_commands.proofs.OwnFiles.{unused}
 use Rattle.nova_machine.specs.Comes.{AreTold}
 use Rattle.scp_commands.specs.declared.fault.CommandFault.TheVariants.{OutOfRange}
 use Rattle.scp_commands.specs.Live.{CommandState, live_in}
@@ -12,36 +15,61 @@ use Rattle.scp_commands.proofs.ReplyLemmas.{did-without, refused-said}
 use Rattle.scp_commands.proofs.StartLemmas.{started-slots, started-did, run_from-refused}
 use Rattle.scp_commands.proofs.run_commands.run_from.Goals as goal
 
-pub returns-then-not-address_fits-clause-told : goal.returns-then-not-address_fits-clause-told
-returns-then-not-address_fits-clause-told g c = λ told.
-    let s = c.args.session.now in
-    let live = live_in s (g.F.Files.state c.args.files.now).files in
-    let text = g.S.Sink.written c.args.out.now in
-    did-without (λ given. run_from s.limit given c.args.resets c.args.address live) (refused OutOfRange live) s.command (Err OutOfRange) live g.S.Sink.tells text text (notes_said s.notes)
-    (run_from-refused s.limit c.args.resets c.args.address live (sym c.address_fits.ensures ∙ c.if-not-address_fits.true)) (refl, refused-said OutOfRange live g.S.Sink.tells text)
+pub returns-then-not-address_fits-clause-done : goal.returns-then-not-address_fits-clause-done
+returns-then-not-address_fits-clause-done g c = record {
+  told = (λ told.
+      let s = c.args.session.now in
+      let live = live_in s (g.F.Files.state c.args.files.now).files in
+      let text = g.S.Sink.written c.args.out.now in
+      did-without (λ given. run_from s.limit given c.args.resets c.args.address live) (refused OutOfRange live) s.command (Err OutOfRange) live g.S.Sink.tells text text (notes_said s.notes)
+      (run_from-refused s.limit c.args.resets c.args.address live (sym c.address_fits.ensures ∙ c.if-not-address_fits.true)) (refl, refused-said OutOfRange live g.S.Sink.tells text));
+  keeps = search rules;
+  whose = unused c.args.session.now.machine.slots c.args.session.now.machine.slots c.args.session.now.notes c.args.session.now.notes (g.F.Files.state c.args.files.now) refl refl;
+  keys = search rules;
+  limit = search rules;
+  command = search rules;
+  slots = search rules;
+  opened = search rules;
+  counts = search rules;
+  ran = search rules;
+  own = search rules;
+  exit = search rules;
+}
 
 pub run-requires-clause-open : goal.run-requires-clause-open
 run-requires-clause-open g c =
     let slots_are = ap (λ (s : CommandState). s.machine.slots) c.start.ensures ∙ started-slots c.args.resets c.args.address c.args.session.now.machine in
     subst (λ (slots : List (Option Held)). AllOpen slots (g.F.Files.state c.args.files.now).opened) (sym slots_are) c.requires.«open»
 
-pub returns-clause-told : goal.returns-clause-told
-returns-clause-told g c = λ told.
-    let s = c.args.session.now in
-    let slots_are = ap (λ (s : CommandState). s.machine.slots) c.start.ensures ∙ started-slots c.args.resets c.args.address s.machine in
-    started-did s c.start.new.session c.args.resets c.args.address (g.F.Files.state c.args.files.now).files c.run.result (live_in c.run.new.session (g.F.Files.state c.run.new.files).files)
-    g.S.Sink.tells (g.S.Sink.written c.args.out.now) (g.S.Sink.written c.run.new.out) (notes_said c.run.new.session.notes) c.start.ensures
-    (sym c.address_fits.ensures ∙ c.if-not-address_fits.false)
-    (c.run.ensures.told (subst (λ (slots : List (Option Held)). AreTold g.F.Files.tells slots) (sym slots_are) told))
-
-pub returns-clause-slots : goal.returns-clause-slots
-returns-clause-slots g c =
-    c.run.ensures.slots ∙ ap (λ (s : CommandState). s.machine.slots) c.start.ensures ∙ started-slots c.args.resets c.args.address c.args.session.now.machine
-
-pub returns-clause-ran : goal.returns-clause-ran
-returns-clause-ran g c =
-    let slots_are = ap (λ (s : CommandState). s.machine.slots) c.start.ensures ∙ started-slots c.args.resets c.args.address c.args.session.now.machine in
-    subst (λ (slots : List (Option Held)). RunCause c.run.result slots (g.F.Files.state c.args.files.now) (g.F.Files.state c.run.new.files)) slots_are c.run.ensures.ran
+pub returns-clause-done : goal.returns-clause-done
+returns-clause-done g c = record {
+  told = (λ told.
+      let s = c.args.session.now in
+      let slots_are = ap (λ (s : CommandState). s.machine.slots) c.start.ensures ∙ started-slots c.args.resets c.args.address s.machine in
+      started-did s c.start.new.session c.args.resets c.args.address (g.F.Files.state c.args.files.now).files c.run.result (live_in c.run.new.session (g.F.Files.state c.run.new.files).files)
+      g.S.Sink.tells (g.S.Sink.written c.args.out.now) (g.S.Sink.written c.run.new.out) (notes_said c.run.new.session.notes) c.start.ensures
+      (sym c.address_fits.ensures ∙ c.if-not-address_fits.false)
+      (c.run.ensures.done.told (subst (λ (slots : List (Option Held)). AreTold g.F.Files.tells slots) (sym slots_are) told)));
+  slots = (c.run.ensures.done.slots ∙ ap (λ (s : CommandState). s.machine.slots) c.start.ensures ∙ started-slots c.args.resets c.args.address c.args.session.now.machine);
+  ran = (let slots_are = ap (λ (s : CommandState). s.machine.slots) c.start.ensures ∙ started-slots c.args.resets c.args.address c.args.session.now.machine in
+      subst (λ (slots : List (Option Held)). RunCause c.run.result slots (g.F.Files.state c.args.files.now) (g.F.Files.state c.run.new.files)) slots_are c.run.ensures.done.ran);
+  keeps = search rules;
+  whose =
+      let s = c.args.session.now in
+      let new = c.run.new.session in
+      let slots_are = ap (λ (x : CommandState). x.machine.slots) c.start.ensures ∙ started-slots c.args.resets c.args.address s.machine in
+      let notes_are = ap (λ (x : CommandState). x.notes) c.start.ensures in
+      subst (λ (l : List (Option Held)). AreOwn l new.machine.slots s.notes new.notes (g.F.Files.state c.args.files.now) (g.F.Files.state c.run.new.files)) slots_are
+      (subst (λ (n : List FaultNote). AreOwn c.start.new.session.machine.slots new.machine.slots n new.notes (g.F.Files.state c.args.files.now) (g.F.Files.state c.run.new.files)) notes_are
+      c.run.ensures.done.whose);
+  keys = search rules;
+  limit = search rules;
+  command = search rules;
+  opened = search rules;
+  counts = search rules;
+  own = search rules;
+  exit = search rules;
+}
 
 pub returns-clause-refused : goal.returns-clause-refused
 returns-clause-refused g c = λ is. absurd (c.run.ensures.never is)

@@ -1,64 +1,96 @@
-use Rattle.std.proofs.Common.{◌≡◌, ◌∙◌, ℕ, List, ap, sym, subst}
+use Rattle.std.proofs.Common.{rules, Some, refl, ◌≡◌, ◌∙◌, ℕ, List, ap, sym, subst}
 use Rattle.host_files.specs.Streams.{Puts}
 use Rattle.file_commands.specs.Notes.{notes_said}
+use Rattle.nova_machine.specs.declared.machine.Stop.{Stop}
+use Rattle.nova_machine.specs.Comes.{FileCause as StopCause}
 use Rattle.nova_machine.specs.Run.{run}
 use Rattle.nova_machine.specs.Seen.{seen, beside}
 use Rattle.scp_commands.specs.Live.{Live, CommandState, live_in}
 use Rattle.scp_commands.specs.RunEffects.{run_failure, ran, stop_text}
 use Rattle.scp_commands.specs.Doing.{Did, Keeps}
+use Rattle.scp_commands.proofs.OwnFileLemmas.{quiet-own, stop-own}
 use Rattle.scp_commands.proofs.RunLemmas.{cut-did, run-did, erased-text, said-more, run-keeps, cut-keeps}
 use Rattle.scp_commands.proofs.run_commands.run_up_to.Goals as goal
 
-pub returns-then-is_console_fault-clause-told : goal.returns-then-is_console_fault-clause-told
-returns-then-is_console_fault-clause-told g c =
-    let watch = c.session.inside.watch in
-    let keys = c.session.inside.keys in
-    let m = c.run-stop.new.self in
-    let old = seen (beside watch keys (g.F.Files.state c.args.files.now).files) c.session.inside.machine in
-    let new = seen (beside c.run-stop.new.watch keys (g.F.Files.state c.run-stop.new.files).files) m in
-    rw (← c.session.view_is) (λ told.
-    cut-did c.args.limit.step c.args.limit.count old new m.time c.run-stop.result c.session.inside.command g.S.Sink.tells (g.S.Sink.written c.args.out.now) (g.S.Sink.written c.run-stop.new.out)
-    (notes_said c.session.inside.notes.items) (c.is_console_fault.ensures.yes c.if-is_console_fault.true) (c.run-stop.ensures.told told))
+pub returns-then-is_console_fault-clause-done : goal.returns-then-is_console_fault-clause-done
+returns-then-is_console_fault-clause-done g c = record {
+  told = (let watch = c.session.inside.watch in
+      let keys = c.session.inside.keys in
+      let m = c.run-stop.new.self in
+      let old = seen (beside watch keys (g.F.Files.state c.args.files.now).files) c.session.inside.machine in
+      let new = seen (beside c.run-stop.new.watch keys (g.F.Files.state c.run-stop.new.files).files) m in
+      rw (← c.session.view_is) (λ told.
+      cut-did c.args.limit.step c.args.limit.count old new m.time c.run-stop.result c.session.inside.command g.S.Sink.tells (g.S.Sink.written c.args.out.now) (g.S.Sink.written c.run-stop.new.out)
+      (notes_said c.session.inside.notes.items) (c.is_console_fault.ensures.yes c.if-is_console_fault.true) (c.run-stop.ensures.told told)));
+  keeps = (rw (← c.session.view_is)
+      (cut-keeps c.session.inside.command c.run-stop.new.self.time g.F.Files.tells c.run-stop.result c.session.inside.machine.slots c.session.inside.notes.items
+      (g.F.Files.state c.args.files.now) (g.F.Files.state c.run-stop.new.files) (c.is_console_fault.ensures.yes c.if-is_console_fault.true) c.run-stop.ensures.file_cause));
+  whose =
+      let slots = c.session.inside.machine.slots in
+      let old = g.F.Files.state c.args.files.now in
+      let new = g.F.Files.state c.run-stop.new.files in
+      rw (← c.session.view_is)
+      (quiet-own slots c.run-stop.new.self.slots c.session.inside.notes.items c.session.inside.notes.items old new c.run-stop.ensures.slots refl
+      (subst (λ (x : Stop). StopCause (Some x) slots old new) (c.is_console_fault.ensures.yes c.if-is_console_fault.true) c.run-stop.ensures.file_cause));
+  keys = search rules;
+  limit = search rules;
+  command = search rules;
+  slots = search rules;
+  opened = search rules;
+  counts = search rules;
+  ran = search rules;
+  own = search rules;
+  exit = search rules;
+}
 
-pub returns-clause-told : goal.returns-clause-told
-returns-clause-told g c =
-    let watch = c.session.inside.watch in
-    let keys = c.session.inside.keys in
-    let files = (g.F.Files.state c.run-stop.new.files).files in
-    let before = g.S.Sink.written c.args.out.now in
-    let mid = g.S.Sink.written c.run-stop.new.out in
-    let after = g.S.Sink.written c.put_stop-printed.new.out in
-    let m = c.run-stop.new.self in
-    let stop = c.run-stop.result in
-    let old = seen (beside watch keys (g.F.Files.state c.args.files.now).files) c.session.inside.machine in
-    let new = seen (beside c.run-stop.new.watch keys files) m in
-    let number = c.session.inside.command in
-    let notes = c.session.inside.notes.items in
-    let new_is : live_in c.note_stop.new.session files ≡ new = ap (λ (s : CommandState). live_in s files) c.note_stop.ensures.rest in
-    let machine_is : c.session-2.inside.machine ≡ m = ap (λ (s : CommandState). s.machine) (c.session-2.view_is ∙ c.note_stop.ensures.rest) in
-    let text_is : stop_text stop c.session-2.inside.machine ≡ stop_text stop new.machine = ap (stop_text stop) machine_is ∙ sym (erased-text stop m) in
-    let kept = ap notes_said c.note_stop.ensures.notes ∙ said-more notes number m.time stop in
-    rw (← c.session.view_is) (λ told.
-    subst (λ (x : Live). Did (λ given. ran (run (run_failure given) c.args.limit.step c.args.limit.count old)) number c.told_or_console.result x g.S.Sink.tells before after
-    (notes_said notes) (notes_said c.note_stop.new.session.notes)) (sym new_is)
-    (run-did c.args.limit.step c.args.limit.count old new m.time stop c.put_stop-printed.result c.told_or_console.result number g.S.Sink.tells before mid after (notes_said notes)
-    (notes_said c.note_stop.new.session.notes) (c.is_console_fault.ensures.no c.if-is_console_fault.false) c.run-stop.ensures.unit (c.run-stop.ensures.told told)
-    (λ t. subst (λ (text : List ℕ). Puts mid text c.put_stop-printed.result after) text_is (c.put_stop-printed.ensures.told t)) c.told_or_console.ensures kept))
-
-pub returns-then-is_console_fault-clause-keeps : goal.returns-then-is_console_fault-clause-keeps
-returns-then-is_console_fault-clause-keeps g c =
-    rw (← c.session.view_is)
-    (cut-keeps c.session.inside.command c.run-stop.new.self.time g.F.Files.tells c.run-stop.result c.session.inside.machine.slots c.session.inside.notes.items
-    (g.F.Files.state c.args.files.now) (g.F.Files.state c.run-stop.new.files) (c.is_console_fault.ensures.yes c.if-is_console_fault.true) c.run-stop.ensures.file_cause)
-
-pub returns-clause-keeps : goal.returns-clause-keeps
-returns-clause-keeps g c =
-    let m = c.run-stop.new.self in
-    let stop = c.run-stop.result in
-    let old = g.F.Files.state c.args.files.now in
-    let new = g.F.Files.state c.run-stop.new.files in
-    let time_is : c.note_stop.new.session.machine.time ≡ m.time = ap (λ (s : CommandState). s.machine.time) c.note_stop.ensures.rest in
-    rw (← c.session.view_is)
-    (subst (λ (time : ℕ). Keeps c.session.inside.command time g.F.Files.tells c.told_or_console.result c.session.inside.notes.items c.note_stop.new.session.notes old new) (sym time_is)
-    (run-keeps c.session.inside.command m.time g.F.Files.tells stop c.put_stop-printed.result c.told_or_console.result c.session.inside.machine.slots c.session.inside.notes.items
-    c.note_stop.new.session.notes old new c.told_or_console.ensures c.note_stop.ensures.notes c.run-stop.ensures.unit c.run-stop.ensures.file_cause))
+pub returns-clause-done : goal.returns-clause-done
+returns-clause-done g c = record {
+  told = (let watch = c.session.inside.watch in
+      let keys = c.session.inside.keys in
+      let files = (g.F.Files.state c.run-stop.new.files).files in
+      let before = g.S.Sink.written c.args.out.now in
+      let mid = g.S.Sink.written c.run-stop.new.out in
+      let after = g.S.Sink.written c.put_stop-printed.new.out in
+      let m = c.run-stop.new.self in
+      let stop = c.run-stop.result in
+      let old = seen (beside watch keys (g.F.Files.state c.args.files.now).files) c.session.inside.machine in
+      let new = seen (beside c.run-stop.new.watch keys files) m in
+      let number = c.session.inside.command in
+      let notes = c.session.inside.notes.items in
+      let new_is : live_in c.note_stop.new.session files ≡ new = ap (λ (s : CommandState). live_in s files) c.note_stop.ensures.rest in
+      let machine_is : c.session-2.inside.machine ≡ m = ap (λ (s : CommandState). s.machine) (c.session-2.view_is ∙ c.note_stop.ensures.rest) in
+      let text_is : stop_text stop c.session-2.inside.machine ≡ stop_text stop new.machine = ap (stop_text stop) machine_is ∙ sym (erased-text stop m) in
+      let kept = ap notes_said c.note_stop.ensures.notes ∙ said-more notes number m.time stop in
+      rw (← c.session.view_is) (λ told.
+      subst (λ (x : Live). Did (λ given. ran (run (run_failure given) c.args.limit.step c.args.limit.count old)) number c.told_or_console.result x g.S.Sink.tells before after
+      (notes_said notes) (notes_said c.note_stop.new.session.notes)) (sym new_is)
+      (run-did c.args.limit.step c.args.limit.count old new m.time stop c.put_stop-printed.result c.told_or_console.result number g.S.Sink.tells before mid after (notes_said notes)
+      (notes_said c.note_stop.new.session.notes) (c.is_console_fault.ensures.no c.if-is_console_fault.false) c.run-stop.ensures.unit (c.run-stop.ensures.told told)
+      (λ t. subst (λ (text : List ℕ). Puts mid text c.put_stop-printed.result after) text_is (c.put_stop-printed.ensures.told t)) c.told_or_console.ensures kept)));
+  keeps = (let m = c.run-stop.new.self in
+      let stop = c.run-stop.result in
+      let old = g.F.Files.state c.args.files.now in
+      let new = g.F.Files.state c.run-stop.new.files in
+      let time_is : c.note_stop.new.session.machine.time ≡ m.time = ap (λ (s : CommandState). s.machine.time) c.note_stop.ensures.rest in
+      rw (← c.session.view_is)
+      (subst (λ (time : ℕ). Keeps c.session.inside.command time g.F.Files.tells c.told_or_console.result c.session.inside.notes.items c.note_stop.new.session.notes old new) (sym time_is)
+      (run-keeps c.session.inside.command m.time g.F.Files.tells stop c.put_stop-printed.result c.told_or_console.result c.session.inside.machine.slots c.session.inside.notes.items
+      c.note_stop.new.session.notes old new c.told_or_console.ensures c.note_stop.ensures.notes c.run-stop.ensures.unit c.run-stop.ensures.file_cause)));
+  whose =
+      let m = c.run-stop.new.self in
+      let old = g.F.Files.state c.args.files.now in
+      let new = g.F.Files.state c.run-stop.new.files in
+      let slots_are = ap (λ (s : CommandState). s.machine.slots) c.note_stop.ensures.rest ∙ c.run-stop.ensures.slots in
+      rw (← c.session.view_is)
+      (stop-own (record { command = c.session.inside.command; time = m.time }) c.run-stop.result c.session.inside.machine.slots c.note_stop.new.session.machine.slots
+      c.session.inside.notes.items c.note_stop.new.session.notes old new slots_are c.run-stop.ensures.unit c.run-stop.ensures.file_cause c.note_stop.ensures.notes);
+  keys = search rules;
+  limit = search rules;
+  command = search rules;
+  slots = search rules;
+  opened = search rules;
+  counts = search rules;
+  ran = search rules;
+  own = search rules;
+  exit = search rules;
+}

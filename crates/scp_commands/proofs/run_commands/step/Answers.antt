@@ -1,5 +1,6 @@
-use Rattle.std.proofs.Common.{◌∙◌, Err, refl, sym}
+use Rattle.std.proofs.Common.{rules, ◌∙◌, Err, refl, sym}
 use Rattle.file_commands.specs.Notes.{notes_said}
+use Rattle.file_commands.proofs.OwnFiles.{unused}
 use Rattle.scp_commands.specs.declared.fault.CommandFault.TheVariants.{OutOfRange}
 use Rattle.scp_commands.specs.Live.{live_in}
 use Rattle.scp_commands.specs.Reply.{refused}
@@ -8,10 +9,23 @@ use Rattle.scp_commands.proofs.ReplyLemmas.{did-without, refused-said}
 use Rattle.scp_commands.proofs.StartLemmas.{step-refused}
 use Rattle.scp_commands.proofs.run_commands.step.Goals as goal
 
-pub returns-else-is_count-clause-told : goal.returns-else-is_count-clause-told
-returns-else-is_count-clause-told g c = λ told.
-    let s = c.args.session.now in
-    let live = live_in s (g.F.Files.state c.args.files.now).files in
-    let text = g.S.Sink.written c.args.out.now in
-    did-without (λ given. step_of s.limit given c.args.count live) (refused OutOfRange live) s.command (Err OutOfRange) live g.S.Sink.tells text text (notes_said s.notes)
-    (step-refused s.limit c.args.count live (sym c.is_count.ensures ∙ c.if-is_count.false)) (refl, refused-said OutOfRange live g.S.Sink.tells text)
+pub returns-else-is_count-clause-done : goal.returns-else-is_count-clause-done
+returns-else-is_count-clause-done g c = record {
+  told = (λ told.
+      let s = c.args.session.now in
+      let live = live_in s (g.F.Files.state c.args.files.now).files in
+      let text = g.S.Sink.written c.args.out.now in
+      did-without (λ given. step_of s.limit given c.args.count live) (refused OutOfRange live) s.command (Err OutOfRange) live g.S.Sink.tells text text (notes_said s.notes)
+      (step-refused s.limit c.args.count live (sym c.is_count.ensures ∙ c.if-is_count.false)) (refl, refused-said OutOfRange live g.S.Sink.tells text));
+  keeps = search rules;
+  whose = unused c.args.session.now.machine.slots c.args.session.now.machine.slots c.args.session.now.notes c.args.session.now.notes (g.F.Files.state c.args.files.now) refl refl;
+  keys = search rules;
+  limit = search rules;
+  command = search rules;
+  slots = search rules;
+  opened = search rules;
+  counts = search rules;
+  ran = search rules;
+  own = search rules;
+  exit = search rules;
+}

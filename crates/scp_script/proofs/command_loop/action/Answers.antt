@@ -1,5 +1,5 @@
-use Rattle.std.proofs.Common.{◌≡◌, ◌<◌, ◌+◌, ◌-◌, ℕ, List, [], ◌∷◌, refl, ap, sym, ◌∙◌, subst, arith, drop, take}
-use Rattle.file_commands.specs.Notes.{notes_said}
+use Rattle.std.proofs.Common.{◌≡◌, ◌<◌, ◌+◌, ◌-◌, ℕ, List, [], ◌∷◌, refl, ap, sym, ◌∙◌, subst, arith, drop, take, ◌++◌}
+use Rattle.file_commands.specs.Notes.{Note, notes_said}
 use Rattle.scp_commands.specs.Live.{CommandState, live_in}
 use Rattle.scp_commands.specs.Effect.{asked}
 use Rattle.scp_script.specs.declared.progress.CommandLoop.{CommandLoop}
@@ -61,10 +61,13 @@ returns-in-Some-clause-told g c = λ files sink input.
     (subst (λ (t : Texts). Answers paid.limit (live_in paid named) t what done.command result live (coming c.answer.new.texts) tells before after (notes_said paid.notes) (notes_said done.notes)) left
     (subst (λ n. Answers paid.limit (live_in paid named) (texts_of c.take.new.self now.texts.scripts) what n result live (coming c.answer.new.texts) tells before after (notes_said paid.notes) (notes_said done.notes)) (sym c.answer.ensures.command)
     (c.answer.ensures.told files))) in
-    let short = subst (λ (x : CommandState). IsShort result (live_in x named) live x.notes done.notes before after) is (c.answer.ensures.short files) in
+    let short = λ (own : List Note) (e : notes_said done.notes ≡ notes_said session.notes ++ own).
+    subst (λ (x : CommandState). IsShort what done.command result (live_in x named) live own before after) is
+    (subst (λ n. IsShort what n result (live_in paid named) live own before after) (sym c.answer.ensures.command)
+    (c.answer.ensures.short files own (e ∙ ap (λ (x : CommandState). notes_said x.notes ++ own) (sym is)))) in
     let limit = c.answer.ensures.limit ∙ ap (λ (x : CommandState). x.limit) is in
     action-stepped (session_of session named lines input []) (session_of done (g.F.Files.state c.answer.new.files).files last input []) first.action first.others what result tells before after
-    (notes_said session.notes) (notes_said done.notes) session.notes done.notes sink first.is paid_for.0 (ap asked (sym text))
+    (notes_said session.notes) (notes_said done.notes) sink first.is paid_for.0 (ap asked (sym text))
     (record {
       spent = spent;
       limit = limit;

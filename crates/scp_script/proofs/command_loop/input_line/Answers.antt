@@ -1,6 +1,6 @@
-use Rattle.std.proofs.Common.{Some, None, ◌≡◌, ◌<◌, [], Err, refl, ap, sym, ◌∙◌, subst, arith}
+use Rattle.std.proofs.Common.{Some, None, ◌≡◌, ◌<◌, [], Err, refl, ap, sym, ◌∙◌, subst, arith, ◌++◌, List}
 use Rattle.unit_files.specs.Open.{Around}
-use Rattle.file_commands.specs.Notes.{notes_said}
+use Rattle.file_commands.specs.Notes.{Note, notes_said}
 use Rattle.scp_parser.specs.declared.fault.ParseFault.TheVariants.{TooLong}
 use Rattle.scp_commands.specs.declared.fault.CommandFault.TheVariants.{Parse}
 use Rattle.scp_commands.specs.Live.{CommandState, live_in}
@@ -54,10 +54,13 @@ returns-in-Line-clause-told g c = λ source files sink.
     (subst (λ (t : Texts). Answers paid.limit (live_in paid named) t what done.command result live (coming c.answer.new.texts) tells mid after (notes_said paid.notes) (notes_said done.notes)) none
     (subst (λ n. Answers paid.limit (live_in paid named) (coming now.texts) what n result live (coming c.answer.new.texts) tells mid after (notes_said paid.notes) (notes_said done.notes)) (sym c.answer.ensures.command)
     (c.answer.ensures.told files))) in
-    let short = subst (λ (x : CommandState). IsShort result (live_in x named) live x.notes done.notes mid after) is (c.answer.ensures.short files) in
+    let short = λ (own : List Note) (e : notes_said done.notes ≡ notes_said session.notes ++ own).
+    subst (λ (x : CommandState). IsShort what done.command result (live_in x named) live own mid after) is
+    (subst (λ n. IsShort what n result (live_in paid named) live own mid after) (sym c.answer.ensures.command)
+    (c.answer.ensures.short files own (e ∙ ap (λ (x : CommandState). notes_said x.notes ++ own) (sym is)))) in
     let limit = c.answer.ensures.limit ∙ ap (λ (x : CommandState). x.limit) is in
     line-stepped (session_of session named lines input []) (session_of done (g.F.Files.state c.answer.new.files).files last left []) now.reader.line what result tells before mid after
-    (notes_said session.notes) (notes_said done.notes) session.notes done.notes sink (λ i. texts_of (c.requires.actions i) (c.requires.scripts i)) c.requires.reads reads.0 (ap asked (sym c.line.ensures))
+    (notes_said session.notes) (notes_said done.notes) sink (λ i. texts_of (c.requires.actions i) (c.requires.scripts i)) c.requires.reads reads.0 (ap asked (sym c.line.ensures))
     (record { spent = c.answer.ensures.command ∙ spent; limit = limit; budget = reads.1; open_ = reads.2; reading = c.read_paid.ensures.reading; prompt = c.read_paid.ensures.prompt; reads = reads.3 }) less
     (c.in-Ok.ensures.told sink) told short
 
@@ -93,10 +96,10 @@ returns-in-TooLong-clause-told g c = λ source files sink.
     (λ notes. c.deny_line.ensures.told named notes what (ap (checked now.texts.scripts) long)) in
     let told = subst (λ (x : CommandState). Answers x.limit (live_in x named) (texts_of [] []) what paid.command result (live_in x named) (coming c.deny_line.new.texts) tells mid after (notes_said x.notes) (notes_said x.notes)) is
     (subst (λ (t : Texts). Answers paid.limit (live_in paid named) t what paid.command result (live_in paid named) (coming c.deny_line.new.texts) tells mid after (notes_said paid.notes) (notes_said paid.notes)) none said) in
-    let short = never-short result live live session.notes session.notes mid after c.deny_line.ensures.memory in
+    let short = λ (own : List Note) (e : notes_said session.notes ≡ notes_said session.notes ++ own). never-short what paid.command result live live own mid after c.deny_line.ensures.memory in
     left-at session paid now_state named lines last input left result before after is
     (line-stepped (session_of session named lines input []) (session_of now_state named last left []) reads.0 what result tells before mid after
-    (notes_said session.notes) (notes_said session.notes) session.notes session.notes sink (λ i. texts_of (c.requires.actions i) (c.requires.scripts i)) c.requires.reads reads.1 refl
+    (notes_said session.notes) (notes_said session.notes) sink (λ i. texts_of (c.requires.actions i) (c.requires.scripts i)) c.requires.reads reads.1 refl
     (record { spent = spent; limit = refl; budget = reads.3; open_ = reads.4; reading = c.read_paid.ensures.reading; prompt = c.read_paid.ensures.prompt; reads = reads.5 }) less
     (c.in-Ok.ensures.told sink) told short)
 

@@ -19,7 +19,7 @@ returns-then-is_err-clause-told g c = λ source files sink.
     let old = session_of session named c.args.lines.now left [] in
     let new = session_of taken named c.args.lines.now left [] in
     left-at session c.take_room.new.self taken named c.args.lines.now c.args.lines.now left left (IsOver OutOfMemory) before before c.take_room.ensures.rest
-    (over-alone old new OutOfMemory before before (notes_said session.notes) (notes_said session.notes) refl (room-refused old new before refl))
+    (over-alone old new OutOfMemory before before (notes_said session.notes) (notes_said session.notes) refl (room-refused old new before refl refl))
 
 pub returns-in-Some-clause-told : goal.returns-in-Some-clause-told
 returns-in-Some-clause-told g c = λ source files sink.

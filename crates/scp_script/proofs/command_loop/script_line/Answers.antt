@@ -1,5 +1,5 @@
-use Rattle.std.proofs.Common.{◌≡◌, ◌<◌, ◌≤◌, ◌+◌, ◌-◌, ℕ, List, [], ◌∷◌, Err, refl, ap, sym, ◌∙◌, subst, arith}
-use Rattle.file_commands.specs.Notes.{notes_said}
+use Rattle.std.proofs.Common.{◌≡◌, ◌<◌, ◌≤◌, ◌+◌, ◌-◌, ℕ, List, [], ◌∷◌, Err, refl, ap, sym, ◌∙◌, subst, arith, ◌++◌}
+use Rattle.file_commands.specs.Notes.{Note, notes_said}
 use Rattle.scp_parser.specs.declared.fault.ParseFault.TheVariants.{TooLong}
 use Rattle.scp_commands.specs.declared.fault.CommandFault.TheVariants.{Parse}
 use Rattle.scp_commands.specs.Live.{CommandState, live_in}
@@ -101,10 +101,13 @@ returns-in-Some-clause-told g c = λ files sink input.
     (subst (λ (t : Texts). Answers paid.limit (live_in paid named) t what done.command result live (coming c.answer.new.texts) tells mid after (notes_said paid.notes) (notes_said done.notes)) stack
     (subst (λ n. Answers paid.limit (live_in paid named) (texts_of now.texts.actions c.push.new.self) what n result live (coming c.answer.new.texts) tells mid after (notes_said paid.notes) (notes_said done.notes)) (sym c.answer.ensures.command)
     (c.answer.ensures.told files))) in
-    let short = subst (λ (x : CommandState). IsShort result (live_in x named) live x.notes done.notes mid after) is (c.answer.ensures.short files) in
+    let short = λ (own : List Note) (e : notes_said done.notes ≡ notes_said session.notes ++ own).
+    subst (λ (x : CommandState). IsShort what done.command result (live_in x named) live own mid after) is
+    (subst (λ n. IsShort what n result (live_in paid named) live own mid after) (sym c.answer.ensures.command)
+    (c.answer.ensures.short files own (e ∙ ap (λ (x : CommandState). notes_said x.notes ++ own) (sym is)))) in
     let limit = c.answer.ensures.limit ∙ ap (λ (x : CommandState). x.limit) is in
     script-stepped (session_of session named lines input []) (session_of done (g.F.Files.state c.answer.new.files).files last input []) script outer what result tells before mid after
-    (notes_said session.notes) (notes_said done.notes) session.notes done.notes sink there c.requires.line fits (ap asked (sym line))
+    (notes_said session.notes) (notes_said done.notes) sink there c.requires.line fits (ap asked (sym line))
     (record { spent = spent; limit = limit; budget = budget; reading = ap (λ (x : CommandLoop). x.reads) c.pay.ensures.lines; prompt = ap (λ (x : CommandLoop). x.prompt) c.pay.ensures.lines; input = refl; open_ = reader }) less
     (c.in-Ok.ensures.told sink) told short
 
@@ -144,10 +147,10 @@ returns-in-None-clause-told g c = λ files sink input.
     (λ notes. c.deny_line.ensures.told named notes what (ap (checked c.push.new.self) long)) in
     let told = subst (λ (x : CommandState). Answers x.limit (live_in x named) (texts_of [] (past_line script ∷ outer)) what paid.command result (live_in x named) (coming c.deny_line.new.texts) tells mid after (notes_said x.notes) (notes_said x.notes)) is
     (subst (λ (t : Texts). Answers paid.limit (live_in paid named) t what paid.command result (live_in paid named) (coming c.deny_line.new.texts) tells mid after (notes_said paid.notes) (notes_said paid.notes)) stack said) in
-    let never = never-short result live live session.notes session.notes mid after c.deny_line.ensures.memory in
+    let never = λ (own : List Note) (e : notes_said session.notes ≡ notes_said session.notes ++ own). never-short what paid.command result live live own mid after c.deny_line.ensures.memory in
     left-at session paid now_state named lines last input input result before after is
     (script-stepped (session_of session named lines input []) (session_of now_state named last input []) script outer what result tells before mid after
-    (notes_said session.notes) (notes_said session.notes) session.notes session.notes sink there c.requires.line fits refl
+    (notes_said session.notes) (notes_said session.notes) sink there c.requires.line fits refl
     (record { spent = spent; limit = refl; budget = budget; reading = ap (λ (x : CommandLoop). x.reads) c.pay.ensures.lines; prompt = ap (λ (x : CommandLoop). x.prompt) c.pay.ensures.lines; input = refl; open_ = reader }) less
     (c.in-Ok.ensures.told sink) told never)
 

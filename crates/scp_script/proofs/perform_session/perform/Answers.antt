@@ -102,4 +102,4 @@ pub returns-in_default-clause-told : goal.returns-in_default-clause-told
 unfolding beginning beginning_with
 returns-in_default-clause-told g c = λ source files sink.
     never-begun (λ notes. beginning c.args.session.now (g.F.Files.state c.args.files.now).files c.args.opening.now (g.C.Source.left c.args.input.now) notes)
-    (g.S.Sink.written c.args.out.now) (notes_said c.args.session.now.notes)
+    (g.S.Sink.written c.args.out.now) (notes_said c.args.session.now.notes) refl

@@ -1,10 +1,11 @@
-use Rattle.std.proofs.Common.{◌≡◌, Some, None, List, Option, subst, sym, rules, refl}
+use Rattle.std.proofs.Common.{◌≡◌, ◌<◌, Some, None, List, Option, subst, sym, rules, refl, arith}
 use Rattle.host_files.specs.State.{Opened}
 use Rattle.unit_files.specs.Acts.{is_read_only}
 use Rattle.unit_files.specs.Attachments.{Held, held_at, with_held, file_place}
 use Rattle.unit_files.specs.Open.{AllOpen, Around}
 use Rattle.unit_files.specs.Opening.{IsNewlyOpen}
-use Rattle.unit_files.proofs.Attaching.{open-attached, around-attached}
+use Rattle.unit_files.specs.Causes.{AreFrom}
+use Rattle.unit_files.proofs.Attaching.{open-attached, around-attached, from-with}
 use Rattle.unit_files.proofs.attached.Attached.attach.Goals as goal
 
 pub returns-in-Ok-take_file-clause-open : goal.returns-in-Ok-take_file-clause-open
@@ -41,3 +42,19 @@ returns-in-Ok-take_file-clause-around g c = λ base around.
     let more = around-attached c.args.self.now.slots base old.opened (file_place c.args.unit) h entry refl none
     c.put.ensures.within is.fresh c.requires.«open» around in
     subst (λ (x : List (Option Held) × List Opened). Around x.0 base x.1) (λ i. (sym held i, sym is.opened i)) more
+
+pub returns-in-Ok-take_file-clause-from : goal.returns-in-Ok-take_file-clause-from
+returns-in-Ok-take_file-clause-from g c =
+    let old = g.F.Files.state c.args.files.now in
+    let new = g.F.Files.state c.take_file.new.files in
+    let is : IsNewlyOpen old new c.args.name.now c.args.mode c.in-Ok-take_file.taken.file.0 =
+    c.in-Ok-take_file.ensures.opened in
+    let h : Held = record {
+      file = c.in-Ok-take_file.taken.file.0;
+      attachment =
+          record { name = c.args.name.now; read_only = is_read_only c.args.mode };
+    } in
+    let held : c.put.new.self.slots ≡ with_held c.args.self.now.slots c.args.unit (Some h) = search rules in
+    let below : c.in-Ok-take_file.taken.file.0 < new.given = omega (arith, is.given) in
+    subst (λ (l : List (Option Held)). AreFrom c.args.self.now.slots l old new) (sym held)
+    (from-with c.args.self.now.slots c.args.unit h old new (is.rising, below))

@@ -1,0 +1,338 @@
+-- The session that the program begins is what every session is, and what is left is in range.
+use Rattle.std.proofs.Common.{◌≡◌, inl, inr, ℕ, zero, suc, ◌+◌, ◌%◌, ◌^◌, ◌<◌, ◌≤◌, ◌&&◌, ◌==◌, nat_lt, nat_le, Bool, true, false, List, [], ◌∷◌, ◌++◌, length, take, drop, map, Option, Some, None, IfSome, option_map, unwrap_or, Result, Ok, Err, if◌then◌else◌, refl, sym, ap, subst, ◌∙◌, arith, length-take}
+use Rattle.std.specs.List.{AllByRecursion, list_all, position}
+use Rattle.std.specs.Option.{option_and_then}
+use Rattle.std.proofs.lemmas.Bool.{and_parts, ltb-true}
+use Rattle.std.proofs.lemmas.List.{length-map}
+use Rattle.observations.specs.Observations.{Prints, StandsAt, Trace, map_made, map_trace}
+use Rattle.observations.specs.Cut.{cut_trace}
+use Rattle.observations.proofs.CutLemmas.{cut-state}
+use Rattle.observations.proofs.MadeLemmas.{stands-mapped}
+use Rattle.nova_word.specs.Numbers.{number_read}
+use Rattle.nova_word.specs.Quoted.{quoted_read}
+use Rattle.nova_memory.specs.Memory.{MemoryState, IsMemory, IsSize, put}
+use Rattle.nova_memory.proofs.Keeps.{put-memory}
+use Rattle.nova_memory.proofs.Chains.{put-size}
+use Rattle.host_files.specs.Lists.{NamedBytes}
+use Rattle.file_commands.specs.declared.note.Subject.TheVariants as subject
+use Rattle.file_commands.specs.Notes.{Note}
+use Rattle.whole_files.specs.Whole.{WholeSaid, WholeIs}
+use Rattle.whole_files.specs.Whole as whole
+use Rattle.expect_actions.specs.KeysFile.{Key, KeysLine, keys_of, time_read, says_read, line_read, next_read, keys_from, keys_read, lines_of, most_keys}
+use Rattle.expect_actions.specs.Watch.{empty_watch}
+use Rattle.nova_machine.specs.Machine.{MachineState, reset_devices, reset_machine, new_machine}
+use Rattle.nova_machine.specs.Seen.{unnumbered, erased}
+use Rattle.nova_machine.specs.Valid.{AreBytes, ValidMachine, DiskIsItsFile}
+use Rattle.nova_machine.proofs.StayingValid.{runs-stay-valid, kinds-begin}
+use Rattle.nova_machine.proofs.ValidBytes.{AreFiles, every-append, every-take, every-drop}
+use Rattle.scp_commands.specs.Valid.{ValidLive}
+use Rattle.scp_commands.proofs.ValidWatch.{read-bytes}
+use Rattle.scp_commands.proofs.ValidMachines.{GivesWhole, whole-bytes, memory-valid}
+use Rattle.scp_script.specs.Scripts.{Script, begun}
+use Rattle.scp_script.specs.Session.{State, trace}
+use Rattle.scp_script.specs.Perform.{beginning_with}
+use Rattle.scp_script.specs.Valid.{ValidScript, ValidSession}
+use Rattle.scp_script.proofs.ValidSessions.{sessions-stay-valid}
+use Rattle.nova_top.specs.declared.options.Options.{Options}
+use Rattle.nova_top.specs.Standard.{standard_kinds, standard_units}
+use Rattle.nova_top.specs.Words.{keys_name, script_name, script_words, options_of}
+use Rattle.nova_top.specs.Workload.{next_number, word_of_number, words_behind, with_words, loop_words, count_words, filled, with_workload, workload_text, first_text}
+use Rattle.nova_top.specs.Outside as outside
+use Rattle.nova_top.specs.Outside.{Outside, Left, left_by, calls_on, word_file, Denial, unopened, or_bad_keys, taken_keys, script_from, taken_script, Start, Refused, Begins, denied, start_by, start_of, first_scripts, session_with, opening, trace_from, whole_trace, outcome}
+use Rattle.nova_top.specs.ValidLaws.{AreHandedBytes, ValidLeft, IsGoodOpening, ProgramStaysValid}
+use Rattle.nova_top.proofs.WordsLemmas.{IsLimit, words-fit}
+
+-- ---- keys
+
+abbrev KeyByte : ℕ × ℕ → Type 0
+KeyByte key = key.1 < 2 ^ 8
+
+abbrev SaysBytes : KeysLine → Type 0
+SaysBytes says = AreBytes says.1
+
+said-bytes : (time : Option ℕ) (quoted : Option (List ℕ × List ℕ)) → IfSome quoted (λ read. AreBytes read.0) → IfSome (says_read time quoted) SaysBytes
+said-bytes None quoted bytes = tt
+said-bytes (Some time) None bytes = tt
+said-bytes (Some time) (Some (text, [])) bytes = bytes
+said-bytes (Some time) (Some (text, b ∷ more)) bytes = tt
+
+line-says : (line : List ℕ) → IfSome (line_read line) SaysBytes
+unfolding line_read
+line-says line = by-place (position (λ b. b == 32) line)
+  where
+    by-place : (o : Option ℕ) → IfSome (option_and_then (λ n. says_read (time_read (number_read 10 (2 ^ 63) (take n line))) (quoted_read (drop (n + 1) line))) o) SaysBytes
+    by-place None = tt
+    by-place (Some n) = said-bytes (time_read (number_read 10 (2 ^ 63) (take n line))) (quoted_read (drop (n + 1) line)) (read-bytes (drop (n + 1) line))
+
+next-says : (time count : ℕ) (line : List ℕ) → IfSome (next_read time count line) SaysBytes
+unfolding next_read
+next-says time count line = by-line (line_read line) (line-says line)
+  where
+    by-test : (b : Bool) (says : KeysLine) → SaysBytes says → IfSome (if b then Some says else None) SaysBytes
+    by-test true says bytes = bytes
+    by-test false says bytes = tt
+
+    by-line : (o : Option KeysLine) → IfSome o SaysBytes
+        → IfSome (option_and_then (λ says. if nat_le time says.0 && nat_le (count + length says.1) most_keys then Some says else None) o) SaysBytes
+    by-line None bytes = tt
+    by-line (Some says) bytes = by-test (nat_le time says.0 && nat_le (count + length says.1) most_keys) says bytes
+
+timed-keys : (time : ℕ) (text : List ℕ) → AreBytes text → AllByRecursion KeyByte (map (λ b. (time, b)) text)
+timed-keys time [] bytes = tt
+timed-keys time (b ∷ text) bytes = (bytes.0, timed-keys time text bytes.1)
+
+abbrev GivesKeys : Result (List Key) ℕ → Type 0
+GivesKeys (Ok keys) = AllByRecursion KeyByte keys
+GivesKeys (Err place) = Unit {0}
+
+from-keys : (time : ℕ) (keys : List Key) (place : ℕ) (lines : List (List ℕ)) → AllByRecursion KeyByte keys → GivesKeys (keys_from time keys place lines)
+unfolding keys_from
+from-keys time keys place [] all = all
+from-keys time keys place (line ∷ others) all =
+    by-says (next_read time (length keys) line) (next-says time (length keys) line)
+    (λ says bytes. from-keys says.0 (keys ++ keys_of says) (place + length line + 1) others (every-append KeyByte keys (keys_of says) all (timed-keys says.0 says.1 bytes)))
+  where
+    by-says : (o : Option KeysLine) → IfSome o SaysBytes
+        → ((says : KeysLine) → SaysBytes says → GivesKeys (keys_from says.0 (keys ++ keys_of says) (place + length line + 1) others))
+        → GivesKeys (elim o [
+          | None ↦ Err place
+          | Some says ↦ keys_from says.0 (keys ++ keys_of says) (place + length line + 1) others
+        ])
+    by-says None bytes more = tt
+    by-says (Some says) bytes more = more says bytes
+
+read-keys : (bytes : List ℕ) → GivesKeys (keys_read bytes)
+unfolding keys_read
+read-keys bytes = from-keys 0 [] 0 (lines_of bytes) tt
+
+-- ---- how it starts
+
+abbrev HasBytes : Option (List ℕ) → Type 0
+HasBytes script = IfSome script AreBytes
+
+-- a limit and a budget in range, and keys and a script of bytes
+abbrev IsGoodStart : Start → Type 0
+IsGoodStart (Refused status text) = Unit {0}
+IsGoodStart (Begins options keys script) = (options.budget ≤ 2 ^ 32) × IsLimit options.limit × AllByRecursion KeyByte keys × HasBytes script
+
+abbrev AreKeys : Result (List Key) Denial → Type 0
+AreKeys (Ok keys) = AllByRecursion KeyByte keys
+AreKeys (Err denial) = Unit {0}
+
+abbrev IsScript : Result (Option (List ℕ)) Denial → Type 0
+IsScript (Ok script) = HasBytes script
+IsScript (Err denial) = Unit {0}
+
+or-keys : (r : Result (List Key) ℕ) → GivesKeys r → AreKeys (or_bad_keys r)
+or-keys (Ok keys) gives = gives
+or-keys (Err place) gives = tt
+
+keys-said : (name : List ℕ) (said : WholeSaid) → AreKeys (outside.keys_from name said)
+keys-said name (WholeIs bytes) = or-keys (keys_read bytes) (read-keys bytes)
+keys-said name whole.NotThere = tt
+keys-said name whole.TooLong = tt
+keys-said name whole.CallFailed = tt
+
+keys-taken : (name : Option (List ℕ)) (files : List NamedBytes) (notes : List Note) → AreKeys (taken_keys name files notes).0
+keys-taken None files notes = tt
+keys-taken (Some name) files notes = keys-said name (word_file subject.Keys name files notes).0
+
+script-said : (name : List ℕ) (said : WholeSaid) → GivesWhole said → IsScript (script_from name said)
+script-said name (WholeIs text) gives = gives
+script-said name whole.NotThere gives = tt
+script-said name whole.TooLong gives = tt
+script-said name whole.CallFailed gives = tt
+
+script-taken : (name : Option (List ℕ)) (files : List NamedBytes) (notes : List Note) → AreFiles files → IsScript (taken_script name files notes).0
+script-taken None files notes all = tt
+script-taken (Some name) files notes all = script-said name (word_file subject.Script name files notes).0 (whole-bytes (calls_on subject.Script notes) name files all)
+
+-- bytes of a text that is written out
+low-bytes : (bytes : List ℕ) → list_all (λ b. nat_lt b 256) bytes ≡ true → AreBytes bytes
+low-bytes [] all = tt
+low-bytes (b ∷ bytes) all = let both = and_parts (nat_lt b 256) (list_all (λ b. nat_lt b 256) bytes) all in (ltb-true b 256 both.0, low-bytes bytes both.1)
+
+first-bytes : (workload : Option ℕ) (script : Option (List ℕ)) → HasBytes script → HasBytes (first_text workload script)
+first-bytes None script bytes = bytes
+first-bytes (Some number) script bytes = low-bytes workload_text refl
+
+by-good : (options : Options) (keys : Result (List Key) Denial × ℕ) (script : Result (Option (List ℕ)) Denial × ℕ) → options.budget ≤ 2 ^ 32 → IsLimit options.limit → AreKeys keys.0 → IsScript script.0
+    → IsGoodStart (start_by options keys script).0
+by-good options (Err denial, used) script budget limit are is = tt
+by-good options (Ok keys, used) (Err denial, more) budget limit are is = tt
+by-good options (Ok keys, used) (Ok script, more) budget limit are is = (budget, limit, are, first-bytes options.workload script is)
+
+good-start : (words : List (List ℕ)) (files : List NamedBytes) (notes : List Note) → AreFiles files → IsGoodStart (start_of (options_of words) words files notes).0
+good-start words files notes all = by-options (options_of words) (words-fit words)
+  where
+    by-options : (o : Option Options) → IfSome o (λ (x : Options). (x.budget ≤ 2 ^ 32) × IsLimit x.limit) → IsGoodStart (start_of o words files notes).0
+    by-options None fits = tt
+    by-options (Some options) fits =
+        let keys = taken_keys (keys_name words options) files notes in
+        by-good options keys (taken_script (script_name words options) files (drop keys.1 notes)) fits.0 fits.1
+        (keys-taken (keys_name words options) files notes) (script-taken (script_name words options) files (drop keys.1 notes) all)
+
+-- ---- the machine
+
+abbrev IsWord : ℕ → Type 0
+IsWord w = w < 2 ^ 16
+
+behind-words : (x count : ℕ) → AllByRecursion IsWord (words_behind x count)
+unfolding words_behind
+behind-words x zero = tt
+behind-words x (suc count) = (omega arith, behind-words (next_number x) count)
+
+-- a memory of the same size
+record IsLike (before after : MemoryState) : Type 0 where
+  memory : IsMemory after
+  size : after.size ≡ before.size
+
+words-put : (before m : MemoryState) (at : ℕ) (words : List ℕ) → IsLike before m → AllByRecursion IsWord words → IsLike before (with_words m at words)
+words-put before m at [] is all = is
+words-put before m at (w ∷ words) is all =
+    words-put before (put m at w) (at + 1) words (record { memory = put-memory m at w is.memory all.0; size = put-size m at w ∙ is.size }) all.1
+
+filled-like : (number : ℕ) (m : MemoryState) → IsMemory m → IsLike m (filled number m)
+unfolding filled
+filled-like number m is =
+    let first = with_words m 0o1000 (words_behind number 4096) in
+    let second = with_words first 0o11000 loop_words in
+    words-put m second 0o76 count_words
+    (words-put m first 0o11000 loop_words (words-put m m 0o1000 (words_behind number 4096) (record { memory = is; size = refl }) (behind-words number 4096))
+    (omega arith, (omega arith, (omega arith, (omega arith, tt)))))
+    (omega arith, (omega arith, tt))
+
+workload-valid : (workload : Option ℕ) (m : MachineState) → ValidMachine m → ValidMachine (with_workload workload m)
+workload-valid None m is = is
+workload-valid (Some number) m is =
+    let like = filled-like number m.processor.memory is.memory in
+    memory-valid m (filled number m.processor.memory) is like.memory (subst IsSize (sym like.size) is.size)
+
+erased-valid : (m : MachineState) → ValidMachine m → ValidMachine (erased m)
+erased-valid m is = record {
+  memory = is.memory;
+  size = is.size;
+  cpu = is.cpu;
+  mask = is.mask;
+  switches = is.switches;
+  core = record { registers = is.core.registers; sound = is.core.sound; listed = is.core.listed; times = is.core.times };
+  places = length-map m.slots unnumbered ∙ is.places;
+  disk = is.disk;
+}
+
+first_machine : Option ℕ → MachineState
+first_machine workload = with_workload workload (new_machine standard_units)
+
+first-valid : (workload : Option ℕ) → ValidMachine (first_machine workload)
+unfolding first_machine
+first-valid workload = workload-valid workload (new_machine standard_units) (kinds-begin standard_kinds)
+
+-- no time has passed, no key is taken, and no file is attached
+record IsFresh (m : MachineState) : Type 0 where
+  time : m.time ≡ 0
+  taken : m.taken ≡ 0
+  disk : (files : List NamedBytes) (keys : List Key) → DiskIsItsFile (record { machine = erased m; watch = empty_watch; keys = keys; files = files })
+
+first-fresh : (workload : Option ℕ) → IsFresh (first_machine workload)
+unfolding first_machine new_machine reset_machine reset_devices
+first-fresh None = record { time = refl; taken = refl; disk = λ files keys. refl }
+first-fresh (Some number) = record { time = refl; taken = refl; disk = λ files keys. refl }
+
+-- ---- the session
+
+words-bytes : (words : List (List ℕ)) (options : Options) → AllByRecursion AreBytes words → AllByRecursion AreBytes (script_words words options)
+words-bytes words options all = by-script options.script
+  where
+    by-script : (o : Option ℕ) → AllByRecursion AreBytes (unwrap_or (option_map (λ (place : ℕ). drop place words) o) [])
+    by-script None = tt
+    by-script (Some place) = every-drop AreBytes place words all
+
+-- the scripts with which it begins
+record AreFirst (scripts : List Script) : Type 0 where
+  few : length scripts ≤ 10
+  each : AllByRecursion ValidScript scripts
+
+first-script : (script : Option (List ℕ)) (words : List (List ℕ)) → HasBytes script → AllByRecursion AreBytes words → AreFirst (first_scripts script words)
+first-script None words bytes all = record { few = omega arith; each = tt }
+first-script (Some text) words bytes all =
+    let many = length-take 10 words in
+    record {
+      few = omega arith;
+      each = (record { text = bytes; place = omega arith; few = omega (arith, many); arguments = every-take AreBytes 10 words all }, tt);
+    }
+
+opening-good : (words : List (List ℕ)) (options : Options) (keys : List Key) (script : Option (List ℕ)) (files : List NamedBytes) (input : List ℕ) (notes : List Note)
+    → AreHandedBytes words input files → IsGoodStart (Begins options keys script) → IsGoodOpening words options keys script files input notes
+unfolding session_with beginning_with first_machine
+opening-good words options keys script files input notes handed good =
+    let m = first_machine options.workload in
+    let fresh = first-fresh options.workload in
+    let first = first-script script (script_words words options) good.3 (words-bytes words options handed.each_word) in
+    let taken = fresh.taken in
+    let time = fresh.time in
+    let budget = good.0 in
+    record {
+      valid = record {
+        live = record {
+          valid = record {
+            machine = erased-valid m (first-valid options.workload);
+            watch = runs-stay-valid.nothing_watched;
+            taken = omega (arith, taken);
+            keys = good.2;
+            files = handed.each_file;
+          };
+          time = omega (arith, time);
+        };
+        texts = record { few = omega arith; actions = tt; open_ = first.few; scripts = first.each };
+        input = handed.read;
+        least = good.1.0;
+        limit = good.1.1;
+        budget = budget;
+        spent = omega (arith, budget);
+      };
+      disk = fresh.disk files keys;
+    }
+
+-- ---- what is left
+
+left-valid : (s : State) → ValidLive s.live → ValidLeft (left_by s)
+left-valid s is = record { machine = is.valid.machine; files = is.valid.files }
+
+record IsGoodTrace (t : Trace Left) : Type 0 where
+  made : (at : Left) → StandsAt at t.made → ValidLeft at
+  ended : ValidLeft t.ended.state
+
+from-good : (words : List (List ℕ)) (start : Start) (files : List NamedBytes) (input : List ℕ) (notes : List Note) → AreHandedBytes words input files → IsGoodStart start → IsGoodTrace (trace_from words start files input notes)
+from-good words (Refused status text) files input notes handed good = record {
+  made = λ at h. elim h [ inl same ↦ subst ValidLeft (sym same) (record { machine = tt; files = handed.each_file }) | inr none ↦ absurd none ];
+  ended = record { machine = tt; files = handed.each_file };
+}
+from-good words (Begins options keys script) files input notes handed good =
+    let s = opening words options keys script files input notes in
+    let valid = (opening-good words options keys script files input notes handed good).valid in
+    record {
+      made = λ at h.
+          let from = stands-mapped left_by at (trace s).made h in
+          subst ValidLeft (sym from.2) (left-valid from.0 (sessions-stay-valid.made s from.0 valid from.1));
+      ended = left-valid (trace s).ended.state (sessions-stay-valid.ended s valid);
+    }
+
+whole-good : (words : List (List ℕ)) (input : List ℕ) (files : List NamedBytes) (notes : List Note) → AreHandedBytes words input files → IsGoodTrace (whole_trace words input files notes)
+unfolding whole_trace
+whole-good words input files notes handed =
+    let start = start_of (options_of words) words files notes in
+    from-good words start.0 files input (drop start.1 notes) handed (good-start words files notes handed.each_file)
+
+outcome-good : (o : Outside) → AreHandedBytes o.words o.input o.files → ValidLeft (outcome o).state
+unfolding outcome
+outcome-good o handed =
+    let t = whole_trace o.words o.input o.files o.notes in
+    let good = whole-good o.words o.input o.files o.notes handed in
+    cut-state ValidLeft t.made t.ended o.takes o.gives good.made good.ended
+
+pub program-stays-valid : ProgramStaysValid
+program-stays-valid = record {
+  begin = λ words input files notes more options keys script handed is.
+      opening-good words options keys script files input more handed (subst IsGoodStart is (good-start words files notes handed.each_file));
+  left = outcome-good;
+}

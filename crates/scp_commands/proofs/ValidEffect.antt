@@ -1,0 +1,619 @@
+-- Every command keeps what every state is, and what the disk holds of its file.
+use Rattle.std.proofs.Common.{◌≡◌, ◌≢◌, inl, inr, ℕ, ◌+◌, ◌^◌, ◌<◌, ◌≤◌, ◌==◌, ◌&&◌, not, nat_le, nat_lt, min, unwrap_or, Bool, true, false, List, [], ◌∷◌, length, Option, Some, None, option_map, Result, Ok, Err, if◌then◌else◌, refl, sym, subst, ◌∙◌, arith}
+use Rattle.std.proofs.lemmas.Bool.{and_parts, leb-true, ltb-true}
+use Rattle.std.proofs.lemmas.List.{length-map}
+use Rattle.observations.specs.Observations.{Prints, map_made}
+use Rattle.observations.proofs.MadeLemmas.{stands-either, stands-mapped}
+use Rattle.host_files.specs.Lists.{NamedBytes, bytes_of}
+use Rattle.unit_trait.specs.declared.kind.UnitName.{UnitName}
+use Rattle.unit_files.specs.Attachments.{Attachment, Held, attachment_at, with_attachment}
+use Rattle.unit_files.specs.Buffer.{no_buffer, disk_unit}
+use Rattle.unit_files.specs.Acts.{Failure, AttachSaid, Attached, UnitHasFile, OnlyWrites, NotThere, TooLong, CallFailed, attach_said, attach_files, is_read_only, DetachSaid, HadNone, StillHeld, Detached, detach_said, detached}
+use Rattle.file_commands.specs.declared.note.Subject.TheVariants as subject
+use Rattle.file_commands.specs.Notes.{CommandNote, failure_now}
+use Rattle.file_commands.specs.AllUnits.{attachable, Emptied}
+use Rattle.whole_files.specs.Whole.{WholeSaid, WholeIs, whole_act}
+use Rattle.whole_files.specs.Whole as whole
+use Rattle.whole_files.specs.Writing.{WriteSaid, AllWritten, WriteFailed, write_act}
+use Rattle.expect_actions.specs.Watch.{WatchState}
+use Rattle.expect_actions.specs.Expects.{most_expects}
+use Rattle.expect_actions.specs.Sends.{most_sends}
+use Rattle.binary_load.specs.declared.faults.LoadFault.{LoadFault}
+use Rattle.binary_load.specs.Tape.{Tape}
+use Rattle.binary_load.proofs.RangeLemmas.{dump-bytes}
+use Rattle.nova_memory.specs.Memory.{fits_size}
+use Rattle.nova_machine.specs.Machine.{MachineState, reset_machine}
+use Rattle.nova_machine.specs.Seen.{attached_in}
+use Rattle.nova_machine.specs.Run.{run, last_time}
+use Rattle.nova_machine.specs.Valid.{AreBytes, ValidMachine, ValidWatch, CopyIsFile, DiskIsItsFile, LeavesDiskFile}
+use Rattle.nova_machine.proofs.StayingValid.{runs-stay-valid}
+use Rattle.nova_machine.specs.declared.machine.Stop.{Stop}
+use Rattle.nova_machine.proofs.ValidBytes.{AreFiles, files-found}
+use Rattle.operand_forms.specs.declared.listing.Listing.{Listing}
+use Rattle.operand_forms.specs.declared.listing.Test.{Test}
+use Rattle.scp_parser.specs.declared.command.Shown.{Shown}
+use Rattle.scp_parser.specs.declared.command.Shown.TheVariants as shown
+use Rattle.scp_parser.specs.Command.{Request, IsKept, IsDrive}
+use Rattle.scp_parser.specs.Command as request
+use Rattle.scp_examine.specs.declared.fault.ExamineFault.{ExamineFault}
+use Rattle.scp_examine.specs.Effect.{examine_fault, fault_of_deposit, deposited, tested}
+use Rattle.scp_examine.proofs.ValidLemmas.{LeavesRest, deposited-valid, deposited-leaves}
+use Rattle.scp_commands.specs.declared.next.Next.{Next}
+use Rattle.scp_commands.specs.declared.next.Next.TheVariants.{Go, Exit}
+use Rattle.scp_commands.specs.declared.fault.CommandFault.{CommandFault}
+use Rattle.scp_commands.specs.declared.fault.CommandFault.TheVariants.{Console, OutOfMemory, NotBuilt}
+use Rattle.scp_commands.specs.Live.{Live, Standing, standing, with_machine, numberless, with_attached}
+use Rattle.scp_commands.specs.Reply.{Answer, Reply, goes, says, refused}
+use Rattle.scp_commands.specs.RunEffects.{stop_line, run_answer, used_by, run_failure, ran, address_fits, started, run_from, stepped, step_of, reset_reply, last_address}
+use Rattle.scp_commands.specs.WatchEffects.{text_of_quoted, lacks_room_for_break, can_be_expected, largest_count, break_reply, no_break_reply, expect_reply, no_expect_reply, send_reply, no_send_reply}
+use Rattle.scp_commands.specs.ListEffects.{lacks_device, examine_after, examine_reply, handed, deposit_after, deposit_reply}
+use Rattle.scp_commands.specs.FileEffects.{lacks_unit, mode_of, attach_answer, attach_used, attached_machine, attach_with, attach_reply, detach_answer, detach_used, detached_machine, flushed_files, detach_with, detach_reply}
+use Rattle.scp_commands.specs.FileEffects.{filed_in, emptied_all, left_by, kept_answer, emptied_reply, detach_all_reply, detach_one_or_all}
+use Rattle.scp_commands.specs.ShowEffects.{show_reply}
+use Rattle.scp_commands.specs.ExitEffects.{exit_reply}
+use Rattle.scp_commands.specs.SetEffects.{sized, set_size_reply}
+use Rattle.scp_commands.specs.ScriptEffects.{test_answer, assert_answer, echo_reply, assert_reply, do_answer, do_reply, goto_reply}
+use Rattle.scp_commands.specs.WholeCalls.{whole_calls, write_calls}
+use Rattle.scp_commands.specs.TapeEffects.{tape_in, tape_answer, loaded_machine, load_answer, load_reply, can_dump, dump_of, dump_answer, dump_reply}
+use Rattle.scp_commands.specs.Effect.{effect}
+use Rattle.scp_commands.specs.Doing.{Does}
+use Rattle.scp_commands.specs.Remains.{flushed_machine, flushed, Remains}
+use Rattle.scp_commands.specs.Valid.{ValidLive, GivesBytes, IsValidReply, CommandsKeepStates}
+use Rattle.scp_commands.proofs.SeenLemmas.{attached-with}
+use Rattle.scp_commands.proofs.CloseLemmas.{none-other}
+use Rattle.scp_commands.proofs.ValidWatch.{quoted-bytes, break-added, break-removed, breaks-removed, expect-added, expects-removed, sends-added, sends-removed}
+use Rattle.scp_commands.proofs.ValidMachines.{sized-valid, reset-valid, reset-leaves, started-valid, started-leaves, GivesWhole, whole-bytes, loaded-valid, loaded-leaves, written-files}
+use Rattle.scp_commands.proofs.ValidFiles.{Fits, attached-files, flushed-files, attached-fits, attached-valid, detached-valid, filed-valid, IsFiled, emptied-filed}
+use Rattle.scp_commands.proofs.ValidCopies.{keeps-same, copy-same, leaves-from, copy-new, copy-gone, copy-attached, copy-detached, copy-emptied}
+
+attached-count : (m : MachineState) → length (attached_in m) ≡ length m.slots
+attached-count m = length-map m.slots (λ slot. option_map (λ (h : Held). h.attachment) slot)
+
+numberless-count : (m : MachineState) → length (numberless (attached_in m)) ≡ length m.slots
+numberless-count m = length-map (attached_in m) (λ slot. option_map (λ (a : Attachment). record { file = 0; attachment = a }) slot) ∙ attached-count m
+
+-- what holds of a reply to a command that was given in that state
+pub record Stands (live : Live) (reply : Reply) : Type 0 where
+  pub valid : IsValidReply reply
+  pub copy : DiskIsItsFile live → (reply.after.live.machine.disk.written ≡ false → LeavesDiskFile live reply.after.live) → DiskIsItsFile reply.after.live
+
+-- ---- states
+
+-- another machine at the same time, with other watch tables and files
+changed-live : (live : Live) (m : MachineState) (w : WatchState) (files : List NamedBytes) → ValidLive live → ValidMachine m → m.taken ≡ live.machine.taken → m.time ≡ live.machine.time → ValidWatch w → AreFiles files
+    → ValidLive (record { machine = m; watch = w; keys = live.keys; files = files })
+changed-live live m w files is machine taken time watch all = record {
+  valid = record {
+    machine = machine;
+    watch = watch;
+    taken = subst (λ (n : ℕ). n ≤ length live.keys) (sym taken) is.valid.taken;
+    keys = is.valid.keys;
+    files = all;
+  };
+  time = subst (λ (n : ℕ). n ≤ last_time) (sym time) is.time;
+}
+
+machine-live : (live : Live) (m : MachineState) → ValidLive live → ValidMachine m → LeavesRest live.machine m → ValidLive (with_machine live m)
+machine-live live m is machine rest = changed-live live m live.watch live.files is machine rest.taken rest.time is.valid.watch is.valid.files
+
+pub watch-live : (live : Live) (w : WatchState) → ValidLive live → ValidWatch w → ValidLive (record live { watch = w })
+watch-live live w is watch = changed-live live live.machine w live.files is is.valid.machine refl refl watch is.valid.files
+
+-- ---- replies
+
+stands-if : (b : Bool) (live : Live) (x y : Reply) → (b ≡ true → Stands live x) → (b ≡ false → Stands live y) → Stands live (if b then x else y)
+stands-if true live x y first second = first refl
+stands-if false live x y first second = second refl
+
+stands-goes : (before live : Live) → ValidLive live → live.machine.slots ≡ before.machine.slots → live.machine.disk ≡ before.machine.disk → Stands before (goes live)
+stands-goes before live is slots disk = record { valid = record { after = is; made = λ at h. absurd h; script = tt }; copy = copy-same before live slots disk }
+
+stands-says : (text : List ℕ) (live : Live) → ValidLive live → Stands live (says text live)
+stands-says text live is = record {
+  valid = record {
+    after = is;
+    made = λ at h. elim h [ inl same ↦ subst (λ (s : Standing). ValidLive s.live) (sym same) is | inr none ↦ absurd none ];
+    script = tt;
+  };
+  copy = copy-same live live refl refl;
+}
+
+pub stands-refused : (fault : CommandFault) (live : Live) → ValidLive live → Stands live (refused fault live)
+stands-refused fault live is = record { valid = record { after = is; made = λ at h. absurd h; script = tt }; copy = copy-same live live refl refl }
+
+-- nothing is printed and nothing changes
+stands-answers : (answer : Answer) (used : ℕ) (live : Live) → ValidLive live → GivesBytes answer → Stands live (record { made = []; answer = answer; after = standing used live })
+stands-answers answer used live is gives = record { valid = record { after = is; made = λ at h. absurd h; script = gives }; copy = copy-same live live refl refl }
+
+-- only files change
+stands-files : (answer : Answer) (used : ℕ) (live : Live) (files : List NamedBytes) → ValidLive live → AreFiles files → GivesBytes answer
+    → Stands live (record { made = []; answer = answer; after = standing used (record live { files = files }) })
+stands-files answer used live files is all gives = record {
+  valid = record { after = changed-live live live.machine live.watch files is is.valid.machine refl refl is.valid.watch all; made = λ at h. absurd h; script = gives };
+  copy = copy-same live (record live { files = files }) refl refl;
+}
+
+-- ---- runs
+
+run_answer-gives : (stop : Option Stop) → GivesBytes (run_answer stop)
+run_answer-gives (Some stop) = tt
+run_answer-gives None = tt
+
+stands-ran : (notes : List CommandNote) (step : Bool) (count : ℕ) (live : Live) → ValidLive live → Stands live (ran (run (run_failure notes) step count live))
+unfolding ran
+stands-ran notes step count live is =
+    let note = run_failure notes in
+    let p = run note step count live in
+    let part = runs-stay-valid.run_valid note step count live is.valid in
+    let time = runs-stay-valid.run_time note step count live is.time in
+    record {
+      valid = record {
+        after = record { valid = part.after; time = time.after };
+        made = λ at h. elim (stands-either at (map_made (standing 0) p.made) (Prints (stop_line p.stop p.after.machine) (standing (used_by p.stop) p.after) ∷ []) h) [
+          | inl x ↦
+              let from = stands-mapped (standing 0) at p.made x in
+              subst (λ (s : Standing). ValidLive s.live) (sym from.2) (record { valid = part.made from.0 from.1; time = time.made from.0 from.1 })
+          | inr (inl same) ↦ subst (λ (s : Standing). ValidLive s.live) (sym same) (record { valid = part.after; time = time.after })
+          | inr (inr none) ↦ absurd none
+        ];
+        script = run_answer-gives p.stop;
+      };
+      copy = λ copy leaves. ((runs-stay-valid.run_copy note step count live is.valid).copy copy).1 leaves;
+    }
+
+-- a run from another machine with the same files
+stands-from : (live : Live) (m : MachineState) (reply : Reply) → LeavesRest live.machine m → Stands (with_machine live m) reply → Stands live reply
+stands-from live m reply rest stands = record {
+  valid = stands.valid;
+  copy = λ is leaves.
+      stands.copy (copy-same live (with_machine live m) rest.slots rest.disk is (λ none. keeps-same (attachment_at (attached_in live.machine) disk_unit) live.files))
+      (λ none. leaves-from live reply.after.live m rest.slots (leaves none));
+}
+
+stands-run_from : (limit : ℕ) (notes : List CommandNote) (resets : Bool) (address : Option ℕ) (live : Live) → ValidLive live → Stands live (run_from limit notes resets address live)
+unfolding run_from
+stands-run_from limit notes resets address live is =
+    stands-if (address_fits address) live _ _
+    (λ fits.
+    let rest = started-leaves resets address live.machine in
+    let start = started resets address live in
+    stands-from live start.machine _ rest
+    (stands-ran notes false limit start (machine-live live start.machine is (started-valid resets address live.machine fits is.valid.machine) rest)))
+    (λ _. stands-refused _ live is)
+
+stands-step_of : (limit : ℕ) (notes : List CommandNote) (count : ℕ) (live : Live) → ValidLive live → Stands live (step_of limit notes count live)
+unfolding step_of stepped
+stands-step_of limit notes count live is =
+    stands-if (nat_le 1 count && nat_le count (2 ^ 48)) live _ _ (λ _. stands-ran notes (nat_le count limit) (min count limit) live is) (λ _. stands-refused _ live is)
+
+stands-reset : (live : Live) → ValidLive live → Stands live (reset_reply live)
+unfolding reset_reply
+stands-reset live is =
+    let rest = reset-leaves live.machine in
+    stands-goes live (with_machine live (reset_machine live.machine)) (machine-live live (reset_machine live.machine) is (reset-valid live.machine is.valid.machine) rest) rest.slots rest.disk
+
+-- ---- lists
+
+stands-examine_after : (fault : Option ExamineFault) (live : Live) (l : Listing) → ValidLive live → Stands live (examine_after fault live l)
+stands-examine_after (Some fault) live l is = stands-refused _ live is
+stands-examine_after None live l is = stands-says _ live is
+
+stands-examine : (live : Live) (l : Listing) → ValidLive live → Stands live (examine_reply live l)
+unfolding examine_reply
+stands-examine live l is =
+    stands-if (lacks_device live.machine l.device) live _ _ (λ _. stands-refused _ live is) (λ _. stands-examine_after (examine_fault live.machine l) live l is)
+
+stands-deposit_after : (fault : Option ExamineFault) (live : Live) (l : Listing) (value : ℕ) → fault_of_deposit live.machine l value ≡ fault → ValidLive live → Stands live (deposit_after fault live l value)
+stands-deposit_after (Some fault) live l value none is = stands-refused _ live is
+stands-deposit_after None live l value none is =
+    let m = deposited live.machine l value in
+    let rest = deposited-leaves live.machine l value in
+    stands-goes live (with_machine live m) (machine-live live m is (deposited-valid live.machine l value is.valid.machine none) rest) rest.slots rest.disk
+
+stands-deposit : (live : Live) (l : Listing) (value : ℕ) → ValidLive live → Stands live (deposit_reply live l value)
+unfolding deposit_reply
+stands-deposit live l value is =
+    stands-if (lacks_device live.machine l.device) live _ _ (λ _. stands-refused _ live is)
+    (λ _. stands-deposit_after (fault_of_deposit live.machine l (handed value)) live l (handed value) refl is)
+
+-- ---- files
+
+stands-attach_with : (fault : Option Failure) (option : ℕ) (unit : UnitName) (name : List ℕ) (live : Live) → IsDrive unit → ValidLive live → Stands live (attach_with fault (mode_of option) unit name live)
+stands-attach_with fault option unit name live drive is =
+    by-said (attach_said fault (mode_of option) unit name (attached_in live.machine) live.files) (attached-fits fault (mode_of option) unit name (attached_in live.machine) live.files)
+  where
+    files : List NamedBytes
+    files = attach_files fault (mode_of option) unit name (attached_in live.machine) live.files
+
+    all : AreFiles files
+    all = attached-files fault (mode_of option) unit name (attached_in live.machine) live.files is.valid.files
+
+    kept : (answer : Answer) (used : ℕ) → GivesBytes answer → Stands live (record { made = []; answer = answer; after = standing used (record live { machine = live.machine; files = files }) })
+    kept answer used gives = stands-files answer used live files is all gives
+
+    by-said : (said : AttachSaid) → Fits unit said → Stands live (record {
+      made = [];
+      answer = attach_answer unit said;
+      after = standing (attach_used said) (record live { machine = attached_machine said (mode_of option) unit name (bytes_of files name) live.machine; files = files });
+    })
+    by-said (Attached count) fits =
+        let m = attached_machine (Attached count) (mode_of option) unit name (bytes_of files name) live.machine in
+        let a : Attachment = record { name = name; read_only = is_read_only (mode_of option) } in
+        let some : 0 < length (attached_in live.machine) = omega (arith, attached-count live.machine, is.valid.machine.places) in
+        record {
+          valid = record {
+            after = changed-live live m live.watch files is
+                (attached-valid (Attached count) (mode_of option) unit name (bytes_of files name) live.machine drive fits (files-found files name all) is.valid.machine) refl refl is.valid.watch all;
+            made = λ at h. absurd h;
+            script = tt;
+          };
+          copy = λ copy leaves.
+              subst (λ (l : List (Option Attachment)). CopyIsFile (attachment_at l disk_unit) m.disk files) (sym (attached-with live.machine (with_attachment (attached_in live.machine) unit (Some a))))
+              (copy-attached unit count a (attached_in live.machine) live.machine.disk live.files files drive some copy leaves);
+        }
+    by-said UnitHasFile fits = kept _ _ tt
+    by-said OnlyWrites fits = kept _ _ tt
+    by-said NotThere fits = kept _ _ tt
+    by-said TooLong fits = kept _ _ tt
+    by-said (CallFailed f) fits = kept _ _ tt
+
+stands-attach : (notes : List CommandNote) (live : Live) (option : ℕ) (unit : UnitName) (name : List ℕ) → IsDrive unit → ValidLive live → Stands live (attach_reply notes live option unit name)
+unfolding attach_reply
+stands-attach notes live option unit name drive is =
+    stands-if (lacks_unit live.machine unit) live _ _ (λ _. stands-refused _ live is)
+    (λ _. stands-attach_with (failure_now live.machine.time (subject.Unit unit) notes) option unit name live drive is)
+
+stands-detach_with : (fault : Option Failure) (unit : UnitName) (live : Live) → IsDrive unit → ValidLive live → Stands live (detach_with fault unit live)
+stands-detach_with fault unit live drive is = by-said (detach_said fault unit (attached_in live.machine) live.machine.disk)
+  where
+    files : List NamedBytes
+    files = flushed_files fault unit live
+
+    all : AreFiles files
+    all = flushed-files fault unit (attachment_at (attached_in live.machine) unit) live.machine.disk live.files is.valid.machine.disk is.valid.files
+
+    by-said : (said : DetachSaid) → Stands live (record {
+      made = [];
+      answer = detach_answer unit said;
+      after = standing (detach_used said) (record live { machine = detached_machine said unit live.machine; files = files });
+    })
+    by-said HadNone = stands-files _ _ live files is all tt
+    by-said (StillHeld f) = stands-files _ _ live files is all tt
+    by-said (Detached failure) =
+        let m = detached_machine (Detached failure) unit live.machine in
+        let some : 0 < length (attached_in live.machine) = omega (arith, attached-count live.machine, is.valid.machine.places) in
+        record {
+          valid = record {
+            after = changed-live live m live.watch files is (detached-valid (Detached failure) unit live.machine is.valid.machine) refl refl is.valid.watch all;
+            made = λ at h. absurd h;
+            script = tt;
+          };
+          copy = λ copy leaves.
+              subst (λ (l : List (Option Attachment)). CopyIsFile (attachment_at l disk_unit) m.disk files) (sym (attached-with live.machine (detached unit (attached_in live.machine))))
+              (copy-detached unit failure (attached_in live.machine) live.machine.disk live.files files drive some copy (λ none other. leaves none));
+        }
+
+stands-detach : (notes : List CommandNote) (live : Live) (unit : UnitName) → IsDrive unit → ValidLive live → Stands live (detach_reply notes live unit)
+unfolding detach_reply
+stands-detach notes live unit drive is =
+    stands-if (lacks_unit live.machine unit) live _ _ (λ _. stands-refused _ live is)
+    (λ _. stands-detach_with (failure_now live.machine.time (subject.Unit unit) notes) unit live drive is)
+
+-- all units lose their files, and then that comes
+filed-live : (live : Live) → ValidLive live → IsFiled (filed_in live)
+filed-live live is = record { places = numberless-count live.machine ∙ is.valid.machine.places; disk = is.valid.machine.disk; files = is.valid.files }
+
+pub stands-emptied : (next : Next) (notes : List CommandNote) (live : Live) → GivesBytes (Ok next) → ValidLive live → Stands live (emptied_reply next (emptied_all notes live) live)
+stands-emptied next notes live gives is = by-keeper e.kept refl
+  where
+    e : Emptied
+    e = emptied_all notes live
+
+    filed : IsFiled e.left
+    filed = emptied-filed live.machine.time attachable (filed_in live) notes (filed-live live is)
+
+    by-keeper : (k : Option UnitName) → e.kept ≡ k → Stands live (record { made = []; answer = kept_answer k next; after = standing e.used (left_by k e.left live) })
+    by-keeper (Some u) kept = stands-files _ _ live e.left.files is filed.files tt
+    by-keeper None kept =
+        let m : MachineState = record (with_attached live.machine e.left.attached) { disk = e.left.disk } in
+        let some : 0 < length (attached_in live.machine) = omega (arith, attached-count live.machine, is.valid.machine.places) in
+        record {
+          valid = record {
+            after = changed-live live m live.watch e.left.files is (filed-valid live.machine e.left.attached e.left.disk is.valid.machine filed.places filed.disk) refl refl is.valid.watch filed.files;
+            made = λ at h. absurd h;
+            script = gives;
+          };
+          copy = λ copy leaves.
+              subst (λ (l : List (Option Attachment)). CopyIsFile (attachment_at l disk_unit) e.left.disk e.left.files) (sym (attached-with live.machine e.left.attached))
+              (copy-emptied live.machine.time _ (filed_in live) notes none-other some copy kept);
+        }
+
+stands-detach_where : (notes : List CommandNote) (live : Live) (unit : Option UnitName) → IsKept (request.Detach unit) → ValidLive live → Stands live (detach_one_or_all notes live unit)
+unfolding detach_all_reply
+stands-detach_where notes live None kept is = stands-emptied Go notes live tt is
+stands-detach_where notes live (Some unit) kept is = stands-detach notes live unit kept.1 is
+
+stands-exit : (notes : List CommandNote) (live : Live) (status : Option ℕ) → ValidLive live → Stands live (exit_reply notes live status)
+unfolding exit_reply
+stands-exit notes live status is =
+    stands-if (nat_le (unwrap_or status 0) 99) live _ _ (λ _. stands-emptied (Exit (unwrap_or status 0)) notes live tt is) (λ _. stands-refused _ live is)
+
+-- ---- breaks, texts that are waited for, and bytes for the keyboard
+
+stands-watch : (live : Live) (w : WatchState) → ValidLive live → ValidWatch w → Stands live (goes (record live { watch = w }))
+stands-watch live w is watch = stands-goes live (record live { watch = w }) (watch-live live w is watch) refl refl
+
+not-false : (b : Bool) → not b ≡ false → b ≡ true
+not-false true is = refl
+not-false false is = absurd (cc)
+
+stands-break : (live : Live) (at count : ℕ) (actions : List ℕ) → AreBytes actions → ValidLive live → Stands live (break_reply live at count actions)
+unfolding break_reply
+stands-break live at count actions bytes is =
+    stands-if (not (nat_le at last_address && nat_le count largest_count)) live _ _ (λ _. stands-refused _ live is)
+    (λ fits. stands-if (lacks_room_for_break at live.watch.breaks.list) live _ _ (λ _. stands-refused _ live is)
+    (λ room.
+    let low = leb-true at last_address (and_parts (nat_le at last_address) (nat_le count largest_count) (not-false _ fits)).0 in
+    stands-watch live _ is (break-added live.watch at count actions is.valid.watch (omega (arith, low)) bytes room)))
+
+stands-no_break : (live : Live) (at : Option ℕ) → ValidLive live → Stands live (no_break_reply live at)
+unfolding no_break_reply
+stands-no_break live None is = stands-watch live _ is (breaks-removed live.watch is.valid.watch)
+stands-no_break live (Some at) is =
+    stands-if (nat_le at last_address) live _ _ (λ _. stands-watch live _ is (break-removed live.watch at is.valid.watch)) (λ _. stands-refused _ live is)
+
+stands-expect : (live : Live) (count : ℕ) (quoted actions : List ℕ) → AreBytes actions → ValidLive live → Stands live (expect_reply live count quoted actions)
+unfolding expect_reply
+stands-expect live count quoted actions bytes is =
+    let text = text_of_quoted quoted in
+    stands-if (not (can_be_expected count text)) live _ _ (λ _. stands-refused _ live is)
+    (λ _. stands-if (length live.watch.expects.list == most_expects) live _ _ (λ _. stands-refused _ live is)
+    (λ room. stands-watch live _ is (expect-added live.watch count text actions is.valid.watch bytes room)))
+
+stands-no_expect : (live : Live) → ValidLive live → Stands live (no_expect_reply live)
+unfolding no_expect_reply
+stands-no_expect live is = stands-watch live _ is (expects-removed live.watch is.valid.watch)
+
+stands-send : (live : Live) (after delay : ℕ) (quoted : List ℕ) → ValidLive live → Stands live (send_reply live after delay quoted)
+unfolding send_reply
+stands-send live after delay quoted is =
+    let text = text_of_quoted quoted in
+    stands-if (not (nat_le after largest_count && nat_le delay largest_count)) live _ _ (λ _. stands-refused _ live is)
+    (λ _. stands-if (nat_lt most_sends (length live.watch.sends + length text)) live _ _ (λ _. stands-refused _ live is)
+    (λ room. stands-watch live _ is (sends-added live.watch live.machine.time after delay text is.valid.watch (quoted-bytes quoted) room)))
+
+stands-no_send : (live : Live) → ValidLive live → Stands live (no_send_reply live)
+unfolding no_send_reply
+stands-no_send live is = stands-watch live _ is (sends-removed live.watch is.valid.watch)
+
+-- ---- settings, tests and texts
+
+stands-set_size : (live : Live) (k : ℕ) → ValidLive live → Stands live (set_size_reply live k)
+unfolding set_size_reply
+stands-set_size live k is =
+    stands-if (fits_size k) live _ _
+    (λ fits. stands-goes live _ (machine-live live (sized live.machine k) is (sized-valid live.machine k is.valid.machine fits) (record { time = refl; taken = refl; slots = refl; disk = refl })) refl refl)
+    (λ _. stands-refused _ live is)
+
+stands-show : (live : Live) (subject : Shown) → ValidLive live → Stands live (show_reply live subject)
+unfolding show_reply
+stands-show live shown.Time is = stands-says _ live is
+stands-show live shown.Cpu is = stands-says _ live is
+stands-show live shown.Queue is = stands-says _ live is
+stands-show live shown.Break is = stands-says _ live is
+stands-show live shown.Expect is = stands-says _ live is
+stands-show live shown.Send is = stands-says _ live is
+stands-show live shown.Version is = stands-says _ live is
+stands-show live (shown.Unit unit) is = stands-if (lacks_unit live.machine unit) live _ _ (λ _. stands-refused _ live is) (λ _. stands-says _ live is)
+
+stands-echo : (live : Live) (text : List ℕ) → ValidLive live → Stands live (echo_reply live text)
+unfolding echo_reply
+stands-echo live text is = stands-says _ live is
+
+gives-if : (b : Bool) (x y : Answer) → GivesBytes x → GivesBytes y → GivesBytes (if b then x else y)
+gives-if true x y first second = first
+gives-if false x y first second = second
+
+gives-test : (r : Result Bool ExamineFault) → GivesBytes (test_answer r)
+gives-test (Ok true) = tt
+gives-test (Ok false) = tt
+gives-test (Err fault) = tt
+
+stands-assert : (live : Live) (test : Test) → ValidLive live → Stands live (assert_reply live test)
+unfolding assert_reply
+stands-assert live test is =
+    stands-answers (assert_answer live.machine test) 0 live is (gives-if (lacks_device live.machine test.device) _ (test_answer (tested live.machine test)) tt (gives-test (tested live.machine test)))
+
+stands-goto : (live : Live) → ValidLive live → Stands live (goto_reply live)
+stands-goto live is = stands-answers _ 0 live is tt
+
+-- ---- files that are read or written whole
+
+gives-script : (echo strict : Bool) (said : WholeSaid) → GivesWhole said → GivesBytes (do_answer echo strict said)
+gives-script echo strict (WholeIs bytes) gives = gives
+gives-script echo strict whole.NotThere gives = tt
+gives-script echo strict whole.TooLong gives = tt
+gives-script echo strict whole.CallFailed gives = tt
+
+stands-do : (notes : List CommandNote) (live : Live) (echo strict : Bool) (name : List ℕ) → ValidLive live → Stands live (do_reply notes live echo strict name)
+unfolding do_reply
+stands-do notes live echo strict name is =
+    let read = whole_act (whole_calls subject.Script live.machine.time notes) name live.files in
+    stands-answers (do_answer echo strict read.0) read.1 live is
+    (gives-script echo strict read.0 (whole-bytes (whole_calls subject.Script live.machine.time notes) name live.files is.valid.files))
+
+gives-tape : (r : Result Tape LoadFault) → GivesBytes (tape_answer r)
+gives-tape (Ok says) = tt
+gives-tape (Err fault) = tt
+
+gives-load : (m : MachineState) (said : WholeSaid) → GivesBytes (load_answer m said)
+gives-load m (WholeIs bytes) = gives-tape (tape_in m bytes)
+gives-load m whole.NotThere = tt
+gives-load m whole.TooLong = tt
+gives-load m whole.CallFailed = tt
+
+stands-load : (notes : List CommandNote) (live : Live) (name : List ℕ) → ValidLive live → Stands live (load_reply notes live name)
+unfolding load_reply
+stands-load notes live name is =
+    let read = whole_act (whole_calls subject.Load live.machine.time notes) name live.files in
+    let m = loaded_machine read.0 live.machine in
+    let rest = loaded-leaves read.0 live.machine in
+    let gives = whole-bytes (whole_calls subject.Load live.machine.time notes) name live.files is.valid.files in
+    record {
+      valid = record {
+        after = machine-live live m is (loaded-valid read.0 live.machine gives is.valid.machine) rest;
+        made = λ at h. absurd h;
+        script = gives-load live.machine read.0;
+      };
+      copy = copy-same live (with_machine live m) rest.slots rest.disk;
+    }
+
+gives-written : (said : WriteSaid) → GivesBytes (dump_answer said)
+gives-written AllWritten = tt
+gives-written WriteFailed = tt
+
+stands-dump : (notes : List CommandNote) (live : Live) (from to : ℕ) (name : List ℕ) → ValidLive live → Stands live (dump_reply notes live from to name)
+unfolding dump_reply
+stands-dump notes live from to name is =
+    stands-if (can_dump live.machine from to) live _ _
+    (λ fits.
+    let act = write_act (write_calls subject.Dump live.machine.time notes) name (dump_of live.machine from to) live.files in
+    let both = and_parts (nat_le from to) (nat_lt to live.machine.processor.memory.size) fits in
+    let below = ltb-true to live.machine.processor.memory.size both.1 in
+    let most = is.valid.machine.memory.size in
+    let bytes = dump-bytes live.machine.processor.memory from to live.machine.processor.cpu.pc is.valid.machine.memory (leb-true from to both.0) (omega (arith, below, most)) is.valid.machine.cpu.pc in
+    stands-files (dump_answer act.said) act.met live act.files is (written-files (write_calls subject.Dump live.machine.time notes) name (dump_of live.machine from to) live.files bytes is.valid.files) (gives-written act.said))
+    (λ _. stands-refused _ live is)
+
+-- ---- all commands
+
+pub stands-effect : (limit : ℕ) (notes : List CommandNote) (live : Live) (r : Request) → ValidLive live → IsKept r → AreBytes (request.given_text r) → Stands live (effect limit notes live r)
+unfolding effect
+stands-effect limit notes live request.Nothing is kept bytes = stands-goes live live is refl refl
+stands-effect limit notes live (request.Examine l) is kept bytes = stands-examine live l is
+stands-effect limit notes live (request.Deposit l value) is kept bytes = stands-deposit live l value is
+stands-effect limit notes live (request.Run address) is kept bytes = stands-run_from limit notes true address live is
+stands-effect limit notes live (request.Go address) is kept bytes = stands-run_from limit notes false address live is
+stands-effect limit notes live request.Cont is kept bytes = stands-ran notes false limit live is
+stands-effect limit notes live (request.Step count) is kept bytes = stands-step_of limit notes (unwrap_or count 1) live is
+stands-effect limit notes live request.Reset is kept bytes = stands-reset live is
+stands-effect limit notes live (request.Break at count actions) is kept bytes = stands-break live at count actions bytes is
+stands-effect limit notes live (request.NoBreak at) is kept bytes = stands-no_break live at is
+stands-effect limit notes live (request.Expect count text actions) is kept bytes = stands-expect live count text actions bytes is
+stands-effect limit notes live request.NoExpect is kept bytes = stands-no_expect live is
+stands-effect limit notes live (request.Send after delay text) is kept bytes = stands-send live after delay text is
+stands-effect limit notes live request.NoSend is kept bytes = stands-no_send live is
+stands-effect limit notes live (request.Attach option unit name) is kept bytes = stands-attach notes live option unit name kept.1.1 is
+stands-effect limit notes live (request.Detach unit) is kept bytes = stands-detach_where notes live unit kept is
+stands-effect limit notes live (request.SetSize k) is kept bytes = stands-set_size live k is
+stands-effect limit notes live (request.Show subject) is kept bytes = stands-show live subject is
+stands-effect limit notes live (request.Do echo strict name arguments) is kept bytes = stands-do notes live echo strict name is
+stands-effect limit notes live (request.Goto label) is kept bytes = stands-goto live is
+stands-effect limit notes live (request.Assert test) is kept bytes = stands-assert live test is
+stands-effect limit notes live (request.Echo text) is kept bytes = stands-echo live text is
+stands-effect limit notes live (request.Exit status) is kept bytes = stands-exit notes live status is
+stands-effect limit notes live (request.Load name) is kept bytes = stands-load notes live name is
+stands-effect limit notes live (request.Dump from to name) is kept bytes = stands-dump notes live from to name is
+stands-effect limit notes live r is kept bytes = stands-refused _ live is
+
+-- ---- the disk gets a file, or loses it
+
+some-attached : (live : Live) → ValidLive live → 0 < length (attached_in live.machine)
+some-attached live is = let places = is.valid.machine.places in omega (arith, attached-count live.machine, places)
+
+attach-anew : (notes : List CommandNote) (live : Live) (option : ℕ) (name : List ℕ) → ValidLive live → (attach_reply notes live option disk_unit name).answer ≡ Ok Go
+    → DiskIsItsFile (attach_reply notes live option disk_unit name).after.live
+unfolding attach_reply
+attach-anew notes live option name is done = by-lack (lacks_unit live.machine disk_unit) done
+  where
+    fault : Option Failure
+    fault = failure_now live.machine.time (subject.Unit disk_unit) notes
+
+    files : List NamedBytes
+    files = attach_files fault (mode_of option) disk_unit name (attached_in live.machine) live.files
+
+    by-said : (said : AttachSaid) → attach_answer disk_unit said ≡ Ok Go
+        → DiskIsItsFile (record live { machine = attached_machine said (mode_of option) disk_unit name (bytes_of files name) live.machine; files = files })
+    by-said (Attached count) done =
+        let a : Attachment = record { name = name; read_only = is_read_only (mode_of option) } in
+        subst (λ (l : List (Option Attachment)). CopyIsFile (attachment_at l disk_unit) (record { bytes = bytes_of files name; written = false }) files)
+        (sym (attached-with live.machine (with_attachment (attached_in live.machine) disk_unit (Some a)))) (copy-new a (attached_in live.machine) files (some-attached live is))
+    by-said UnitHasFile done = absurd (cc)
+    by-said OnlyWrites done = absurd (cc)
+    by-said NotThere done = absurd (cc)
+    by-said TooLong done = absurd (cc)
+    by-said (CallFailed f) done = absurd (cc)
+
+    by-lack : (b : Bool) → (if b then refused NotBuilt live else attach_with fault (mode_of option) disk_unit name live).answer ≡ Ok Go
+        → DiskIsItsFile (if b then refused NotBuilt live else attach_with fault (mode_of option) disk_unit name live).after.live
+    by-lack true done = absurd (cc)
+    by-lack false done = by-said (attach_said fault (mode_of option) disk_unit name (attached_in live.machine) live.files) done
+
+detach-anew : (notes : List CommandNote) (live : Live) → ValidLive live → (detach_reply notes live disk_unit).answer ≡ Ok Go → DiskIsItsFile (detach_reply notes live disk_unit).after.live
+unfolding detach_reply
+detach-anew notes live is done = by-lack (lacks_unit live.machine disk_unit) done
+  where
+    fault : Option Failure
+    fault = failure_now live.machine.time (subject.Unit disk_unit) notes
+
+    by-said : (said : DetachSaid) → detach_answer disk_unit said ≡ Ok Go
+        → DiskIsItsFile (record live { machine = detached_machine said disk_unit live.machine; files = flushed_files fault disk_unit live })
+    by-said HadNone done = absurd (cc)
+    by-said (StillHeld f) done = absurd (cc)
+    by-said (Detached failure) done =
+        subst (λ (l : List (Option Attachment)). CopyIsFile (attachment_at l disk_unit) no_buffer (flushed_files fault disk_unit live))
+        (sym (attached-with live.machine (detached disk_unit (attached_in live.machine)))) (copy-gone (attached_in live.machine) (flushed_files fault disk_unit live) (some-attached live is))
+
+    by-lack : (b : Bool) → (if b then refused NotBuilt live else detach_with fault disk_unit live).answer ≡ Ok Go
+        → DiskIsItsFile (if b then refused NotBuilt live else detach_with fault disk_unit live).after.live
+    by-lack true done = absurd (cc)
+    by-lack false done = by-said (detach_said fault disk_unit (attached_in live.machine) live.machine.disk) done
+
+attached-anew : (limit : ℕ) (notes : List CommandNote) (live : Live) (option : ℕ) (name : List ℕ) → ValidLive live → (effect limit notes live (request.Attach option disk_unit name)).answer ≡ Ok Go
+    → DiskIsItsFile (effect limit notes live (request.Attach option disk_unit name)).after.live
+unfolding effect
+attached-anew limit notes live option name is done = attach-anew notes live option name is done
+
+detached-anew : (limit : ℕ) (notes : List CommandNote) (live : Live) → ValidLive live → (effect limit notes live (request.Detach (Some disk_unit))).answer ≡ Ok Go
+    → DiskIsItsFile (effect limit notes live (request.Detach (Some disk_unit))).after.live
+unfolding effect
+detached-anew limit notes live is done = detach-anew notes live is done
+
+-- ---- what a call has left
+
+left-valid : (reply : Reply) (answer : Answer) (at : Standing) (tells : Bool) (before after : List ℕ) → IsValidReply reply → answer ≢ Err OutOfMemory → Does reply answer at tells before after
+    → ValidLive at.live
+left-valid reply (Err Console) at tells before after is some does = is.made at does.stands
+left-valid reply (Err OutOfMemory) at tells before after is some does = absurd (some refl)
+left-valid reply answer at tells before after is some does = subst (λ (s : Standing). ValidLive s.live) (sym does.1.after_is) is.after
+
+-- what the disk held was written back
+flushed-valid : (live : Live) → ValidLive live → ValidLive (flushed live)
+flushed-valid live is =
+    changed-live live (flushed_machine live.machine) live.watch (flushed_files None disk_unit live) is
+    (record {
+      memory = is.valid.machine.memory;
+      size = is.valid.machine.size;
+      cpu = is.valid.machine.cpu;
+      mask = is.valid.machine.mask;
+      switches = is.valid.machine.switches;
+      core = record { registers = is.valid.machine.core.registers; sound = is.valid.machine.core.sound; listed = is.valid.machine.core.listed; times = is.valid.machine.core.times };
+      places = is.valid.machine.places;
+      disk = is.valid.machine.disk;
+    })
+    refl refl is.valid.watch (flushed-files None disk_unit (attachment_at (attached_in live.machine) disk_unit) live.machine.disk live.files is.valid.machine.disk is.valid.files)
+
+pub remains-valid : (flushes : Bool) (old new : Live) → ValidLive old → Remains flushes old new → ValidLive new
+remains-valid false old new is same = subst ValidLive (sym same) is
+remains-valid true old new is (inl same) = subst ValidLive (sym same) is
+remains-valid true old new is (inr same) = subst ValidLive (sym same) (flushed-valid old is)
+
+pub commands-keep-states : CommandsKeepStates
+commands-keep-states = record {
+  valid = λ limit notes live r is kept bytes. (stands-effect limit notes live r is kept bytes.text).valid;
+  disk = λ limit notes live r is kept bytes. (stands-effect limit notes live r is kept bytes.text).copy;
+  attached = attached-anew;
+  detached = detached-anew;
+  left = left-valid;
+  remains = remains-valid;
+}

@@ -1,0 +1,54 @@
+-- What every state is within a session, and what commands make of it.
+use Rattle.std.specs.Prelude.{◌≡◌, ◌≢◌, ◌≤◌, ℕ, Bool, false, List, Some, Ok, Err}
+use Rattle.observations.specs.Observations.{StandsAt}
+use Rattle.nova_machine.specs.Run.{last_time}
+use Rattle.nova_machine.specs.Valid.{AreBytes, Valid, DiskIsItsFile, LeavesDiskFile}
+use Rattle.file_commands.specs.Notes.{CommandNote}
+use Rattle.unit_files.specs.Buffer.{disk_unit}
+use Rattle.scp_parser.specs.Command.{Request, Attach, Detach, IsKept}
+use Rattle.scp_parser.specs.Laws.{IsOfBytes}
+use Rattle.scp_commands.specs.declared.next.Next.TheVariants.{Go, Do}
+use Rattle.scp_commands.specs.declared.fault.CommandFault.TheVariants.{OutOfMemory}
+use Rattle.scp_commands.specs.Live.{Live, Standing}
+use Rattle.scp_commands.specs.Reply.{Answer, Reply}
+use Rattle.scp_commands.specs.Effect.{effect}
+use Rattle.scp_commands.specs.Doing.{Does}
+use Rattle.scp_commands.specs.Remains.{Remains}
+
+-- a state that commands work on: all is in range, and no time comes past the end of time
+pub record ValidLive (live : Live) : Type 0 where
+  pub valid : Valid live
+  pub time : live.machine.time ≤ last_time
+
+-- the script that a DO has read is of bytes
+abbrev pub GivesBytes : Answer → Type 0
+GivesBytes (Ok (Do file)) = AreBytes file.text
+GivesBytes answer = Unit {0}
+
+-- a command leaves such a state, each text of it comes in one, and a script that it has read is of bytes
+pub record IsValidReply (reply : Reply) : Type 0 where
+  pub after : ValidLive reply.after.live
+  pub made : (at : Standing) → StandsAt at reply.made → ValidLive at.live
+  pub script : GivesBytes reply.answer
+
+-- A command with its facts, whose texts are of bytes, keeps such a state. And what the disk holds of its file is what is in
+-- it behind a command too, where that has not changed beside the disk.
+pub record CommandsKeepStates : Type 0 where
+  pub valid : (limit : ℕ) (notes : List CommandNote) (live : Live) (r : Request) → ValidLive live → IsKept r → IsOfBytes r
+      → IsValidReply (effect limit notes live r)
+  pub disk : (limit : ℕ) (notes : List CommandNote) (live : Live) (r : Request) → ValidLive live → IsKept r → IsOfBytes r
+      → DiskIsItsFile live
+      → ((effect limit notes live r).after.live.machine.disk.written ≡ false → LeavesDiskFile live (effect limit notes live r).after.live)
+      → DiskIsItsFile (effect limit notes live r).after.live
+  -- an ATTACH of the disk and a DETACH of it make that so anew
+  pub attached : (limit : ℕ) (notes : List CommandNote) (live : Live) (option : ℕ) (name : List ℕ) → ValidLive live
+      → (effect limit notes live (Attach option disk_unit name)).answer ≡ Ok Go
+      → DiskIsItsFile (effect limit notes live (Attach option disk_unit name)).after.live
+  pub detached : (limit : ℕ) (notes : List CommandNote) (live : Live) → ValidLive live
+      → (effect limit notes live (Detach (Some disk_unit))).answer ≡ Ok Go
+      → DiskIsItsFile (effect limit notes live (Detach (Some disk_unit))).after.live
+  -- what a call has left that does such a command, also where the console refused a byte; and what one has left that was
+  -- refused or that memory ran out in
+  pub left : (reply : Reply) (answer : Answer) (at : Standing) (tells : Bool) (before after : List ℕ) → IsValidReply reply
+      → answer ≢ Err OutOfMemory → Does reply answer at tells before after → ValidLive at.live
+  pub remains : (flushes : Bool) (old new : Live) → ValidLive old → Remains flushes old new → ValidLive new
