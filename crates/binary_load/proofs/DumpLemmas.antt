@@ -82,7 +82,7 @@ block_words size place rest n fine =
     ap (λ (x : Option LoadFault). unless_faulty x
     (Passes (stores_from (word_at rest 2) (words_of (take (2 * n) (drop 6 rest)))) (6 + 2 * n))) fine
 
-words_kind : (count n : ℕ) → 0 < n → n ≤ 16 → count ≡ 2 ^ 16 - n → kind_of count ≡ Words n
+pub words_kind : (count n : ℕ) → 0 < n → n ≤ 16 → count ≡ 2 ^ 16 - n → kind_of count ≡ Words n
 words_kind count n some few is =
     let back : 2 ^ 16 - count ≡ n = omega arith in
     let high : 2 ^ 16 - 16 ≤ count = omega arith in

@@ -21,18 +21,18 @@ use Rattle.binary_load.proofs.ReadingLemmas.{tape_says, tape_behind}
 
 -- what each piece is read as
 
-front_zero : (size place : ℕ) (more : List ℕ) → front size place (0 ∷ more) ≡ Passes [] 1
+pub front_zero : (size place : ℕ) (more : List ℕ) → front size place (0 ∷ more) ≡ Passes [] 1
 unfolding front
 front_zero size place more = grind (arith, nat_tests)
 
-repeated_kind : (count n : ℕ) → 16 < n → n ≤ 2 ^ 15 → count ≡ 2 ^ 16 - n → kind_of count ≡ Repeated n
+pub repeated_kind : (count n : ℕ) → 16 < n → n ≤ 2 ^ 15 → count ≡ 2 ^ 16 - n → kind_of count ≡ Repeated n
 repeated_kind count n many most is =
     let back : 2 ^ 16 - count ≡ n = omega arith in
     let low : count < 2 ^ 16 - 16 = omega arith in
     let high : 2 ^ 15 ≤ count = omega arith in
     grind (arith, nat_tests)
 
-ignored_kind : (count : ℕ) → 1 < count → count < 2 ^ 15 → kind_of count ≡ Ignored
+pub ignored_kind : (count : ℕ) → 1 < count → count < 2 ^ 15 → kind_of count ≡ Ignored
 ignored_kind count some low = grind (arith, nat_tests)
 
 block_repeated : (size place : ℕ) (rest : List ℕ) (n : ℕ) → stores_fault size place rest 1 n ≡ None →
@@ -69,7 +69,7 @@ front_repeated size place origin check word n more many most within is =
     ∙ ap (λ (x : ℕ). Passes (stores_from x (replicate n (word_at rest 6))) 8) second
     ∙ ap (λ (x : ℕ). Passes (stores_from origin (replicate n x)) 8) fourth
 
-not_ones : (b : ℕ) → b ≢ 0xff → (b == 0xff) ≡ false
+pub not_ones : (b : ℕ) → b ≢ 0xff → (b == 0xff) ≡ false
 not_ones b other = grind (arith, nat_tests)
 
 ones_place : (others more : List ℕ) → All (λ b. b ≢ 0xff) others →
@@ -110,7 +110,7 @@ front_starts size place origin check others is =
     ∙ ap (λ (x : ℕ). Ends (start_at x)) second
 
 -- a piece in front of more
-piece_read : (size place : ℕ) (piece more : List ℕ) (stores : List Store) → IsPiece size piece stores →
+pub piece_read : (size place : ℕ) (piece more : List ℕ) (stores : List Store) → IsPiece size piece stores →
     front size place (piece ++ more) ≡ Passes stores (length piece)
 piece_read _ place _ more _ (zero_byte size) = front_zero size place more
 piece_read _ place _ more _ (words_block size origin check words some few within is) =

@@ -3,3 +3,5 @@ pub mod GrammarLemmas
 pub mod ReadingLemmas
 pub mod StoreLemmas
 pub mod RangeLemmas
+pub mod FormLemmas
+pub mod FaultLemmas

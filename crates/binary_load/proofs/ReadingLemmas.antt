@@ -61,12 +61,12 @@ front_forward size place rest =
     (if_forward (slice_index rest 0 == 0) _ _ one_byte
     (if_forward (length rest == 1) _ _ tt (block_forward size place rest (kind_of (word_at rest 0)))))
 
-forward_passes : (size place bytes : ℕ) (rest : List ℕ) (stores : List Store) →
+pub forward_passes : (size place bytes : ℕ) (rest : List ℕ) (stores : List Store) →
     front size place rest ≡ Passes stores bytes → 0 < bytes
 forward_passes size place bytes rest stores is = subst Forward is (front_forward size place rest)
 
 -- nothing begins with the end
-front_none : (size place : ℕ) (rest : List ℕ) → length rest ≡ 0 → front size place rest ≡ Ends None
+pub front_none : (size place : ℕ) (rest : List ℕ) → length rest ≡ 0 → front size place rest ≡ Ends None
 unfolding front
 front_none size place [] none = refl
 front_none size place (b ∷ rest) none = absurd (omega arith)

@@ -1,8 +1,9 @@
 -- What was proved about loader tapes.
-use Rattle.std.specs.Prelude.{◌≡◌, ℕ, List, ◌+◌, ◌-◌, ◌<◌, ◌≤◌, ◌^◌, Some, Ok}
+use Rattle.std.specs.Prelude.{◌≡◌, ℕ, List, All, ◌+◌, ◌-◌, ◌<◌, ◌≤◌, ◌^◌, Some, Ok, Err}
 use Rattle.nova_memory.specs.Memory.{MemoryState}
 use Rattle.binary_load.specs.Tape.{Tape, tape, stores_from}
-use Rattle.binary_load.specs.Grammar.{IsTape}
+use Rattle.binary_load.specs.declared.faults.LoadFault.{LoadFault}
+use Rattle.binary_load.specs.Grammar.{IsTape, IsFaulty}
 use Rattle.binary_load.specs.Dump.{dumped, words_from}
 
 -- a dump says exactly the words of the memory from one address up to another, at these addresses, and the start, to every
@@ -15,3 +16,13 @@ DumpsReadBack = (m : MemoryState) (from to start size : ℕ) → from ≤ to →
 -- what has the form of a tape is read as that tape says
 abbrev pub TapesAreRead : Type 0
 TapesAreRead = (size : ℕ) (bytes : List ℕ) (says : Tape) → IsTape size bytes says → tape size bytes ≡ Ok says
+
+-- .. and it is the other way round too: bytes that are read as a tape have its form; and a fault stands in them, where the
+-- forms say, exactly where they are read with it
+pub record TapesHaveForms : Type 0 where
+  pub tapes : (size : ℕ) (bytes : List ℕ) (says : Tape) → All (λ b. b < 2 ^ 8) bytes → tape size bytes ≡ Ok says
+      → IsTape size bytes says
+  pub faults : (size : ℕ) (bytes : List ℕ) (fault : LoadFault) → All (λ b. b < 2 ^ 8) bytes
+      → tape size bytes ≡ Err fault → IsFaulty size 0 bytes fault
+  pub found : (size : ℕ) (bytes : List ℕ) (fault : LoadFault) → IsFaulty size 0 bytes fault
+      → tape size bytes ≡ Err fault

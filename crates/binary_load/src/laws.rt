@@ -1,4 +1,4 @@
-ghost use Rattle.binary_load.specs.Laws.{DumpsReadBack, TapesAreRead};
+ghost use Rattle.binary_load.specs.Laws.{DumpsReadBack, TapesAreRead, TapesHaveForms};
 
 /// The law that a dump says exactly the dumped words at their addresses, and the start, to every memory that has these
 /// addresses.
@@ -9,4 +9,10 @@ pub fn dumps_read_back()
 /// The law that what has the form of a tape is read as that tape says.
 pub fn tapes_are_read()
     ensures { TapesAreRead }
+{}
+
+/// The law that bytes which are read as a tape have its form, and that bytes are read with a fault exactly where it
+/// stands in them as the forms of tapes say.
+pub fn tapes_have_forms()
+    ensures { TapesHaveForms }
 {}

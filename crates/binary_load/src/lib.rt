@@ -9,6 +9,6 @@ pub mod loading;
 
 pub use dumping::dump;
 pub use faults::{LoadFault, Start};
-pub use laws::{dumps_read_back, tapes_are_read};
+pub use laws::{dumps_read_back, tapes_are_read, tapes_have_forms};
 pub use loading::load;
 pub use std::alloc::AllocError as OutOfMemory;

@@ -1,4 +1,4 @@
-ghost use Rattle.std.specs.Prelude.{◌≡◌, ◌<◌, ◌≤◌, ◌+◌, ◌++◌, false, List, IsTrue, IfOk, IfSome, OnErr, vec_len, vec_capacity};
+ghost use Rattle.std.specs.Prelude.{◌≡◌, ◌<◌, ◌≤◌, ◌+◌, ◌++◌, true, false, is_some, List, IsTrue, IfOk, IfSome, OnErr, vec_len, vec_capacity};
 ghost use Rattle.host_files.specs.State.{Opened};
 ghost use Rattle.host_files.specs.Lists.{bytes_of};
 ghost use Rattle.unit_files.specs.Attachments.{attachments_of, attachment_at, takes_attachment, longest_file, is_disk, IsFileName};
@@ -45,6 +45,8 @@ pub fn attach_unit<F: Files>(
         ≡ attached_by said mode unit name.now (attachments_of attached.old.slots)) }
     ensures disk { IsTrue F.tells → IfSome (said_of_attach result) (λ said. attached.new.disk
         ≡ buffer_by said unit (bytes_of (F.state files.new).files name.now) attached.old.disk) }
+    ensures there { IfOk result (λ n. IsTrue (is_some (attachment_at (attachments_of attached.new.slots) unit))) }
+    ensures unwritten { IfOk result (λ n. is_disk unit.kind ≡ true → attached.new.disk.written ≡ false) }
     ensures other { is_disk unit.kind ≡ false → attached.new.disk ≡ attached.old.disk }
     ensures refused { OnErr result (attached.new ≡ attached.old) }
     ensures files { IsTrue F.tells → IfSome (said_of_attach result) (λ said. (F.state files.new).files

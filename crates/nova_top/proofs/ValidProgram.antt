@@ -1,11 +1,10 @@
 -- The session that the program begins is what every session is, and what is left is in range.
-use Rattle.std.proofs.Common.{◌≡◌, inl, inr, ℕ, zero, suc, ◌+◌, ◌%◌, ◌^◌, ◌<◌, ◌≤◌, ◌&&◌, ◌==◌, nat_lt, nat_le, Bool, true, false, List, [], ◌∷◌, ◌++◌, length, take, drop, map, Option, Some, None, IfSome, option_map, unwrap_or, Result, Ok, Err, if◌then◌else◌, refl, sym, ap, subst, ◌∙◌, arith, length-take}
+use Rattle.std.proofs.Common.{◌≡◌, inl, inr, ℕ, zero, suc, ◌+◌, ◌^◌, ◌<◌, ◌≤◌, ◌&&◌, ◌==◌, nat_lt, nat_le, Bool, true, false, List, [], ◌∷◌, ◌++◌, length, take, drop, map, Option, Some, None, IfSome, option_map, unwrap_or, Result, Ok, Err, if◌then◌else◌, refl, sym, subst, ◌∙◌, arith, length-take}
 use Rattle.std.specs.List.{AllByRecursion, list_all, position}
 use Rattle.std.specs.Option.{option_and_then}
 use Rattle.std.proofs.lemmas.Bool.{and_parts, ltb-true}
 use Rattle.std.proofs.lemmas.List.{length-map}
-use Rattle.observations.specs.Observations.{Prints, StandsAt, Trace, map_made, map_trace}
-use Rattle.observations.specs.Cut.{cut_trace}
+use Rattle.observations.specs.Observations.{StandsAt, Trace}
 use Rattle.observations.proofs.CutLemmas.{cut-state}
 use Rattle.observations.proofs.MadeLemmas.{stands-mapped}
 use Rattle.nova_word.specs.Numbers.{number_read}
@@ -28,15 +27,15 @@ use Rattle.nova_machine.proofs.ValidBytes.{AreFiles, every-append, every-take, e
 use Rattle.scp_commands.specs.Valid.{ValidLive}
 use Rattle.scp_commands.proofs.ValidWatch.{read-bytes}
 use Rattle.scp_commands.proofs.ValidMachines.{GivesWhole, whole-bytes, memory-valid}
-use Rattle.scp_script.specs.Scripts.{Script, begun}
+use Rattle.scp_script.specs.Scripts.{Script}
 use Rattle.scp_script.specs.Session.{State, trace}
 use Rattle.scp_script.specs.Perform.{beginning_with}
-use Rattle.scp_script.specs.Valid.{ValidScript, ValidSession}
+use Rattle.scp_script.specs.Valid.{ValidScript}
 use Rattle.scp_script.proofs.ValidSessions.{sessions-stay-valid}
 use Rattle.nova_top.specs.declared.options.Options.{Options}
 use Rattle.nova_top.specs.Standard.{standard_kinds, standard_units}
 use Rattle.nova_top.specs.Words.{keys_name, script_name, script_words, options_of}
-use Rattle.nova_top.specs.Workload.{next_number, word_of_number, words_behind, with_words, loop_words, count_words, filled, with_workload, workload_text, first_text}
+use Rattle.nova_top.specs.Workload.{next_number, words_behind, with_words, loop_words, count_words, filled, with_workload, workload_text, first_text}
 use Rattle.nova_top.specs.Outside as outside
 use Rattle.nova_top.specs.Outside.{Outside, Left, left_by, calls_on, word_file, Denial, unopened, or_bad_keys, taken_keys, script_from, taken_script, Start, Refused, Begins, denied, start_by, start_of, first_scripts, session_with, opening, trace_from, whole_trace, outcome}
 use Rattle.nova_top.specs.ValidLaws.{AreHandedBytes, ValidLeft, IsGoodOpening, ProgramStaysValid}

@@ -27,11 +27,11 @@ pub record IsGoodOpening (words : List (List ℕ)) (options : Options) (keys : L
   pub valid : ValidSession (opening words options keys script files input notes)
   pub disk : DiskIsItsFile (opening words options keys script files input notes).live
 
--- The session that the program begins is what every session is, and what the program leaves is in range, wherever it ends: the
--- console may refuse any byte, any read may fail, and so may any call on a file.
+-- The session that the program begins is what every session is, and what the program leaves is in range, wherever it
+-- ends: the console may refuse any byte, any read may fail, and so may any call on a file.
 pub record ProgramStaysValid : Type 0 where
-  pub begin : (words : List (List ℕ)) (input : List ℕ) (files : List NamedBytes) (notes more : List Note) (options : Options)
-      (keys : List Key) (script : Option (List ℕ)) → AreHandedBytes words input files
+  pub begin : (words : List (List ℕ)) (input : List ℕ) (files : List NamedBytes) (notes more : List Note)
+      (options : Options) (keys : List Key) (script : Option (List ℕ)) → AreHandedBytes words input files
       → (start_of (options_of words) words files notes).0 ≡ Begins options keys script
       → IsGoodOpening words options keys script files input more
   pub left : (o : Outside) → AreHandedBytes o.words o.input o.files → ValidLeft (outcome o).state

@@ -1,9 +1,9 @@
 -- The quoted text that is computed is the one that a line begins with.
 use Rattle.std.proofs.Common.{◌≡◌, ℕ, ◌-◌, ◌==◌, zero, suc, Bool, true, false, if◌then◌else◌, List, [], ◌∷◌, ◌++◌}
-use Rattle.std.proofs.Common.{length, drop, get_or, Option, Some, None, option_map, option_and_then, ⊎_elim, refl, sym}
+use Rattle.std.proofs.Common.{length, take, drop, get_or, is_some, ◌<◌, Option, Some, None, option_map, option_and_then, ⊎_elim, refl, sym}
 use Rattle.std.proofs.Common.{ap, ◌∙◌, subst, arith}
-use Rattle.std.proofs.lemmas.List.{append_assoc, drop_at}
-use Rattle.std.proofs.lemmas.Bool.{eqb-true}
+use Rattle.std.proofs.lemmas.List.{append_assoc, drop_at, length-take-le, take-append-drop}
+use Rattle.std.proofs.lemmas.Bool.{eqb-true, eq-eqb}
 use Rattle.std.proofs.lemmas.Bool.Decides.{nat_tests}
 use Rattle.nova_word.specs.Quoted.{Stands, itself, carriage_return, line_feed, tab, backslash, quote, octal, StandFor}
 use Rattle.nova_word.specs.Quoted.{none, more, BeginsQuoted, BeginsUnquoted, QuotedIsComputed, byte_at, with_byte}
@@ -30,8 +30,64 @@ read_next b c front rest no_quote here =
     ∙ ap (λ (n : ℕ). option_map (with_byte b) (inside_read n behind)) one_less
     ∙ ap (option_map (with_byte b)) (passed front rest)
 
+some_mapped : {A B : Type 0} (f : A → B) (o : Option A) → is_some (option_map f o) ≡ is_some o
+some_mapped f None = refl
+some_mapped f (Some x) = refl
+
+-- whether a closing quote comes is the same behind the bytes that stand for one
+pub closed_next : (c b width : ℕ) (tail : List ℕ) → (c == 34) ≡ false → byte_at (c ∷ tail) ≡ Some (b, width)
+    → is_some (inside_read 0 (c ∷ tail)) ≡ is_some (inside_read 0 (drop width (c ∷ tail)))
+closed_next c b zero tail no_quote here = absurd (omega (arith, (width_found_within (c ∷ tail) b zero here).0))
+closed_next c b (suc k) tail no_quote here =
+    let within = (width_found_within (c ∷ tail) b (suc k) here).1 in
+    let front = take k tail in
+    let later = drop k tail in
+    let parts : front ++ later ≡ tail = take-append-drop k tail in
+    let long : length front ≡ k = length-take-le k tail (omega (arith, within)) in
+    let there : byte_at (c ∷ (front ++ later)) ≡ Some (b, suc (length front)) =
+    ap (λ (xs : List ℕ). byte_at (c ∷ xs)) parts ∙ here ∙ ap (λ (n : ℕ). Some (b, suc n)) (sym long) in
+    ap (λ (xs : List ℕ). is_some (inside_read 0 (c ∷ xs))) (sym parts)
+    ∙ ap is_some (read_next b c front later no_quote there) ∙ some_mapped (with_byte b) (inside_read 0 later)
+
+-- none comes behind bytes that stand for none
+pub closed_never : (c : ℕ) (tail : List ℕ) → (c == 34) ≡ false → byte_at (c ∷ tail) ≡ None → is_some (inside_read 0 (c ∷ tail)) ≡ false
+unfolding inside_read
+closed_never c tail no_quote here =
+    let next = λ (found : ℕ × ℕ). option_map (with_byte found.0) (inside_read (found.1 - 1) tail) in
+    ap (λ (t : Bool). is_some (if t then Some ([], tail) else option_and_then next (byte_at (c ∷ tail)))) no_quote
+    ∙ ap (λ (o : Option (ℕ × ℕ)). is_some (option_and_then next o)) here
+
+pub closed_here : (c : ℕ) (tail : List ℕ) → (c == 34) ≡ true → is_some (inside_read 0 (c ∷ tail)) ≡ true
+unfolding inside_read
+closed_here c tail is_quote =
+    let next = λ (found : ℕ × ℕ). option_map (with_byte found.0) (inside_read (found.1 - 1) tail) in
+    ap (λ (t : Bool). is_some (if t then Some ([], tail) else option_and_then next (byte_at (c ∷ tail)))) is_quote
+
+pub closed_end : is_some (inside_read 0 []) ≡ false
+unfolding inside_read
+closed_end = refl
+
 plain_no_quote : (b : ℕ) → (b ≡ 34 → ⊥) → (b == 34) ≡ false
 plain_no_quote b no_quote = grind (arith, nat_tests)
+
+-- the same of bytes that are not empty, by the first of them
+
+pub next_closed : (rest : List ℕ) (b width : ℕ) → 0 < length rest → (get_or rest 0 0 ≡ 34 → ⊥) → byte_at rest ≡ Some (b, width)
+    → is_some (inside_read 0 rest) ≡ is_some (inside_read 0 (drop width rest))
+next_closed [] b width some no_quote here = absurd (omega (arith, some))
+next_closed (c ∷ tail) b width some no_quote here = closed_next c b width tail (plain_no_quote c no_quote) here
+
+pub never_closed : (rest : List ℕ) → 0 < length rest → (get_or rest 0 0 ≡ 34 → ⊥) → byte_at rest ≡ None → is_some (inside_read 0 rest) ≡ false
+never_closed [] some no_quote here = absurd (omega (arith, some))
+never_closed (c ∷ tail) some no_quote here = closed_never c tail (plain_no_quote c no_quote) here
+
+pub here_closed : (rest : List ℕ) → 0 < length rest → get_or rest 0 0 ≡ 34 → is_some (inside_read 0 rest) ≡ true
+here_closed [] some is = absurd (omega (arith, some))
+here_closed (c ∷ tail) some is = closed_here c tail (eq-eqb c 34 is)
+
+pub end_closed : (rest : List ℕ) → length rest ≡ 0 → is_some (inside_read 0 rest) ≡ false
+end_closed [] none_left = closed_end
+end_closed (c ∷ tail) none_left = absurd (omega (arith, none_left))
 
 first_no_quote : (front : List ℕ) (b : ℕ) → Stands front b → (get_or front 0 0 == 34) ≡ false
 first_no_quote front byte (itself b low high no_quote no_slash) = plain_no_quote b no_quote

@@ -1,6 +1,6 @@
-ghost use Rattle.std.specs.Prelude.{◌≡◌, ℕ, ◌+◌, ◌<◌, ◌≤◌, length, take, drop, MatchOption, IfSome, option_map};
+ghost use Rattle.std.specs.Prelude.{◌≡◌, ℕ, ◌+◌, ◌<◌, ◌≤◌, length, take, drop, MatchOption, IfSome, None, option_map, is_some};
 ghost use Rattle.nova_word.specs.Quoted.{is_plain, octal_at, escaped_at, byte_at, BeginsQuoted, BeginsUnquoted};
-ghost use Rattle.nova_word.specs.Quoted.{QuotedIsUnique, QuotedIsComputed, quoted_read};
+ghost use Rattle.nova_word.specs.Quoted.{QuotedIsUnique, QuotedIsComputed, quoted_read, inside_read};
 
 use crate::numbers::is_digit;
 
@@ -9,8 +9,62 @@ use crate::numbers::is_digit;
 ///
 /// Its bytes stand first in `out`, and the rest of `out` stays. Between the quotes stand the bytes 32 to 126 other than
 /// `"` and `\`, and the escapes `\r`, `\n`, `\t`, `\\`, `\"` and `\` with three octal digits up to 377. `None` comes
-/// exactly where `text` begins with no quoted text, and then the first bytes of `out` may have been written.
+/// exactly where `text` begins with no quoted text, and then `out` stays as it was.
 pub fn read_quoted(text: &[u8], out: &mut [u8]) -> Option<(usize, usize)>
+    requires room { length text.now ≤ length out.old }
+    ensures quoted { MatchOption
+        result
+        (BeginsUnquoted text.now)
+        (λ q. BeginsQuoted text.now (take q.0 out.new) (drop q.1 text.now)) }
+    ensures exact { quoted_read text.now ≡ option_map (λ q. (take q.0 out.new, drop q.1 text.now)) result }
+    ensures count { IfSome result (λ q. q.0 + 2 ≤ q.1) }
+    ensures place { IfSome result (λ q. q.1 ≤ length text.now) }
+    ensures behind { IfSome result (λ q. drop q.0 out.new ≡ drop q.0 out.old) }
+    ensures kept { result ≡ None → out.new ≡ out.old }
+{
+    if begins_quoted(text) {
+        put_quoted(text, out)
+    } else {
+        None
+    }
+}
+
+// Whether a text begins with a quoted text.
+#[tactic(auto, unfolding(crate::specs::Quoted::quoted_read))]
+fn begins_quoted(text: &[u8]) -> bool
+    ensures { result ≡ is_some (quoted_read text.now) }
+{
+    match text.split_first() {
+        None => false,
+        Some((first, inside)) => {
+            if *first == b'"' {
+                is_closed(inside)
+            } else {
+                false
+            }
+        }
+    }
+}
+
+// Whether the bytes behind an opening quote go on to a closing one.
+fn is_closed(inside: &[u8]) -> bool
+    ensures { result ≡ is_some (inside_read 0 inside.now) }
+{
+    let mut rest = inside;
+    while !rest.is_empty() {
+        if rest[0] == b'"' {
+            return true;
+        }
+        match byte_at(rest) {
+            None => return false,
+            Some((_, width)) => rest = &rest[width..],
+        }
+    }
+    false
+}
+
+// Reads the quoted text, and may write first bytes of `out` where there is none.
+fn put_quoted(text: &[u8], out: &mut [u8]) -> Option<(usize, usize)>
     requires room { length text.now ≤ length out.old }
     ensures quoted { MatchOption
         result

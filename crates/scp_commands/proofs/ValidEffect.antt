@@ -25,7 +25,7 @@ use Rattle.nova_memory.specs.Memory.{fits_size}
 use Rattle.nova_machine.specs.Machine.{MachineState, reset_machine}
 use Rattle.nova_machine.specs.Seen.{attached_in}
 use Rattle.nova_machine.specs.Run.{run, last_time}
-use Rattle.nova_machine.specs.Valid.{AreBytes, ValidMachine, ValidWatch, CopyIsFile, DiskIsItsFile, LeavesDiskFile}
+use Rattle.nova_machine.specs.Valid.{AreBytes, ValidMachine, ValidWatch, CopyIsFile, DiskIsItsFile}
 use Rattle.nova_machine.proofs.StayingValid.{runs-stay-valid}
 use Rattle.nova_machine.specs.declared.machine.Stop.{Stop}
 use Rattle.nova_machine.proofs.ValidBytes.{AreFiles, files-found}
@@ -58,7 +58,7 @@ use Rattle.scp_commands.specs.TapeEffects.{tape_in, tape_answer, loaded_machine,
 use Rattle.scp_commands.specs.Effect.{effect}
 use Rattle.scp_commands.specs.Doing.{Does}
 use Rattle.scp_commands.specs.Remains.{flushed_machine, flushed, Remains}
-use Rattle.scp_commands.specs.Valid.{ValidLive, GivesBytes, IsValidReply, CommandsKeepStates}
+use Rattle.scp_commands.specs.Valid.{ValidLive, GivesBytes, CopyFollows, IsValidReply, CommandsKeepStates}
 use Rattle.scp_commands.proofs.SeenLemmas.{attached-with}
 use Rattle.scp_commands.proofs.CloseLemmas.{none-other}
 use Rattle.scp_commands.proofs.ValidWatch.{quoted-bytes, break-added, break-removed, breaks-removed, expect-added, expects-removed, sends-added, sends-removed}
@@ -75,7 +75,7 @@ numberless-count m = length-map (attached_in m) (λ slot. option_map (λ (a : At
 -- what holds of a reply to a command that was given in that state
 pub record Stands (live : Live) (reply : Reply) : Type 0 where
   pub valid : IsValidReply reply
-  pub copy : DiskIsItsFile live → (reply.after.live.machine.disk.written ≡ false → LeavesDiskFile live reply.after.live) → DiskIsItsFile reply.after.live
+  pub copy : CopyFollows live reply.after.live
 
 -- ---- states
 

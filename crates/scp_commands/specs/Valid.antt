@@ -25,21 +25,24 @@ abbrev pub GivesBytes : Answer → Type 0
 GivesBytes (Ok (Do file)) = AreBytes file.text
 GivesBytes answer = Unit {0}
 
+-- What the disk holds of its file is what is in it in a later state too, where the file has not changed beside the
+-- disk or something is to be written back.
+abbrev pub CopyFollows : Live → Live → Type 0
+CopyFollows old new =
+    DiskIsItsFile old → (new.machine.disk.written ≡ false → LeavesDiskFile old new) → DiskIsItsFile new
+
 -- a command leaves such a state, each text of it comes in one, and a script that it has read is of bytes
 pub record IsValidReply (reply : Reply) : Type 0 where
   pub after : ValidLive reply.after.live
   pub made : (at : Standing) → StandsAt at reply.made → ValidLive at.live
   pub script : GivesBytes reply.answer
 
--- A command with its facts, whose texts are of bytes, keeps such a state. And what the disk holds of its file is what is in
--- it behind a command too, where that has not changed beside the disk.
 pub record CommandsKeepStates : Type 0 where
-  pub valid : (limit : ℕ) (notes : List CommandNote) (live : Live) (r : Request) → ValidLive live → IsKept r → IsOfBytes r
-      → IsValidReply (effect limit notes live r)
-  pub disk : (limit : ℕ) (notes : List CommandNote) (live : Live) (r : Request) → ValidLive live → IsKept r → IsOfBytes r
-      → DiskIsItsFile live
-      → ((effect limit notes live r).after.live.machine.disk.written ≡ false → LeavesDiskFile live (effect limit notes live r).after.live)
-      → DiskIsItsFile (effect limit notes live r).after.live
+  -- a command with its facts, whose texts are of bytes, keeps such a state, and the disk's copy that of its file
+  pub valid : (limit : ℕ) (notes : List CommandNote) (live : Live) (r : Request) → ValidLive live → IsKept r
+      → IsOfBytes r → IsValidReply (effect limit notes live r)
+  pub disk : (limit : ℕ) (notes : List CommandNote) (live : Live) (r : Request) → ValidLive live → IsKept r
+      → IsOfBytes r → CopyFollows live (effect limit notes live r).after.live
   -- an ATTACH of the disk and a DETACH of it make that so anew
   pub attached : (limit : ℕ) (notes : List CommandNote) (live : Live) (option : ℕ) (name : List ℕ) → ValidLive live
       → (effect limit notes live (Attach option disk_unit name)).answer ≡ Ok Go
@@ -47,8 +50,8 @@ pub record CommandsKeepStates : Type 0 where
   pub detached : (limit : ℕ) (notes : List CommandNote) (live : Live) → ValidLive live
       → (effect limit notes live (Detach (Some disk_unit))).answer ≡ Ok Go
       → DiskIsItsFile (effect limit notes live (Detach (Some disk_unit))).after.live
-  -- what a call has left that does such a command, also where the console refused a byte; and what one has left that was
-  -- refused or that memory ran out in
-  pub left : (reply : Reply) (answer : Answer) (at : Standing) (tells : Bool) (before after : List ℕ) → IsValidReply reply
-      → answer ≢ Err OutOfMemory → Does reply answer at tells before after → ValidLive at.live
+  -- what a call has left that does such a command, also where the console refused a byte; and what one has left that
+  -- was refused or that memory ran out in
+  pub left : (reply : Reply) (answer : Answer) (at : Standing) (tells : Bool) (before after : List ℕ)
+      → IsValidReply reply → answer ≢ Err OutOfMemory → Does reply answer at tells before after → ValidLive at.live
   pub remains : (flushes : Bool) (old new : Live) → ValidLive old → Remains flushes old new → ValidLive new

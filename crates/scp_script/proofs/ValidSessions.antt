@@ -1,38 +1,34 @@
 -- Every text of a session keeps what every session is, and what the disk holds of its file.
-use Rattle.std.proofs.Common.{◌≡◌, ◌⊎◌, inl, inr, ℕ, zero, suc, ◌+◌, ◌-◌, ◌<◌, ◌≤◌, ◌||◌, not, nat_le, nat_lt, nat_eq, Bool, true, false, List, [], ◌∷◌, ◌++◌, length, drop, Option, Some, None, Result, Ok, Err, if◌then◌else◌, refl, sym, ap, subst, ◌∙◌, arith}
-use Rattle.std.specs.List.{AllByRecursion}
+use Rattle.std.proofs.Common.{◌≡◌, inl, inr, ℕ, zero, suc, ◌+◌, ◌||◌, not, nat_le, nat_lt, nat_eq, Bool, true, false, List, [], ◌∷◌, ◌++◌, length, drop, Ok, Err, if◌then◌else◌, refl, sym, ap, subst, arith}
 use Rattle.std.proofs.lemmas.Bool.{ltb-true}
-use Rattle.observations.specs.Observations.{Observation, Prints, Reads, StandsAt, map_made}
+use Rattle.observations.specs.Observations.{Observation, Prints, StandsAt, map_made}
 use Rattle.observations.specs.Cut.{Outcome}
 use Rattle.observations.proofs.CutLemmas.{cut-state}
 use Rattle.observations.proofs.MadeLemmas.{stands-either, stands-mapped}
-use Rattle.unit_trait.specs.declared.kind.UnitName.{UnitName}
-use Rattle.file_commands.specs.Notes.{CommandNote, Note, handed}
+use Rattle.file_commands.specs.Notes.{CommandNote, handed}
 use Rattle.expect_actions.specs.Watch.{forgotten}
-use Rattle.nova_machine.specs.declared.machine.Stop.{Stop}
-use Rattle.nova_machine.specs.Valid.{AreBytes, DiskIsItsFile, LeavesDiskFile}
+use Rattle.nova_machine.specs.Valid.{AreBytes}
 use Rattle.nova_machine.proofs.ValidBytes.{bytes-drop}
 use Rattle.script_text.specs.Lines.{first_line, command_line, line_cost}
 use Rattle.script_text.proofs.ByteLemmas.{line_bytes}
 use Rattle.scp_parser.specs.Command as request
 use Rattle.scp_commands.specs.declared.next.Next.TheVariants.{Go, Ran, Do, Goto, Exit}
-use Rattle.scp_commands.specs.declared.fault.CommandFault.{CommandFault}
 use Rattle.scp_commands.specs.declared.fault.CommandFault.TheVariants.{TooDeep}
 use Rattle.scp_commands.specs.Live.{Live, Standing}
 use Rattle.scp_commands.specs.Reply.{Answer, Reply}
 use Rattle.scp_commands.specs.Effect.{Asked, does, asked}
-use Rattle.scp_commands.specs.Valid.{ValidLive, GivesBytes}
+use Rattle.scp_commands.specs.Valid.{ValidLive, CopyFollows}
 use Rattle.scp_commands.proofs.ValidWatch.{watch-forgotten}
 use Rattle.scp_commands.proofs.ValidEffect.{Stands, watch-live, stands-refused, stands-emptied, stands-effect, remains-valid}
 use Rattle.scp_script.specs.Lines.{Arrival, InputEnds, Unpaid, LineComes, arrival}
-use Rattle.scp_script.specs.Scripts.{Script, most_scripts, still_open, cost_of_line, text_of_line, echo_text, past_line, checked, settled, settled_answer}
+use Rattle.scp_script.specs.Scripts.{Script, most_scripts, still_open, cost_of_line, text_of_line, echo_text, checked, settled_answer}
 use Rattle.scp_script.specs.Actions.{Texts, texts_of, texts_behind}
 use Rattle.scp_script.specs.Session.{State, Session, state_of, state_at, asking_input, asking_in, asking_at, asking, behind_line, behind_script_line, behind_action, SessionEnd, ExitDone, AllDone, InputEnded, FlushFailed, BudgetSpent}
-use Rattle.scp_script.specs.Session.{Upcoming, Ends, Comes, emptied_in, input_end, upcoming_of, upcoming_in, upcoming_at, upcoming, complaint, with_complaint, text_reply, Following, Going, Over, rested, following, Step, text_step, closed, end_state, step_upcoming, step, Course, over_by, after_step, texts, course, trace, ComesTo}
+use Rattle.scp_script.specs.Session.{Upcoming, Ends, Comes, upcoming_of, upcoming_in, upcoming_at, upcoming, complaint, text_reply, flushes_next, Following, Going, Over, rested, following, Step, text_step, closed, end_state, step_upcoming, step, Course, after_step, texts, course, trace, ComesTo}
 use Rattle.scp_script.specs.declared.progress.Finish.{Finish}
 use Rattle.scp_script.specs.declared.progress.Finish.TheVariants.{OutOfMemory}
 use Rattle.scp_script.specs.Perform.{IsSession, IsPerformed}
-use Rattle.scp_script.specs.Valid.{ValidScript, ValidTexts, ValidSession, SessionsStayValid}
+use Rattle.scp_script.specs.Valid.{ValidTexts, ValidSession, SessionsStayValid}
 use Rattle.scp_script.proofs.RoomLemmas.{RoomFor, room-effect}
 use Rattle.scp_script.proofs.LawLemmas.{lines-are-consumed}
 use Rattle.scp_script.proofs.ValidTexts.{IsValidAsked, asked-valid, checked-valid, ValidScripts, open-valid, line-bytes, past-valid, texts-valid, settled-gives, settled-room}
@@ -42,10 +38,6 @@ record Holds (s : Session) : Type 0 where
   live : ValidLive s.live
   texts : ValidTexts s.texts
   input : AreBytes s.input
-
--- what the disk holds of its file, from a state to a later one
-abbrev KeepsCopy : Live → Live → Type 0
-KeepsCopy old new = DiskIsItsFile old → (new.machine.disk.written ≡ false → LeavesDiskFile old new) → DiskIsItsFile new
 
 -- ---- what comes next
 
@@ -165,7 +157,7 @@ record Comes_to (t : Texts) (live : Live) (what : Asked) (reply : Reply) : Type 
   after : ValidLive reply.after.live
   made : (at : Standing) → StandsAt at reply.made → ValidLive at.live
   texts : ValidTexts (texts_behind t what reply.answer reply.after.live.watch)
-  copy : KeepsCopy live reply.after.live
+  copy : CopyFollows live reply.after.live
 
 text-comes : (limit : ℕ) (t : Texts) (notes : List CommandNote) (live : Live) (what : Asked) → ValidLive live → ValidTexts t → IsValidAsked what → Comes_to t live what (text_reply limit t notes live what)
 unfolding text_reply
@@ -190,29 +182,29 @@ text-comes limit t notes live what is valid good =
 record IsGoodNext (live : Live) (next : Following) : Type 0 where
   going : (t : Session) → next ≡ Going t → Holds t
   over : (end : SessionEnd) (at : State) → next ≡ Over end at → ValidLive at.live
-  copy : (t : Session) → next ≡ Going t → KeepsCopy live t.live
-  closed : (end : SessionEnd) (at : State) → next ≡ Over end at → KeepsCopy live at.live
+  copy : (t : Session) → next ≡ Going t → CopyFollows live t.live
+  closed : (end : SessionEnd) (at : State) → next ≡ Over end at → CopyFollows live at.live
 
-good-going : (live : Live) (t : Session) → Holds t → KeepsCopy live t.live → IsGoodNext live (Going t)
+good-going : (live : Live) (t : Session) → Holds t → CopyFollows live t.live → IsGoodNext live (Going t)
 good-going live t holds copy = record {
   going = λ u h. let same : t ≡ u = cc h in subst Holds same holds;
   over = λ end at h. absurd (cc h);
-  copy = λ u h. let same : t ≡ u = cc h in subst (λ (x : Session). KeepsCopy live x.live) same copy;
+  copy = λ u h. let same : t ≡ u = cc h in subst (λ (x : Session). CopyFollows live x.live) same copy;
   closed = λ end at h. absurd (cc h);
 }
 
-good-over : (live : Live) (end : SessionEnd) (state : State) → ValidLive state.live → KeepsCopy live state.live → IsGoodNext live (Over end state)
+good-over : (live : Live) (end : SessionEnd) (state : State) → ValidLive state.live → CopyFollows live state.live → IsGoodNext live (Over end state)
 good-over live end state is copy = record {
   going = λ u h. absurd (cc h);
   over = λ other at h. let same : state ≡ at = cc h in subst (λ (x : State). ValidLive x.live) same is;
   copy = λ u h. absurd (cc h);
-  closed = λ other at h. let same : state ≡ at = cc h in subst (λ (x : State). KeepsCopy live x.live) same copy;
+  closed = λ other at h. let same : state ≡ at = cc h in subst (λ (x : State). CopyFollows live x.live) same copy;
 }
 
 rested-holds : (s : Session) → Holds s → Holds (rested s)
 rested-holds s is = record { live = watch-live s.live (forgotten s.live.watch) is.live (watch-forgotten s.live.watch is.live.valid.watch); texts = is.texts; input = is.input }
 
-good-following : (live : Live) (answer : Answer) (s : Session) → Holds s → KeepsCopy live s.live → IsGoodNext live (following answer s)
+good-following : (live : Live) (answer : Answer) (s : Session) → Holds s → CopyFollows live s.live → IsGoodNext live (following answer s)
 good-following live (Ok (Exit status)) s is copy = good-over live (ExitDone status) (state_of s) is.live copy
 good-following live (Ok Go) s is copy = good-going live (rested s) (rested-holds s is) copy
 good-following live (Ok (Ran stop)) s is copy = good-going live (rested s) (rested-holds s is) copy
@@ -276,7 +268,7 @@ closed-good s end is =
     let stands = stands-emptied Go (handed s.spent s.notes) s.live tt is.live in
     good-over s.live end (closed s) stands.valid.after stands.copy
 
-copy-here : (live : Live) → KeepsCopy live live
+copy-here : (live : Live) → CopyFollows live live
 copy-here live is leaves = is
 
 end-good : (s : Session) (end : SessionEnd) → Holds s → IsGoodNext s.live (Over end (end_state end s))

@@ -1,18 +1,17 @@
 -- The texts that are still to come stay within their limits, and of bytes.
-use Rattle.std.proofs.Common.{◌≡◌, ℕ, ◌+◌, ◌-◌, ◌<◌, ◌≤◌, ◌^◌, ◌==◌, ◌||◌, nat_lt, min, Bool, true, false, List, [], ◌∷◌, ◌++◌, length, take, drop, Option, Some, None, IfSome, Result, Ok, Err, if◌then◌else◌, refl, arith, length-append, length-take}
+use Rattle.std.proofs.Common.{◌≡◌, ℕ, ◌+◌, ◌<◌, ◌≤◌, ◌^◌, ◌==◌, ◌||◌, nat_lt, Bool, true, false, List, [], ◌∷◌, ◌++◌, length, Option, Some, None, IfSome, Result, Ok, Err, if◌then◌else◌, refl, arith, length-append, length-take}
 use Rattle.std.specs.List.{AllByRecursion}
-use Rattle.std.proofs.lemmas.Bool.{ltb-false, ltb-true}
+use Rattle.std.proofs.lemmas.Bool.{ltb-false}
 use Rattle.expect_actions.specs.KeysFile.{with_front}
 use Rattle.expect_actions.specs.declared.splits.Place.{Place}
 use Rattle.expect_actions.specs.declared.splits.Place.TheVariants.{Outside}
 use Rattle.expect_actions.specs.Actions.{next_place, ends_action, actions_from, split, most_actions}
 use Rattle.expect_actions.specs.Watch.{WatchState}
 use Rattle.nova_machine.specs.declared.machine.Stop.{Stop}
-use Rattle.nova_machine.specs.declared.machine.Stop.TheVariants.{Halt, ChainLimit, UnknownDevice, Break, Expect, Stepped, Limit, UnitEnd, UnitNone, BadImage, Wru, FileFault, ConsoleFault}
+use Rattle.nova_machine.specs.declared.machine.Stop.TheVariants.{Break, Expect}
 use Rattle.nova_machine.specs.Valid.{AreBytes, ValidWatch}
 use Rattle.nova_machine.proofs.ValidBytes.{every-append, every-take, bytes-drop}
-use Rattle.script_text.specs.Lines.{command_line, behind_line, lines_of}
-use Rattle.script_text.specs.Filling.{filled}
+use Rattle.script_text.specs.Lines.{command_line, lines_of}
 use Rattle.script_text.specs.Labels.{label_place}
 use Rattle.script_text.specs.Arguments.{words_of}
 use Rattle.script_text.proofs.ByteLemmas.{line_bytes, words_bytes, filled_bytes, label_within}

@@ -1,19 +1,19 @@
 -- What every session is: true of the beginning, and kept by every text.
-use Rattle.std.specs.Prelude.{◌≡◌, ℕ, ◌+◌, ◌^◌, ◌≤◌, false, List, length}
+use Rattle.std.specs.Prelude.{◌≡◌, ℕ, ◌+◌, ◌^◌, ◌≤◌, List, length}
 use Rattle.std.specs.List.{AllByRecursion}
 use Rattle.observations.specs.Observations.{Observation, StandsAt}
 use Rattle.expect_actions.specs.Actions.{most_actions}
-use Rattle.nova_machine.specs.Valid.{AreBytes, DiskIsItsFile, LeavesDiskFile}
+use Rattle.nova_machine.specs.Valid.{AreBytes}
 use Rattle.scp_commands.specs.Live.{Live}
-use Rattle.scp_commands.specs.Valid.{ValidLive}
+use Rattle.scp_commands.specs.Valid.{ValidLive, CopyFollows}
 use Rattle.scp_script.specs.declared.progress.Finish.{Finish}
 use Rattle.scp_script.specs.Scripts.{Script, most_scripts}
 use Rattle.scp_script.specs.Actions.{Texts}
 use Rattle.scp_script.specs.Session.{State, Session, SessionEnd, Going, Over, step, trace, ComesTo}
 use Rattle.scp_script.specs.Perform.{IsPerformed}
 
--- a script that is open: its text is of bytes, its next line stands within it, and its name and arguments are ten at the
--- most, of bytes
+-- a script that is open: its text is of bytes, its next line stands within it, and its name and arguments are ten at
+-- the most, of bytes
 pub record ValidScript (s : Script) : Type 0 where
   pub text : AreBytes s.text
   pub place : s.place ≤ length s.text
@@ -40,15 +40,15 @@ pub record ValidSession (s : Session) : Type 0 where
 pub record SessionsStayValid : Type 0 where
   -- behind one text, and behind many
   pub next : (s t : Session) → ValidSession s → (step s).next ≡ Going t → ValidSession t
-  pub all : (count : ℕ) (s t : Session) (made : List (Observation State)) → ValidSession s → ComesTo count s made t → ValidSession t
+  pub all : (count : ℕ) (s t : Session) (made : List (Observation State)) → ValidSession s → ComesTo count s made t
+      → ValidSession t
   -- wherever something is made, and at the end
   pub made : (s : Session) (at : State) → ValidSession s → StandsAt at (trace s).made → ValidLive at.live
   pub ended : (s : Session) → ValidSession s → ValidLive (trace s).ended.state.live
-  -- what the disk holds of its file is what is in it, where that has not changed beside the disk
-  pub disk : (s t : Session) → ValidSession s → (step s).next ≡ Going t → DiskIsItsFile s.live
-      → (t.live.machine.disk.written ≡ false → LeavesDiskFile s.live t.live) → DiskIsItsFile t.live
-  pub closed : (s : Session) (end : SessionEnd) (at : State) → ValidSession s → (step s).next ≡ Over end at → DiskIsItsFile s.live
-      → (at.live.machine.disk.written ≡ false → LeavesDiskFile s.live at.live) → DiskIsItsFile at.live
+  -- and the disk's copy is that of its file still
+  pub disk : (s t : Session) → ValidSession s → (step s).next ≡ Going t → CopyFollows s.live t.live
+  pub closed : (s : Session) (end : SessionEnd) (at : State) → ValidSession s → (step s).next ≡ Over end at
+      → CopyFollows s.live at.live
   -- what a call has left that performs a session, over whichever console and input, also where memory ran out
   pub left : (start : Session) (finish : Finish) (live : Live) (rest before after : List ℕ) → ValidSession start
       → IsPerformed start finish live rest before after → ValidLive live

@@ -2,6 +2,7 @@ ghost use Rattle.std.specs.Prelude.{◌≡◌, ◌≢◌, ◌≤◌, ◌++◌, L
 ghost use Rattle.host_files.specs.Lists.{NamedBytes};
 ghost use Rattle.host_files.specs.State.{Opened};
 ghost use Rattle.unit_files.specs.Open.{AllOpen, Around};
+ghost use Rattle.file_commands.specs.OwnFiles.{AreOwn};
 ghost use Rattle.file_commands.specs.Notes.{CommandNote, Note, notes_said};
 ghost use Rattle.scp_commands.specs.Live.{live_in, standing};
 ghost use Rattle.scp_commands.specs.Effect.{Asked, asked};
@@ -51,6 +52,8 @@ pub fn answer<U: Unit, F: Files, S: Sink>(
     ensures exit { HasExitStatus result }
     ensures command { session.new.command ≡ session.old.command }
     ensures keeps { AreKept session.old.notes session.new.notes (F.state files.old) (F.state files.new) }
+    ensures whose { AreOwn session.old.machine.slots session.new.machine.slots session.old.notes session.new.notes
+        (F.state files.old) (F.state files.new) }
     ensures keys { session.new.keys ≡ session.old.keys }
     ensures limit { session.new.limit ≡ session.old.limit }
     ensures open { AllOpen session.new.machine.slots (F.state files.new).opened }
@@ -89,6 +92,8 @@ fn obey<U: Unit, F: Files, S: Sink>(
     ensures exit { HasExitStatus result }
     ensures command { session.new.command ≡ session.old.command }
     ensures keeps { AreKept session.old.notes session.new.notes (F.state files.old) (F.state files.new) }
+    ensures whose { AreOwn session.old.machine.slots session.new.machine.slots session.old.notes session.new.notes
+        (F.state files.old) (F.state files.new) }
     ensures keys { session.new.keys ≡ session.old.keys }
     ensures limit { session.new.limit ≡ session.old.limit }
     ensures open { AllOpen session.new.machine.slots (F.state files.new).opened }

@@ -3,6 +3,7 @@ ghost use Rattle.fault_counts.specs.Faults.{CountsFault, raised};
 ghost use Rattle.host_files.specs.State.{Opened};
 ghost use Rattle.host_files.specs.Streams.{Puts};
 ghost use Rattle.unit_files.specs.Open.{AllOpen, Around};
+ghost use Rattle.file_commands.specs.OwnFiles.{AreOwn};
 ghost use Rattle.file_commands.specs.Notes.{notes_said};
 ghost use Rattle.scp_script.specs.Reading.{IsReading, Pays};
 ghost use Rattle.scp_script.specs.Scripts.{cost_of_line};
@@ -44,6 +45,8 @@ pub fn next_line<U: Unit, C: Source, F: Files, S: Sink>(
     ensures pays { PaysFor lines.old.budget result lines.new.budget }
     ensures command { session.new.command + lines.new.budget ≡ session.old.command + lines.old.budget }
     ensures keeps { AreKept session.old.notes session.new.notes (F.state files.old) (F.state files.new) }
+    ensures whose { AreOwn session.old.machine.slots session.new.machine.slots session.old.notes session.new.notes
+        (F.state files.old) (F.state files.new) }
     ensures kept { KeptInLine result session.new.machine.slots session.new.notes (F.state files.old) (F.state files.new) }
     ensures unread { lines.old.reads ≡ false → input.new ≡ input.old }
     ensures reads { lines.new.reads ≡ lines.old.reads }
@@ -86,6 +89,8 @@ fn action<U: Unit, F: Files, S: Sink>(
     ensures pays { PaysFor lines.old.budget result lines.new.budget }
     ensures command { session.new.command + lines.new.budget ≡ session.old.command + lines.old.budget }
     ensures keeps { AreKept session.old.notes session.new.notes (F.state files.old) (F.state files.new) }
+    ensures whose { AreOwn session.old.machine.slots session.new.machine.slots session.old.notes session.new.notes
+        (F.state files.old) (F.state files.new) }
     ensures kept { KeptInLine result session.new.machine.slots session.new.notes (F.state files.old) (F.state files.new) }
     ensures reads { lines.new.reads ≡ lines.old.reads }
     ensures keys { session.new.keys ≡ session.old.keys }
@@ -137,6 +142,8 @@ fn input_line<U: Unit, C: Source, F: Files, S: Sink>(
     ensures pays { PaysFor lines.old.budget result lines.new.budget }
     ensures command { session.new.command + lines.new.budget ≡ session.old.command + lines.old.budget }
     ensures keeps { AreKept session.old.notes session.new.notes (F.state files.old) (F.state files.new) }
+    ensures whose { AreOwn session.old.machine.slots session.new.machine.slots session.old.notes session.new.notes
+        (F.state files.old) (F.state files.new) }
     ensures kept { KeptInLine result session.new.machine.slots session.new.notes (F.state files.old) (F.state files.new) }
     ensures reads { lines.new.reads ≡ lines.old.reads }
     ensures keys { session.new.keys ≡ session.old.keys }
@@ -195,6 +202,8 @@ fn script_line<U: Unit, F: Files, S: Sink>(
     ensures pays { PaysFor lines.old.budget result lines.new.budget }
     ensures command { session.new.command + lines.new.budget ≡ session.old.command + lines.old.budget }
     ensures keeps { AreKept session.old.notes session.new.notes (F.state files.old) (F.state files.new) }
+    ensures whose { AreOwn session.old.machine.slots session.new.machine.slots session.old.notes session.new.notes
+        (F.state files.old) (F.state files.new) }
     ensures kept { KeptInLine result session.new.machine.slots session.new.notes (F.state files.old) (F.state files.new) }
     ensures reads { lines.new.reads ≡ lines.old.reads }
     ensures keys { session.new.keys ≡ session.old.keys }

@@ -2,6 +2,7 @@ ghost use Rattle.std.specs.Prelude.{◌≡◌, ◌≤◌, ◌^◌, [], true, fal
 ghost use Rattle.host_files.specs.State.{Opened};
 ghost use Rattle.unit_files.specs.Open.{AllOpen, Around};
 ghost use Rattle.expect_actions.specs.Watch.{forgotten};
+ghost use Rattle.file_commands.specs.OwnFiles.{AreOwn};
 ghost use Rattle.file_commands.specs.Notes.{notes_said};
 ghost use Rattle.scp_commands.specs.Live.{live_in};
 ghost use Rattle.scp_script.specs.Loop.{FinishCause, AreKept, KeptCause};
@@ -61,6 +62,8 @@ pub fn perform<U: Unit, C: Source, F: Files, S: Sink>(
     ensures cause { FinishCause result (S.fault_count out.old) (S.fault_count out.new) (C.fault_count input.old)
         (C.fault_count input.new) }
     ensures keeps { AreKept session.old.notes session.new.notes (F.state files.old) (F.state files.new) }
+    ensures whose { AreOwn session.old.machine.slots session.new.machine.slots session.old.notes session.new.notes
+        (F.state files.old) (F.state files.new) }
     ensures kept { KeptCause result session.new.machine.slots session.new.notes (F.state files.old) (F.state files.new) }
     ensures unread { opening.now.reads ≡ false → input.new ≡ input.old }
     ensures keys { session.new.keys ≡ session.old.keys }

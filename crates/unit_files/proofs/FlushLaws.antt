@@ -2,7 +2,6 @@
 use Rattle.std.proofs.Common.{◌≡◌, ◌≢◌, ◌≤◌, ◌+◌, ℕ, Bool, true, false, List, [], ◌∷◌, ◌++◌, length, drop, Option, Some, None, IsSome, refl, ap, ◌∙◌, arith, append-nil, if◌then◌else◌}
 use Rattle.std.proofs.lemmas.Bool.{cond_both}
 use Rattle.std.proofs.lemmas.List.{drop_all}
-use Rattle.host_files.specs.declared.files.FileCall.TheVariants.{Write}
 use Rattle.host_files.specs.Lists.{NamedBytes, find_file, bytes_of, changed, overwritten}
 use Rattle.host_files.proofs.Changes.{changed_bytes, changed_elsewhere}
 use Rattle.unit_trait.specs.declared.kind.UnitName.{UnitName}

@@ -7,7 +7,6 @@ use Rattle.std.specs.Prelude.{bytes_eq}
 use Rattle.std.proofs.lemmas.Bool.{eq-eqb}
 use Rattle.std.proofs.lemmas.List.{drop_all}
 use Rattle.std.proofs.Math.Seq.{take-length}
-use Rattle.std.proofs.lemmas.Slice.Eq.{bytes_eq-Decides}
 use Rattle.fault_counts.specs.Faults.{CountsFault}
 use Rattle.host_files.specs.declared.files.FileCall.TheVariants.{Write}
 use Rattle.host_files.specs.declared.files.FileId.{FileId}

@@ -2,7 +2,9 @@ use Rattle.std.proofs.Common.{◌≡◌, true, List, [], Option, refl, ap, sym, 
 use Rattle.unit_files.specs.Attachments.{Held}
 use Rattle.unit_files.specs.Open.{AllOpen, Around}
 use Rattle.file_commands.specs.declared.note.FaultNote.{FaultNote}
+use Rattle.file_commands.specs.OwnFiles.{AreOwn}
 use Rattle.file_commands.specs.Notes.{Note, notes_said}
+use Rattle.file_commands.proofs.OwnFiles.{unused, own-both}
 use Rattle.scp_script.specs.Session.{Session}
 use Rattle.scp_script.specs.declared.progress.CommandLoop.{CommandLoop}
 use Rattle.scp_script.specs.Scripts.{first_script}
@@ -30,6 +32,7 @@ lines-init g c =
       source = refl;
       sink = refl;
       keeps = kept-none c.args.session.now.notes (g.F.Files.state c.args.files.now);
+      whose = unused c.args.session.now.machine.slots c.args.session.now.machine.slots c.args.session.now.notes c.args.session.now.notes (g.F.Files.state c.args.files.now) refl refl;
       is_open = c.requires.«open»;
       around = λ base around. around;
     }
@@ -65,6 +68,14 @@ lines-preserved g c =
       keeps = subst (λ (kept : List FaultNote). AreKept c.args.session.now.notes kept (g.F.Files.state c.args.files.now) new) (sym notes_are)
           (kept-both c.args.session.now.notes c.lines.session.notes done.notes (g.F.Files.state c.args.files.now) (g.F.Files.state c.lines.files) new
           c.lines.invariant.keeps c.in-GoesOn.ensures.keeps);
+      whose =
+          let first = c.args.session.now in
+          let mid = c.lines.session in
+          let old = g.F.Files.state c.args.files.now in
+          subst (λ (slots : List (Option Held)). AreOwn first.machine.slots slots first.notes c.rest.new.session.notes old new) (sym slots_are)
+          (subst (λ (kept : List FaultNote). AreOwn first.machine.slots done.machine.slots first.notes kept old new) (sym notes_are)
+          (own-both first.machine.slots mid.machine.slots done.machine.slots first.notes mid.notes done.notes old (g.F.Files.state c.lines.files) new
+          c.lines.invariant.whose c.in-GoesOn.ensures.whose));
       is_open = subst (λ (slots : List (Option Held)). AllOpen slots new.opened) (sym slots_are) c.in-GoesOn.ensures.«open»;
       around = λ base around. subst (λ (slots : List (Option Held)). Around slots base new.opened) (sym slots_are)
           (c.in-GoesOn.ensures.around base (c.lines.invariant.around base around));
@@ -92,6 +103,14 @@ pub returns-in-IsOver-clause-keeps : goal.returns-in-IsOver-clause-keeps
 returns-in-IsOver-clause-keeps g c =
     kept-both c.args.session.now.notes c.lines.session.notes c.next_line.new.session.notes (g.F.Files.state c.args.files.now) (g.F.Files.state c.lines.files)
     (g.F.Files.state c.next_line.new.files) c.lines.invariant.keeps c.in-IsOver.ensures.keeps
+
+pub returns-in-IsOver-clause-whose : goal.returns-in-IsOver-clause-whose
+returns-in-IsOver-clause-whose g c =
+    let first = c.args.session.now in
+    let mid = c.lines.session in
+    let last = c.next_line.new.session in
+    own-both first.machine.slots mid.machine.slots last.machine.slots first.notes mid.notes last.notes (g.F.Files.state c.args.files.now) (g.F.Files.state c.lines.files)
+    (g.F.Files.state c.next_line.new.files) c.lines.invariant.whose c.in-IsOver.ensures.whose
 
 pub returns-in-IsOver-clause-kept : goal.returns-in-IsOver-clause-kept
 returns-in-IsOver-clause-kept g c =

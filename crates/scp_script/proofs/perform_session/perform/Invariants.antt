@@ -1,6 +1,7 @@
 use Rattle.std.proofs.Common.{◌≡◌, ◌≤◌, ◌+◌, List, IsTrue, false}
 use Rattle.host_files.specs.State.{Opened}
 use Rattle.unit_files.specs.Open.{AllOpen, Around}
+use Rattle.file_commands.specs.OwnFiles.{AreOwn}
 use Rattle.file_commands.specs.Notes.{notes_said}
 use Rattle.scp_script.specs.Perform.{beginning}
 use Rattle.scp_script.specs.Loop.{AreKept, session_of}
@@ -22,6 +23,7 @@ invariant-lines g l = record {
   source : g.C.Source.fault_count l.input ≡ g.C.Source.fault_count l.fn.input;
   sink : g.S.Sink.fault_count l.out ≡ g.S.Sink.fault_count l.fn.out;
   keeps : AreKept l.fn.session.notes l.session.notes (g.F.Files.state l.fn.files) (g.F.Files.state l.files);
+  whose : AreOwn l.fn.session.machine.slots l.session.machine.slots l.fn.session.notes l.session.notes (g.F.Files.state l.fn.files) (g.F.Files.state l.files);
   is_open : AllOpen l.session.machine.slots (g.F.Files.state l.files).opened;
   around : (base : List Opened) → Around l.fn.session.machine.slots base (g.F.Files.state l.fn.files).opened → Around l.session.machine.slots base (g.F.Files.state l.files).opened;
 }

@@ -1,6 +1,6 @@
 use Rattle.std.proofs.Common.{◌≡◌, ◌-◌, ◌<◌, ◌≤◌, length, take, drop}
 use Rattle.nova_word.proofs.QuotedLemmas.{Reading}
-use Rattle.nova_word.proofs.quoted.read_quoted.Given as goal
+use Rattle.nova_word.proofs.quoted.put_quoted.Given as goal
 
 abbrev pub invariant-loop-place : goal.invariant-loop-place
 invariant-loop-place l = record {
