@@ -12,7 +12,7 @@ use Rattle.binary_load.specs.declared.blocks.Kind.TheVariants.{Words, Start}
 use Rattle.binary_load.specs.Tape.{Store, front, block, kind_of, words_of, word_at, stores_from, block_fault}
 use Rattle.binary_load.specs.Tape.{stores_fault, past_fault, first_fault, unless_faulty, start_at, with_stores, tape_from}
 use Rattle.binary_load.specs.Tape.Front.{Passes, Ends}
-use Rattle.binary_load.specs.Dump.{bytes_of, checksum, data_block, start_block, data_blocks, blocks_of, words_from}
+use Rattle.binary_load.specs.Dump.{bytes_of, checksum, data_block, start_block, data_blocks, blocks_of, words_from, dumped}
 use Rattle.binary_load.specs.Dump.{block as block_bytes}
 use Rattle.binary_load.specs.Laws.{DumpsReadBack}
 use Rattle.binary_load.proofs.StoreLemmas.{stores-split}
@@ -288,3 +288,30 @@ pub blocks_all : (at : ℕ) (tape rest wanted : List ℕ) → tape ++ blocks_of 
     tape ≡ wanted
 blocks_all at tape rest wanted made none =
     sym (append-nil tape) ∙ ap (λ (x : List ℕ). tape ++ x) (sym (blocks_of_none at rest none)) ∙ made
+
+-- how long a dump is: two bytes for each word, six for each block of 16 words, and six for the start
+
+blocks-length : (more origin : ℕ) (words : List ℕ) → length (data_blocks more origin words) ≤ 6 * more + 2 * length words
+unfolding data_blocks
+blocks-length zero origin words = omega arith
+blocks-length (suc more) origin words =
+    let rest = blocks-length more (origin + 16) (drop 16 words) in
+    omega (
+      arith,
+      rest,
+      length-append (data_block origin (take 16 words)) (data_blocks more (origin + 16) (drop 16 words)),
+      length-bytes_of (take 16 words),
+      length-take 16 words,
+      length-drop 16 words,
+    )
+
+pub dumped-length : (m : MemoryState) (from to start : ℕ) → to < 2 ^ 15 → length (dumped m from to start) ≤ 77830
+dumped-length m from to start low =
+    let words = words_from m from (to + 1 - from) in
+    omega (
+      arith,
+      low,
+      length-append (blocks_of from words) (start_block start),
+      blocks-length ((length words + 15) / 16) from words,
+      length-words_from (to + 1 - from) from m,
+    )

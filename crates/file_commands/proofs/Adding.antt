@@ -4,6 +4,7 @@ use Rattle.host_files.specs.State.{FileState}
 use Rattle.file_commands.specs.declared.note.FaultNote.{FaultNote}
 use Rattle.file_commands.specs.Counts.{noted, openings_noted, RoseBy, AreCounted}
 use Rattle.file_commands.specs.Laws.{CountsAddUp}
+use Rattle.file_commands.proofs.Possible.{possible-both}
 
 pub noted-append : (file : ℕ) (first second : List FaultNote) → noted file (first ++ second) ≡ noted file first + noted file second
 noted-append file [] second = omega arith
@@ -33,10 +34,11 @@ counted-both first second old mid new a b = record {
   openings =
       let both = rose-both (openings_noted first) (openings_noted second) old.open_faults mid.open_faults new.open_faults a.openings b.openings in
       subst (λ (n : ℕ). RoseBy n old.open_faults new.open_faults) (sym (openings-append first second)) both;
+  possible = possible-both first second a.possible b.possible;
 }
 
 pub counted-none : (s : FileState) → AreCounted [] s s
-counted-none s = record { files = λ file. rose-none (s.faults file); openings = rose-none s.open_faults }
+counted-none s = record { files = λ file. rose-none (s.faults file); openings = rose-none s.open_faults; possible = tt }
 
 pub counts-add : CountsAddUp
 counts-add = record { both = counted-both; none = counted-none }

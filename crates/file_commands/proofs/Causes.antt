@@ -22,10 +22,12 @@ pub counted-quiet : (old new : FileState) → IsQuiet old new → AreCounted [] 
 counted-quiet old new quiet = record {
   files = λ file. same-rose (old.faults file) (new.faults file) (ap (λ (f : ℕ → ℕ). f file) quiet.counts);
   openings = same-rose old.open_faults new.open_faults quiet.openings;
+  possible = tt;
 }
 
 pub counted-only : (old new : FileState) → OnlyNewCounts old new → AreCounted [] old new
 counted-only old new only = record {
   files = λ file. let later = only.later file in (later, inl (omega (arith, later)));
   openings = let later = only.openings in (later, inl (omega (arith, later)));
+  possible = tt;
 }

@@ -4,3 +4,4 @@ pub mod Causes
 pub mod Own
 pub mod Emptying
 pub mod OwnFiles
+pub mod Possible

@@ -1,8 +1,10 @@
--- Notes are at most as many as the counts of faults have risen.
+-- Notes are at most as many as the counts of faults have risen, and each is one that its call can leave.
 use Rattle.std.specs.Prelude.{◌⊎◌, ℕ, ◌+◌, ◌-◌, ◌^◌, ◌≤◌, ◌==◌, Bool, true, false, List, [], ◌∷◌, Option, Some, None}
+use Rattle.std.specs.List.{AllByRecursion}
 use Rattle.host_files.specs.declared.files.FileId.{FileId}
 use Rattle.host_files.specs.State.{FileState}
 use Rattle.file_commands.specs.declared.note.FaultNote.{FaultNote}
+use Rattle.file_commands.specs.Possible.{IsPossible}
 
 -- whether a note is of that file
 abbrev pub is_of : ℕ → Option FileId → Bool
@@ -30,7 +32,9 @@ openings_noted (n ∷ notes) = one_if (is_opening n.file) + openings_noted notes
 abbrev pub RoseBy : ℕ → ℕ → ℕ → Type 0
 RoseBy n before now = (before ≤ now) × ((before + n ≤ now) ⊎ (2 ^ 64 - 1 ≤ now))
 
--- the notes of each file are at most the rise of its count, and those of openings the rise of theirs
+-- The notes of each file are at most the rise of its count, and those of openings the rise of theirs. None has written
+-- more than its call can have.
 pub record AreCounted (notes : List FaultNote) (old new : FileState) : Type 0 where
   pub files : (file : ℕ) → RoseBy (noted file notes) (old.faults file) (new.faults file)
   pub openings : RoseBy (openings_noted notes) old.open_faults new.open_faults
+  pub possible : AllByRecursion IsPossible notes

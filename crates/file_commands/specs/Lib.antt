@@ -1,4 +1,5 @@
 pub mod Notes
+pub mod Possible
 pub mod Counts
 pub mod Laws
 pub mod Kept

@@ -1,6 +1,7 @@
 -- The reading of a file of the words, with its notes.
 use Rattle.std.proofs.Common.{◌≡◌, inl, ℕ, zero, suc, ◌+◌, ◌<◌, ◌==◌, ◌||◌, ◌-◌, Bool, true, false, List, [], ◌∷◌, ◌++◌, length, drop, take, get_or, refl, ap, sym, ◌∙◌, subst, arith, add-one, append_assoc, Option, Some, None, IfSome, IfOk, IsSome, String, Global, string_bytes, Result, Ok, Err, if◌then◌else◌}
 use Rattle.std.specs.Global.{Vec}
+use Rattle.std.specs.List.{AllByRecursion}
 use Rattle.std.proofs.lemmas.List.{map-append, length-map, drop-map}
 use Rattle.std.proofs.Math.Seq.{take-suc}
 use Rattle.fault_counts.specs.Faults.{raised}
@@ -13,6 +14,8 @@ use Rattle.file_commands.specs.declared.note.FaultNote.{FaultNote}
 use Rattle.file_commands.specs.declared.note.Subject.{Subject}
 use Rattle.file_commands.specs.declared.note.Subject.TheVariants as subject
 use Rattle.file_commands.specs.Notes.{Note, said_of, notes_said}
+use Rattle.file_commands.specs.Possible.{IsPossible}
+use Rattle.file_commands.proofs.Possible.{none-done, possible-both}
 use Rattle.file_commands.specs.Counts.{one_if, noted, openings_noted, RoseBy, AreCounted}
 use Rattle.file_commands.specs.Counts as counts
 use Rattle.file_commands.proofs.Adding.{noted-append, openings-append, rose-both, rose-none, counted-both}
@@ -107,6 +110,11 @@ by-test true b before = rose-one before (raised before) (omega arith)
 by-test false true before = (omega arith, inl (omega arith))
 by-test false false before = (omega arith, inl (omega arith))
 
+-- a reading writes nothing
+possible-read : (whose : Subject) (f : Option FailedCall) → AllByRecursion IsPossible (noted_call whose f)
+possible-read whose None = tt
+possible-read whose (Some f) = (none-done f.call whose 0 refl, tt)
+
 openings-rose : (whose : Subject) (w : Whole) (tells : Bool) (before now : ℕ) → HasShape w → now ≡ (if opening_counted tells w then raised before else before)
     → RoseBy (openings_noted (noted_call whose w.failed ++ noted_call whose w.closing)) before now
 openings-rose whose w tells before now shape is =
@@ -122,6 +130,7 @@ reads-kept whose kept one two w tells old new first second shape files openings 
   counted = record {
     files = λ file. files-rose whose w file (old.faults file) (new.faults file) (files file);
     openings = openings-rose whose w tells old.open_faults new.open_faults shape openings;
+    possible = possible-both (noted_call whose w.failed) (noted_call whose w.closing) (possible-read whose w.failed) (possible-read whose w.closing);
   };
 }
 

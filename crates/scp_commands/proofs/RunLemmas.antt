@@ -1,5 +1,6 @@
 -- What a run comes to: what it printed with its stop, and the note that is kept of the call that stopped it.
 use Rattle.unit_trait.specs.declared.kind.Kind.{Kind}
+use Rattle.unit_trait.specs.declared.kind.UnitName.{UnitName}
 use Rattle.std.proofs.Common.{not, ◌≡◌, ◌≢◌, inl, ⊎_elim, ℕ, ◌+◌, ◌==◌, ◌≤◌, Bool, true, false, IsTrue, List, [], ◌∷◌, ◌++◌, length, refl, ap, sym, ◌∙◌, subst, append-nil, Option, Some, None, Result, Ok, Err, if◌then◌else◌, arith}
 use Rattle.std.proofs.lemmas.List.{map-append}
 use Rattle.std.proofs.lemmas.Bool.Decides.{nat_tests}
@@ -22,6 +23,7 @@ use Rattle.file_commands.specs.declared.note.Subject.{Subject}
 use Rattle.file_commands.specs.declared.note.Subject.TheVariants as subject
 use Rattle.file_commands.specs.declared.note.FaultNote.{FaultNote}
 use Rattle.file_commands.specs.Notes.{CommandNote, Note, numbered, said_of, notes_said}
+use Rattle.file_commands.specs.Possible.{MayHaveWritten}
 use Rattle.file_commands.specs.Counts.{is_of, one_if, openings_noted, RoseBy, AreCounted}
 use Rattle.file_commands.proofs.Causes.{rose-one, counted-quiet, same-rose}
 use Rattle.file_commands.specs.declared.stamp.Stamp.{Stamp}
@@ -31,7 +33,7 @@ use Rattle.nova_machine.specs.declared.machine.Stop.TheVariants.{ConsoleFault, F
 use Rattle.nova_machine.specs.Notes.{RunNote, run_note}
 use Rattle.nova_machine.specs.Machine.{MachineState}
 use Rattle.nova_machine.specs.Seen.{erased}
-use Rattle.nova_machine.specs.Wants.{IsRunCall, HasUnit}
+use Rattle.nova_machine.specs.Wants.{IsRunCall, IsRunDone, HasUnit}
 use Rattle.nova_machine.specs.Parts.{Part}
 use Rattle.nova_machine.specs.Comes.{Comes, bare}
 use Rattle.nova_machine.specs.Comes as coming
@@ -211,8 +213,17 @@ fault-rose : (b : Bool) (file held before now : ℕ) → (held == file) ≡ b �
 fault-rose true file held before now is same other = raised-rose before now (same (grind (arith, nat_tests)))
 fault-rose false file held before now is same other = same-rose before now (other (λ e. grind (arith, nat_tests)))
 
-counted-fault : (stamp : Stamp) (f : UnitFault) (slots : List (Option Held)) (old new : FileState) → IsFaultOf f f.unit slots old new → AreCounted (fault_note stamp f ∷ []) old new
-counted-fault stamp f slots old new cause = record {
+-- what a call of a run can have written
+run-written : (unit : UnitName) (call : FileCall) (done : ℕ) → IsRunCall unit.kind call → IsRunDone call done → MayHaveWritten call (subject.Unit unit) done
+run-written unit call.Write done runs most = λ _. most
+run-written unit call.Read done runs most = most
+run-written unit call.Length done runs most = most
+run-written unit call.SetLength done runs most = most
+run-written unit call.Opening done runs most = absurd runs
+run-written unit call.Closing done runs most = absurd runs
+
+counted-fault : (stamp : Stamp) (f : UnitFault) (slots : List (Option Held)) (old new : FileState) → HasUnit (FileFault f) → IsFaultOf f f.unit slots old new → AreCounted (fault_note stamp f ∷ []) old new
+counted-fault stamp f slots old new unit cause = record {
   files = λ file.
       subst (λ (o : Option FileId). RoseBy (one_if (is_of file o) + 0) (old.faults file) (new.faults file)) (sym cause.file_is)
       (fault-rose (cause.id.0 == file) file cause.held.file (old.faults file) (new.faults file) (ap (λ (n : ℕ). n == file) (sym cause.id_is))
@@ -220,12 +231,13 @@ counted-fault stamp f slots old new cause = record {
   openings =
       subst (λ (o : Option FileId). RoseBy (openings_noted (record (fault_note stamp f) { file = o } ∷ [])) old.open_faults new.open_faults) (sym cause.file_is)
       (same-rose old.open_faults new.open_faults cause.openings);
+  possible = (run-written f.unit f.call f.done unit.1 unit.2, tt);
 }
 
 -- the note that is kept for a stop is counted
-counted-stop : (stamp : Stamp) (stop : Stop) (slots : List (Option Held)) (old new : FileState) → coming.FileCause (Some stop) slots old new → AreCounted (stop_notes stamp stop) old new
-counted-stop stamp (FileFault f) slots old new cause = counted-fault stamp f slots old new cause
-counted-stop stamp stop slots old new cause = counted-quiet old new cause
+counted-stop : (stamp : Stamp) (stop : Stop) (slots : List (Option Held)) (old new : FileState) → HasUnit stop → coming.FileCause (Some stop) slots old new → AreCounted (stop_notes stamp stop) old new
+counted-stop stamp (FileFault f) slots old new unit cause = counted-fault stamp f slots old new unit cause
+counted-stop stamp stop slots old new unit cause = counted-quiet old new cause
 
 few-stop : (stamp : Stamp) (stop : Stop) → length (stop_notes stamp stop) ≤ 16
 few-stop stamp (FileFault f) = omega arith
@@ -241,16 +253,16 @@ told-cause stamp tells (Ok x) stop old new = refl
 told-cause stamp tells (Err e) stop old new = (stop, refl)
 
 pub run-keeps : {T E : Type 0} (number time : ℕ) (tells : Bool) (stop : Stop) (printed : Result T E) (answer : Answer) (slots : List (Option Held)) (notes notes' : List FaultNote) (old new : FileState)
-    → answer ≡ told_or_console printed (Ran stop) → notes' ≡ notes ++ stop_notes (record { command = number; time = time }) stop → coming.FileCause (Some stop) slots old new
+    → answer ≡ told_or_console printed (Ran stop) → notes' ≡ notes ++ stop_notes (record { command = number; time = time }) stop → HasUnit stop → coming.FileCause (Some stop) slots old new
     → Keeps number time tells answer notes notes' old new
-run-keeps number time tells stop printed answer slots notes notes' old new is added cause =
+run-keeps number time tells stop printed answer slots notes notes' old new is added unit cause =
     let stamp : Stamp = record { command = number; time = time } in
     record {
       kept = stop_notes stamp stop;
       added = added;
       few = few-stop stamp stop;
       stamped = stamped-stop number time stop;
-      counted = counted-stop stamp stop slots old new cause;
+      counted = counted-stop stamp stop slots old new unit cause;
       cause = subst (λ (a : Answer). FileCause stamp tells a (stop_notes stamp stop) old new) (sym is) (told-cause stamp tells printed stop old new);
     }
 

@@ -18,6 +18,8 @@ use Rattle.file_commands.specs.declared.note.Subject.{Subject}
 use Rattle.file_commands.specs.declared.note.Subject.TheVariants as subject
 use Rattle.file_commands.specs.declared.note.FaultNote.{FaultNote}
 use Rattle.file_commands.specs.Notes.{CommandNote, Note, same_subject, numbered, notes_said}
+use Rattle.file_commands.specs.Possible.{IsWritten, MayHaveWritten, IsPossible}
+use Rattle.file_commands.proofs.Possible.{none-done}
 use Rattle.file_commands.specs.Counts.{is_of, is_opening, one_if, noted, openings_noted, RoseBy, AreCounted}
 use Rattle.file_commands.proofs.Causes.{rose-one}
 use Rattle.file_commands.specs.declared.stamp.Stamp.{Stamp}
@@ -439,10 +441,33 @@ pub record Rises (missing : Bool) (failed closing : Option FailedCall) (old new 
   pub counts : (file : ℕ) → new.faults file ≡ raised_by (claims_of failed file + claims_of closing file) (old.faults file)
   pub openings : new.open_faults ≡ (if claims.is_opening failed || missing then raised old.open_faults else old.open_faults)
 
+-- what a call before the closing can have written, of a reading and of a writing
+possible-read : (whose : Subject) (failed : Option FailedCall) → IfSome failed (λ (f : FailedCall). MayHaveWritten f.call whose 0)
+possible-read whose None = tt
+possible-read whose (Some f) = none-done f.call whose 0 refl
+
+possible-write : (whose : Subject) (done : ℕ) (failed : Option FailedCall) → IsWritten whose done
+    → IfSome failed (λ (f : FailedCall). ComesBeforeClosing f.call f.file done) → IfSome failed (λ (f : FailedCall). MayHaveWritten f.call whose done)
+possible-write whose done None written before = tt
+possible-write whose done (Some f) written before = by-call f.call f.file before
+  where
+    by-call : (which : FileCall) (file : Option FileId) → ComesBeforeClosing which file done → MayHaveWritten which whose done
+    by-call call.Opening None before = before
+    by-call call.Write (Some id) before = written
+    by-call which file before = absurd before
+
+possible-both : (whose : Subject) (stamp : Stamp) (done : ℕ) (failed closing : Option FailedCall)
+    → IfSome failed (λ (f : FailedCall). MayHaveWritten f.call whose done) → AllByRecursion IsPossible (both_notes whose stamp done failed closing)
+possible-both whose stamp done None None early = tt
+possible-both whose stamp done None (Some c) early = (none-done c.call whose 0 refl, tt)
+possible-both whose stamp done (Some f) None early = (early, tt)
+possible-both whose stamp done (Some f) (Some c) early = (early, (none-done c.call whose 0 refl, tt))
+
 -- the notes are counted, and so are none
 both-counted : (whose : Subject) (stamp : Stamp) (done : ℕ) (missing : Bool) (failed closing : Option FailedCall) (old new : FileState)
-    → IsClaimed failed closing → Rises missing failed closing old new → AreCounted (both_notes whose stamp done failed closing) old new
-both-counted whose stamp done missing failed closing old new shape rises = record {
+    → IsClaimed failed closing → IfSome failed (λ (f : FailedCall). MayHaveWritten f.call whose done) → Rises missing failed closing old new
+    → AreCounted (both_notes whose stamp done failed closing) old new
+both-counted whose stamp done missing failed closing old new shape early rises = record {
   files = λ file.
       subst (λ (n : ℕ). RoseBy n (old.faults file) (new.faults file)) (sym (both-noted whose stamp done file failed closing))
       (subst (λ (n : ℕ). RoseBy (claims_of failed file + claims_of closing file) (old.faults file) n) (sym (rises.counts file))
@@ -450,6 +475,7 @@ both-counted whose stamp done missing failed closing old new shape rises = recor
   openings =
       subst (λ (n : ℕ). RoseBy n old.open_faults new.open_faults) (sym (openings-are whose stamp done failed closing shape))
       (rose-opening (claims.is_opening failed) missing old.open_faults new.open_faults rises.openings);
+  possible = possible-both whose stamp done failed closing early;
 }
 
 -- ---- the cause
@@ -529,7 +555,7 @@ read-keeps whose number time tells comes_to w answer notes notes' old new takes 
   added = noted;
   few = few-both whose stamp 0 w.failed w.closing;
   stamped = stamped-both whose number time 0 w.failed w.closing;
-  counted = both-counted whose stamp 0 _ w.failed w.closing old new (read-claims w shape) rises;
+  counted = both-counted whose stamp 0 _ w.failed w.closing old new (read-claims w shape) (possible-read whose w.failed) rises;
   cause =
       subst (λ (a : Answer). FileCause stamp tells a (read_notes whose stamp w) old new) (sym answered)
       (read-cause whose stamp tells comes_to w old new takes shape rises);
@@ -561,16 +587,18 @@ write-cause whose stamp tells piece w old new shape rises =
     by-answer (Err fault.OutOfMemory) (Some f) closing is claims un fits opens = absurd (cc)
 
 pub write-keeps : (whose : Subject) (number time : ℕ) (tells : Bool) (piece : List ℕ) (w : Written) (answer : Answer)
-    (notes notes' : List FaultNote) (old new : FileState) → answer ≡ written_answer whose w.answer → HasWriteShape piece w
+    (notes notes' : List FaultNote) (old new : FileState) → answer ≡ written_answer whose w.answer → HasWriteShape piece w → IsWritten whose w.done
     → Rises (is_unmade w.answer && not tells) w.failed w.closing old new
     → notes' ≡ notes ++ write_notes whose (record { command = number; time = time }) w
     → Keeps number time tells answer notes notes' old new
-write-keeps whose number time tells piece w answer notes notes' old new answered shape rises noted = record {
+write-keeps whose number time tells piece w answer notes notes' old new answered shape written rises noted = record {
   kept = write_notes whose stamp w;
   added = noted;
   few = few-both whose stamp w.done w.failed w.closing;
   stamped = stamped-both whose number time w.done w.failed w.closing;
-  counted = both-counted whose stamp w.done _ w.failed w.closing old new (write-claims piece w shape) rises;
+  counted =
+      both-counted whose stamp w.done _ w.failed w.closing old new (write-claims piece w shape) (possible-write whose w.done w.failed written shape.before)
+      rises;
   cause =
       subst (λ (a : Answer). FileCause stamp tells a (write_notes whose stamp w) old new) (sym answered)
       (write-cause whose stamp tells piece w old new shape rises);

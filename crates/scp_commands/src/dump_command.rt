@@ -1,5 +1,5 @@
 // DUMP.
-ghost use Rattle.std.specs.Prelude.{◌≡◌, ◌≤◌, ◌<◌, ◌^◌, ℕ, Bool, true, List, false, None, IsTrue, Err};
+ghost use Rattle.std.specs.Prelude.{length, ◌≡◌, ◌≤◌, ◌<◌, ◌^◌, ℕ, Bool, true, List, false, None, IsTrue, Err};
 ghost use Rattle.host_files.specs.State.{Opened};
 ghost use Rattle.unit_files.specs.Open.{AllOpen, Around};
 ghost use Rattle.file_commands.specs.declared.note.Subject.TheVariants.{Dump as of_dump};
@@ -109,6 +109,7 @@ fn write_tape<U: Unit, F: Files>(
     files: &mut F,
 ) -> Result<Next, CommandFault>
     requires room { 16 ≤ session.old.spare }
+    requires size { length tape.now ≤ 77830 }
     requires open { AllOpen session.old.machine.slots (F.state files.old).opened }
     ensures refused { IsRefused result
         → (session.new.machine ≡ session.old.machine) × (session.new.watch ≡ session.old.watch) }

@@ -1,9 +1,10 @@
-use Rattle.std.proofs.Common.{◌≡◌, Err, refl, ap, sym, ◌∙◌}
+use Rattle.std.proofs.Common.{◌≡◌, Err, refl, ap, sym, ◌∙◌, ℕ, ◌≤◌, List, length, subst, arith}
 use Rattle.file_commands.specs.declared.note.Subject.TheVariants as subject
 use Rattle.file_commands.specs.Notes.{notes_said}
 use Rattle.file_commands.proofs.OwnFiles.{unused}
 use Rattle.whole_files.specs.Writing.{write_act}
 use Rattle.binary_load.specs.Dump.{dumped}
+use Rattle.binary_load.proofs.DumpLemmas.{dumped-length}
 use Rattle.scp_commands.specs.declared.fault.CommandFault.TheVariants.{OutOfRange, OutOfMemory}
 use Rattle.scp_commands.specs.Live.{CommandState, live_in}
 use Rattle.scp_commands.specs.Reply.{refused}
@@ -68,3 +69,9 @@ pub returns-in-Err-clause-whose : goal.returns-in-Err-clause-whose
 returns-in-Err-clause-whose g c =
     let s = c.args.session.now in
     unused s.machine.slots s.machine.slots s.notes s.notes (g.F.Files.state c.args.files.now) refl refl
+
+pub write_tape-requires-clause-size : goal.write_tape-requires-clause-size
+write_tape-requires-clause-size g c =
+    let long = dumped-length c.memory.result.now c.address-first.result c.address-last.result c.pc-start.result
+    (omega (arith, c.address-last.ensures, c.can_dump.ensures.addresses c.if-not-can_dump.false)) in
+    subst (λ (l : List ℕ). length l ≤ 77830) (sym (c.as_slice.ensures.value ∙ c.in-Ok.ensures)) long

@@ -1,4 +1,4 @@
-use Rattle.std.proofs.Common.{◌≡◌, ◌++◌, List, refl, ap, sym, ◌∙◌, append-nil}
+use Rattle.std.proofs.Common.{◌≡◌, ◌++◌, List, refl, ap, sym, ◌∙◌, append-nil, arith}
 use Rattle.host_files.specs.Lists.{NamedBytes}
 use Rattle.file_commands.specs.declared.note.Subject.TheVariants as subject
 use Rattle.file_commands.specs.declared.note.FaultNote.{FaultNote}
@@ -34,7 +34,7 @@ returns-clause-keeps g c =
     rw (← c.session.view_is)
     (write-keeps subject.Dump s.command s.machine.time g.F.Files.tells c.args.tape.now w c.written_answer.result s.notes.items
     c.note_writing.new.notes.items (g.F.Files.state c.args.files.now) (g.F.Files.state c.write_file-written.new.files)
-    c.written_answer.ensures write.shape (record { counts = write.counts; openings = write.openings })
+    c.written_answer.ensures write.shape (omega (arith, write.shape.done, c.requires.size)) (record { counts = write.counts; openings = write.openings })
     (c.note_writing.ensures.notes ∙ ap (λ (t : Stamp). s.notes.items ++ write_notes subject.Dump t w) stamped))
 
 pub returns-clause-undone : goal.returns-clause-undone

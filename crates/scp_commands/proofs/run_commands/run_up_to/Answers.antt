@@ -75,7 +75,7 @@ returns-clause-done g c = record {
       rw (← c.session.view_is)
       (subst (λ (time : ℕ). Keeps c.session.inside.command time g.F.Files.tells c.told_or_console.result c.session.inside.notes.items c.note_stop.new.session.notes old new) (sym time_is)
       (run-keeps c.session.inside.command m.time g.F.Files.tells stop c.put_stop-printed.result c.told_or_console.result c.session.inside.machine.slots c.session.inside.notes.items
-      c.note_stop.new.session.notes old new c.told_or_console.ensures c.note_stop.ensures.notes c.run-stop.ensures.file_cause)));
+      c.note_stop.new.session.notes old new c.told_or_console.ensures c.note_stop.ensures.notes c.run-stop.ensures.unit c.run-stop.ensures.file_cause)));
   whose =
       let m = c.run-stop.new.self in
       let old = g.F.Files.state c.args.files.now in
