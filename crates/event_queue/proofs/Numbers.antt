@@ -9,6 +9,7 @@ use Rattle.unit_trait.specs.declared.kind.Kind.{Kind}
 use Rattle.unit_trait.specs.declared.kind.Kind.TheVariants.{Dsk, Mta, Lpt, Ptr, Ptp, Clk, Tti, Tto, Tti1, Tto1, Qty}
 use Rattle.unit_trait.specs.declared.kind.UnitName.{UnitName}
 use Rattle.unit_trait.specs.Kinds.{units_of, code_of, same_unit}
+use Rattle.unit_trait.proofs.EveryKind.{every-kind}
 use Rattle.event_queue.specs.EventList.{Event, waits, waiting, Sound, IsApart}
 use Rattle.event_queue.proofs.SoundLists.{none-waits}
 
@@ -37,31 +38,15 @@ kind_of n =
 
 kind-number : (kind : Kind) (n : ℕ) → n < units_of kind → kind_of (first_of kind + n) ≡ kind
 unfolding kind_of first_of
-kind-number Dsk n low = grind (arith, nat_tests)
-kind-number Mta n low = grind (arith, nat_tests)
-kind-number Lpt n low = grind (arith, nat_tests)
-kind-number Ptr n low = grind (arith, nat_tests)
-kind-number Ptp n low = grind (arith, nat_tests)
-kind-number Clk n low = grind (arith, nat_tests)
-kind-number Tti n low = grind (arith, nat_tests)
-kind-number Tto n low = grind (arith, nat_tests)
-kind-number Tti1 n low = grind (arith, nat_tests)
-kind-number Tto1 n low = grind (arith, nat_tests)
-kind-number Qty n low = grind (arith, nat_tests)
+kind-number kind =
+    every-kind (λ (k : Kind). (n : ℕ) → n < units_of k → kind_of (first_of k + n) ≡ k)
+    ((λ n low. grind (arith, nat_tests)), (λ n low. grind (arith, nat_tests)), (λ n low. grind (arith, nat_tests)), (λ n low. grind (arith, nat_tests)), (λ n low. grind (arith, nat_tests)), (λ n low. grind (arith, nat_tests)), (λ n low. grind (arith, nat_tests)), (λ n low. grind (arith, nat_tests)), (λ n low. grind (arith, nat_tests)), (λ n low. grind (arith, nat_tests)), (λ n low. grind (arith, nat_tests))) kind
 
 number-low : (kind : Kind) (n : ℕ) → n < units_of kind → first_of kind + n < 81
 unfolding first_of
-number-low Dsk n low = omega arith
-number-low Mta n low = omega arith
-number-low Lpt n low = omega arith
-number-low Ptr n low = omega arith
-number-low Ptp n low = omega arith
-number-low Clk n low = omega arith
-number-low Tti n low = omega arith
-number-low Tto n low = omega arith
-number-low Tti1 n low = omega arith
-number-low Tto1 n low = omega arith
-number-low Qty n low = omega arith
+number-low kind =
+    every-kind (λ (k : Kind). (n : ℕ) → n < units_of k → first_of k + n < 81)
+    ((λ n low. omega (arith, low)), (λ n low. omega (arith, low)), (λ n low. omega (arith, low)), (λ n low. omega (arith, low)), (λ n low. omega (arith, low)), (λ n low. omega (arith, low)), (λ n low. omega (arith, low)), (λ n low. omega (arith, low)), (λ n low. omega (arith, low)), (λ n low. omega (arith, low)), (λ n low. omega (arith, low))) kind
 
 number-below : (u : UnitName) → u.unit < units_of u.kind → number u < 81
 unfolding number

@@ -21,6 +21,7 @@ use Rattle.unit_trait.specs.Keyboard.{keyboard_row}
 use Rattle.unit_trait.specs.Teleprinter.{teleprinter_row}
 use Rattle.unit_trait.specs.Calls.{UnitState, Due}
 use Rattle.unit_trait.specs.Row.{row_of}
+use Rattle.unit_trait.proofs.EveryKind.{every-kind}
 use Rattle.unit_list.specs.Bus.{unit_at, row_or_nothing}
 use Rattle.unit_list.proofs.Room.{kind-found}
 use Rattle.unit_files.specs.Attachments.{Attachment, Held, attachments_of, attachment_at, file_place, kind_place, file_units}
@@ -54,17 +55,9 @@ IsOfKind kind other = Unit {0}
 
 want-of : (kind : Kind) (values : List ℕ) (n : ℕ) → IsOfKind kind (row_of kind values (Due n)).want
 unfolding row_of reader_row writer_row clock_row keyboard_row teleprinter_row
-want-of Dsk values n = refl
-want-of Mta values n = cond_both (slice_index values 4 == 2) want.Nothing (want.Tape (tape_order n values)) (IsOfKind Mta) (λ _. tt) (λ _ e. absurd (cc))
-want-of Lpt values n = λ e. absurd (cc)
-want-of Ptr values n = tt
-want-of Ptp values n = λ e. absurd (cc)
-want-of Clk values n = tt
-want-of Tti values n = tt
-want-of Tto values n = tt
-want-of Tti1 values n = tt
-want-of Tto1 values n = tt
-want-of kind values n = tt
+want-of kind values n =
+    every-kind (λ (k : Kind). IsOfKind k (row_of k values (Due n)).want)
+    (refl, (cond_both (slice_index values 4 == 2) want.Nothing (want.Tape (tape_order n values)) (IsOfKind Mta) (λ _. tt) (λ _ e. absurd (cc))), (λ e. absurd (cc)), tt, (λ e. absurd (cc)), tt, tt, tt, tt, tt, tt) kind
 
 want-found : (kind : Kind) (n : ℕ) (there : Option UnitState) → IfSome there (λ u. u.kind ≡ kind) → IsOfKind kind (row_or_nothing (Due n) there).want
 want-found kind n None same = tt

@@ -24,6 +24,7 @@ use Rattle.unit_list.proofs.Room.{kind-found}
 use Rattle.host_files.specs.Lists.{NamedBytes}
 use Rattle.host_files.specs.declared.files.FileCall.TheVariants.{Write}
 use Rattle.unit_trait.specs.declared.kind.UnitName.{UnitName}
+use Rattle.unit_trait.proofs.EveryKind.{every-kind}
 use Rattle.unit_files.specs.declared.faults.ByteAnswer.{ByteAnswer}
 use Rattle.unit_files.specs.declared.faults.ByteAnswer.TheVariants as byte
 use Rattle.unit_files.specs.declared.faults.SectorAnswer.{SectorAnswer}
@@ -69,20 +70,23 @@ tape-wants false order is = (refl, is)
 
 wants-of : (kind : Kind) (values : List ℕ) (n : ℕ) → InRange (registers kind) values → CanBeHosted (row_of kind values (Due n)).want kind
 unfolding row_of reader_row writer_row clock_row keyboard_row teleprinter_row most_bytes disk_sectors
-wants-of Dsk values n fits =
-    let sector = held-within (registers Dsk) values 4 fits in
-    let address = held-within (registers Dsk) values 5 fits in
-    (refl, omega (arith, sector), omega (arith, address))
-wants-of Mta values n fits = tape-wants (slice_index values 4 == 2) (tape_order n values) (tape-says values n fits)
-wants-of Ptr values n fits = (refl, (held-within (registers Ptr) values 5 fits).1)
-wants-of Ptp values n fits = (refl, (held-within (registers Ptp) values 5 fits).1)
-wants-of Lpt values n fits = (refl, (held-within (registers Lpt) values 5 fits).1)
-wants-of Clk values n fits = tt
-wants-of Tti values n fits = tt
-wants-of Tto values n fits = tt
-wants-of Tti1 values n fits = tt
-wants-of Tto1 values n fits = tt
-wants-of kind values n fits = tt
+wants-of kind values n =
+    every-kind (λ (k : Kind). InRange (registers k) values → CanBeHosted (row_of k values (Due n)).want k) (
+      (λ fits.
+          let sector = held-within (registers Dsk) values 4 fits in
+          let address = held-within (registers Dsk) values 5 fits in
+          (refl, omega (arith, sector), omega (arith, address))),
+      (λ fits. tape-wants (slice_index values 4 == 2) (tape_order n values) (tape-says values n fits)),
+      (λ fits. (refl, (held-within (registers Lpt) values 5 fits).1)),
+      (λ fits. (refl, (held-within (registers Ptr) values 5 fits).1)),
+      (λ fits. (refl, (held-within (registers Ptp) values 5 fits).1)),
+      (λ fits. tt),
+      (λ fits. tt),
+      (λ fits. tt),
+      (λ fits. tt),
+      (λ fits. tt),
+      (λ fits. tt),
+    ) kind
 
 unit-wants : (u : UnitState) (n : ℕ) → Fits u → CanBeHosted (row u (Due n)).want u.kind
 unit-wants u n fits = wants-of u.kind u.registers n fits

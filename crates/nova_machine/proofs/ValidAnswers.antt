@@ -21,6 +21,7 @@ use Rattle.unit_trait.specs.Registers.{registers}
 use Rattle.unit_trait.specs.Calls.{UnitState, Due}
 use Rattle.unit_trait.specs.Row.{row_of, InRange, Fits}
 use Rattle.unit_trait.proofs.Ranges.{held-within}
+use Rattle.unit_trait.proofs.EveryKind.{every-kind}
 use Rattle.unit_list.specs.Bus.{AllFit, unit_at, row_or_nothing, row_at, IsBelowEnd}
 use Rattle.unit_list.specs.Laws.{BringsByte}
 use Rattle.unit_list.proofs.Calls.{found-fits}
@@ -46,17 +47,9 @@ WritesByte other = Unit {0}
 
 writes-of : (kind : Kind) (values : List ℕ) (n : ℕ) → InRange (registers kind) values → WritesByte (row_of kind values (Due n)).want
 unfolding row_of reader_row writer_row clock_row keyboard_row teleprinter_row
-writes-of Mta values n fits = cond_both (slice_index values 4 == 2) want.Nothing (want.Tape (tape_order n values)) WritesByte (λ _. tt) (λ _. tt)
-writes-of Ptp values n fits = let held = held-within (registers Ptp) values 4 fits in omega (arith, held)
-writes-of Lpt values n fits = let held = held-within (registers Lpt) values 4 fits in omega (arith, held)
-writes-of Dsk values n fits = tt
-writes-of Ptr values n fits = tt
-writes-of Clk values n fits = tt
-writes-of Tti values n fits = tt
-writes-of Tto values n fits = tt
-writes-of Tti1 values n fits = tt
-writes-of Tto1 values n fits = tt
-writes-of kind values n fits = tt
+writes-of kind values n =
+    every-kind (λ (k : Kind). InRange (registers k) values → WritesByte (row_of k values (Due n)).want)
+    ((λ fits. tt), (λ fits. cond_both (slice_index values 4 == 2) want.Nothing (want.Tape (tape_order n values)) WritesByte (λ _. tt) (λ _. tt)), (λ fits. let held = held-within (registers Lpt) values 4 fits in omega (arith, held)), (λ fits. tt), (λ fits. let held = held-within (registers Ptp) values 4 fits in omega (arith, held)), (λ fits. tt), (λ fits. tt), (λ fits. tt), (λ fits. tt), (λ fits. tt), (λ fits. tt)) kind
 
 writes-found : (n : ℕ) (there : Option UnitState) → IfSome there Fits → WritesByte (row_or_nothing (Due n) there).want
 writes-found n None fits = tt

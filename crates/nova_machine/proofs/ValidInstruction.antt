@@ -6,6 +6,7 @@ use Rattle.unit_trait.specs.declared.kind.Kind.{Kind}
 use Rattle.unit_trait.specs.declared.kind.Kind.TheVariants.{Dsk, Mta, Lpt, Ptr, Ptp, Clk, Tti, Tto, Tti1, Tto1, Qty}
 use Rattle.unit_trait.specs.Kinds.{code_of, units_of}
 use Rattle.unit_trait.specs.Calls.{UnitState, UnitCall, Io, Row}
+use Rattle.unit_trait.proofs.EveryKind.{every-kind}
 use Rattle.event_queue.specs.EventList.{Event, Sound, ticked as ticked_events}
 use Rattle.event_queue.proofs.SoundLists.{sound-none, sound-lowered}
 use Rattle.unit_list.specs.Bus.{unit_at, row_at, kinds_of, AllFit}
@@ -232,17 +233,7 @@ reset-keeps m valid =
     record { valid = off.valid; taken = off.taken ∙ devices.taken }
 
 code-low : (kind : Kind) → code_of kind < 2 ^ 16
-code-low Dsk = omega arith
-code-low Mta = omega arith
-code-low Lpt = omega arith
-code-low Ptr = omega arith
-code-low Ptp = omega arith
-code-low Clk = omega arith
-code-low Tti = omega arith
-code-low Tto = omega arith
-code-low Tti1 = omega arith
-code-low Tto1 = omega arith
-code-low Qty = omega arith
+code-low = every-kind (λ (k : Kind). code_of k < 2 ^ 16) (omega arith, omega arith, omega arith, omega arith, omega arith, omega arith, omega arith, omega arith, omega arith, omega arith, omega arith)
 
 acknowledged-low : (mask : ℕ) (us : List UnitState) → acknowledged mask us < 2 ^ 16
 acknowledged-low mask us = by-unit (first_asking mask us)

@@ -1,17 +1,13 @@
 -- What stands where a command was refused, or where memory ran out in it: all is as it was. Behind a command that flushes the
 -- disk before its own work that may be done, and it stays so.
 use Rattle.std.specs.Prelude.{◌≡◌, ◌⊎◌, Bool, true, false, Option, None, Ok, Err}
-use Rattle.unit_trait.specs.declared.kind.Kind.TheVariants.{Dsk}
-use Rattle.unit_trait.specs.declared.kind.UnitName.{UnitName}
+use Rattle.unit_files.specs.Buffer.{disk_unit}
 use Rattle.file_commands.specs.declared.note.Subject.{Subject}
 use Rattle.nova_machine.specs.Machine.{MachineState}
 use Rattle.scp_commands.specs.Live.{Live, CommandState}
 use Rattle.scp_commands.specs.Nature.{nature}
 use Rattle.scp_commands.specs.FileEffects.{flushed_files}
 use Rattle.scp_commands.specs.Effect.{Asked}
-
-abbrev pub disk_unit : UnitName
-disk_unit = record { kind = Dsk; unit = 0 }
 
 -- a machine behind a flush: the disk holds nothing that is to be written back
 abbrev pub flushed_machine : MachineState → MachineState

@@ -28,6 +28,7 @@ use Rattle.unit_trait.specs.Calls.{UnitState, UnitCall, Io, Due, Answered, Reset
 use Rattle.unit_trait.specs.Row.{row, row_of, moved, InRange, Fits, initial_unit, goes_by_bytes}
 use Rattle.unit_trait.specs.Usual.{flagged, pulsed}
 use Rattle.unit_trait.proofs.Ranges.{held-within, set-within, rest-within, rejoined-within, place-within, flags-within, pulse-within, reset-within, initial-within}
+use Rattle.unit_trait.proofs.EveryKind.{every-kind}
 use Rattle.unit_list.specs.Laws.{CanBeAsked, IsTimely}
 
 -- what a unit says is a word, and its wish is in time and for one of so many units
@@ -450,14 +451,5 @@ unit-low u call fits = (says-of u.kind u.registers call fits).unit_low
 
 -- every unit begins with its registers in range
 pub initial-fits : (kind : Kind) → Fits (initial_unit kind)
-initial-fits Dsk = initial-within (registers Dsk) (omega arith)
-initial-fits Mta = initial-within (registers Mta) (omega arith)
-initial-fits Lpt = initial-within (registers Lpt) (omega arith)
-initial-fits Ptr = initial-within (registers Ptr) (omega arith)
-initial-fits Ptp = initial-within (registers Ptp) (omega arith)
-initial-fits Clk = initial-within (registers Clk) (omega arith)
-initial-fits Tti = initial-within (registers Tti) (omega arith)
-initial-fits Tto = initial-within (registers Tto) (omega arith)
-initial-fits Tti1 = initial-within (registers Tti1) (omega arith)
-initial-fits Tto1 = initial-within (registers Tto1) (omega arith)
-initial-fits Qty = tt
+initial-fits = every-kind (λ (k : Kind). Fits (initial_unit k))
+    (initial-within (registers Dsk) (omega arith), initial-within (registers Mta) (omega arith), initial-within (registers Lpt) (omega arith), initial-within (registers Ptr) (omega arith), initial-within (registers Ptp) (omega arith), initial-within (registers Clk) (omega arith), initial-within (registers Tti) (omega arith), initial-within (registers Tto) (omega arith), initial-within (registers Tti1) (omega arith), initial-within (registers Tto1) (omega arith), tt)
