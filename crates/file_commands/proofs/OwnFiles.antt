@@ -1,5 +1,5 @@
 -- The files that kept notes name: of calls one behind another, and of one call.
-use Rattle.std.proofs.Common.{◌≡◌, ◌⊎◌, inl, inr, ℕ, ◌≤◌, ◌<◌, Bool, List, [], ◌∷◌, ◌++◌, Option, Some, None, Result, Ok, Err, refl, ap, sym, ◌∙◌, subst, arith, append-nil, append_assoc}
+use Rattle.std.proofs.Common.{◌≡◌, ◌⊎◌, inl, inr, ℕ, ◌≤◌, List, [], ◌∷◌, ◌++◌, Option, Some, None, Result, Ok, Err, ap, sym, ◌∙◌, subst, arith, append-nil, append_assoc}
 use Rattle.std.specs.List.{AllByRecursion}
 use Rattle.host_files.specs.declared.files.FileCall.{FileCall}
 use Rattle.host_files.specs.declared.files.FileCall.TheVariants as call
@@ -55,18 +55,24 @@ still-held a b subject.Dump file old mid new later from held = absurd held
 note-first : (a : List (Option Held)) (old mid new : FileState) (file : Option FileId) (c : FileCall) (who : Subject) → mid.given ≤ new.given
     → OwnFile file c who a old mid → OwnFile file c who a old new
 note-first a old mid new None c who later own = own
-note-first a old mid new (Some id) c who later own = (own.0, elim own.1 [
-  | inl held ↦ inl held
-  | inr fresh ↦ inr (newer old old new mid id.0 (omega arith) later fresh)
-])
+note-first a old mid new (Some id) c who later own = (
+  own.0,
+  elim own.1 [
+    | inl held ↦ inl held
+    | inr fresh ↦ inr (newer old old new mid id.0 (omega arith) later fresh)
+  ],
+)
 
 note-second : (a b : List (Option Held)) (old mid new : FileState) (file : Option FileId) (c : FileCall) (who : Subject) → old.given ≤ mid.given → mid.given ≤ new.given
     → AreFrom a b old mid → OwnFile file c who b mid new → OwnFile file c who a old new
 note-second a b old mid new None c who first later from own = own
-note-second a b old mid new (Some id) c who first later from own = (own.0, elim own.1 [
-  | inl held ↦ still-held a b who id.0 old mid new later from held
-  | inr fresh ↦ inr (newer old mid new new id.0 first (omega arith) fresh)
-])
+note-second a b old mid new (Some id) c who first later from own = (
+  own.0,
+  elim own.1 [
+    | inl held ↦ still-held a b who id.0 old mid new later from held
+    | inr fresh ↦ inr (newer old mid new new id.0 first (omega arith) fresh)
+  ],
+)
 
 all-first : (a : List (Option Held)) (old mid new : FileState) (kept : List FaultNote) → mid.given ≤ new.given → AllByRecursion (IsOwnNote a old mid) kept
     → AllByRecursion (IsOwnNote a old new) kept
@@ -86,7 +92,7 @@ all-both P (n ∷ one) two all more = (all.0, all-both P one two all.1 more)
 from-both : (a b d : List (Option Held)) (old mid new : FileState) → old.given ≤ mid.given → mid.given ≤ new.given → AreFrom a b old mid → AreFrom b d mid new
     → AreFrom a d old new
 from-both a b d old mid new first later one two = λ unit h is. elim (two unit h is) [
-  | inl held ↦ elim (one unit h held) [ | inl before ↦ inl before | inr fresh ↦ inr (newer old old new mid h.file (omega arith) later fresh) ]
+  | inl held ↦ elim (one unit h held) [ inl before ↦ inl before | inr fresh ↦ inr (newer old old new mid h.file (omega arith) later fresh) ]
   | inr fresh ↦ inr (newer old mid new new h.file first (omega arith) fresh)
 ]
 
@@ -102,6 +108,11 @@ own-both a b d notes notes' notes'' old mid new one two =
       from = from-both a b d old mid new first later one.from two.from;
       ids = omega (arith, first, later);
     }
+
+-- all notes, where there were none before
+pub all-own : (slots slots' : List (Option Held)) (notes : List FaultNote) (old new : FileState) → AreOwn slots slots' [] notes old new
+    → AllByRecursion (IsOwnNote slots old new) notes
+all-own slots slots' notes old new a = subst (λ (l : List FaultNote). AllByRecursion (IsOwnNote slots old new) l) (sym a.added) a.own
 
 -- ---- of one call
 

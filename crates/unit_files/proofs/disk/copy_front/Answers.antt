@@ -1,4 +1,4 @@
-use Rattle.std.proofs.Common.{◌≡◌, ◌++◌, ◌-◌, ℕ, List, length, take, drop, replicate, ap, sym, ◌∙◌, rules}
+use Rattle.std.proofs.Common.{rules}
 use Rattle.unit_files.proofs.Sectors.{front-copied}
 use Rattle.unit_files.proofs.disk.copy_front.Goals as goal
 

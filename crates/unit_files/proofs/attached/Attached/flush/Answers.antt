@@ -1,7 +1,7 @@
-use Rattle.std.proofs.Common.{◌≡◌, true, Option, Some, None, IsTrue, List, ℕ, sym, ap, ◌∙◌, refl, rules}
+use Rattle.std.proofs.Common.{◌≡◌, true, Some, None, sym, ap, ◌∙◌, rules}
 use Rattle.host_files.specs.Lists.{changed}
 use Rattle.host_files.specs.State.{name_at}
-use Rattle.unit_files.specs.Acts.{Failure, is_due_back, written_back}
+use Rattle.unit_files.specs.Acts.{is_due_back, written_back}
 use Rattle.unit_files.specs.Answers.{failure_in}
 use Rattle.unit_files.specs.Buffer.{AttachedFiles}
 use Rattle.unit_files.specs.View.{HoldsFile}

@@ -1,6 +1,6 @@
-use Rattle.std.proofs.Common.{◌≡◌, ◌<◌, true, false, map, length, List, Option, Some, ap, sym, subst, ◌∙◌, refl, rules}
+use Rattle.std.proofs.Common.{◌≡◌, true, false, map, length, List, Option, Some, ap, sym, subst, ◌∙◌, refl, rules}
 use Rattle.std.proofs.lemmas.List.{length-set, length-map}
-use Rattle.unit_files.specs.Attachments.{Held, attachments_of, writers_write, is_disk, file_place}
+use Rattle.unit_files.specs.Attachments.{Held, attachments_of, writers_write, is_disk}
 use Rattle.unit_files.specs.Buffer.{AttachedFiles}
 use Rattle.unit_files.specs.View.{slot_of, held_of, CanWrite}
 use Rattle.unit_files.specs.declared.slots.UnitFile.{UnitFile}
