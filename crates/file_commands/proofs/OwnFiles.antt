@@ -1,5 +1,5 @@
 -- The files that kept notes name: of calls one behind another, and of one call.
-use Rattle.std.proofs.Common.{◌≡◌, ◌⊎◌, inl, inr, ℕ, ◌≤◌, ◌<◌, Bool, List, [], ◌∷◌, ◌++◌, Option, Some, None, Result, Ok, Err, refl, ap, sym, ◌∙◌, subst, arith, append-nil, append_assoc}
+use Rattle.std.proofs.Common.{◌≡◌, ◌⊎◌, inl, inr, ℕ, ◌≤◌, List, [], ◌∷◌, ◌++◌, Option, Some, None, Result, Ok, Err, ap, sym, ◌∙◌, subst, arith, append-nil, append_assoc}
 use Rattle.std.specs.List.{AllByRecursion}
 use Rattle.host_files.specs.declared.files.FileCall.{FileCall}
 use Rattle.host_files.specs.declared.files.FileCall.TheVariants as call
@@ -108,6 +108,11 @@ own-both a b d notes notes' notes'' old mid new one two =
       from = from-both a b d old mid new first later one.from two.from;
       ids = omega (arith, first, later);
     }
+
+-- all notes, where there were none before
+pub all-own : (slots slots' : List (Option Held)) (notes : List FaultNote) (old new : FileState) → AreOwn slots slots' [] notes old new
+    → AllByRecursion (IsOwnNote slots old new) notes
+all-own slots slots' notes old new a = subst (λ (l : List FaultNote). AllByRecursion (IsOwnNote slots old new) l) (sym a.added) a.own
 
 -- ---- of one call
 

@@ -16,7 +16,8 @@ abbrev pub IsHeldBy : List (Option Held) → Subject → ℕ → Type 0
 IsHeldBy slots (subject.Unit unit) file = (h : Held) × (held_at slots unit ≡ Some h) × (h.file ≡ file)
 IsHeldBy slots who file = ⊥
 
--- a call has no file exactly where it is an opening; and else it is one of the unit's own file, or of one that was opened since
+-- a call has no file exactly where it is an opening; and else it is one of the unit's own file, or of one that was
+-- opened since
 abbrev pub OwnFile : Option FileId → FileCall → Subject → List (Option Held) → FileState → FileState → Type 0
 OwnFile None call who slots old new = call ≡ Opening
 OwnFile (Some id) call who slots old new = (call ≡ Opening → ⊥) × (IsHeldBy slots who id.0 ⊎ IsNewId old new id.0)
@@ -24,8 +25,8 @@ OwnFile (Some id) call who slots old new = (call ≡ Opening → ⊥) × (IsHeld
 abbrev pub IsOwnNote : List (Option Held) → FileState → FileState → FaultNote → Type 0
 IsOwnNote slots old new n = OwnFile n.file n.call n.subject slots old new
 
--- The notes that were kept are of own files, by what was attached before; and what is attached now was so before, or was opened
--- since. So it can be said of calls one behind another.
+-- The notes that were kept are of own files, by what was attached before; and what is attached now was so before, or
+-- was opened since. So it can be said of calls one behind another.
 pub record AreOwn (slots slots' : List (Option Held)) (notes notes' : List FaultNote) (old new : FileState) : Type 0 where
   pub kept : List FaultNote
   pub added : notes' ≡ notes ++ kept

@@ -11,7 +11,7 @@ use Rattle.host_files.specs.State.{FileState, Opened}
 use Rattle.host_files.specs.declared.files.FileId.{FileId}
 use Rattle.unit_trait.specs.declared.kind.UnitName.{UnitName}
 use Rattle.unit_trait.specs.Calls.{UnitState}
-use Rattle.unit_files.specs.Attachments.{Attachment, Held, attachment_at, file_place, file_units}
+use Rattle.unit_files.specs.Attachments.{Attachment, Held, attachment_at, file_place, file_units, no_files}
 use Rattle.unit_files.specs.Open.{AllOpen, Around}
 use Rattle.file_commands.specs.declared.note.FaultNote.{FaultNote}
 use Rattle.file_commands.specs.Notes.{CommandNote, Note, numbered, Follow, notes_said}
@@ -37,7 +37,7 @@ use Rattle.scp_script.specs.Actions.{texts_of as waiting_texts}
 use Rattle.nova_top.specs.Words.{options_of, texts_of}
 use Rattle.nova_top.specs.Workload.{with_workload}
 use Rattle.nova_top.specs.Outside.{Denial, Begins, Refused, denied, start_of, session_with, opening, usage_text, unopened_text}
-use Rattle.nova_top.specs.Ends.{IsOutcome, IsCutShort, HasKeysFile, HasScript, StatusCause, NoneFailed, IsComplete, KeptUnwritten, HasWorkload}
+use Rattle.nova_top.specs.Ends.{IsOutcome, AreWordClosings, IsCutShort, HasKeysFile, HasScript, StatusCause, NoneFailed, IsComplete, KeptUnwritten, HasWorkload}
 use Rattle.nova_top.specs.declared.word_files.Refusal.{Refusal}
 use Rattle.nova_top.specs.declared.word_files.Refusal.TheVariants.{Unopened, BadKeys}
 use Rattle.nova_top.specs.declared.word_files.Refusal.TheVariants as refusal
@@ -56,6 +56,11 @@ no-slots : (workload : Option ℕ) (units : List UnitState) (unit : UnitName) �
 unfolding new_machine reset_machine reset_devices
 no-slots None units unit = none-attached file_units (file_place unit)
 no-slots (Some number) units unit = none-attached file_units (file_place unit)
+
+pub new-slots : (workload : Option ℕ) (units : List UnitState) → (with_workload workload (new_machine units)).slots ≡ no_files
+unfolding new_machine reset_machine reset_devices
+new-slots None units = refl
+new-slots (Some number) units = refl
 
 no-closing : (workload : Option ℕ) (units : List UnitState) (live : Live) (n : CommandNote) → live.machine ≡ erased (with_workload workload (new_machine units)) → IsLate live n → ⊥
 no-closing workload units live n new closing =
@@ -530,22 +535,24 @@ not-refused there status text before after (inl h) other is = let h0 = h.0 in ot
 not-refused there status text before after (inr h) other is = let h0 = h.0 in omega (arith, h0, is)
 
 cut-before : (words : List (List ℕ)) (options : Options) (input before after : List ℕ) (files files' : List NamedBytes) (machine : Option MachineState) (notes : List Note)
-    → options_of words ≡ Some options → machine ≡ None → files' ≡ files → after ≡ before → IsCutShort words input input before after files files' machine notes
-cut-before words options input before after files files' machine notes chosen none same unprinted = record {
+    → options_of words ≡ Some options → machine ≡ None → files' ≡ files → after ≡ before → AreWordClosings notes
+    → IsCutShort words input input before after files files' machine notes
+cut-before words options input before after files files' machine notes chosen none same unprinted closings = record {
   options = options;
   words_are = chosen;
-  cut = inl (record { none = none; unprinted = unprinted; unread = refl; unchanged = same });
+  cut = inl (record { none = none; unprinted = unprinted; unread = refl; unchanged = same; closings = closings });
 }
 
-pub files-memory : (words : List (List ℕ)) (options : Options) (input before after : List ℕ) (files files' : List NamedBytes) (refusal : Refusal) (status : ℕ) (machine : Option MachineState) (notes : List Note)
-    → options_of words ≡ Some options → machine ≡ None → files' ≡ files → status ≡ 103 → IsDenied (denial_of words refusal) status before after
+pub files-memory : (words : List (List ℕ)) (options : Options) (input before after : List ℕ) (files files' : List NamedBytes) (why : Refusal) (status : ℕ) (machine : Option MachineState) (notes : List Note)
+    → options_of words ≡ Some options → machine ≡ None → files' ≡ files → status ≡ 103 → IsDenied (denial_of words why) status before after
+    → (why ≡ refusal.OutOfMemory → AreWordClosings notes)
     → IsCutShort words input input before after files files' machine notes
-files-memory words options input before after files files' (Unopened place) status machine notes chosen none same is denied =
+files-memory words options input before after files files' (Unopened place) status machine notes chosen none same is denied closings =
     absurd (not-refused 101 status _ before after denied (λ e. omega (arith, e)) is)
-files-memory words options input before after files files' (BadKeys place) status machine notes chosen none same is denied =
+files-memory words options input before after files files' (BadKeys place) status machine notes chosen none same is denied closings =
     absurd (not-refused 105 status _ before after denied (λ e. omega (arith, e)) is)
-files-memory words options input before after files files' refusal.OutOfMemory status machine notes chosen none same is denied =
-    cut-before words options input before after files files' machine notes chosen none same denied.1
+files-memory words options input before after files files' refusal.OutOfMemory status machine notes chosen none same is denied closings =
+    cut-before words options input before after files files' machine notes chosen none same denied.1 (closings refl)
 
 -- ---- a workload
 

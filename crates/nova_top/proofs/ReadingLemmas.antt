@@ -1,5 +1,5 @@
 -- The reading of a file of the words, with its notes.
-use Rattle.std.proofs.Common.{◌≡◌, inl, ℕ, zero, suc, ◌+◌, ◌<◌, ◌==◌, ◌||◌, ◌-◌, Bool, true, false, List, [], ◌∷◌, ◌++◌, length, drop, take, get_or, refl, ap, sym, ◌∙◌, subst, arith, add-one, append_assoc, Option, Some, None, IfSome, IfOk, IsSome, String, Global, string_bytes, Result, Ok, Err, if◌then◌else◌}
+use Rattle.std.proofs.Common.{◌≡◌, inl, ℕ, zero, suc, ◌+◌, ◌<◌, ◌≤◌, ◌==◌, ◌||◌, ◌-◌, Bool, true, false, List, [], ◌∷◌, ◌++◌, length, drop, take, get_or, refl, ap, sym, ◌∙◌, subst, arith, add-one, append_assoc, Option, Some, None, IfSome, IfOk, IsSome, is_some, String, Global, string_bytes, Result, Ok, Err, if◌then◌else◌}
 use Rattle.std.specs.Global.{Vec}
 use Rattle.std.specs.List.{AllByRecursion}
 use Rattle.std.proofs.lemmas.List.{map-append, length-map, drop-map}
@@ -18,11 +18,18 @@ use Rattle.file_commands.specs.Possible.{IsPossible}
 use Rattle.file_commands.proofs.Possible.{none-done, possible-both}
 use Rattle.file_commands.specs.Counts.{one_if, noted, openings_noted, RoseBy, AreCounted}
 use Rattle.file_commands.specs.Counts as counts
+use Rattle.unit_files.specs.Attachments.{no_files}
+use Rattle.file_commands.specs.OwnFiles.{AreOwn}
+use Rattle.file_commands.proofs.OwnFiles.{own-both}
+use Rattle.scp_commands.specs.WholeCalls.{both_notes}
+use Rattle.scp_commands.proofs.WholeLemmas.{read-claims}
+use Rattle.scp_commands.proofs.OwnFileLemmas.{whole-own}
 use Rattle.file_commands.proofs.Adding.{noted-append, openings-append, rose-both, rose-none, counted-both}
 use Rattle.file_commands.proofs.Causes.{rose-one}
 use Rattle.whole_files.specs.declared.whole.FailedCall.{FailedCall}
 use Rattle.whole_files.specs.declared.whole.Whole.{Whole}
 use Rattle.whole_files.specs.declared.whole.WholeFault.{WholeFault}
+use Rattle.whole_files.specs.declared.whole.WholeFault.TheVariants as whole
 use Rattle.whole_files.specs.Whole.{whole_act}
 use Rattle.whole_files.specs.Claims as claims
 use Rattle.whole_files.specs.Claims.{said_of_bytes, call_of, claimed, ComesBefore, HasShape, raised_by, claims_of, claims_on, is_opening, opening_counted}
@@ -30,9 +37,11 @@ use Rattle.expect_actions.specs.KeysFile.{Key}
 use Rattle.scp_script.specs.Loop.{AreKept}
 use Rattle.nova_top.specs.declared.options.Options.{Options}
 use Rattle.nova_top.specs.declared.word_files.Refusal.{Refusal}
+use Rattle.nova_top.specs.declared.word_files.Refusal.TheVariants as refused
+use Rattle.nova_top.specs.Ends.{AreWordClosings}
 use Rattle.nova_top.specs.Words.{keys_name, script_name, script_words, texts_of}
 use Rattle.nova_top.specs.Outside.{keys_from, taken_keys, script_from, taken_script}
-use Rattle.nova_top.specs.Program.{noted_call, word_notes, ReadsFile, ComesOf, IsTaken, Takes}
+use Rattle.nova_top.specs.Program.{noted_call, word_notes, AddsClosings, IsWant, ReadsFile, ComesOf, IsTaken, Takes}
 use Rattle.nova_top.proofs.WordsLemmas.{rest-same}
 use Rattle.nova_top.proofs.WordFileLemmas.{file-taken, name-at}
 use Rattle.scp_commands.proofs.WholeLemmas.{rose-by}
@@ -133,6 +142,65 @@ reads-kept whose kept one two w tells old new first second shape files openings 
     possible = possible-both (noted_call whose w.failed) (noted_call whose w.closing) (possible-read whose w.failed) (possible-read whose w.closing);
   };
 }
+
+-- the notes are of the file that was opened
+noted-as : (whose : Subject) (failed closing : Option FailedCall)
+    → noted_call whose failed ++ noted_call whose closing ≡ both_notes whose (record { command = 0; time = 0 }) 0 failed closing
+noted-as whose None None = refl
+noted-as whose None (Some c) = refl
+noted-as whose (Some f) None = refl
+noted-as whose (Some f) (Some c) = refl
+
+pub reads-own : (whose : Subject) (kept one two : List FaultNote) (w : Whole) (old new : FileState) → one ≡ kept ++ noted_call whose w.failed → two ≡ one ++ noted_call whose w.closing
+    → HasShape w → claims.IsNew w.failed old new → claims.IsNew w.closing old new → old.given ≤ new.given → AreOwn no_files no_files kept two old new
+reads-own whose kept one two w old new first second shape failed closing ids =
+    whole-own whose (record { command = 0; time = 0 }) 0 w.failed w.closing no_files no_files kept two old new refl (read-claims w shape) failed closing ids
+    (two-kept whose kept one two w first second ∙ ap (λ (l : List FaultNote). kept ++ l) (noted-as whose w.failed w.closing))
+
+pub own-from-none : (first second third : List FaultNote) (old mid new : FileState) → first ≡ [] → AreOwn no_files no_files first second old mid
+    → AreOwn no_files no_files second third mid new → AreOwn no_files no_files [] third old new
+own-from-none first second third old mid new none a b =
+    subst (λ (l : List FaultNote). AreOwn no_files no_files l third old new) none (own-both no_files no_files no_files first second third old mid new a b)
+
+-- where the reading did not fail, closings alone were noted
+not-failed : (bytes : Result (Vec ℕ) WholeFault) → (bytes ≡ Err whole.Failed → ⊥) → claims.is_failed bytes ≡ false
+not-failed (Ok v) other = refl
+not-failed (Err whole.NoFile) other = refl
+not-failed (Err whole.TooLong) other = refl
+not-failed (Err whole.Failed) other = absurd (other refl)
+not-failed (Err whole.OutOfMemory) other = refl
+
+pub reads-closings : (whose : Subject) (kept one two : List FaultNote) (w : Whole) → one ≡ kept ++ noted_call whose w.failed → two ≡ one ++ noted_call whose w.closing
+    → HasShape w → (w.bytes ≡ Err whole.Failed → ⊥) → AddsClosings kept two
+reads-closings whose kept one two w first second shape other = record {
+  more = noted_call whose w.failed ++ noted_call whose w.closing;
+  added = two-kept whose kept one two w first second;
+  are = by-calls w.failed w.closing (shape.failed ∙ not-failed w.bytes other) shape.closing;
+}
+  where
+    by-calls : (failed closing : Option FailedCall) → is_some failed ≡ false → IfSome closing (λ (c : FailedCall). (c.call ≡ Closing) × IsSome c.file)
+        → AreWordClosings (notes_said (noted_call whose failed ++ noted_call whose closing))
+    by-calls None None none has = tt
+    by-calls None (Some c) none has = ((refl, refl, has.0), tt)
+    by-calls (Some f) closing none has = absurd (cc)
+
+pub is-want : (r : Refusal) → refused.OutOfMemory ≡ r → IsWant r
+is-want r is = subst IsWant is tt
+
+pub closings-none : (first second : List FaultNote) → first ≡ [] → AddsClosings first second → AreWordClosings (notes_said second)
+closings-none first second none a =
+    subst (λ (l : List FaultNote). AreWordClosings (notes_said l)) (sym (a.added ∙ ap (λ (l : List FaultNote). l ++ a.more) none)) a.are
+
+pub closings-both : (first second third : List FaultNote) → AddsClosings first second → AddsClosings second third → AddsClosings first third
+closings-both first second third a b = record {
+  more = a.more ++ b.more;
+  added = b.added ∙ ap (λ (l : List FaultNote). l ++ b.more) a.added ∙ append_assoc first a.more b.more;
+  are = all a.more a.are;
+}
+  where
+    all : (more : List FaultNote) → AreWordClosings (notes_said more) → AreWordClosings (notes_said (more ++ b.more))
+    all [] are = b.are
+    all (n ∷ more) are = (are.0, all more are.1)
 
 -- ---- what is taken of a file
 

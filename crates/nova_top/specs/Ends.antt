@@ -1,7 +1,9 @@
 -- What the program comes to, for a console that took so many bytes, an input that let so many reads through, and the calls
 -- on files that failed.
 use Rattle.std.specs.Prelude.{◌≡◌, ◌≢◌, ◌⊎◌, ℕ, ◌+◌, ◌≤◌, List, [], ◌++◌, length, drop, Option, Some, None, IsSome, option_map}
+use Rattle.std.specs.List.{AllByRecursion}
 use Rattle.fault_counts.specs.Faults.{raised, Rose}
+use Rattle.host_files.specs.declared.files.FileCall.TheVariants.{Closing}
 use Rattle.observations.specs.Observations.{text_of, reads_of}
 use Rattle.observations.specs.Cut.{ends}
 use Rattle.host_files.specs.Lists.{NamedBytes}
@@ -37,12 +39,19 @@ pub record IsOutcome (words : List (List ℕ)) (input left before after : List �
   pub is : outcome (record { words = words; input = input; files = files; notes = notes; takes = length taken; gives = gives })
       ≡ ends status taken made (record { machine = machine_left machine; files = files'; notes = [] })
 
--- Memory ran out before the first line: there is no machine, nothing was printed or read, and no file has changed.
-pub record StopsBefore (input left before after : List ℕ) (files files' : List NamedBytes) (machine : Option MachineState) : Type 0 where
+-- notes of closings of the files that the words name, which are before the first command
+abbrev pub AreWordClosings : List Note → Type 0
+AreWordClosings notes =
+    AllByRecursion (λ (n : Note). (n.command ≡ 0) × (n.note.time ≡ 0) × (n.note.failure.call ≡ Closing)) notes
+
+-- Memory ran out before the first line: there is no machine, nothing was printed or read, no file has changed, and no
+-- call has failed but closings.
+pub record StopsBefore (input left before after : List ℕ) (files files' : List NamedBytes) (machine : Option MachineState) (notes : List Note) : Type 0 where
   pub none : machine ≡ None
   pub unprinted : after ≡ before
   pub unread : left ≡ input
   pub unchanged : files' ≡ files
+  pub closings : AreWordClosings notes
 
 -- Memory ran out in the session, which stopped short: what the commands that were done have left stands.
 pub record StopsInside (words : List (List ℕ)) (options : Options) (input left before after : List ℕ) (files files' : List NamedBytes) (machine : Option MachineState) (notes : List Note) : Type 0 where
@@ -59,7 +68,7 @@ pub record StopsInside (words : List (List ℕ)) (options : Options) (input left
 pub record IsCutShort (words : List (List ℕ)) (input left before after : List ℕ) (files files' : List NamedBytes) (machine : Option MachineState) (notes : List Note) : Type 0 where
   pub options : Options
   pub words_are : options_of words ≡ Some options
-  pub cut : StopsBefore input left before after files files' machine ⊎ StopsInside words options input left before after files files' machine notes
+  pub cut : StopsBefore input left before after files files' machine notes ⊎ StopsInside words options input left before after files files' machine notes
 
 -- a keys file is among the words
 pub record HasKeysFile (words : List (List ℕ)) : Type 0 where

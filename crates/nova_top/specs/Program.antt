@@ -21,6 +21,7 @@ use Rattle.scp_script.specs.declared.perform_session.Opening.{Opening}
 use Rattle.scp_script.specs.declared.progress.Finish.{Finish}
 use Rattle.scp_script.specs.Loop.{status_of}
 use Rattle.scp_script.specs.Scripts.{first_script}
+use Rattle.nova_top.specs.Ends.{AreWordClosings}
 use Rattle.nova_top.specs.declared.options.Options.{Options}
 use Rattle.nova_top.specs.declared.word_files.Refusal.{Refusal}
 use Rattle.nova_top.specs.declared.word_files.Refusal.TheVariants.{Unopened, BadKeys, OutOfMemory}
@@ -45,6 +46,12 @@ noted_call whose (Some f) = word_note whose f ∷ []
 -- what the notes of these calls say
 abbrev pub word_notes : Subject → List FileCall → List Note
 word_notes whose calls = map (λ (call : FileCall). record { command = 0; note = record { time = 0; subject = whose; failure = record { call = call; done = 0 } } }) calls
+
+-- notes were kept of closings alone
+pub record AddsClosings (kept kept' : List FaultNote) : Type 0 where
+  pub more : List FaultNote
+  pub added : kept' ≡ kept ++ more
+  pub are : AreWordClosings (notes_said more)
 
 -- the file of that name was read, with the notes that were kept in that
 pub record ReadsFile (whose : Subject) (name : List ℕ) (files : List NamedBytes) (kept kept' : List FaultNote) (bytes : Result (Vec ℕ) WholeFault) : Type 0 where
@@ -76,6 +83,15 @@ pub record Takes {T : Type 0} (whose : Subject) (words : List (List ℕ)) (act :
   pub calls : List FileCall
   pub added : notes_said kept' ≡ notes_said kept ++ word_notes whose calls
   pub taken : (more : List Note) → calls_on whose more ≡ [] → IsTaken words result (act (word_notes whose calls ++ more)) (length calls)
+
+-- no file was refused: all is there, or memory ran out
+abbrev pub IsWant : Refusal → Type 0
+IsWant OutOfMemory = Unit {0}
+IsWant refusal = ⊥
+
+abbrev pub IsUnrefused : {T : Type 0} → Result T Refusal → Type 0
+IsUnrefused (Ok value) = Unit {0}
+IsUnrefused (Err refusal) = IsWant refusal
 
 -- a file that was refused is that of a word, and named by the words
 abbrev pub RefusalCause : List (List ℕ) → Options → Refusal → Type 0

@@ -1,11 +1,14 @@
-ghost use Rattle.std.specs.Prelude.{◌≡◌, ◌≢◌, ◌≤◌, ◌^◌, List, [], map, None, false, IsTrue, IsSome, string_bytes};
+ghost use Rattle.std.specs.Prelude.{◌≡◌, ◌≢◌, ◌≤◌, ◌^◌, List, [], map, Option, None, false, IsTrue, IsSome, string_bytes};
+ghost use Rattle.std.specs.List.{AllByRecursion};
 ghost use Rattle.fault_counts.specs.Faults.{Rose, CountsFault};
 ghost use Rattle.observations.specs.Status.{number_of};
 ghost use Rattle.host_files.specs.Streams.{Puts};
 ghost use Rattle.host_files.specs.State.{Opened};
+ghost use Rattle.unit_files.specs.Attachments.{Held, no_files};
 ghost use Rattle.unit_files.specs.Open.{AllOpen, Around};
 ghost use Rattle.file_commands.specs.Notes.{notes_said};
 ghost use Rattle.file_commands.specs.Counts.{AreCounted};
+ghost use Rattle.file_commands.specs.OwnFiles.{IsOwnNote, AreOwn};
 ghost use Rattle.nova_machine.specs.Seen.{seen, beside};
 ghost use Rattle.scp_script.specs.Loop.{FinishCause, AreKept};
 ghost use Rattle.scp_script.specs.Perform.{beginning, Performed};
@@ -80,6 +83,7 @@ pub fn simulate<U: Unit, C: Source, S: Sink, F: Files>(
     ensures cause { StatusCause (texts_of words.now) result.status (S.fault_count output.old) (S.fault_count output.new)
         (C.fault_count input.old) (C.fault_count input.new) }
     ensures notes { AreCounted result.faults.items (F.state files.old) (F.state files.new) }
+    ensures whose { AllByRecursion (IsOwnNote no_files (F.state files.old) (F.state files.new)) result.faults.items }
     ensures unwritten { result.status ≡ 107
         → KeptUnwritten result.machine result.faults.items (F.state files.old) (F.state files.new) }
     ensures machine { MachineThere (texts_of words.now) result.status result.machine }
@@ -235,6 +239,8 @@ fn lines<U: Unit, C: Source, S: Sink, F: Files>(
         (λ finish. FinishCause finish (S.fault_count output.old) (S.fault_count output.new) (C.fault_count input.old)
         (C.fault_count input.new)) }
     ensures keeps { AreKept session.notes result.faults.items (F.state files.old) (F.state files.new) }
+    ensures whose { (slots : List (Option Held))
+        × AreOwn session.machine.slots slots session.notes result.faults.items (F.state files.old) (F.state files.new) }
     ensures unwritten { result.status ≡ 107
         → KeptUnwritten result.machine result.faults.items (F.state files.old) (F.state files.new) }
     ensures files { (base : List Opened) → Around session.machine.slots base (F.state files.old).opened

@@ -1,7 +1,9 @@
 // The files that the words name: the keys file and the script.
-ghost use Rattle.std.specs.Prelude.{◌≡◌, ◌+◌, ◌<◌, ◌≤◌, ◌++◌, ℕ, List, [], IsTrue, IfOk, IfErr, IfSome, option_map, is_none};
+ghost use Rattle.std.specs.Prelude.{◌≡◌, ◌≢◌, ◌+◌, ◌<◌, ◌≤◌, ◌++◌, ℕ, List, [], IsTrue, IfOk, IfErr, IfSome, option_map, is_none, Err};
 ghost use Rattle.std.specs.Prelude.{string_bytes, length, get_or, vec_len, vec_capacity};
+ghost use Rattle.unit_files.specs.Attachments.{no_files};
 ghost use Rattle.file_commands.specs.Notes.{notes_said};
+ghost use Rattle.file_commands.specs.OwnFiles.{AreOwn};
 ghost use Rattle.file_commands.specs.declared.note.Subject.TheVariants as subject;
 ghost use Rattle.whole_files.specs.Whole.{longest_file};
 ghost use Rattle.whole_files.specs.Claims.{said_of_bytes};
@@ -9,7 +11,10 @@ ghost use Rattle.scp_script.specs.Loop.{AreKept};
 ghost use Rattle.nova_top.specs.Words.{texts_of, keys_name, script_name, script_words, FilesAreNamed};
 ghost use Rattle.nova_top.specs.Outside.{keys_from, taken_keys, script_from, taken_script};
 ghost use Rattle.nova_top.specs.Program.{noted_call, ReadsFile, ComesOf, Takes, RefusalCause, as_file, BeginsAs};
-ghost use Rattle.nova_top.specs.Program.{OpensAs};
+ghost use Rattle.nova_top.specs.Program.{OpensAs, AddsClosings, IsUnrefused};
+ghost use Rattle.nova_top.specs.Ends.{AreWordClosings};
+ghost use Rattle.nova_top.specs.declared.word_files.Refusal.TheVariants.{OutOfMemory};
+ghost use Rattle.whole_files.specs.declared.whole.WholeFault.TheVariants as whole_faults;
 ghost use Rattle.nova_top.specs.Workload.{first_text};
 
 use crate::options::Options;
@@ -59,6 +64,8 @@ pub fn begin<F: Files>(
     ensures files { IsTrue F.tells → (F.state files.new).files ≡ (F.state files.old).files }
     ensures opened { (F.state files.new).opened ≡ (F.state files.old).opened }
     ensures keeps { AreKept [] notes.new.items (F.state files.old) (F.state files.new) }
+    ensures whose { AreOwn no_files no_files [] notes.new.items (F.state files.old) (F.state files.new) }
+    ensures closings { result ≡ Err OutOfMemory → AreWordClosings (notes_said notes.new.items) }
 {
     let keys = take_keys(alloc, words, options, files, notes)?;
     let script = take_script(alloc, words, options, files, notes)?;
@@ -128,6 +135,8 @@ fn take_keys<F: Files>(
     ensures files { IsTrue F.tells → (F.state files.new).files ≡ (F.state files.old).files }
     ensures opened { (F.state files.new).opened ≡ (F.state files.old).opened }
     ensures keeps { AreKept notes.old.items notes.new.items (F.state files.old) (F.state files.new) }
+    ensures whose { AreOwn no_files no_files notes.old.items notes.new.items (F.state files.old) (F.state files.new) }
+    ensures closings { IsUnrefused result → AddsClosings notes.old.items notes.new.items }
 {
     match options.keys {
         Some(place) => {
@@ -155,6 +164,8 @@ fn take_script<F: Files>(
     ensures files { IsTrue F.tells → (F.state files.new).files ≡ (F.state files.old).files }
     ensures opened { (F.state files.new).opened ≡ (F.state files.old).opened }
     ensures keeps { AreKept notes.old.items notes.new.items (F.state files.old) (F.state files.new) }
+    ensures whose { AreOwn no_files no_files notes.old.items notes.new.items (F.state files.old) (F.state files.new) }
+    ensures closings { IsUnrefused result → AddsClosings notes.old.items notes.new.items }
 {
     match options.script {
         Some(place) => {
@@ -181,6 +192,8 @@ fn read_word<F: Files>(
     ensures files { IsTrue F.tells → (F.state files.new).files ≡ (F.state files.old).files }
     ensures opened { (F.state files.new).opened ≡ (F.state files.old).opened }
     ensures keeps { AreKept notes.old.items notes.new.items (F.state files.old) (F.state files.new) }
+    ensures whose { AreOwn no_files no_files notes.old.items notes.new.items (F.state files.old) (F.state files.new) }
+    ensures closings { result ≢ Err whole_faults.Failed → AddsClosings notes.old.items notes.new.items }
 {
     let whole = read_file(alloc, name.as_str(), files);
     note_call(whose, notes, whole.failed);
@@ -216,6 +229,7 @@ fn keys_of(alloc: Global, place: usize, read: Result<Vec<u8>, WholeFault>) -> Re
         result }
     ensures named { (words : List (List ℕ)) (options : Options) → place < length words → options.keys ≡ Some place
         → IfErr result (RefusalCause words options) }
+    ensures unfailed { IsUnrefused result → read ≢ Err whole_faults.Failed }
 {
     match read {
         Ok(bytes) => match Keys::read_keys(alloc, bytes.as_slice()) {
@@ -236,6 +250,7 @@ fn script_of(place: usize, read: Result<Vec<u8>, WholeFault>) -> Result<Option<S
         result }
     ensures named { (words : List (List ℕ)) (options : Options) → place < length words → options.script ≡ Some place
         → IfErr result (RefusalCause words options) }
+    ensures unfailed { IsUnrefused result → read ≢ Err whole_faults.Failed }
 {
     match read {
         Ok(bytes) => Ok(Some(ScriptText::new(bytes))),

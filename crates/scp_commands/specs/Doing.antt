@@ -67,7 +67,8 @@ Does reply answer at tells before after = (bare_answer answer ≡ reply.answer) 
 
 -- ---- the notes of a command
 
--- the calls by which a unit loses its file: a closing, or a write of what the disk holds, where a sector of that was written
+-- the calls by which a unit loses its file: a closing, or a write of what the disk holds, where a sector of that was
+-- written
 abbrev pub IsLastCall : Bool → Kind → FileCall → Type 0
 IsLastCall written kind Closing = Unit {0}
 IsLastCall written kind Write = (is_disk kind ≡ true) × (written ≡ true)
@@ -115,8 +116,8 @@ IsClosingOf who n = (n.subject ≡ who) × (n.call ≡ Closing)
 abbrev pub AllClosings : List FaultNote → Type 0
 AllClosings notes = AllByRecursion (λ (n : FaultNote). n.call ≡ Closing) notes
 
--- Exactly one note is that of the call for which it was refused, wherever it stands. All others are of closings, and those
--- behind it of that subject.
+-- Exactly one note is that of the call for which it was refused, wherever it stands. All others are of closings, and
+-- those behind it of that subject.
 pub record AreRefusalOf (who : Subject) (notes : List FaultNote) : Type 0 where
   pub before : List FaultNote
   pub own : FaultNote
@@ -131,11 +132,11 @@ abbrev pub stop_notes : Stamp → Stop → List FaultNote
 stop_notes stamp (FileFault f) = fault_note stamp f ∷ []
 stop_notes stamp stop = []
 
--- Why an answer comes, by the notes that were kept. A file was missing only where none was kept and, if names are not told,
--- the count of openings rose. A call on a file failed only where exactly one note is of that call. A run keeps the note of the
--- call for which it stopped, if it did for one, also where the console refused a byte of the stop's text. What was done
--- otherwise, a file that is too long, a tape with a fault and want of memory have only notes of closings, and what was refused
--- otherwise has none.
+-- Why an answer comes, by the notes that were kept. A file was missing only where none was kept and, if names are not
+-- told, the count of openings rose. A call on a file failed only where exactly one note is of that call. A run keeps
+-- the note of the call for which it stopped, if it did for one, also where the console refused a byte of the stop's
+-- text. What was done otherwise, a file that is too long, a tape with a fault and want of memory have only notes of
+-- closings, and what was refused otherwise has none.
 abbrev pub FileCause : Stamp → Bool → Answer → List FaultNote → FileState → FileState → Type 0
 FileCause stamp tells (Err NoFile) kept old new = (kept ≡ []) × ((IsTrue tells → ⊥) → Rose old.open_faults new.open_faults)
 FileCause stamp tells (Err (FileFailed who)) kept old new = AreRefusalOf who kept
@@ -265,8 +266,8 @@ says_files tells request = if is_some (nature request).reads_whole then tells el
 abbrev pub IsShutNote : Subject → ℕ → ℕ → FaultNote → Type 0
 IsShutNote who number time n = IsStamped number time n × IsClosingOf who n
 
--- The notes that a command leaves for which memory ran out: those that were there, and behind them, where it was reading a file
--- whole, those of its closing.
+-- The notes that a command leaves for which memory ran out: those that were there, and behind them, where it was
+-- reading a file whole, those of its closing.
 abbrev pub NotesRemain : Option Subject → ℕ → ℕ → List FaultNote → List FaultNote → Type 0
 NotesRemain None number time notes notes' = notes' ≡ notes
 NotesRemain (Some who) number time notes notes' =

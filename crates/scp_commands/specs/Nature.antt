@@ -21,8 +21,8 @@ pub record Nature : Type 0 where
   pub reads_whole : Option Subject
   -- A call on a file that failed may leave a part of its work in that file.
   pub leaves_part : Bool
-  -- It writes what the disk holds of its file back before its own work, and that stays done where it is refused, or where
-  -- memory runs out.
+  -- It writes what the disk holds of its file back before its own work, and that stays done where it is refused, or
+  -- where memory runs out.
   pub flushes : Bool
 
 abbrev pub of_nature : Telling → Bool → Option Subject → Bool → Bool → Nature

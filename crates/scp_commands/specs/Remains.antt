@@ -1,5 +1,5 @@
--- What stands where a command was refused, or where memory ran out in it: all is as it was. Behind a command that flushes the
--- disk before its own work that may be done, and it stays so.
+-- What stands where a command was refused, or where memory ran out in it: all is as it was. Behind a command that
+-- flushes the disk before its own work that may be done, and it stays so.
 use Rattle.std.specs.Prelude.{◌≡◌, ◌⊎◌, Bool, true, false, Option, None, Ok, Err}
 use Rattle.unit_files.specs.Buffer.{disk_unit}
 use Rattle.file_commands.specs.declared.note.Subject.{Subject}

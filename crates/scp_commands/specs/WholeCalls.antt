@@ -11,7 +11,6 @@ use Rattle.file_commands.specs.declared.stamp.Stamp.{Stamp}
 use Rattle.whole_files.specs.declared.whole.FailedCall.{FailedCall}
 use Rattle.whole_files.specs.declared.whole.Whole.{Whole}
 use Rattle.whole_files.specs.declared.whole.WholeFault.{WholeFault}
-use Rattle.whole_files.specs.declared.whole.WholeFault.TheVariants as fault
 use Rattle.whole_files.specs.declared.writing.Written.{Written}
 use Rattle.whole_files.specs.Whole.{WholeSaid, WholeIs, NotThere, TooLong, CallFailed}
 use Rattle.whole_files.specs.Writing.{FailingCall, WriteSaid, AllWritten, WriteFailed}

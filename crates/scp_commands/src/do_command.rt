@@ -46,7 +46,8 @@ pub fn do_script<U: Unit, F: Files>(
         session.old.command result (live_in session.new (F.state files.new).files) tells text text
         (notes_said session.old.notes) (notes_said session.new.notes) }
     ensures undone { (text : List ℕ) → result ≡ Err OutOfMemory
-        → IsUndone false (Some Script) F.tells session.old session.new text text (F.state files.old) (F.state files.new) }
+        → IsUndone false (Some Script) F.tells session.old session.new text text (F.state files.old)
+        (F.state files.new) }
     ensures keeps { Keeps session.old.command session.new.machine.time F.tells result session.old.notes
         session.new.notes (F.state files.old) (F.state files.new) }
     ensures whose { AreOwn session.old.machine.slots session.new.machine.slots session.old.notes session.new.notes

@@ -41,8 +41,8 @@ pub fn run_from<U: Unit, F: Files, S: Sink>(
     ensures refused { IsRefused result
         → (session.new.machine ≡ session.old.machine) × (session.new.watch ≡ session.old.watch) }
     ensures done { RunDone
-        (λ notes. run_from session.old.limit notes resets address (live_in session.old (F.state files.old).files)) result
-        session.old session.new (F.state files.old) (F.state files.new) F.tells S.tells (S.written out.old)
+        (λ notes. run_from session.old.limit notes resets address (live_in session.old (F.state files.old).files))
+        result session.old session.new (F.state files.old) (F.state files.new) F.tells S.tells (S.written out.old)
         (S.written out.new) (S.fault_count out.old) (S.fault_count out.new) }
 {
     if !address_fits(address) {
@@ -171,8 +171,9 @@ fn run_up_to<U: Unit, F: Files, S: Sink>(
     requires open { AllOpen session.old.machine.slots (F.state files.old).opened }
     ensures never { IsRefused result → ⊥ }
     ensures done { RunDone
-        (λ notes. ran (run (run_failure notes) limit.step limit.count (live_in session.old (F.state files.old).files))) result
-        session.old session.new (F.state files.old) (F.state files.new) F.tells S.tells (S.written out.old)
+        (λ notes. ran
+        (run (run_failure notes) limit.step limit.count (live_in session.old (F.state files.old).files)))
+        result session.old session.new (F.state files.old) (F.state files.new) F.tells S.tells (S.written out.old)
         (S.written out.new) (S.fault_count out.old) (S.fault_count out.new) }
 {
     let stop = session

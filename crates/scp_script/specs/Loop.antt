@@ -156,14 +156,15 @@ finish_of InputEnded = EndOfInput
 finish_of ends.FlushFailed = FlushFailed
 finish_of BudgetSpent = Commands
 
--- the notes of a command for which memory ran out: where it was reading a file whole those of its closing, and else none
+-- the notes of a command for which memory ran out: where it was reading a file whole those of its closing, and else
+-- none
 abbrev pub AreClosings : Option Subject → ℕ → List Note → Type 0
 AreClosings None number notes = notes ≡ []
 AreClosings (Some who) number notes =
     AllByRecursion (λ (n : Note). (n.command ≡ number) × (n.note.subject ≡ who) × (n.note.failure.call ≡ Closing)) notes
 
--- Where memory ran out at a text, nothing was done, but that one that flushes the disk may have done so, and one that was reading a
--- file has closed it, with these notes.
+-- Where memory ran out at a text, nothing was done, but that one that flushes the disk may have done so, and one that
+-- was reading a file has closed it, with these notes.
 abbrev pub IsShort : Asked → ℕ → Progress → Live → Live → List Note → List ℕ → List ℕ → Type 0
 IsShort what number (IsOver OutOfMemory) old new own before after =
     Remains (flushes_of what) old new × AreClosings (reader_of what) number own × (after ≡ before)
@@ -205,9 +206,9 @@ abbrev pub AreShort : Upcoming → List Note → Type 0
 AreShort (Ends end) notes = notes ≡ []
 AreShort (Comes text behind) notes = AreClosings (reader_of (asked text)) behind.spent notes
 
--- A session for which memory ran out before its next text, or at it: nothing of the text was done, but that one that flushes the
--- disk may have done so, and one that was reading a file has closed it; the notes that are left are of that closing. Of what is
--- printed before the text is done comes all or nothing.
+-- A session for which memory ran out before its next text, or at it: nothing of the text was done, but that one that
+-- flushes the disk may have done so, and one that was reading a file has closed it; the notes that are left are of that
+-- closing. Of what is printed before the text is done comes all or nothing.
 pub record StopsShort (old : Session) (live : Live) (before after : List ℕ) : Type 0 where
   pub live_is : Remains (flushes_next old) old.live live
   pub notes : AreShort (upcoming old) old.notes

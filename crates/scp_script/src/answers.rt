@@ -45,7 +45,8 @@ pub fn answer<U: Unit, F: Files, S: Sink>(
         (coming texts.old) (asked line.now) session.old.command result (live_in session.new (F.state files.new).files)
         (coming texts.new) S.tells (S.written out.old) (S.written out.new) (notes_said session.old.notes)
         (notes_said session.new.notes) }
-    ensures short { IsTrue F.tells → (own : List Note) → notes_said session.new.notes ≡ notes_said session.old.notes ++ own
+    ensures short { IsTrue F.tells → (own : List Note)
+        → notes_said session.new.notes ≡ notes_said session.old.notes ++ own
         → IsShort (asked line.now) session.old.command result (live_in session.old (F.state files.old).files)
         (live_in session.new (F.state files.new).files) own (S.written out.old) (S.written out.new) }
     ensures counts { AnswerCounts result (S.fault_count out.old) (S.fault_count out.new) }
@@ -85,7 +86,8 @@ fn obey<U: Unit, F: Files, S: Sink>(
         (coming texts.old) (Ok command.now) session.old.command result (live_in session.new (F.state files.new).files)
         (coming texts.new) S.tells (S.written out.old) (S.written out.new) (notes_said session.old.notes)
         (notes_said session.new.notes) }
-    ensures short { IsTrue F.tells → (own : List Note) → notes_said session.new.notes ≡ notes_said session.old.notes ++ own
+    ensures short { IsTrue F.tells → (own : List Note)
+        → notes_said session.new.notes ≡ notes_said session.old.notes ++ own
         → IsShort (Ok command.now) session.old.command result (live_in session.old (F.state files.old).files)
         (live_in session.new (F.state files.new).files) own (S.written out.old) (S.written out.new) }
     ensures counts { AnswerCounts result (S.fault_count out.old) (S.fault_count out.new) }

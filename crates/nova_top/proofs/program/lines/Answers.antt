@@ -1,5 +1,6 @@
 use Rattle.std.proofs.Common.{refl, ap, sym, ◌∙◌, subst, List, Option}
 use Rattle.file_commands.specs.declared.note.FaultNote.{FaultNote}
+use Rattle.file_commands.specs.OwnFiles.{AreOwn}
 use Rattle.scp_script.specs.Loop.{KeptCause}
 use Rattle.unit_files.specs.Open.{AllOpen, Around}
 use Rattle.unit_files.specs.Attachments.{Held}
@@ -38,3 +39,12 @@ returns-clause-files g c = λ base around.
 
 pub returns-clause-unread : goal.returns-clause-unread
 returns-clause-unread g c = λ off. c.perform-finish.ensures.unread off
+
+pub returns-clause-whose : goal.returns-clause-whose
+returns-clause-whose g c =
+    let new = c.perform-finish.new.session in
+    let notes = sym (ap (λ (s : CommandState). s.notes) c.session.view_is) in (
+      new.machine.slots,
+      subst (λ (l : List FaultNote). AreOwn c.args.session.machine.slots new.machine.slots c.args.session.notes l (g.F.Files.state c.args.files.now) (g.F.Files.state c.perform-finish.new.files))
+          notes c.perform-finish.ensures.whose,
+    )

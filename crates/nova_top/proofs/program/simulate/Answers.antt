@@ -1,13 +1,20 @@
-use Rattle.std.proofs.Common.{List, [], map, refl, sym, ◌∙◌, subst, arith}
+use Rattle.std.proofs.Common.{◌≡◌, Err, List, [], Option, map, refl, ap, sym, ◌∙◌, subst, arith}
 use Rattle.file_commands.specs.declared.note.FaultNote.{FaultNote}
 use Rattle.file_commands.specs.Notes.{notes_said}
 use Rattle.file_commands.specs.Counts.{AreCounted}
+use Rattle.std.specs.List.{AllByRecursion}
+use Rattle.unit_files.specs.Attachments.{Held, no_files}
+use Rattle.file_commands.specs.OwnFiles.{IsOwnNote, AreOwn}
+use Rattle.file_commands.proofs.OwnFiles.{own-both, all-own}
+use Rattle.nova_machine.specs.Machine.{MachineState}
 use Rattle.file_commands.proofs.Adding.{counted-none}
 use Rattle.scp_commands.specs.Live.{CommandState}
 use Rattle.scp_script.specs.Loop.{AreKept}
+use Rattle.nova_top.specs.declared.word_files.Refusal.{Refusal}
+use Rattle.nova_top.specs.Ends.{AreWordClosings}
 use Rattle.nova_top.specs.Words.{texts_of}
 use Rattle.nova_top.specs.Workload.{with_workload}
-use Rattle.nova_top.proofs.ProgramLemmas.{Begun, Made, begun-files, workload-given}
+use Rattle.nova_top.proofs.ProgramLemmas.{Begun, Made, begun-files, new-slots, workload-given}
 use Rattle.nova_top.proofs.ProgramLemmas.{usage-answer, files-answer, files-memory, files-status, files-cause, session-answer, memory-answer, session-cause, session-status, refused-status, kept-counted, refused-counted, complete-answer, never-unwritten, denied-unwritten, unwritten-whole}
 use Rattle.nova_top.proofs.program.simulate.Given.{Over}
 use Rattle.nova_top.proofs.program.simulate.Goals as goal
@@ -50,6 +57,8 @@ returns-in-Err-clause-memory g c = λ source files sink memory.
     files-memory (texts_of c.args.words.now) c.in-Some.options (g.C.Source.left c.args.input.now) (g.S.Sink.written c.args.output.now) (g.S.Sink.written c.refuse_files.new.output)
     (g.F.Files.state c.args.files.now).files (g.F.Files.state c.begin.new.files).files c.in-Err.refusal c.refuse_files.result.status c.refuse_files.result.machine
     (notes_said c.refuse_files.result.faults.items) (sym c.options_of.ensures.options ∙ c.in-Some.is) c.refuse_files.ensures.machine (c.begin.ensures.files files) memory (c.refuse_files.ensures.told sink)
+    (λ short. subst (λ (l : List FaultNote). AreWordClosings (notes_said l)) (sym (c.refuse_files.ensures.notes ∙ c.notes_of.ensures))
+    (c.begin.ensures.closings (c.in-Err.is ∙ ap (λ (r : Refusal). Err r) short)))
 
 pub returns-in-Err-clause-cause : goal.returns-in-Err-clause-cause
 returns-in-Err-clause-cause g c =
@@ -80,6 +89,15 @@ begun g c =
     subst is_begun (sym c.ready.ensures)
     (begun-files g.F.Files.tells words c.in-Some.options (map g.U.Unit.unit_state c.args.units.items) _ c.in-Ok.session (with_workload c.in-Some.options.workload c.session.inside.machine) c.in-Ok-begin.field-0.keys c.in-Ok-begin.field-0.opening c.begin.new.notes.items _ old new (made g c) c.session.view_is refl
     c.in-Ok-begin.ensures.told c.in-Ok-begin.ensures.opens c.begin.ensures.files c.begin.ensures.opened c.begin.ensures.keeps)
+
+-- nothing is attached to its machine
+unattached : (g : Over) (c : goal.After-lines-arg-in-Ok-begin-2-1 g) → c.ready.result.machine.slots ≡ no_files
+unattached g c =
+    let units = map g.U.Unit.unit_state c.args.units.items in
+    let workload = c.in-Some.options.workload in
+    ap (λ (s : CommandState). s.machine.slots) c.ready.ensures
+    ∙ ap (λ (m : MachineState). (with_workload workload m).slots) (ap (λ (s : CommandState). s.machine) c.session.view_is ∙ (made g c).machine)
+    ∙ new-slots workload units
 
 pub lines-requires-clause-open : goal.lines-requires-clause-open
 lines-requires-clause-open g c = (begun g (goal.at.lines-requires-clause-open g c).After-lines-arg-in-Ok-begin-2-1).open_
@@ -149,3 +167,30 @@ returns-in_default-clause-workload g c = λ given. refl
 pub returns-in-Ok-begin-clause-workload : goal.returns-in-Ok-begin-clause-workload
 returns-in-Ok-begin-clause-workload g c = λ given.
     c.lines.ensures.unread (c.in-Ok-begin.ensures.opens.reads ∙ workload-given (texts_of c.args.words.now) c.in-Some.options (sym c.options_of.ensures.options ∙ c.in-Some.is) given)
+
+-- ---- the files that the notes name
+
+pub returns-in_default-clause-whose : goal.returns-in_default-clause-whose
+returns-in_default-clause-whose g c =
+    let state = g.F.Files.state c.args.files.now in
+    subst (λ (l : List FaultNote). AllByRecursion (IsOwnNote no_files state state) l) (sym c.usage.ensures.notes) tt
+
+pub returns-in-Err-clause-whose : goal.returns-in-Err-clause-whose
+returns-in-Err-clause-whose g c =
+    let old = g.F.Files.state c.args.files.now in
+    let new = g.F.Files.state c.begin.new.files in
+    subst (λ (l : List FaultNote). AllByRecursion (IsOwnNote no_files old new) l) (sym (c.refuse_files.ensures.notes ∙ c.notes_of.ensures))
+    (all-own no_files no_files c.begin.new.notes.items old new c.begin.ensures.whose)
+
+pub returns-in-Ok-begin-clause-whose : goal.returns-in-Ok-begin-clause-whose
+returns-in-Ok-begin-clause-whose g c =
+    let old = g.F.Files.state c.args.files.now in
+    let mid = g.F.Files.state c.begin.new.files in
+    let new = g.F.Files.state c.lines.new.files in
+    let (slots, own) = c.lines.ensures.whose in
+    let empty : c.ready.result.machine.slots ≡ no_files = unattached g (goal.at.returns-in-Ok-begin-clause-whose g c).After-lines-arg-in-Ok-begin-2-1 in
+    let notes = ap (λ (s : CommandState). s.notes) c.ready.ensures in
+    let from = subst (λ (l : List (Option Held)). AreOwn l slots c.ready.result.notes c.lines.result.faults.items mid new) empty own in
+    let behind = subst (λ (l : List FaultNote). AreOwn no_files slots l c.lines.result.faults.items mid new) notes from in
+    all-own no_files slots c.lines.result.faults.items old new
+    (own-both no_files no_files slots [] c.begin.new.notes.items c.lines.result.faults.items old mid new c.begin.ensures.whose behind)

@@ -1,13 +1,14 @@
-use Rattle.std.proofs.Common.{List, ◌≡◌, subst, Ok, Err, rules}
+use Rattle.std.proofs.Common.{List, ◌≡◌, ◌∙◌, sym, subst, Ok, Err, rules}
 use Rattle.host_files.specs.Lists.{NamedBytes}
 use Rattle.file_commands.specs.Notes.{notes_said}
 use Rattle.file_commands.specs.declared.note.Subject.TheVariants as subject
 use Rattle.nova_top.specs.Words.{texts_of, script_name}
 use Rattle.nova_top.specs.Outside.{taken_script}
 use Rattle.nova_top.specs.Workload.{first_text}
+use Rattle.nova_top.specs.declared.word_files.Refusal.TheVariants.{OutOfMemory}
 use Rattle.nova_top.specs.Program.{Takes}
 use Rattle.nova_top.proofs.WordFileLemmas.{script-denied, denied-along, both-begin, text-begins}
-use Rattle.nova_top.proofs.ReadingLemmas.{kept-both}
+use Rattle.nova_top.proofs.ReadingLemmas.{kept-both, own-from-none, closings-none, closings-both, is-want}
 use Rattle.nova_top.proofs.word_files.begin.Goals as goal
 
 pub returns-in_err-script-clause-told : goal.returns-in_err-script-clause-told
@@ -44,3 +45,42 @@ pub returns-in-Err-clause-keeps : goal.returns-in-Err-clause-keeps
 returns-in-Err-clause-keeps g c =
     kept-both c.args.notes.now.items c.take_keys.new.notes.items c.take_script.new.notes.items (g.F.Files.state c.args.files.now) (g.F.Files.state c.take_keys.new.files) (g.F.Files.state c.take_script.new.files)
     c.requires.none c.take_keys.ensures.keeps c.take_script.ensures.keeps
+
+pub returns-in_err-script-clause-whose : goal.returns-in_err-script-clause-whose
+returns-in_err-script-clause-whose g c =
+    own-from-none c.args.notes.now.items c.take_keys.new.notes.items c.take_script.new.notes.items (g.F.Files.state c.args.files.now) (g.F.Files.state c.take_keys.new.files)
+    (g.F.Files.state c.take_script.new.files) c.requires.none c.take_keys.ensures.whose c.take_script.ensures.whose
+
+pub returns-in-Ok-clause-whose : goal.returns-in-Ok-clause-whose
+returns-in-Ok-clause-whose g c =
+    own-from-none c.args.notes.now.items c.take_keys.new.notes.items c.take_script.new.notes.items (g.F.Files.state c.args.files.now) (g.F.Files.state c.take_keys.new.files)
+    (g.F.Files.state c.take_script.new.files) c.requires.none c.take_keys.ensures.whose c.take_script.ensures.whose
+
+pub returns-in-Err-clause-whose : goal.returns-in-Err-clause-whose
+returns-in-Err-clause-whose g c =
+    own-from-none c.args.notes.now.items c.take_keys.new.notes.items c.take_script.new.notes.items (g.F.Files.state c.args.files.now) (g.F.Files.state c.take_keys.new.files)
+    (g.F.Files.state c.take_script.new.files) c.requires.none c.take_keys.ensures.whose c.take_script.ensures.whose
+
+pub returns-in_err-keys-clause-closings : goal.returns-in_err-keys-clause-closings
+returns-in_err-keys-clause-closings g c = λ is.
+    let refusal = c.in_err-keys.field-0.0 in
+    let said : c.from_residual.result ≡ Err refusal = search rules in
+    let same : Err OutOfMemory ≡ Err refusal = sym is ∙ said in
+    let short : OutOfMemory ≡ refusal = cc in
+    closings-none c.args.notes.now.items c.take_keys.new.notes.items c.requires.none
+    (c.in_err-keys.ensures.closings (is-want refusal short))
+
+pub returns-in_err-script-clause-closings : goal.returns-in_err-script-clause-closings
+returns-in_err-script-clause-closings g c = λ is.
+    let refusal = c.in_err-script.field-0.0 in
+    let said : c.from_residual-in_err-script.result ≡ Err refusal = search rules in
+    let same : Err OutOfMemory ≡ Err refusal = sym is ∙ said in
+    let short : OutOfMemory ≡ refusal = cc in
+    closings-none c.args.notes.now.items c.take_script.new.notes.items c.requires.none
+    (closings-both c.args.notes.now.items c.take_keys.new.notes.items c.take_script.new.notes.items (c.in_ok-keys.ensures.closings tt)
+    (c.in_err-script.ensures.closings (is-want refusal short)))
+
+pub returns-in-Err-clause-closings : goal.returns-in-Err-clause-closings
+returns-in-Err-clause-closings g c = λ is.
+    closings-none c.args.notes.now.items c.take_script.new.notes.items c.requires.none
+    (closings-both c.args.notes.now.items c.take_keys.new.notes.items c.take_script.new.notes.items (c.in_ok-keys.ensures.closings tt) (c.in_ok-script.ensures.closings tt))

@@ -13,3 +13,6 @@ pub returns-in-Some-clause-cause : goal.returns-in-Some-clause-cause
 returns-in-Some-clause-cause g c =
     let within = named-at c.args.options.script (length (texts_of c.args.words.now)) c.in-Some.place c.requires.named.script c.in-Some.is in
     c.script_of.ensures.named (texts_of c.args.words.now) c.args.options within c.in-Some.is
+
+pub returns-in-Some-clause-closings : goal.returns-in-Some-clause-closings
+returns-in-Some-clause-closings g c = λ unrefused. c.read_word-read.ensures.closings (c.script_of.ensures.unfailed unrefused)

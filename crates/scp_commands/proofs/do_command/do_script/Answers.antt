@@ -1,7 +1,6 @@
-use Rattle.std.proofs.Common.{◌≡◌, ◌++◌, List, refl, ap, sym, ◌∙◌, append-nil}
+use Rattle.std.proofs.Common.{◌++◌, List, refl, ap, sym, ◌∙◌}
 use Rattle.host_files.specs.Lists.{NamedBytes}
 use Rattle.file_commands.specs.declared.note.Subject.TheVariants as subject
-use Rattle.file_commands.specs.declared.note.FaultNote.{FaultNote}
 use Rattle.file_commands.specs.declared.stamp.Stamp.{Stamp}
 use Rattle.nova_machine.specs.Seen.{seen, beside}
 use Rattle.scp_commands.specs.ScriptEffects.{script_of}

@@ -1,8 +1,7 @@
-use Rattle.std.proofs.Common.{◌≡◌, ◌++◌, ℕ, List, refl, ap, sym, ◌∙◌, subst, append-nil}
+use Rattle.std.proofs.Common.{◌≡◌, ◌++◌, ℕ, List, refl, ap, sym, ◌∙◌, subst}
 use Rattle.host_files.specs.State.{Opened}
 use Rattle.unit_files.specs.Open.{AllOpen, Around}
 use Rattle.file_commands.specs.declared.note.Subject.TheVariants as subject
-use Rattle.file_commands.specs.declared.note.FaultNote.{FaultNote}
 use Rattle.file_commands.specs.declared.stamp.Stamp.{Stamp}
 use Rattle.nova_machine.specs.Machine.{MachineState}
 use Rattle.nova_machine.specs.Seen.{seen, beside}

@@ -1,6 +1,5 @@
-use Rattle.std.proofs.Common.{◌≡◌, List, Option, subst, ap, ◌∙◌, rules}
+use Rattle.std.proofs.Common.{◌≡◌, List, Option, subst, ◌∙◌, rules}
 use Rattle.unit_files.specs.Attachments.{Held, attachments_of}
-use Rattle.unit_files.specs.Buffer.{AttachedFiles}
 use Rattle.unit_files.specs.Causes.{OnlyKept}
 use Rattle.unit_files.proofs.Copies.{not-detached}
 use Rattle.unit_files.proofs.Attaching.{kept-same}
