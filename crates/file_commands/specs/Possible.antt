@@ -1,16 +1,21 @@
 -- How much a call that failed can have written.
-use Rattle.std.specs.Prelude.{◌≡◌, ℕ, ◌≤◌, false}
+use Rattle.std.specs.Prelude.{◌≡◌, ℕ, ◌≤◌, if◌then◌else◌}
 use Rattle.host_files.specs.declared.files.FileCall.{FileCall}
 use Rattle.host_files.specs.declared.files.FileCall.TheVariants.{Write}
+use Rattle.unit_trait.specs.declared.kind.Kind.{Kind}
 use Rattle.unit_files.specs.Attachments.{is_disk}
+use Rattle.unit_files.specs.Buffer.{disk_bytes}
 use Rattle.file_commands.specs.declared.note.Subject.{Subject}
 use Rattle.file_commands.specs.declared.note.Subject.TheVariants as subject
 use Rattle.file_commands.specs.declared.note.FaultNote.{FaultNote}
 
--- A write for a unit that is no disk is that of a run: at most the longest block of a tape. One of DUMP is of a tape that
--- has at most all words of the largest memory.
+-- A write for the disk is of its copy. One for another unit is that of a run: at most the longest block of a tape.
+abbrev pub most_written : Kind → ℕ
+most_written kind = if is_disk kind then disk_bytes else 8200
+
+-- One of DUMP is of a tape that has at most all words of the largest memory.
 abbrev pub IsWritten : Subject → ℕ → Type 0
-IsWritten (subject.Unit unit) done = is_disk unit.kind ≡ false → done ≤ 8200
+IsWritten (subject.Unit unit) done = done ≤ most_written unit.kind
 IsWritten subject.Dump done = done ≤ 77830
 IsWritten who done = Unit {0}
 

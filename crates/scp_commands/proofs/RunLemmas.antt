@@ -24,6 +24,7 @@ use Rattle.file_commands.specs.declared.note.Subject.TheVariants as subject
 use Rattle.file_commands.specs.declared.note.FaultNote.{FaultNote}
 use Rattle.file_commands.specs.Notes.{CommandNote, Note, numbered, said_of, notes_said}
 use Rattle.file_commands.specs.Possible.{MayHaveWritten}
+use Rattle.file_commands.proofs.Possible.{run-done}
 use Rattle.file_commands.specs.Counts.{is_of, one_if, openings_noted, RoseBy, AreCounted}
 use Rattle.file_commands.proofs.Causes.{rose-one, counted-quiet, same-rose}
 use Rattle.file_commands.specs.declared.stamp.Stamp.{Stamp}
@@ -215,7 +216,7 @@ fault-rose false file held before now is same other = same-rose before now (othe
 
 -- what a call of a run can have written
 run-written : (unit : UnitName) (call : FileCall) (done : ℕ) → IsRunCall unit.kind call → IsRunDone call done → MayHaveWritten call (subject.Unit unit) done
-run-written unit call.Write done runs most = λ _. most
+run-written unit call.Write done runs most = run-done unit done runs most
 run-written unit call.Read done runs most = most
 run-written unit call.Length done runs most = most
 run-written unit call.SetLength done runs most = most

@@ -1,8 +1,9 @@
 -- The disk's copy of its file, where something is attached or detached.
-use Rattle.std.proofs.Common.{◌≡◌, ℕ, ◌≤◌, Bool, true, false, IsTrue, List, [], ◌∷◌, get_or, set, vec_capacity, refl, sym, ◌∙◌, arith}
+use Rattle.std.proofs.Common.{◌≡◌, ℕ, ◌+◌, ◌*◌, ◌<◌, ◌≤◌, Bool, true, false, IsTrue, List, [], ◌∷◌, get_or, length, set, vec_capacity, refl, sym, ◌∙◌, arith}
 use Rattle.std.proofs.Common.{Option, Some, None, Err, ap, zero, suc}
 use Rattle.std.proofs.lemmas.Bool.Decides.{nat_tests}
-use Rattle.std.proofs.lemmas.List.{get_or-set_other}
+use Rattle.std.proofs.lemmas.List.{get_or-set_other, length-append, length-take, length-drop}
+use Rattle.host_files.specs.Lists.{overwritten}
 use Rattle.unit_trait.specs.declared.kind.Kind.{Kind}
 use Rattle.unit_trait.specs.declared.kind.UnitName.{UnitName}
 use Rattle.unit_trait.proofs.EveryKind.{every-kind}
@@ -11,10 +12,10 @@ use Rattle.unit_files.specs.declared.faults.DetachFault.{DetachFault}
 use Rattle.unit_files.specs.declared.faults.DetachFault.TheVariants as faults
 use Rattle.unit_files.specs.Attachments.{Attachment, Held, file_place, takes_attachment, is_disk, longest_file}
 use Rattle.unit_files.specs.Attachments.{read_only_of, read_only_at, attachment_at}
-use Rattle.unit_files.specs.Buffer.{Buffer}
+use Rattle.unit_files.specs.Buffer.{Buffer, sector_bytes, disk_sectors, disk_bytes, with_sector}
 use Rattle.unit_files.specs.Acts.{Failure, HasNone, flush_said, flush_failure, flushed_as, detached_by}
 use Rattle.unit_files.specs.Answers.{said_of_flush, said_of_detach}
-use Rattle.unit_files.specs.View.{CanWrite, disk_bytes}
+use Rattle.unit_files.specs.View.{CanWrite}
 
 -- the first place is the disk's, and no other unit's
 first-of : (k : Kind) (n : ℕ) → is_disk k ≡ true → IsTrue (takes_attachment (record { kind = k; unit = n }))
@@ -38,6 +39,7 @@ can-other slots unit x d other can =
     let same : get_or (set slots (file_place unit) x) 0 None ≡ get_or slots 0 None =
     get_or-set_other slots (file_place unit) 0 x None (λ first. not-first unit.kind unit.unit other (sym first)) in
     record {
+      short = can.short;
       room = λ h is. can.room h (sym same ∙ is);
       writable = λ h is written. can.writable h (sym same ∙ is) written;
     }
@@ -46,9 +48,10 @@ true-false : (b : Bool) → b ≡ true → b ≡ false → ⊥
 true-false b is not = absurd (cc)
 
 -- a copy of which nothing was written
-pub can-new : (slots : List (Option Held)) (d : DiskCopy) → disk_bytes ≤ vec_capacity d.bytes → d.written ≡ false
-    → CanWrite slots d
-can-new slots d room unwritten = record {
+pub can-new : (slots : List (Option Held)) (d : DiskCopy) → length d.bytes.items ≤ disk_bytes
+    → disk_bytes ≤ vec_capacity d.bytes → d.written ≡ false → CanWrite slots d
+can-new slots d short room unwritten = record {
+  short = short;
   room = λ h is. room;
   writable = λ h is written. absurd (true-false d.written written unwritten);
 }
@@ -59,12 +62,14 @@ emptied (x ∷ slots) = refl
 
 -- no file is attached to the disk
 pub can-none : (slots after : List (Option Held)) (unit : UnitName) (d : DiskCopy) → is_disk unit.kind ≡ true
-    → IsTrue (takes_attachment unit) → after ≡ set slots (file_place unit) None → CanWrite after d
-can-none slots after unit d is takes set_is =
+    → IsTrue (takes_attachment unit) → after ≡ set slots (file_place unit) None → length d.bytes.items ≤ disk_bytes
+    → CanWrite after d
+can-none slots after unit d is takes set_is short =
     let first = first-of unit.kind unit.unit is takes in
     let none : get_or after 0 None ≡ None =
     (λ i. get_or (set_is i) 0 None) ∙ (λ i. get_or (set slots (first i) None) 0 None) ∙ emptied slots in
     record {
+      short = short;
       room = λ h there. absurd (some-none h _ there none);
       writable = λ h there written. absurd (some-none h _ there none);
     }
@@ -91,6 +96,20 @@ unfolding longest_file disk_bytes
 copy-fits kind count room =
     every-kind (λ (k : Kind). is_disk k ≡ true → count ≤ longest_file k → disk_bytes ≤ room → count ≤ room)
     ((λ is short enough. omega (arith, short, enough)), (λ is short enough. absurd (cc)), (λ is short enough. absurd (cc)), (λ is short enough. absurd (cc)), (λ is short enough. absurd (cc)), (λ is short enough. absurd (cc)), (λ is short enough. absurd (cc)), (λ is short enough. absurd (cc)), (λ is short enough. absurd (cc)), (λ is short enough. absurd (cc)), (λ is short enough. absurd (cc))) kind
+
+-- a piece that is written within so many bytes leaves no more
+over-short : (bytes piece : List ℕ) (place most : ℕ) → length bytes ≤ most → place + length piece ≤ most
+    → length (overwritten bytes place piece) ≤ most
+over-short bytes [] place most short fits = short
+over-short bytes (b ∷ rest) place most short fits =
+    simp (length-append, length-take, length-drop) (omega arith)
+
+-- the copy has no more bytes than the disk once a sector was written
+pub sector-short : (bytes piece : List ℕ) (sector : ℕ) → sector < disk_sectors → length piece ≡ sector_bytes
+    → length bytes ≤ disk_bytes → length (with_sector bytes sector piece) ≤ disk_bytes
+unfolding with_sector sector_bytes disk_sectors disk_bytes
+sector-short bytes piece sector below long short =
+    over-short bytes piece (sector * sector_bytes) disk_bytes short (omega (arith, below, long))
 
 -- ---- where nothing was attached, nothing is taken away
 

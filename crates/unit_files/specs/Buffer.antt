@@ -37,6 +37,10 @@ sector_bytes = 2 ^ 9
 unfoldable pub disk_sectors : ℕ
 disk_sectors = 2 ^ 13
 
+-- how many bytes the image of a disk may have, and the copy of it
+unfoldable pub disk_bytes : ℕ
+disk_bytes = 2 ^ 22
+
 -- the bytes of a sector, which are 0 behind the end of the copy
 unfoldable pub sector_of : List ℕ → ℕ → List ℕ
 sector_of bytes sector = take sector_bytes (drop (sector * sector_bytes) bytes ++ replicate sector_bytes 0)

@@ -14,6 +14,7 @@ use Rattle.unit_files.specs.declared.faults.DetachFault.TheVariants as detach
 use Rattle.unit_files.specs.declared.faults.ByteAnswer.{ByteAnswer}
 use Rattle.unit_files.specs.declared.faults.ByteAnswer.TheVariants as byte
 use Rattle.unit_files.specs.Attachments.{Held, held_at, is_disk}
+use Rattle.unit_files.specs.Buffer.{disk_bytes}
 
 -- no count has changed, and no file was opened
 pub record IsQuiet (old new : FileState) : Type 0 where
@@ -38,10 +39,11 @@ abbrev pub ByteCause : ByteAnswer → UnitName → List (Option Held) → FileSt
 ByteCause (byte.Failed f) unit slots old new = IsFaultOf f unit slots old new
 ByteCause answer unit slots old new = IsQuiet old new
 
--- the disk's copy could not be written back
+-- the disk's copy could not be written back: its first bytes may have been, and they are no more than the disk has
 pub record IsFlushFault (f : UnitFault) (unit : UnitName) (slots : List (Option Held)) (old new : FileState) : Type 0 where
   pub disk : IsTrue (is_disk unit.kind)
   pub call : f.call ≡ Write
+  pub written : f.done ≤ disk_bytes
   pub fault : IsFaultOf f unit slots old new
 
 -- what a writing back leaves of the counts, by its answer

@@ -1,10 +1,10 @@
 -- What contracts see of the files of units.
-use Rattle.std.specs.Prelude.{◌≡◌, ◌^◌, ◌≤◌, ℕ, true, false, List, Option, Some, None, get_or, option_map, string_bytes, vec_capacity}
+use Rattle.std.specs.Prelude.{◌≡◌, ◌≤◌, true, false, List, Option, Some, None, get_or, length, option_map, string_bytes, vec_capacity}
 use Rattle.host_files.specs.declared.files.FileId.{FileId}
 use Rattle.unit_trait.specs.declared.kind.UnitName.{UnitName}
 use Rattle.unit_files.specs.declared.slots.UnitFile.{UnitFile}
 use Rattle.unit_files.specs.declared.slots.DiskCopy.{DiskCopy}
-use Rattle.unit_files.specs.Buffer.{Buffer}
+use Rattle.unit_files.specs.Buffer.{Buffer, disk_bytes}
 use Rattle.unit_files.specs.Attachments.{Held, held_at, attachments_of, attachment_at}
 
 abbrev pub held_of : UnitFile → Held
@@ -16,13 +16,10 @@ slot_of slot = option_map held_of slot
 abbrev pub buffer_of : DiskCopy → Buffer
 buffer_of d = record { bytes = d.bytes.items; written = d.written }
 
--- how many bytes the image of a disk may have
-unfoldable pub disk_bytes : ℕ
-disk_bytes = 2 ^ 22
-
--- The copy of a file that is attached has room for all of the disk, and no sector of a file that is only read was
--- written.
+-- The copy has no more bytes than the disk; that of a file that is attached has room for all of them, and no sector of a
+-- file that is only read was written.
 pub record CanWrite (slots : List (Option Held)) (d : DiskCopy) : Type 0 where
+  pub short : length d.bytes.items ≤ disk_bytes
   pub room : (h : Held) → get_or slots 0 None ≡ Some h → disk_bytes ≤ vec_capacity d.bytes
   pub writable : (h : Held) → get_or slots 0 None ≡ Some h → d.written ≡ true → h.attachment.read_only ≡ false
 

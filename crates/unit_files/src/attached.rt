@@ -3,7 +3,7 @@ ghost use Rattle.std.specs.Prelude.{true, false, if◌then◌else◌, vec_capaci
 ghost use Rattle.host_files.specs.Lists.{bytes_of};
 ghost use Rattle.host_files.specs.State.{Opened, IsOpen, without};
 ghost use Rattle.unit_files.specs.Attachments.{held_at, with_held, attachments_of, with_attachment, is_disk};
-ghost use Rattle.unit_files.specs.Buffer.{nothing_attached, no_buffer};
+ghost use Rattle.unit_files.specs.Buffer.{nothing_attached, no_buffer, disk_bytes};
 ghost use Rattle.unit_files.specs.Attachments.{attachment_at, takes_attachment, may_write, read_only_at, only_writes};
 ghost use Rattle.unit_files.specs.Attachments.{longest_file, file_place, IsFileName};
 ghost use Rattle.unit_files.specs.Acts.{attach_said, attach_files, attached_by, buffer_by, refused_first};
@@ -17,7 +17,7 @@ ghost use Rattle.unit_files.specs.Acts.{detached, is_due_back, written_back};
 ghost use Rattle.unit_files.specs.Answers.{failure_in};
 ghost use Rattle.host_files.specs.Lists.{changed};
 ghost use Rattle.host_files.specs.State.{IsWritable, name_at};
-ghost use Rattle.unit_files.specs.View.{held_of, buffer_of, disk_bytes, Holds};
+ghost use Rattle.unit_files.specs.View.{held_of, buffer_of, Holds};
 
 use crate::faults::{AttachFault, DetachFault, UnitFault};
 use crate::modes::AttachMode;
@@ -300,6 +300,7 @@ impl Attached {
         requires unit { IsTrue (takes_attachment unit) }
         requires writers { only_writes unit.kind ≡ true → held.read_only ≡ false }
         requires room { IsTrue (is_disk unit.kind) → disk_bytes ≤ vec_capacity bytes }
+        requires short { IsTrue (is_disk unit.kind) → length bytes.items ≤ disk_bytes }
         ensures within { file_place unit < length self.old.slots }
         ensures held { self.new.slots ≡ with_held self.old.slots unit (Some (held_of held)) }
         ensures attachments { attachments_of self.new.slots

@@ -1,7 +1,6 @@
 ghost use Rattle.std.specs.Prelude.{◌≡◌, ◌<◌, ◌≤◌, ◌*◌, ◌+◌, ◌-◌, ◌++◌, length, take, drop, min, replicate, vec_len, vec_capacity};
 ghost use Rattle.unit_files.specs.Attachments.{attachments_of, attachment_at};
-ghost use Rattle.unit_files.specs.Buffer.{disk_unit, disk_sectors, sector_bytes, sector_of, with_sector};
-ghost use Rattle.unit_files.specs.View.{disk_bytes};
+ghost use Rattle.unit_files.specs.Buffer.{disk_bytes, disk_unit, disk_sectors, sector_bytes, sector_of, with_sector};
 ghost use Rattle.unit_files.specs.Buffer.{said_of_reading, sector_read, said_of_writing, sector_written};
 
 use crate::attached::Attached;
@@ -38,7 +37,7 @@ impl Attached {
     /// a gap. It takes no memory and makes no call on the file: the bytes are written back by `flush` and `detach`.
     /// `NoFile` comes exactly where nothing is attached, and `ReadOnly` exactly where the file is only read; then
     /// nothing has changed.
-    #[tactic(auto, unfolding(crate::specs::Buffer::disk_sectors, crate::specs::Buffer::sector_bytes, crate::specs::View::disk_bytes))]
+    #[tactic(auto, unfolding(crate::specs::Buffer::disk_sectors, crate::specs::Buffer::sector_bytes, crate::specs::Buffer::disk_bytes))]
     pub fn write_sector(&mut self, sector: u16, from: &[u8; 512]) -> SectorAnswer
         requires { sector < disk_sectors }
         ensures said { result ≡ said_of_writing (attachment_at (attachments_of self.old.slots) disk_unit) }
@@ -95,7 +94,7 @@ fn clear_from(bytes: &mut [u8], place: usize)
 }
 
 // Puts a sector into the bytes of a disk, which have room for it.
-#[tactic(auto, unfolding(crate::specs::Buffer::disk_sectors, crate::specs::Buffer::sector_bytes, crate::specs::View::disk_bytes))]
+#[tactic(auto, unfolding(crate::specs::Buffer::disk_sectors, crate::specs::Buffer::sector_bytes, crate::specs::Buffer::disk_bytes))]
 fn write_into(bytes: &mut Vec<u8>, sector: u16, from: &[u8; 512])
     requires sector { sector < disk_sectors }
     requires room { disk_bytes ≤ vec_capacity bytes.old }

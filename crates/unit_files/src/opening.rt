@@ -6,7 +6,7 @@ ghost use Rattle.unit_files.specs.declared.modes.AttachMode.TheVariants.{Any};
 ghost use Rattle.unit_files.specs.Attachments.{longest_file, is_disk};
 ghost use Rattle.unit_files.specs.Acts.{failure_at, measured, opening_said};
 ghost use Rattle.unit_files.specs.Acts.{files_unless_opening};
-ghost use Rattle.unit_files.specs.View.{disk_bytes};
+ghost use Rattle.unit_files.specs.Buffer.{disk_bytes};
 ghost use Rattle.unit_files.specs.Answers.{said_of_attach, failure_of_attach, first_refusal, IfNoMemory};
 ghost use Rattle.unit_files.specs.Causes.{AttachCause, OnlyNewCounts};
 ghost use Rattle.unit_files.specs.Opening.{OpensFor, IsNewlyOpen, length_of, fault_of_opening, MeasureCause};
@@ -32,7 +32,7 @@ pub(crate) struct Taken {
 }
 
 /// Room for what a unit of that kind holds of its file: the whole disk, and none for the others.
-#[tactic(auto, unfolding(crate::specs::View::disk_bytes))]
+#[tactic(auto, unfolding(crate::specs::Buffer::disk_bytes))]
 pub(crate) fn room_for(alloc: Global, kind: Kind) -> Result<Vec<u8>, AllocError>
     ensures empty { IfOk result (λ v. v.items ≡ []) }
     ensures room { IfOk result (λ v. IsTrue (is_disk kind) → disk_bytes ≤ vec_capacity v) }
@@ -116,7 +116,7 @@ fn measure<F: Files>(unit: UnitName, file: FileId, files: &mut F) -> Result<u64,
 }
 
 // The disk reads its file, which has so many bytes.
-#[tactic(auto, unfolding(crate::specs::View::disk_bytes))]
+#[tactic(auto, unfolding(crate::specs::Buffer::disk_bytes))]
 fn read_copy<F: Files>(
     file: FileId,
     count: usize,
@@ -127,6 +127,7 @@ fn read_copy<F: Files>(
     requires room { count ≤ vec_capacity bytes.old }
     requires length { IsTrue F.tells → count ≡ length (content (F.state files.old) file.0) }
     ensures bytes { IsTrue F.tells → OnOk result (bytes.new.items ≡ content (F.state files.old) file.0) }
+    ensures short { OnOk result (length bytes.new.items ≤ count) }
     ensures kept { vec_capacity bytes.old ≤ vec_capacity bytes.new }
     ensures needed { OnErr result (0 < count) }
     ensures counted { Counted file.0 (F.state files.old) (F.state files.new) result }
@@ -153,6 +154,7 @@ fn measure_and_read<F: Files>(
     ensures bound { IfOk result (λ n. n ≤ longest_file unit.kind) }
     ensures bytes { IsTrue F.tells → IsTrue (is_disk unit.kind)
         → OnOk result (bytes.new.items ≡ content (F.state files.old) file.0) }
+    ensures short { IsTrue (is_disk unit.kind) → OnOk result (length bytes.new.items ≤ disk_bytes) }
     ensures kept { vec_capacity bytes.old ≤ vec_capacity bytes.new }
     ensures cause { MeasureCause result unit file (F.state files.old) (F.state files.new) }
     ensures counts { OnlyCountOf file.0 (F.state files.old) (F.state files.new) }
@@ -184,6 +186,7 @@ fn measure_or_close<F: Files>(
     ensures bound { IfOk result (λ n. n ≤ longest_file unit.kind) }
     ensures bytes { IsTrue F.tells → IsTrue (is_disk unit.kind)
         → OnOk result (bytes.new.items ≡ content (F.state files.old) file.0) }
+    ensures short { IsTrue (is_disk unit.kind) → OnOk result (length bytes.new.items ≤ disk_bytes) }
     ensures kept { vec_capacity bytes.old ≤ vec_capacity bytes.new }
     ensures cause { ClosedCause result unit file (F.state files.old) (F.state files.new) }
     ensures counts { OnlyCountOf file.0 (F.state files.old) (F.state files.new) }
@@ -224,6 +227,7 @@ pub(crate) fn take_file<F: Files>(
     ensures bytes { IsTrue F.tells → IsTrue (is_disk unit.kind) → IfOk result (λ taken.
         taken.bytes.items ≡ bytes_of (F.state files.new).files name.now) }
     ensures room { IfOk result (λ taken. IsTrue (is_disk unit.kind) → disk_bytes ≤ vec_capacity taken.bytes) }
+    ensures short { IfOk result (λ taken. IsTrue (is_disk unit.kind) → length taken.bytes.items ≤ disk_bytes) }
     ensures opened { IfOk result (λ taken.
         IsNewlyOpen (F.state files.old) (F.state files.new) name.now mode taken.file.0) }
     ensures closed { OnErr result ((F.state files.new).opened ≡ (F.state files.old).opened) }

@@ -19,7 +19,7 @@ invariant_of-self c =
       ap writers_write view
           ∙ writers-set (map slot_of items) c.args.unit (Some (held_of c.args.held)) long c.self.invariant.1
           c.requires.writers,
-      can-new _ _ (c.requires.room is) refl,
+      can-new _ _ (c.requires.short is) (c.requires.room is) refl,
     )
 
 pub invariant_of-self-else-is_disk : goal.invariant_of-self-else-is_disk

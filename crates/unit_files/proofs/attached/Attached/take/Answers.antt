@@ -17,7 +17,7 @@ invariant_of-self c =
     let is : is_disk c.args.unit.kind ≡ true = search rules in (
       length-set items c.place_of.result h ∙ c.self.invariant.0,
       ap writers_write view ∙ writers-set (map slot_of items) c.args.unit None long c.self.invariant.1 (λ is. refl),
-      can-none (map slot_of items) _ c.args.unit _ is c.requires view,
+      can-none (map slot_of items) _ c.args.unit _ is c.requires view (search rules),
     )
 
 pub invariant_of-self-else-is_disk : goal.invariant_of-self-else-is_disk
