@@ -97,15 +97,21 @@ is_missing bytes = false
 abbrev pub opening_counted : Bool → Whole → Bool
 opening_counted tells w = is_opening w.failed || (is_missing w.bytes && not tells)
 
--- Why there are no bytes, also of files that tell nothing. There is no file of that name; or it was opened, which gave an
--- id, and is too long. Where memory ran out behind the opening it is not too long: its length is asked before memory is
--- taken for its bytes.
+-- ---- its length
+
+-- The file of a name, where names are told, is no longer than one that is read whole.
+abbrev pub Fits : Bool → List ℕ → FileState → Type 0
+Fits tells name s = IsTrue tells → length (bytes_of s.files name) ≤ longest_file
+
+-- Why a reading answers so, also of files that tell nothing. There is no file of that name; or it was opened, which gave an
+-- id, and is too long. The length is asked before memory is taken for the bytes: where memory ran out behind the opening,
+-- the file is not too long.
 abbrev pub WholeCause : Bool → List ℕ → Result (Vec ℕ) WholeFault → FileState → FileState → Type 0
+WholeCause tells name (Ok v) old new = Fits tells name old
 WholeCause tells name (Err fault.NoFile) old new =
     (IsTrue tells → is_some (find_file old.files name) ≡ false)
     × ((IsTrue tells → ⊥) → Rose old.open_faults new.open_faults)
 WholeCause tells name (Err fault.TooLong) old new =
     (old.given < new.given) × (IsTrue tells → longest_file < length (bytes_of old.files name))
-WholeCause tells name (Err fault.OutOfMemory) old new =
-    IsTrue tells → old.given < new.given → length (bytes_of old.files name) ≤ longest_file
-WholeCause tells name bytes old new = Unit {0}
+WholeCause tells name (Err fault.Failed) old new = Unit {0}
+WholeCause tells name (Err fault.OutOfMemory) old new = old.given < new.given → Fits tells name old
