@@ -1,7 +1,7 @@
 -- Why the keys file or the script was not read.
-use Rattle.std.proofs.Common.{◌≡◌, ◌⊎◌, inl, inr, ℕ, ◌<◌, ◌≤◌, Bool, true, false, not, ◌&&◌, IsTrue, List, [], ◌∷◌, ◌++◌, length, get_or, refl, ap, sym, ◌∙◌, subst, arith, append_assoc, Option, Some, None, IfSome, IsSome, is_some, String, Global, string_bytes, Result, Ok, Err, if◌then◌else◌}
+use Rattle.std.proofs.Common.{◌≡◌, ◌⊎◌, inl, inr, ℕ, ◌<◌, ◌≤◌, Bool, true, false, not, IsTrue, List, [], ◌∷◌, ◌++◌, length, get_or, refl, ap, sym, ◌∙◌, subst, arith, append_assoc, Option, Some, None, IsSome, is_some, String, Global, string_bytes, Result, Ok, Err, if◌then◌else◌}
 use Rattle.std.specs.Global.{Vec}
-use Rattle.fault_counts.specs.Faults.{raised, Rose}
+use Rattle.fault_counts.specs.Faults.{raised}
 use Rattle.host_files.specs.Lists.{NamedBytes, find_file, bytes_of}
 use Rattle.host_files.specs.State.{FileState}
 use Rattle.file_commands.specs.declared.note.FaultNote.{FaultNote}
@@ -13,24 +13,21 @@ use Rattle.whole_files.specs.declared.whole.WholeFault.{WholeFault}
 use Rattle.whole_files.specs.declared.whole.WholeFault.TheVariants as whole
 use Rattle.whole_files.specs.Whole.{longest_file}
 use Rattle.whole_files.specs.Claims.{HasShape, raised_by, claims_on, opening_counted, Fits, WholeCause}
-use Rattle.expect_actions.specs.KeysFile.{Key}
 use Rattle.nova_machine.specs.Machine.{MachineState}
-use Rattle.scp_commands.specs.Doing.{AllClosings, AreRefusalOf, FileCause, Keeps}
-use Rattle.scp_commands.specs.Reply.{Answer}
+use Rattle.scp_commands.specs.Doing.{AllClosings, FileCause, Keeps}
 use Rattle.scp_commands.specs.ScriptEffects.{script_of}
-use Rattle.scp_commands.specs.WholeCalls.{whole_answer, read_notes}
+use Rattle.scp_commands.specs.WholeCalls.{whole_answer}
 use Rattle.scp_commands.proofs.WholeLemmas.{read-keeps}
 use Rattle.scp_script.specs.declared.progress.Finish.{Finish}
 use Rattle.scp_script.specs.declared.progress.Finish.TheVariants as finish
-use Rattle.scp_script.specs.Loop.{IsExitStatus, FinishCause, AreKept, status_of}
+use Rattle.scp_script.specs.Loop.{FinishCause, AreKept, status_of}
 use Rattle.nova_top.specs.declared.options.Options.{Options}
 use Rattle.nova_top.specs.declared.word_files.Refusal.{Refusal}
 use Rattle.nova_top.specs.declared.word_files.Refusal.TheVariants.{Unopened, BadKeys, OutOfMemory}
-use Rattle.nova_top.specs.declared.word_files.Beginning.{Beginning}
 use Rattle.nova_top.specs.Ends.{AreWordClosings}
 use Rattle.nova_top.specs.Words.{options_of, keys_name, script_name, texts_of}
 use Rattle.nova_top.specs.Program.{noted_call, AddsClosings, denial_of, RefusedCause, DeniedCause}
-use Rattle.nova_top.specs.Unread.{NotRead, NamedNotRead, WordsNotRead, IsUnopened, NamedFits, AreMeasured, NotedAs, WordCause, AnswersRead, TakesCause, BeginsCause}
+use Rattle.nova_top.specs.Unread.{NotRead, WordsNotRead, IsUnopened, NamedFits, AreMeasured, NotedAs, WordCause, AnswersRead, TakesCause, BeginsCause}
 use Rattle.nova_top.proofs.WordFileLemmas.{name-at}
 use Rattle.nova_top.proofs.ReadingLemmas.{two-kept, noted-as, word-there}
 
