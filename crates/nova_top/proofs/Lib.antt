@@ -3,6 +3,7 @@ pub mod WordsLemmas
 pub mod WorkloadLemmas
 pub mod WordFileLemmas
 pub mod ReadingLemmas
+pub mod UnreadLemmas
 pub mod StandardLemmas
 pub mod ProgramLemmas
 pub mod ValidProgram

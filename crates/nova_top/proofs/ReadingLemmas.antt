@@ -56,7 +56,7 @@ word-both : (whose : Subject) (first second : List FileCall) → word_notes whos
 word-both whose [] second = refl
 word-both whose (call ∷ first) second = ap (λ (l : List Note). record { command = 0; note = record { time = 0; subject = whose; failure = record { call = call; done = 0 } } } ∷ l) (word-both whose first second)
 
-two-kept : (whose : Subject) (kept one two : List FaultNote) (w : Whole) → one ≡ kept ++ noted_call whose w.failed → two ≡ one ++ noted_call whose w.closing → two ≡ kept ++ (noted_call whose w.failed ++ noted_call whose w.closing)
+pub two-kept : (whose : Subject) (kept one two : List FaultNote) (w : Whole) → one ≡ kept ++ noted_call whose w.failed → two ≡ one ++ noted_call whose w.closing → two ≡ kept ++ (noted_call whose w.failed ++ noted_call whose w.closing)
 two-kept whose kept one two w first second =
     second ∙ ap (λ (l : List FaultNote). l ++ noted_call whose w.closing) first ∙ append_assoc kept (noted_call whose w.failed) (noted_call whose w.closing)
 
@@ -144,7 +144,7 @@ reads-kept whose kept one two w tells old new first second shape files openings 
 }
 
 -- the notes are of the file that was opened
-noted-as : (whose : Subject) (failed closing : Option FailedCall)
+pub noted-as : (whose : Subject) (failed closing : Option FailedCall)
     → noted_call whose failed ++ noted_call whose closing ≡ both_notes whose (record { command = 0; time = 0 }) 0 failed closing
 noted-as whose None None = refl
 noted-as whose None (Some c) = refl
@@ -208,7 +208,7 @@ closings-both first second third a b = record {
 pub named-at : (o : Option ℕ) (n place : ℕ) → IfSome o (λ (p : ℕ). p < n) → o ≡ Some place → place < n
 named-at o n place named is = subst (λ (k : Option ℕ). IfSome k (λ (p : ℕ). p < n)) is named
 
-word-there : (words : List (String Global)) (place : ℕ) → place < length (texts_of words) → place < length words
+pub word-there : (words : List (String Global)) (place : ℕ) → place < length (texts_of words) → place < length words
 word-there words place within = let many = length-map words (λ (w : String Global). string_bytes w) in omega (arith, within, many)
 
 pub keys-take : (words : List (String Global)) (options : Options) (files : List NamedBytes) (place : ℕ) (word : String Global) (kept kept' : List FaultNote) (bytes : Result (Vec ℕ) WholeFault) (result : Result (List Key) Refusal)

@@ -6,4 +6,5 @@ pub mod Outside
 pub mod Ends
 pub mod Laws
 pub mod Program
+pub mod Unread
 pub mod ValidLaws

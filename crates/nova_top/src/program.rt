@@ -17,6 +17,7 @@ ghost use Rattle.nova_top.specs.Words.{texts_of};
 ghost use Rattle.nova_top.specs.Outside.{usage_text, unopened_text, bad_keys_text};
 ghost use Rattle.nova_top.specs.Ends.{IsOutcome, IsCutShort, StatusCause, MachineThere, IsComplete, FilesAtEnd, KeptUnwritten};
 ghost use Rattle.nova_top.specs.Ends.{NoneFailed, HasWorkload};
+ghost use Rattle.nova_top.specs.Unread.{IsUnopened, AreMeasured};
 ghost use Rattle.nova_top.specs.Program.{IsRefused, RefusedCause, RefusalCause, SessionEnds};
 ghost use Rattle.nova_top.specs.Program.{denial_of, IsDenied, DeniedCause, status_printed};
 ghost use Rattle.nova_top.specs.Workload.{with_workload};
@@ -82,6 +83,10 @@ pub fn simulate<U: Unit, C: Source, S: Sink, F: Files>(
         (S.written output.new) (F.state files.old).files (F.state files.new).files result.status result.machine }
     ensures cause { StatusCause (texts_of words.now) result.status (S.fault_count output.old) (S.fault_count output.new)
         (C.fault_count input.old) (C.fault_count input.new) }
+    ensures unopened { result.status ≡ 101 → IsUnopened F.tells (texts_of words.now) result.faults.items
+        (F.state files.old) (F.state files.new) }
+    ensures measured { result.status ≡ 103 → AreMeasured F.tells (texts_of words.now) result.machine
+        (F.state files.old) (F.state files.new) }
     ensures notes { AreCounted result.faults.items (F.state files.old) (F.state files.new) }
     ensures whose { AllByRecursion (IsOwnNote no_files (F.state files.old) (F.state files.new)) result.faults.items }
     ensures unwritten { result.status ≡ 107

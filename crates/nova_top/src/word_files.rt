@@ -13,6 +13,7 @@ ghost use Rattle.nova_top.specs.Outside.{keys_from, taken_keys, script_from, tak
 ghost use Rattle.nova_top.specs.Program.{noted_call, ReadsFile, ComesOf, Takes, RefusalCause, as_file, BeginsAs};
 ghost use Rattle.nova_top.specs.Program.{OpensAs, AddsClosings, IsUnrefused};
 ghost use Rattle.nova_top.specs.Ends.{AreWordClosings};
+ghost use Rattle.nova_top.specs.Unread.{WordCause, AnswersRead, TakesCause, BeginsCause};
 ghost use Rattle.nova_top.specs.declared.word_files.Refusal.TheVariants.{OutOfMemory};
 ghost use Rattle.whole_files.specs.declared.whole.WholeFault.TheVariants as whole_faults;
 ghost use Rattle.nova_top.specs.Workload.{first_text};
@@ -66,6 +67,8 @@ pub fn begin<F: Files>(
     ensures keeps { AreKept [] notes.new.items (F.state files.old) (F.state files.new) }
     ensures whose { AreOwn no_files no_files [] notes.new.items (F.state files.old) (F.state files.new) }
     ensures closings { result ≡ Err OutOfMemory → AreWordClosings (notes_said notes.new.items) }
+    ensures unread { BeginsCause F.tells (texts_of words.now) options result notes.new.items (F.state files.old)
+        (F.state files.new) }
 {
     let keys = take_keys(alloc, words, options, files, notes)?;
     let script = take_script(alloc, words, options, files, notes)?;
@@ -137,6 +140,8 @@ fn take_keys<F: Files>(
     ensures keeps { AreKept notes.old.items notes.new.items (F.state files.old) (F.state files.new) }
     ensures whose { AreOwn no_files no_files notes.old.items notes.new.items (F.state files.old) (F.state files.new) }
     ensures closings { IsUnrefused result → AddsClosings notes.old.items notes.new.items }
+    ensures unread { TakesCause F.tells subject.Keys (keys_name (texts_of words.now) options) result notes.old.items
+        notes.new.items (F.state files.old) (F.state files.new) }
 {
     match options.keys {
         Some(place) => {
@@ -166,6 +171,8 @@ fn take_script<F: Files>(
     ensures keeps { AreKept notes.old.items notes.new.items (F.state files.old) (F.state files.new) }
     ensures whose { AreOwn no_files no_files notes.old.items notes.new.items (F.state files.old) (F.state files.new) }
     ensures closings { IsUnrefused result → AddsClosings notes.old.items notes.new.items }
+    ensures unread { TakesCause F.tells subject.Script (script_name (texts_of words.now) options) result
+        notes.old.items notes.new.items (F.state files.old) (F.state files.new) }
 {
     match options.script {
         Some(place) => {
@@ -194,6 +201,8 @@ fn read_word<F: Files>(
     ensures keeps { AreKept notes.old.items notes.new.items (F.state files.old) (F.state files.new) }
     ensures whose { AreOwn no_files no_files notes.old.items notes.new.items (F.state files.old) (F.state files.new) }
     ensures closings { result ≢ Err whole_faults.Failed → AddsClosings notes.old.items notes.new.items }
+    ensures unread { WordCause F.tells whose (string_bytes name.now) result notes.old.items notes.new.items
+        (F.state files.old) (F.state files.new) }
 {
     let whole = read_file(alloc, name.as_str(), files);
     note_call(whose, notes, whole.failed);
@@ -230,6 +239,7 @@ fn keys_of(alloc: Global, place: usize, read: Result<Vec<u8>, WholeFault>) -> Re
     ensures named { (words : List (List ℕ)) (options : Options) → place < length words → options.keys ≡ Some place
         → IfErr result (RefusalCause words options) }
     ensures unfailed { IsUnrefused result → read ≢ Err whole_faults.Failed }
+    ensures answers { AnswersRead read result }
 {
     match read {
         Ok(bytes) => match Keys::read_keys(alloc, bytes.as_slice()) {
@@ -251,6 +261,7 @@ fn script_of(place: usize, read: Result<Vec<u8>, WholeFault>) -> Result<Option<S
     ensures named { (words : List (List ℕ)) (options : Options) → place < length words → options.script ≡ Some place
         → IfErr result (RefusalCause words options) }
     ensures unfailed { IsUnrefused result → read ≢ Err whole_faults.Failed }
+    ensures answers { AnswersRead read result }
 {
     match read {
         Ok(bytes) => Ok(Some(ScriptText::new(bytes))),

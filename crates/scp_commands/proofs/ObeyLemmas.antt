@@ -38,6 +38,7 @@ use Rattle.scp_commands.specs.ScriptEffects.{test_answer, echo_reply, assert_rep
 use Rattle.scp_commands.specs.Effect.{effect}
 use Rattle.scp_commands.specs.Parts.{IsPastRuns, IsPastSettings, IsPastWatches}
 use Rattle.file_commands.specs.declared.stamp.Stamp.{Stamp}
+use Rattle.scp_commands.specs.Refusals.{IsMeasured}
 use Rattle.scp_commands.specs.Doing.{Does, Did, FileCause, Keeps, MayWant, AttachNote}
 use Rattle.scp_commands.proofs.DidLemmas.{did-of}
 
@@ -369,3 +370,15 @@ other-is limit own live line v past o = refl
 pub no-note : (r : Request) (stamp : Stamp) (notes notes' : List FaultNote) (old new : FileState) → AttachNote r (Err NotBuilt) stamp notes notes' old new
 no-note (Attach option unit name) stamp notes notes' old new = tt
 no-note r stamp notes notes' old new = tt
+
+-- nor does it read a file
+pub not-measured : (tells : Bool) (r : Request) (old new : FileState) → IsMeasured tells r (Err NotBuilt) old new
+not-measured tells (Do echo strict name arguments) old new = tt
+not-measured tells (Load name) old new = tt
+not-measured tells r old new = tt
+
+-- no file is opened where the room for notes is not there
+pub none-measured : (tells : Bool) (r : Request) (state : FileState) → IsMeasured tells r (Err OutOfMemory) state state
+none-measured tells (Do echo strict name arguments) state = λ told more. absurd (omega (arith, more))
+none-measured tells (Load name) state = λ told more. absurd (omega (arith, more))
+none-measured tells r state = tt

@@ -30,6 +30,7 @@ use Rattle.scp_commands.specs.FaultText.{tape_fault}
 use Rattle.scp_commands.specs.TapeEffects.{tape_in, tape_answer, tape_machine, loaded_machine, read_machine, load_reply}
 use Rattle.scp_commands.specs.TapeEffects.{can_dump, dump_of, dump_after, dump_reply}
 use Rattle.scp_commands.specs.WholeCalls.{whole_answer, write_calls, read_notes}
+use Rattle.scp_commands.specs.Refusals.{UnreadCause}
 use Rattle.scp_commands.specs.Doing.{Did, AllClosings, FileCause, IsPlain, IsOwn, IsExitAnswer}
 use Rattle.scp_commands.proofs.WholeLemmas.{load-is, read-did, TakesClosings}
 
@@ -55,6 +56,15 @@ tape-own m bytes = by-tape (tape_in m bytes)
     by-tape (Err (tape.Truncated place)) = (tt, tt)
     by-tape (Err (tape.BadSum place)) = (tt, tt)
     by-tape (Err (tape.PastMemory origin)) = (tt, tt)
+
+pub tape-cause : (tells : Bool) (name : List ℕ) (m : MachineState) (old new : FileState) (bytes : List ℕ) → UnreadCause tells name (tape_comes m bytes) old new
+tape-cause tells name m old new bytes = by-tape (tape_in m bytes)
+  where
+    by-tape : (r : Result Tape LoadFault) → UnreadCause tells name (tape_answer r) old new
+    by-tape (Ok says) = tt
+    by-tape (Err (tape.Truncated place)) = tt
+    by-tape (Err (tape.BadSum place)) = tt
+    by-tape (Err (tape.PastMemory origin)) = tt
 
 pub tape-closings : (stamp : Stamp) (tells : Bool) (m : MachineState) (bytes : List ℕ) (old new : FileState)
     → TakesClosings stamp tells (tape_comes m bytes) old new

@@ -31,6 +31,7 @@ use Rattle.whole_files.specs.declared.writing.Written.{Written}
 use Rattle.whole_files.specs.Whole.{WholeSaid, WholeIs, NotThere, TooLong, CallFailed, whole_act}
 use Rattle.whole_files.specs.Claims.{said_of, said_of_bytes, call_of, claimed, is_failed, ComesBefore, HasShape, raised_by, claims_of, is_missing}
 use Rattle.whole_files.specs.Claims as claims
+use Rattle.whole_files.specs.Claims.{WholeCause}
 use Rattle.whole_files.specs.Writing.{FailingCall, WriteSaid, AllWritten, WriteFailed, WriteAct, write_act, said_of_writing, failing_call}
 use Rattle.whole_files.specs.Writing.{claimed_in_writing, is_failed_writing, ComesBeforeClosing, WasNotOpened, HasWriteShape, is_unmade}
 use Rattle.scp_commands.specs.declared.fault.CommandFault.TheVariants.{OutOfMemory}
@@ -38,6 +39,7 @@ use Rattle.scp_commands.specs.Live.{Live, standing}
 use Rattle.scp_commands.specs.Reply.{Answer, Reply}
 use Rattle.scp_commands.specs.WholeCalls.{is_of_whole, whole_calls, write_calls, said_answer, whole_answer, wrote_answer, written_answer}
 use Rattle.scp_commands.specs.WholeCalls.{call_note, call_notes, both_notes, read_notes, write_notes}
+use Rattle.scp_commands.specs.Refusals.{UnreadCause}
 use Rattle.scp_commands.specs.Doing.{Does, Did, ComeBehind, IsStamped, IsClosingOf, AllClosings, FileCause, Keeps, IsShutNote, NotesRemain, IsPlain, IsOwn, IsExitAnswer}
 use Rattle.scp_commands.proofs.CloseLemmas.{said-append, refused-first}
 use Rattle.scp_commands.proofs.ReplyLemmas.{silent-does}
@@ -657,6 +659,20 @@ read-own whose comes_to bytes answer own is = subst (λ (a : Answer). IsOwn a ×
     by-bytes (Err fault.TooLong) = (tt, tt)
     by-bytes (Err fault.Failed) = (tt, tt)
     by-bytes (Err fault.OutOfMemory) = (tt, tt)
+
+-- why it was not read is why a reading gave no bytes, where its bytes come to no such answer
+pub unread-cause : (whose : Subject) (comes_to : List ℕ → Answer) (tells : Bool) (name : List ℕ) (bytes : Result (Vec ℕ) WholeFault) (answer : Answer) (old new : FileState)
+    → ((read : List ℕ) → UnreadCause tells name (comes_to read) old new) → answer ≡ whole_answer whose comes_to bytes
+    → WholeCause tells name bytes old new → UnreadCause tells name answer old new
+unread-cause whose comes_to tells name bytes answer old new comes is cause =
+    subst (λ (a : Answer). UnreadCause tells name a old new) (sym is) (by-bytes bytes cause)
+  where
+    by-bytes : (bytes : Result (Vec ℕ) WholeFault) → WholeCause tells name bytes old new → UnreadCause tells name (whole_answer whose comes_to bytes) old new
+    by-bytes (Ok v) cause = comes v.items
+    by-bytes (Err fault.NoFile) cause = cause
+    by-bytes (Err fault.TooLong) cause = cause
+    by-bytes (Err fault.Failed) cause = tt
+    by-bytes (Err fault.OutOfMemory) cause = cause
 
 pub write-own : (whose : Subject) (written : Result (Unit {0}) WholeFault) (answer : Answer) → answer ≡ written_answer whose written
     → IsOwn answer × IsExitAnswer answer

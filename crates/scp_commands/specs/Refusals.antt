@@ -1,12 +1,17 @@
 -- What a command is refused for before it wants any memory.
-use Rattle.std.specs.Prelude.{◌≡◌, ◌==◌, ◌&&◌, nat_le, true, false, None, length}
+use Rattle.std.specs.Prelude.{◌≡◌, ◌==◌, ◌&&◌, ℕ, nat_le, Bool, true, false, List, None, Err, length}
+use Rattle.host_files.specs.State.{FileState}
 use Rattle.unit_files.specs.Attachments.{attachment_at}
 use Rattle.unit_files.specs.Acts.{refused_first}
 use Rattle.expect_actions.specs.Expects.{most_expects}
 use Rattle.expect_actions.specs.Watch.{WatchState}
 use Rattle.nova_machine.specs.Machine.{MachineState}
 use Rattle.nova_machine.specs.Seen.{attached_in}
-use Rattle.scp_parser.specs.Command.{Request, Break, Expect, Attach, Dump}
+use Rattle.whole_files.specs.declared.whole.WholeFault.TheVariants as whole
+use Rattle.whole_files.specs.Claims.{WholeCause}
+use Rattle.scp_parser.specs.Command.{Request, Break, Expect, Attach, Dump, Do, Load}
+use Rattle.scp_commands.specs.declared.fault.CommandFault.TheVariants.{NoFile, FileTooLong, OutOfMemory}
+use Rattle.scp_commands.specs.Reply.{Answer}
 use Rattle.scp_commands.specs.RunEffects.{last_address}
 use Rattle.scp_commands.specs.WatchEffects.{largest_count, lacks_room_for_break, can_be_expected, text_of_quoted}
 use Rattle.scp_commands.specs.FileEffects.{lacks_unit, mode_of}
@@ -24,3 +29,18 @@ IsUnrefused (Attach option unit name) m w =
     (lacks_unit m unit ≡ false) × (refused_first (attachment_at (attached_in m) unit) unit (mode_of option) ≡ None)
 IsUnrefused (Dump from to name) m w = can_dump m from to ≡ true
 IsUnrefused request m w = Unit {0}
+
+-- Why a file that is read whole was not read, also of files that tell nothing, where no call on it failed: it is not there;
+-- or it was opened, and is too long; or memory ran out, behind the opening only where it is not too long.
+abbrev pub UnreadCause : Bool → List ℕ → Answer → FileState → FileState → Type 0
+UnreadCause tells name (Err NoFile) old new = WholeCause tells name (Err whole.NoFile) old new
+UnreadCause tells name (Err FileTooLong) old new = WholeCause tells name (Err whole.TooLong) old new
+UnreadCause tells name (Err OutOfMemory) old new = WholeCause tells name (Err whole.OutOfMemory) old new
+UnreadCause tells name answer old new = Unit {0}
+
+-- The length of a script of DO and of a tape of LOAD is asked before memory is taken for its bytes: where it was opened and
+-- is too long, that is the answer, and no want of memory.
+abbrev pub IsMeasured : Bool → Request → Answer → FileState → FileState → Type 0
+IsMeasured tells (Do echo strict name arguments) answer old new = UnreadCause tells name answer old new
+IsMeasured tells (Load name) answer old new = UnreadCause tells name answer old new
+IsMeasured tells request answer old new = Unit {0}

@@ -9,6 +9,7 @@ ghost use Rattle.scp_commands.specs.declared.fault.CommandFault.TheVariants.{Out
 ghost use Rattle.scp_commands.specs.Live.{live_in};
 ghost use Rattle.scp_commands.specs.ScriptEffects.{script_of, do_reply};
 ghost use Rattle.scp_commands.specs.WholeCalls.{whole_answer};
+ghost use Rattle.scp_commands.specs.Refusals.{UnreadCause};
 ghost use Rattle.scp_commands.specs.Doing.{Did, Keeps, IsUndone, IsOwn, IsExitAnswer, IsRefused};
 
 use crate::do_file::{DoFile, ScriptText};
@@ -52,6 +53,7 @@ pub fn do_script<U: Unit, F: Files>(
         session.new.notes (F.state files.old) (F.state files.new) }
     ensures whose { AreOwn session.old.machine.slots session.new.machine.slots session.old.notes session.new.notes
         (F.state files.old) (F.state files.new) }
+    ensures whole { UnreadCause F.tells name.now result (F.state files.old) (F.state files.new) }
     ensures own { IsOwn result }
     ensures exit { IsExitAnswer result }
     ensures watch { session.new.watch ≡ session.old.watch }

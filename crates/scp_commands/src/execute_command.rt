@@ -11,7 +11,7 @@ ghost use Rattle.scp_commands.specs.Effect.{effect};
 ghost use Rattle.scp_commands.specs.Nature.{nature};
 ghost use Rattle.scp_commands.specs.Remains.{AreLeft};
 ghost use Rattle.scp_commands.specs.Parts.{IsPastRuns, IsPastSettings, IsPastWatches};
-ghost use Rattle.scp_commands.specs.Refusals.{IsUnrefused};
+ghost use Rattle.scp_commands.specs.Refusals.{IsUnrefused, IsMeasured};
 ghost use Rattle.scp_commands.specs.Doing.{Did, IsTold, Keeps, ConsoleCounts, MayWant, IsUndone, says_files, IsExitAnswer, RunCause, IsRefusal, AttachNote};
 
 use crate::do_command::do_script;
@@ -63,6 +63,7 @@ pub fn execute<U: Unit, F: Files, S: Sink>(
     ensures want { result ≡ Err OutOfMemory → MayWant session.old.spare command.now }
     ensures unrefused { result ≡ Err OutOfMemory → 16 ≤ session.old.spare
         → IsUnrefused command.now session.old.machine session.old.watch }
+    ensures measured { IsMeasured F.tells command.now result (F.state files.old) (F.state files.new) }
     ensures keeps { Keeps session.old.command session.new.machine.time F.tells result session.old.notes
         session.new.notes (F.state files.old) (F.state files.new) }
     ensures whose { AreOwn session.old.machine.slots session.new.machine.slots session.old.notes session.new.notes
@@ -110,6 +111,7 @@ fn obey<U: Unit, F: Files, S: Sink>(
     ensures want { result ≡ Err OutOfMemory → MayWant 16 command.now }
     ensures unrefused { result ≡ Err OutOfMemory
         → IsUnrefused command.now session.old.machine session.old.watch }
+    ensures measured { IsMeasured F.tells command.now result (F.state files.old) (F.state files.new) }
     ensures keeps { Keeps session.old.command session.new.machine.time F.tells result session.old.notes
         session.new.notes (F.state files.old) (F.state files.new) }
     ensures whose { AreOwn session.old.machine.slots session.new.machine.slots session.old.notes session.new.notes
@@ -163,6 +165,7 @@ fn obey_setting<U: Unit, F: Files, S: Sink>(
     ensures want { result ≡ Err OutOfMemory → MayWant 16 command.now }
     ensures unrefused { result ≡ Err OutOfMemory
         → IsUnrefused command.now session.old.machine session.old.watch }
+    ensures measured { IsMeasured F.tells command.now result (F.state files.old) (F.state files.new) }
     ensures keeps { Keeps session.old.command session.new.machine.time F.tells result session.old.notes
         session.new.notes (F.state files.old) (F.state files.new) }
     ensures whose { AreOwn session.old.machine.slots session.new.machine.slots session.old.notes session.new.notes
@@ -217,6 +220,7 @@ fn obey_watch<U: Unit, F: Files, S: Sink>(
     ensures want { result ≡ Err OutOfMemory → MayWant 16 command.now }
     ensures unrefused { result ≡ Err OutOfMemory
         → IsUnrefused command.now session.old.machine session.old.watch }
+    ensures measured { IsMeasured F.tells command.now result (F.state files.old) (F.state files.new) }
     ensures keeps { Keeps session.old.command session.new.machine.time F.tells result session.old.notes
         session.new.notes (F.state files.old) (F.state files.new) }
     ensures whose { AreOwn session.old.machine.slots session.new.machine.slots session.old.notes session.new.notes
@@ -272,6 +276,7 @@ fn obey_file<U: Unit, F: Files, S: Sink>(
     ensures want { result ≡ Err OutOfMemory → MayWant 16 command.now }
     ensures unrefused { result ≡ Err OutOfMemory
         → IsUnrefused command.now session.old.machine session.old.watch }
+    ensures measured { IsMeasured F.tells command.now result (F.state files.old) (F.state files.new) }
     ensures keeps { Keeps session.old.command session.new.machine.time F.tells result session.old.notes
         session.new.notes (F.state files.old) (F.state files.new) }
     ensures whose { AreOwn session.old.machine.slots session.new.machine.slots session.old.notes session.new.notes

@@ -9,6 +9,7 @@ ghost use Rattle.scp_commands.specs.declared.fault.CommandFault.TheVariants.{Out
 ghost use Rattle.scp_commands.specs.Live.{live_in};
 ghost use Rattle.scp_commands.specs.RunEffects.{starting_at};
 ghost use Rattle.scp_commands.specs.WholeCalls.{whole_answer};
+ghost use Rattle.scp_commands.specs.Refusals.{UnreadCause};
 ghost use Rattle.scp_commands.specs.TapeEffects.{tape_in, tape_answer, tape_machine, read_machine, load_reply};
 ghost use Rattle.scp_commands.specs.Doing.{Did, Keeps, IsUndone, IsOwn, IsExitAnswer, IsRefused};
 
@@ -54,6 +55,7 @@ pub fn load_file<U: Unit, F: Files>(
         session.new.notes (F.state files.old) (F.state files.new) }
     ensures whose { AreOwn session.old.machine.slots session.new.machine.slots session.old.notes session.new.notes
         (F.state files.old) (F.state files.new) }
+    ensures whole { UnreadCause F.tells name.now result (F.state files.old) (F.state files.new) }
     ensures own { IsOwn result }
     ensures exit { IsExitAnswer result }
     ensures watch { session.new.watch ≡ session.old.watch }

@@ -1,18 +1,19 @@
 -- What the answer of a reading says of the file, and the failing calls that it claims.
 use Rattle.std.specs.Prelude.{◌≡◌, ℕ, zero, suc, ◌+◌, ◌<◌, ◌≤◌, ◌==◌, ◌&&◌, ◌||◌, Bool, true, false, not}
-use Rattle.std.specs.Prelude.{List, [], ◌∷◌, ◌++◌}
+use Rattle.std.specs.Prelude.{IsTrue, List, [], ◌∷◌, ◌++◌, length}
 use Rattle.std.specs.Prelude.{Option, Some, None, IfSome, IsSome, is_some, Result, Ok, Err, if◌then◌else◌}
 use Rattle.std.specs.Global.{Vec}
-use Rattle.fault_counts.specs.Faults.{raised}
+use Rattle.fault_counts.specs.Faults.{raised, Rose}
 use Rattle.host_files.specs.declared.files.FileCall.{FileCall}
 use Rattle.host_files.specs.declared.files.FileCall.TheVariants.{Opening, Length, Read, Closing}
 use Rattle.host_files.specs.declared.files.FileId.{FileId}
+use Rattle.host_files.specs.Lists.{find_file, bytes_of}
 use Rattle.host_files.specs.State.{FileState}
 use Rattle.whole_files.specs.declared.whole.FailedCall.{FailedCall}
 use Rattle.whole_files.specs.declared.whole.Whole.{Whole}
 use Rattle.whole_files.specs.declared.whole.WholeFault.{WholeFault}
 use Rattle.whole_files.specs.declared.whole.WholeFault.TheVariants as fault
-use Rattle.whole_files.specs.Whole.{WholeSaid, WholeIs, NotThere, TooLong, CallFailed}
+use Rattle.whole_files.specs.Whole.{WholeSaid, WholeIs, NotThere, TooLong, CallFailed, longest_file}
 
 -- what is said of the file; nothing where there was no memory
 abbrev pub said_of_bytes : Result (Vec ℕ) WholeFault → Option WholeSaid
@@ -95,3 +96,22 @@ is_missing bytes = false
 
 abbrev pub opening_counted : Bool → Whole → Bool
 opening_counted tells w = is_opening w.failed || (is_missing w.bytes && not tells)
+
+-- ---- its length
+
+-- The file of a name, where names are told, is no longer than one that is read whole.
+abbrev pub Fits : Bool → List ℕ → FileState → Type 0
+Fits tells name s = IsTrue tells → length (bytes_of s.files name) ≤ longest_file
+
+-- Why a reading answers so, also of files that tell nothing. There is no file of that name; or it was opened, which gave an
+-- id, and is too long. The length is asked before memory is taken for the bytes: where memory ran out behind the opening,
+-- the file is not too long.
+abbrev pub WholeCause : Bool → List ℕ → Result (Vec ℕ) WholeFault → FileState → FileState → Type 0
+WholeCause tells name (Ok v) old new = Fits tells name old
+WholeCause tells name (Err fault.NoFile) old new =
+    (IsTrue tells → is_some (find_file old.files name) ≡ false)
+    × ((IsTrue tells → ⊥) → Rose old.open_faults new.open_faults)
+WholeCause tells name (Err fault.TooLong) old new =
+    (old.given < new.given) × (IsTrue tells → longest_file < length (bytes_of old.files name))
+WholeCause tells name (Err fault.Failed) old new = Unit {0}
+WholeCause tells name (Err fault.OutOfMemory) old new = old.given < new.given → Fits tells name old

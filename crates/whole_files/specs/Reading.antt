@@ -19,7 +19,7 @@ use Rattle.whole_files.specs.Claims.{raised_by}
 abbrev pub IsRead : List ℕ → Result (Vec ℕ) Refusal → Type 0
 IsRead bytes (Ok v) = (length bytes ≤ longest_file) × (v.items ≡ bytes)
 IsRead bytes (Err refusal.TooLong) = longest_file < length bytes
-IsRead bytes (Err refusal.OutOfMemory) = Unit {0}
+IsRead bytes (Err refusal.OutOfMemory) = length bytes ≤ longest_file
 IsRead bytes (Err refusal.LengthFailed) = Unit {0}
 IsRead bytes (Err refusal.ReadFailed) = (length bytes ≤ longest_file) × (0 < length bytes)
 

@@ -4,6 +4,7 @@ ghost use Rattle.host_files.specs.State.{IsOpen, without};
 ghost use Rattle.whole_files.specs.Reading.{Fails, IsClosing, failure_count, answer_of, failure_of};
 ghost use Rattle.whole_files.specs.Reading.{fault_of_opening, failed_opening};
 ghost use Rattle.whole_files.specs.Claims.{said_of, claimed, HasShape, raised_by, claims_on, IsNew, opening_counted};
+ghost use Rattle.whole_files.specs.Claims.{WholeCause};
 ghost use Rattle.whole_files.specs.Whole.{longest_file, whole_act};
 
 use crate::reading::{Refusal, read_open};
@@ -46,7 +47,7 @@ pub struct Whole {
 
 /// Reads the file of a name, and closes it again, whatever comes of it. `NoFile` comes where there is no such file,
 /// `Failed` where a call on it failed, `TooLong` where it is longer than `LONGEST_FILE`, and `OutOfMemory` where there
-/// is no memory for its opening or its bytes. No file changes.
+/// is no memory for its opening or its bytes. Its length is asked before memory is taken for these. No file changes.
 #[tactic(auto, unfolding(crate::specs::Whole::whole_act))]
 pub fn read_file<F: Files>(alloc: Global, name: &str, files: &mut F) -> Whole
     ensures said { IsTrue F.tells → IfSome (said_of result) (λ said.
@@ -64,6 +65,7 @@ pub fn read_file<F: Files>(alloc: Global, name: &str, files: &mut F) -> Whole
     ensures failed { IsNew result.failed (F.state files.old) (F.state files.new) }
     ensures closing { IsNew result.closing (F.state files.old) (F.state files.new) }
     ensures ids { (F.state files.old).given ≤ (F.state files.new).given }
+    ensures cause { WholeCause F.tells name.now result.bytes (F.state files.old) (F.state files.new) }
 {
     match files.open_file(alloc, name, OpenMode::Read) {
         Ok(file) => {

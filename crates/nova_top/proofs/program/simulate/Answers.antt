@@ -1,4 +1,4 @@
-use Rattle.std.proofs.Common.{◌≡◌, Err, List, [], Option, map, refl, ap, sym, ◌∙◌, subst, arith}
+use Rattle.std.proofs.Common.{◌≡◌, inl, inr, Err, List, [], Option, map, refl, ap, sym, ◌∙◌, subst, arith}
 use Rattle.file_commands.specs.declared.note.FaultNote.{FaultNote}
 use Rattle.file_commands.specs.Notes.{notes_said}
 use Rattle.file_commands.specs.Counts.{AreCounted}
@@ -16,6 +16,7 @@ use Rattle.nova_top.specs.Words.{texts_of}
 use Rattle.nova_top.specs.Workload.{with_workload}
 use Rattle.nova_top.proofs.ProgramLemmas.{Begun, Made, begun-files, new-slots, workload-given}
 use Rattle.nova_top.proofs.ProgramLemmas.{usage-answer, files-answer, files-memory, files-status, files-cause, session-answer, memory-answer, session-cause, session-status, refused-status, kept-counted, refused-counted, complete-answer, never-unwritten, denied-unwritten, unwritten-whole}
+use Rattle.nova_top.proofs.UnreadLemmas.{usage-opened, refused-unopened, refused-measured, session-opened, session-measured}
 use Rattle.nova_top.proofs.program.simulate.Given.{Over}
 use Rattle.nova_top.proofs.program.simulate.Goals as goal
 use Rattle.nova_top.proofs.program.simulate.Goals.{After-lines-arg-in-Ok-begin-2-1}
@@ -194,3 +195,34 @@ returns-in-Ok-begin-clause-whose g c =
     let behind = subst (λ (l : List FaultNote). AreOwn no_files slots l c.lines.result.faults.items mid new) notes from in
     all-own no_files slots c.lines.result.faults.items old new
     (own-both no_files no_files slots [] c.begin.new.notes.items c.lines.result.faults.items old mid new c.begin.ensures.whose behind)
+
+-- ---- a file of the words that was not read
+
+pub returns-in_default-clause-unopened : goal.returns-in_default-clause-unopened
+returns-in_default-clause-unopened g c = λ is. absurd (usage-opened c.usage.result.status _ _ 101 c.usage.ensures.cause is (inr refl))
+
+pub returns-in_default-clause-measured : goal.returns-in_default-clause-measured
+returns-in_default-clause-measured g c = λ is. absurd (usage-opened c.usage.result.status _ _ 103 c.usage.ensures.cause is (inl (omega arith)))
+
+pub returns-in-Err-clause-unopened : goal.returns-in-Err-clause-unopened
+returns-in-Err-clause-unopened g c = λ is.
+    refused-unopened g.F.Files.tells (texts_of c.args.words.now) c.in-Some.options c.in-Err.refusal c.refuse_files.result.status (g.S.Sink.fault_count c.args.output.now) (g.S.Sink.fault_count c.refuse_files.new.output)
+    c.begin.new.notes.items c.refuse_files.result.faults.items (g.F.Files.state c.args.files.now) (g.F.Files.state c.begin.new.files) (sym c.options_of.ensures.options ∙ c.in-Some.is)
+    c.refuse_files.ensures.cause (c.refuse_files.ensures.notes ∙ c.notes_of.ensures) c.in-Err.ensures.unread is
+
+pub returns-in-Err-clause-measured : goal.returns-in-Err-clause-measured
+returns-in-Err-clause-measured g c = λ is.
+    refused-measured g.F.Files.tells (texts_of c.args.words.now) c.in-Some.options c.in-Err.refusal c.refuse_files.result.status (g.S.Sink.fault_count c.args.output.now) (g.S.Sink.fault_count c.refuse_files.new.output)
+    c.refuse_files.result.machine c.begin.new.notes.items (g.F.Files.state c.args.files.now) (g.F.Files.state c.begin.new.files) (sym c.options_of.ensures.options ∙ c.in-Some.is)
+    c.refuse_files.ensures.cause c.refuse_files.ensures.machine c.in-Err.ensures.unread is
+
+pub returns-in-Ok-begin-clause-unopened : goal.returns-in-Ok-begin-clause-unopened
+returns-in-Ok-begin-clause-unopened g c = λ is.
+    let (finish, watch, now, status, machine, told, cause) = c.lines.ensures.ended in
+    absurd (session-opened finish (g.S.Sink.fault_count c.args.output.now) (g.S.Sink.fault_count c.lines.new.output) (g.C.Source.fault_count c.args.input.now) (g.C.Source.fault_count c.lines.new.input)
+    cause (sym status ∙ is))
+
+pub returns-in-Ok-begin-clause-measured : goal.returns-in-Ok-begin-clause-measured
+returns-in-Ok-begin-clause-measured g c = λ is.
+    session-measured g.F.Files.tells (texts_of c.args.words.now) c.in-Some.options c.lines.result.machine (g.F.Files.state c.args.files.now) (g.F.Files.state c.lines.new.files)
+    (sym c.options_of.ensures.options ∙ c.in-Some.is) c.in-Ok-begin.ensures.unread

@@ -1,4 +1,4 @@
-use Rattle.std.proofs.Common.{List, ◌≡◌, ◌∙◌, sym, subst, Ok, Err, rules}
+use Rattle.std.proofs.Common.{Result, List, ◌≡◌, ◌∙◌, sym, subst, Ok, Err, rules}
 use Rattle.host_files.specs.Lists.{NamedBytes}
 use Rattle.file_commands.specs.Notes.{notes_said}
 use Rattle.file_commands.specs.declared.note.Subject.TheVariants as subject
@@ -6,7 +6,11 @@ use Rattle.nova_top.specs.Words.{texts_of, script_name}
 use Rattle.nova_top.specs.Outside.{taken_script}
 use Rattle.nova_top.specs.Workload.{first_text}
 use Rattle.nova_top.specs.declared.word_files.Refusal.TheVariants.{OutOfMemory}
+use Rattle.nova_top.specs.declared.word_files.Refusal.{Refusal}
+use Rattle.nova_top.specs.declared.word_files.Beginning.{Beginning}
 use Rattle.nova_top.specs.Program.{Takes}
+use Rattle.nova_top.specs.Unread.{BeginsCause}
+use Rattle.nova_top.proofs.UnreadLemmas.{keys-refused, keys-taken, script-refused, both-fit}
 use Rattle.nova_top.proofs.WordFileLemmas.{script-denied, denied-along, both-begin, text-begins}
 use Rattle.nova_top.proofs.ReadingLemmas.{kept-both, own-from-none, closings-none, closings-both, is-want}
 use Rattle.nova_top.proofs.word_files.begin.Goals as goal
@@ -84,3 +88,49 @@ pub returns-in-Err-clause-closings : goal.returns-in-Err-clause-closings
 returns-in-Err-clause-closings g c = λ is.
     closings-none c.args.notes.now.items c.take_script.new.notes.items c.requires.none
     (closings-both c.args.notes.now.items c.take_keys.new.notes.items c.take_script.new.notes.items (c.in_ok-keys.ensures.closings tt) (c.in_ok-script.ensures.closings tt))
+
+-- ---- why it does not begin
+
+pub returns-in_err-keys-clause-unread : goal.returns-in_err-keys-clause-unread
+returns-in_err-keys-clause-unread g c =
+    let words = texts_of c.args.words.now in
+    let old = g.F.Files.state c.args.files.now in
+    let mid = g.F.Files.state c.take_keys.new.files in
+    let refusal = c.in_err-keys.field-0.0 in
+    let is : c.from_residual.result ≡ Err refusal = search rules in
+    subst (λ (r : Result Beginning Refusal). BeginsCause g.F.Files.tells words c.args.options r c.take_keys.new.notes.items old mid) (sym is)
+    (keys-refused _ g.F.Files.tells words c.args.options refusal c.args.notes.now.items c.take_keys.new.notes.items old mid c.requires.none c.in_err-keys.ensures.unread)
+
+pub returns-in_err-script-clause-unread : goal.returns-in_err-script-clause-unread
+returns-in_err-script-clause-unread g c =
+    let words = texts_of c.args.words.now in
+    let old = g.F.Files.state c.args.files.now in
+    let mid = g.F.Files.state c.take_keys.new.files in
+    let new = g.F.Files.state c.take_script.new.files in
+    let refusal = c.in_err-script.field-0.0 in
+    let is : c.from_residual-in_err-script.result ≡ Err refusal = search rules in
+    let keys = keys-taken g.F.Files.tells words c.args.options c.in_ok-keys.keys c.args.notes.now.items c.take_keys.new.notes.items old mid c.requires.none
+    c.in_ok-keys.ensures.unread (c.in_ok-keys.ensures.closings tt) c.take_keys.ensures.files c.take_keys.ensures.keeps c.take_keys.ensures.whose.ids in
+    subst (λ (r : Result Beginning Refusal). BeginsCause g.F.Files.tells words c.args.options r c.take_script.new.notes.items old new) (sym is)
+    (script-refused _ g.F.Files.tells words c.args.options refusal c.args.notes.now.items c.take_keys.new.notes.items c.take_script.new.notes.items old mid new keys c.in_err-script.ensures.unread)
+
+pub returns-in-Ok-clause-unread : goal.returns-in-Ok-clause-unread
+returns-in-Ok-clause-unread g c =
+    let words = texts_of c.args.words.now in
+    let old = g.F.Files.state c.args.files.now in
+    let mid = g.F.Files.state c.take_keys.new.files in
+    let new = g.F.Files.state c.take_script.new.files in
+    let keys = keys-taken g.F.Files.tells words c.args.options c.in_ok-keys.keys c.args.notes.now.items c.take_keys.new.notes.items old mid c.requires.none
+    c.in_ok-keys.ensures.unread (c.in_ok-keys.ensures.closings tt) c.take_keys.ensures.files c.take_keys.ensures.keeps c.take_keys.ensures.whose.ids in
+    both-fit g.F.Files.tells words c.args.options c.in_ok-script.script c.args.notes.now.items c.take_keys.new.notes.items c.take_script.new.notes.items old mid new keys c.in_ok-script.ensures.unread
+
+pub returns-in-Err-clause-unread : goal.returns-in-Err-clause-unread
+returns-in-Err-clause-unread g c =
+    let words = texts_of c.args.words.now in
+    let old = g.F.Files.state c.args.files.now in
+    let mid = g.F.Files.state c.take_keys.new.files in
+    let new = g.F.Files.state c.take_script.new.files in
+    let keys = keys-taken g.F.Files.tells words c.args.options c.in_ok-keys.keys c.args.notes.now.items c.take_keys.new.notes.items old mid c.requires.none
+    c.in_ok-keys.ensures.unread (c.in_ok-keys.ensures.closings tt) c.take_keys.ensures.files c.take_keys.ensures.keeps c.take_keys.ensures.whose.ids in
+    let fit = both-fit g.F.Files.tells words c.args.options c.in_ok-script.script c.args.notes.now.items c.take_keys.new.notes.items c.take_script.new.notes.items old mid new keys c.in_ok-script.ensures.unread in
+    (λ more. fit.0, λ free more. fit.1)

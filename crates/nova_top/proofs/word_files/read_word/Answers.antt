@@ -1,5 +1,6 @@
 use Rattle.nova_top.proofs.ReadingLemmas.{reads-file, reads-kept, reads-own, reads-closings}
 use Rattle.std.proofs.Common.{string_bytes}
+use Rattle.nova_top.proofs.UnreadLemmas.{word-cause}
 use Rattle.nova_top.proofs.word_files.read_word.Goals as goal
 
 pub returns-clause-told : goal.returns-clause-told
@@ -22,3 +23,9 @@ pub returns-clause-closings : goal.returns-clause-closings
 returns-clause-closings g c = λ other.
     reads-closings c.args.whose c.args.notes.now.items c.note_call.new.notes.items c.note_call-2.new.notes.items c.read_file-whole.result c.note_call.ensures.notes
     c.note_call-2.ensures.notes c.read_file-whole.ensures.shape other
+
+pub returns-clause-unread : goal.returns-clause-unread
+returns-clause-unread g c =
+    let read = c.read_file-whole.ensures in
+    word-cause g.F.Files.tells c.args.whose (string_bytes c.args.name.now) c.as_str.result.now c.args.notes.now.items c.note_call.new.notes.items c.note_call-2.new.notes.items c.read_file-whole.result
+    (g.F.Files.state c.args.files.now) (g.F.Files.state c.read_file-whole.new.files) c.note_call.ensures.notes c.note_call-2.ensures.notes c.as_str.ensures.value read.shape read.counts read.openings read.cause

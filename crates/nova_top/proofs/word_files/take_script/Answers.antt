@@ -1,5 +1,7 @@
 use Rattle.std.proofs.Common.{length}
-use Rattle.nova_top.specs.Words.{texts_of}
+use Rattle.file_commands.specs.declared.note.Subject.TheVariants as subject
+use Rattle.nova_top.specs.Words.{texts_of, script_name}
+use Rattle.nova_top.proofs.UnreadLemmas.{script-cause, none-taken}
 use Rattle.nova_top.proofs.ReadingLemmas.{named-at, script-take}
 use Rattle.nova_top.proofs.word_files.take_script.Goals as goal
 
@@ -16,3 +18,14 @@ returns-in-Some-clause-cause g c =
 
 pub returns-in-Some-clause-closings : goal.returns-in-Some-clause-closings
 returns-in-Some-clause-closings g c = λ unrefused. c.read_word-read.ensures.closings (c.script_of.ensures.unfailed unrefused)
+
+pub returns-in-Some-clause-unread : goal.returns-in-Some-clause-unread
+returns-in-Some-clause-unread g c =
+    let within = named-at c.args.options.script (length (texts_of c.args.words.now)) c.in-Some.place c.requires.named.script c.in-Some.is in
+    script-cause g.F.Files.tells c.args.words.now c.args.options c.in-Some.place c.index-words-place.result c.read_word-read.result c.script_of.result c.args.notes.now.items c.read_word-read.new.notes.items
+    (g.F.Files.state c.args.files.now) (g.F.Files.state c.read_word-read.new.files) c.in-Some.is within c.index-words-place.is c.read_word-read.ensures.unread c.script_of.ensures.answers
+
+pub returns-in-None-clause-unread : goal.returns-in-None-clause-unread
+returns-in-None-clause-unread g c =
+    none-taken g.F.Files.tells subject.Script (script_name (texts_of c.args.words.now) c.args.options) _ c.args.notes.now.items (g.F.Files.state c.args.files.now)
+    (λ i. script_name (texts_of c.args.words.now) (record c.args.options { script = c.in-None.is i }))

@@ -7,7 +7,7 @@ use Rattle.scp_commands.specs.ScriptEffects.{script_of}
 use Rattle.scp_commands.specs.WholeCalls.{read_notes}
 use Rattle.scp_commands.proofs.BehindLemmas.{stamp_in}
 use Rattle.scp_commands.proofs.DoLemmas.{do-did}
-use Rattle.scp_commands.proofs.WholeLemmas.{read-claims, read-keeps, short-read, read-own}
+use Rattle.scp_commands.proofs.WholeLemmas.{read-claims, read-keeps, short-read, read-own, unread-cause}
 use Rattle.scp_commands.proofs.OwnFileLemmas.{whole-own}
 use Rattle.scp_commands.proofs.do_command.do_script.Goals as goal
 
@@ -64,3 +64,8 @@ returns-clause-whose g c =
     rw (← c.session.view_is)
     (whole-own subject.Script c.stamp_of-stamp.result 0 w.failed w.closing s.machine.slots s.machine.slots s.notes.items c.note_reading.new.notes.items
     (g.F.Files.state c.args.files.now) (g.F.Files.state c.read_file-whole.new.files) refl (read-claims w read.shape) read.failed read.closing read.ids c.note_reading.ensures.notes)
+
+pub returns-clause-whole : goal.returns-clause-whole
+returns-clause-whole g c =
+    unread-cause subject.Script (script_of c.args.echo c.args.strict) g.F.Files.tells c.args.name.now c.read_file-whole.result.bytes c.script_answer.result
+    (g.F.Files.state c.args.files.now) (g.F.Files.state c.read_file-whole.new.files) (λ bytes. tt) c.script_answer.ensures c.read_file-whole.ensures.cause

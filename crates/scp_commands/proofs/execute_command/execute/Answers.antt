@@ -3,7 +3,7 @@ use Rattle.file_commands.specs.Notes.{notes_said}
 use Rattle.scp_commands.specs.Live.{CommandState, live_in}
 use Rattle.scp_commands.specs.Effect.{effect}
 use Rattle.scp_commands.proofs.DidLemmas.{did-want}
-use Rattle.scp_commands.proofs.ObeyLemmas.{may-want}
+use Rattle.scp_commands.proofs.ObeyLemmas.{may-want, none-measured}
 use Rattle.scp_commands.proofs.execute_command.execute.Goals as goal
 
 pub returns-in-Err-clause-told : goal.returns-in-Err-clause-told
@@ -17,3 +17,6 @@ returns-in-Err-clause-told g c = λ told.
 
 pub returns-in-Err-clause-want : goal.returns-in-Err-clause-want
 returns-in-Err-clause-want g c = λ is. may-want c.args.session.now.spare c.args.command.now c.in-Err.ensures.refused
+
+pub returns-in-Err-clause-measured : goal.returns-in-Err-clause-measured
+returns-in-Err-clause-measured g c = none-measured g.F.Files.tells c.args.command.now (g.F.Files.state c.args.files.now)

@@ -13,9 +13,10 @@ use Rattle.scp_commands.specs.ScriptEffects.{do_reply}
 use Rattle.scp_commands.specs.Effect.{effect}
 use Rattle.scp_commands.specs.Parts.{IsPastWatches}
 use Rattle.scp_commands.specs.Nature.{nature}
+use Rattle.scp_commands.specs.Refusals.{IsMeasured}
 use Rattle.scp_commands.specs.Doing.{IsTold, says_files}
 use Rattle.scp_commands.proofs.RemainLemmas.{leaves, undone-as}
-use Rattle.scp_commands.proofs.ObeyLemmas.{plain-did, noted-did, do-named, load-named, dump-named, keeps-none, IsNoFile, other-is, no-note}
+use Rattle.scp_commands.proofs.ObeyLemmas.{plain-did, noted-did, do-named, load-named, dump-named, keeps-none, IsNoFile, other-is, no-note, not-measured}
 use Rattle.scp_commands.proofs.DidLemmas.{refused-does}
 use Rattle.scp_commands.proofs.execute_command.obey_file.Goals as goal
 
@@ -74,6 +75,13 @@ returns-in-Do-clause-undone g c = λ is.
     undone-as (nature c.args.command.now).flushes (Some subject.Script) (nature c.args.command.now).reads_whole g.F.Files.tells (says_files g.F.Files.tells c.args.command.now) c.args.session.now c.do_script.new.session text text
     (g.F.Files.state c.args.files.now) (g.F.Files.state c.do_script.new.files) (ap (λ (r : Request). (nature r).reads_whole) asks) (λ told. sym says ∙ told) (c.do_script.ensures.undone text is)
 
+pub returns-in-Do-clause-measured : goal.returns-in-Do-clause-measured
+returns-in-Do-clause-measured g c =
+    let what = c.in-Do in
+    let name = c.file_name-in-Do.result.now in
+    let (arguments, is) = do-named _ c.command.inside.verb what.echo what.strict _ _ c.args.command.now name (sym c.command.view_is) what.is c.file_name-in-Do.ensures.name in
+    subst (λ (r : Request). IsMeasured g.F.Files.tells r c.do_script.result (g.F.Files.state c.args.files.now) (g.F.Files.state c.do_script.new.files)) (sym is) c.do_script.ensures.whole
+
 pub returns-in-Exit-clause-told : goal.returns-in-Exit-clause-told
 unfolding effect
 returns-in-Exit-clause-told g c = λ told.
@@ -105,6 +113,12 @@ returns-in-Load-clause-undone g c = λ is.
     let says = ap (says_files g.F.Files.tells) asks in
     undone-as (nature c.args.command.now).flushes (Some subject.Load) (nature c.args.command.now).reads_whole g.F.Files.tells (says_files g.F.Files.tells c.args.command.now) c.args.session.now c.load_file.new.session text text
     (g.F.Files.state c.args.files.now) (g.F.Files.state c.load_file.new.files) (ap (λ (r : Request). (nature r).reads_whole) asks) (λ told. sym says ∙ told) (c.load_file.ensures.undone text is)
+
+pub returns-in-Load-clause-measured : goal.returns-in-Load-clause-measured
+returns-in-Load-clause-measured g c =
+    let name = c.file_name-in-Load.result.now in
+    let is = load-named _ c.command.inside.verb _ c.args.command.now name (sym c.command.view_is) c.in-Load.is c.file_name-in-Load.ensures.name in
+    subst (λ (r : Request). IsMeasured g.F.Files.tells r c.load_file.result (g.F.Files.state c.args.files.now) (g.F.Files.state c.load_file.new.files)) (sym is) c.load_file.ensures.whole
 
 pub returns-in-Dump-clause-told : goal.returns-in-Dump-clause-told
 unfolding effect
@@ -150,6 +164,7 @@ returns-in_default g c =
       undone = λ is. absurd (cc);
       want = λ is. absurd (cc);
       unrefused = λ is. absurd (cc);
+      measured = not-measured g.F.Files.tells c.args.command.now state state;
       ran = tt;
       attach_note = no-note c.args.command.now (record { command = s.command; time = s.machine.time }) s.notes s.notes state state;
       refused = λ is. leaves (nature c.args.command.now).flushes s s refl refl;

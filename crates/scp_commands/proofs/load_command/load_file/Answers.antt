@@ -9,8 +9,8 @@ use Rattle.scp_commands.specs.Live.{CommandState}
 use Rattle.scp_commands.specs.WholeCalls.{read_notes}
 use Rattle.scp_commands.specs.Doing.{Keeps}
 use Rattle.scp_commands.proofs.BehindLemmas.{stamp_in}
-use Rattle.scp_commands.proofs.WholeLemmas.{read-claims, read-keeps, short-read, read-own}
-use Rattle.scp_commands.proofs.TapeLemmas.{tape_comes, tape-plain, tape-own, tape-closings, read-slots, read-time, read-none, load-did}
+use Rattle.scp_commands.proofs.WholeLemmas.{read-claims, read-keeps, short-read, read-own, unread-cause}
+use Rattle.scp_commands.proofs.TapeLemmas.{tape_comes, tape-plain, tape-own, tape-cause, tape-closings, read-slots, read-time, read-none, load-did}
 use Rattle.scp_commands.proofs.OwnFileLemmas.{whole-own}
 use Rattle.scp_commands.proofs.load_command.load_file.Goals as goal
 
@@ -104,3 +104,10 @@ returns-clause-whose g c =
     rw (← c.session.view_is)
     (whole-own subject.Load c.stamp_of-stamp.result 0 w.failed w.closing s.machine.slots c.load_bytes.new.machine.slots s.notes.items c.note_reading.new.notes.items
     (g.F.Files.state c.args.files.now) (g.F.Files.state c.read_file-whole.new.files) slots (read-claims w read.shape) read.failed read.closing read.ids c.note_reading.ensures.notes)
+
+pub returns-clause-whole : goal.returns-clause-whole
+returns-clause-whole g c =
+    let before = g.F.Files.state c.args.files.now in
+    let after = g.F.Files.state c.read_file-whole.new.files in
+    unread-cause subject.Load (tape_comes c.session.inside.machine) g.F.Files.tells c.args.name.now c.read_file-whole.result.bytes c.load_bytes.result
+    before after (tape-cause g.F.Files.tells c.args.name.now c.session.inside.machine before after) c.load_bytes.ensures.answer c.read_file-whole.ensures.cause

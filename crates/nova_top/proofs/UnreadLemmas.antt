@@ -1,0 +1,305 @@
+-- Why the keys file or the script was not read.
+use Rattle.std.proofs.Common.{◌≡◌, ◌⊎◌, inl, inr, ℕ, ◌<◌, ◌≤◌, Bool, true, false, not, IsTrue, List, [], ◌∷◌, ◌++◌, length, get_or, refl, ap, sym, ◌∙◌, subst, arith, append_assoc, Option, Some, None, IsSome, is_some, String, Global, string_bytes, Result, Ok, Err, if◌then◌else◌}
+use Rattle.std.specs.Global.{Vec}
+use Rattle.fault_counts.specs.Faults.{raised}
+use Rattle.host_files.specs.Lists.{NamedBytes, find_file, bytes_of}
+use Rattle.host_files.specs.State.{FileState}
+use Rattle.file_commands.specs.declared.note.FaultNote.{FaultNote}
+use Rattle.file_commands.specs.declared.note.Subject.{Subject}
+use Rattle.file_commands.specs.declared.note.Subject.TheVariants as subject
+use Rattle.file_commands.specs.Notes.{notes_said}
+use Rattle.whole_files.specs.declared.whole.Whole.{Whole}
+use Rattle.whole_files.specs.declared.whole.WholeFault.{WholeFault}
+use Rattle.whole_files.specs.declared.whole.WholeFault.TheVariants as whole
+use Rattle.whole_files.specs.Whole.{longest_file}
+use Rattle.whole_files.specs.Claims.{HasShape, raised_by, claims_on, opening_counted, Fits, WholeCause}
+use Rattle.nova_machine.specs.Machine.{MachineState}
+use Rattle.scp_commands.specs.Doing.{AllClosings, FileCause, Keeps}
+use Rattle.scp_commands.specs.ScriptEffects.{script_of}
+use Rattle.scp_commands.specs.WholeCalls.{whole_answer}
+use Rattle.scp_commands.proofs.WholeLemmas.{read-keeps}
+use Rattle.scp_script.specs.declared.progress.Finish.{Finish}
+use Rattle.scp_script.specs.declared.progress.Finish.TheVariants as finish
+use Rattle.scp_script.specs.Loop.{FinishCause, AreKept, status_of}
+use Rattle.nova_top.specs.declared.options.Options.{Options}
+use Rattle.nova_top.specs.declared.word_files.Refusal.{Refusal}
+use Rattle.nova_top.specs.declared.word_files.Refusal.TheVariants.{Unopened, BadKeys, OutOfMemory}
+use Rattle.nova_top.specs.Ends.{AreWordClosings}
+use Rattle.nova_top.specs.Words.{options_of, keys_name, script_name, texts_of}
+use Rattle.nova_top.specs.Program.{noted_call, AddsClosings, denial_of, RefusedCause, DeniedCause}
+use Rattle.nova_top.specs.Unread.{NotRead, WordsNotRead, IsUnopened, NamedFits, AreMeasured, NotedAs, WordCause, AnswersRead, TakesCause, BeginsCause}
+use Rattle.nova_top.proofs.WordFileLemmas.{name-at}
+use Rattle.nova_top.proofs.ReadingLemmas.{two-kept, noted-as, word-there}
+
+-- ---- the notes of a reading
+
+noted-by : (tells : Bool) (whose : Subject) (bytes : Result (Vec ℕ) WholeFault) (notes : List FaultNote) (old new : FileState)
+    → FileCause (record { command = 0; time = 0 }) tells (whole_answer whose (script_of false false) bytes) notes old new → NotedAs whose bytes notes
+noted-by tells whose (Ok v) notes old new cause = cause
+noted-by tells whose (Err whole.NoFile) notes old new cause = subst AllClosings (sym cause.0) tt
+noted-by tells whose (Err whole.TooLong) notes old new cause = cause
+noted-by tells whose (Err whole.Failed) notes old new cause = cause
+noted-by tells whose (Err whole.OutOfMemory) notes old new cause = cause
+
+pub word-cause : (tells : Bool) (whose : Subject) (name name' : List ℕ) (kept one two : List FaultNote) (w : Whole) (old new : FileState)
+    → one ≡ kept ++ noted_call whose w.failed → two ≡ one ++ noted_call whose w.closing → name' ≡ name → HasShape w
+    → ((file : ℕ) → new.faults file ≡ raised_by (claims_on w file) (old.faults file))
+    → new.open_faults ≡ (if opening_counted tells w then raised old.open_faults else old.open_faults)
+    → WholeCause tells name' w.bytes old new → WordCause tells whose name w.bytes kept two old new
+word-cause tells whose name name' kept one two w old new first second same shape counts openings cause =
+    let keeps : Keeps 0 0 tells (whole_answer whose (script_of false false) w.bytes) kept two old new =
+    read-keeps whose 0 0 tells (script_of false false) w (whole_answer whose (script_of false false) w.bytes) kept two old new (λ bytes notes shut. shut) refl shape
+    (record { counts = counts; openings = openings })
+    (two-kept whose kept one two w first second ∙ ap (λ (l : List FaultNote). kept ++ l) (noted-as whose w.failed w.closing)) in
+    record {
+      more = keeps.kept;
+      added = keeps.added;
+      noted = noted-by tells whose w.bytes keeps.kept old new keeps.cause;
+      cause = subst (λ (n : List ℕ). WholeCause tells n w.bytes old new) same cause;
+    }
+
+-- ---- what is taken of a file
+
+pub word-taken : {T : Type 0} (tells : Bool) (whose : Subject) (name : List ℕ) (bytes : Result (Vec ℕ) WholeFault) (result : Result T Refusal) (kept kept' : List FaultNote) (old new : FileState)
+    → WordCause tells whose name bytes kept kept' old new → AnswersRead bytes result → TakesCause tells whose (Some name) result kept kept' old new
+word-taken tells whose name (Ok v) (Ok value) kept kept' old new w answers = w.cause
+word-taken tells whose name (Ok v) (Err (Unopened place)) kept kept' old new w answers = absurd answers
+word-taken tells whose name (Ok v) (Err (BadKeys place)) kept kept' old new w answers = tt
+word-taken tells whose name (Ok v) (Err OutOfMemory) kept kept' old new w answers = λ more. w.cause
+word-taken tells whose name (Err whole.OutOfMemory) (Ok value) kept kept' old new w answers = absurd answers
+word-taken tells whose name (Err whole.OutOfMemory) (Err (Unopened place)) kept kept' old new w answers = absurd answers
+word-taken tells whose name (Err whole.OutOfMemory) (Err (BadKeys place)) kept kept' old new w answers = absurd answers
+word-taken tells whose name (Err whole.OutOfMemory) (Err OutOfMemory) kept kept' old new w answers = w.cause
+word-taken tells whose name (Err whole.NoFile) (Ok value) kept kept' old new w answers = absurd answers
+word-taken tells whose name (Err whole.NoFile) (Err (Unopened place)) kept kept' old new w answers = (w.more, w.added, inl (w.noted, w.cause))
+word-taken tells whose name (Err whole.NoFile) (Err (BadKeys place)) kept kept' old new w answers = absurd answers
+word-taken tells whose name (Err whole.NoFile) (Err OutOfMemory) kept kept' old new w answers = absurd answers
+word-taken tells whose name (Err whole.TooLong) (Ok value) kept kept' old new w answers = absurd answers
+word-taken tells whose name (Err whole.TooLong) (Err (Unopened place)) kept kept' old new w answers = (w.more, w.added, inr (inr (w.noted, w.cause)))
+word-taken tells whose name (Err whole.TooLong) (Err (BadKeys place)) kept kept' old new w answers = absurd answers
+word-taken tells whose name (Err whole.TooLong) (Err OutOfMemory) kept kept' old new w answers = absurd answers
+word-taken tells whose name (Err whole.Failed) (Ok value) kept kept' old new w answers = absurd answers
+word-taken tells whose name (Err whole.Failed) (Err (Unopened place)) kept kept' old new w answers = (w.more, w.added, inr (inl w.noted))
+word-taken tells whose name (Err whole.Failed) (Err (BadKeys place)) kept kept' old new w answers = absurd answers
+word-taken tells whose name (Err whole.Failed) (Err OutOfMemory) kept kept' old new w answers = absurd answers
+
+-- the same of the file that the word at a place names
+pub keys-cause : {T : Type 0} (tells : Bool) (words : List (String Global)) (options : Options) (place : ℕ) (word : String Global) (bytes : Result (Vec ℕ) WholeFault) (result : Result T Refusal)
+    (kept kept' : List FaultNote) (old new : FileState) → options.keys ≡ Some place → place < length (texts_of words) → word ≡ get_or words place word
+    → WordCause tells subject.Keys (string_bytes word) bytes kept kept' old new → AnswersRead bytes result
+    → TakesCause tells subject.Keys (keys_name (texts_of words) options) result kept kept' old new
+keys-cause tells words options place word bytes result kept kept' old new some within is w answers =
+    let ws : List (List ℕ) = texts_of words in
+    let at = name-at words place word (word-there words place within) is in
+    let name : keys_name ws options ≡ Some (string_bytes word) = (λ i. keys_name ws (record options { keys = some i })) ∙ ap (λ (n : List ℕ). Some n) at in
+    subst (λ (o : Option (List ℕ)). TakesCause tells subject.Keys o result kept kept' old new) (sym name)
+    (word-taken tells subject.Keys (string_bytes word) bytes result kept kept' old new w answers)
+
+pub script-cause : {T : Type 0} (tells : Bool) (words : List (String Global)) (options : Options) (place : ℕ) (word : String Global) (bytes : Result (Vec ℕ) WholeFault) (result : Result T Refusal)
+    (kept kept' : List FaultNote) (old new : FileState) → options.script ≡ Some place → place < length (texts_of words) → word ≡ get_or words place word
+    → WordCause tells subject.Script (string_bytes word) bytes kept kept' old new → AnswersRead bytes result
+    → TakesCause tells subject.Script (script_name (texts_of words) options) result kept kept' old new
+script-cause tells words options place word bytes result kept kept' old new some within is w answers =
+    let ws : List (List ℕ) = texts_of words in
+    let at = name-at words place word (word-there words place within) is in
+    let name : script_name ws options ≡ Some (string_bytes word) = (λ i. script_name ws (record options { script = some i })) ∙ ap (λ (n : List ℕ). Some n) at in
+    subst (λ (o : Option (List ℕ)). TakesCause tells subject.Script o result kept kept' old new) (sym name)
+    (word-taken tells subject.Script (string_bytes word) bytes result kept kept' old new w answers)
+
+-- without a name nothing was opened
+pub none-taken : {T : Type 0} (tells : Bool) (whose : Subject) (name : Option (List ℕ)) (value : T) (kept : List FaultNote) (state : FileState)
+    → name ≡ None → TakesCause tells whose name (Ok value) kept kept state state
+none-taken {T} tells whose name value kept state none =
+    subst (λ (o : Option (List ℕ)). TakesCause {T = T} tells whose o (Ok value) kept kept state state) (sym none) refl
+
+-- ---- behind the keys
+
+fits-before : (tells : Bool) (name : List ℕ) (old mid : FileState) → (IsTrue tells → mid.files ≡ old.files) → Fits tells name mid → Fits tells name old
+fits-before tells name old mid same fits = λ told. subst (λ (f : List NamedBytes). length (bytes_of f name) ≤ longest_file) (same told) (fits told)
+
+closings-append : (notes more : List FaultNote) → AllClosings notes → AllClosings more → AllClosings (notes ++ more)
+closings-append [] more first second = second
+closings-append (n ∷ notes) more first second = (first.0, closings-append notes more first.1 second)
+
+closings-said : (notes : List FaultNote) → AreWordClosings (notes_said notes) → AllClosings notes
+closings-said [] are = tt
+closings-said (n ∷ notes) are = (are.0.2, closings-said notes are.1)
+
+not-read-behind : (tells : Bool) (whose : Subject) (name : List ℕ) (first more : List FaultNote) (old mid new : FileState)
+    → AllClosings first → (IsTrue tells → mid.files ≡ old.files) → old.open_faults ≤ mid.open_faults → old.given ≤ mid.given
+    → NotRead tells whose name more mid new → NotRead tells whose name (first ++ more) old new
+not-read-behind tells whose name first more old mid new shut same rise ids (inl h) =
+    inl (
+      closings-append first more shut h.0,
+      (
+        λ told. subst (λ (f : List NamedBytes). is_some (find_file f name) ≡ false) (same told) (h.1.0 told),
+        λ untold. let rose = h.1.1 untold in omega (arith, rose, rise),
+      ),
+    )
+not-read-behind tells whose name first more old mid new shut same rise ids (inr (inl h)) =
+    inr (inl (record {
+      before = first ++ h.before;
+      own = h.own;
+      behind = h.behind;
+      are = ap (λ (l : List FaultNote). first ++ l) h.are ∙ sym (append_assoc first h.before (h.own ∷ h.behind));
+      refused = h.refused;
+      earlier = closings-append first h.before shut h.earlier;
+      later = h.later;
+    }))
+not-read-behind tells whose name first more old mid new shut same rise ids (inr (inr h)) =
+    inr (inr (
+      closings-append first more shut h.0,
+      (
+        let less = h.1.0 in omega (arith, less, ids),
+        λ told. subst (λ (f : List NamedBytes). longest_file < length (bytes_of f name)) (same told) (h.1.1 told),
+      ),
+    ))
+
+-- what was taken is not too long
+taken-fits : {T : Type 0} (tells : Bool) (whose : Subject) (named : Option (List ℕ)) (value : T) (kept kept' : List FaultNote) (old mid new : FileState)
+    → (IsTrue tells → mid.files ≡ old.files) → TakesCause tells whose named (Ok value) kept kept' mid new → NamedFits tells named old
+taken-fits tells whose None value kept kept' old mid new same cause = tt
+taken-fits tells whose (Some name) value kept kept' old mid new same cause = fits-before tells name old mid same cause
+
+-- ---- how it begins
+
+from-none : (kept kept' more : List FaultNote) → kept ≡ [] → kept' ≡ kept ++ more → kept' ≡ more
+from-none kept kept' more none added = added ∙ ap (λ (l : List FaultNote). l ++ more) none
+
+named-none : (words : List (List ℕ)) (options : Options) → options.keys ≡ None → keys_name words options ≡ None
+named-none words options none = λ i. keys_name words (record options { keys = none i })
+
+-- the keys were refused
+pub keys-refused : (T : Type 0) (tells : Bool) (words : List (List ℕ)) (options : Options) (refusal : Refusal) (kept kept' : List FaultNote) (old new : FileState) → kept ≡ []
+    → TakesCause {T = T} tells subject.Keys (keys_name words options) (Err refusal) kept kept' old new → BeginsCause tells words options (Err refusal) kept' old new
+keys-refused T tells words options refusal kept kept' old new none cause = by-name refusal (keys_name words options) refl cause
+  where
+    by-name : (r : Refusal) (named : Option (List ℕ)) → keys_name words options ≡ named → TakesCause {T = T} tells subject.Keys named (Err r) kept kept' old new
+        → BeginsCause tells words options (Err r) kept' old new
+    by-name r None is cause = absurd cause
+    by-name (Unopened place) (Some name) is (more, added, unread) =
+        inl (name, is, subst (λ (l : List FaultNote). NotRead tells subject.Keys name l old new) (sym (from-none kept kept' more none added)) unread)
+    by-name (BadKeys place) (Some name) is cause = tt
+    by-name OutOfMemory (Some name) is cause =
+        (λ more. subst (λ (o : Option (List ℕ)). NamedFits tells o old) (sym is) (cause more), λ free more. absurd (let both = sym is ∙ named-none words options free in cc))
+
+-- what stands once the keys were taken
+pub record KeysTaken (tells : Bool) (words : List (List ℕ)) (options : Options) (kept kept' : List FaultNote) (old mid : FileState) : Type 0 where
+  pub none : kept ≡ []
+  pub fits : NamedFits tells (keys_name words options) old
+  pub unopened : options.keys ≡ None → mid.given ≡ old.given
+  pub closings : AllClosings kept'
+  pub same : IsTrue tells → mid.files ≡ old.files
+  pub rise : old.open_faults ≤ mid.open_faults
+  pub ids : old.given ≤ mid.given
+
+pub keys-taken : {T : Type 0} (tells : Bool) (words : List (List ℕ)) (options : Options) (value : T) (kept kept' : List FaultNote) (old mid : FileState) → kept ≡ []
+    → TakesCause tells subject.Keys (keys_name words options) (Ok value) kept kept' old mid → AddsClosings kept kept' → (IsTrue tells → mid.files ≡ old.files)
+    → AreKept kept kept' old mid → old.given ≤ mid.given → KeysTaken tells words options kept kept' old mid
+keys-taken {T} tells words options value kept kept' old mid none cause closings same keeps ids = record {
+  none = none;
+  fits = taken-fits tells subject.Keys (keys_name words options) value kept kept' old old mid (λ _. refl) cause;
+  unopened = λ free. subst (λ (o : Option (List ℕ)). TakesCause {T = T} tells subject.Keys o (Ok value) kept kept' old mid) (named-none words options free) cause;
+  closings = subst AllClosings (sym (from-none kept kept' closings.more none closings.added)) (closings-said closings.more closings.are);
+  same = same;
+  rise = keeps.counted.openings.0;
+  ids = ids;
+}
+
+-- the script was refused behind them
+pub script-refused : (T : Type 0) (tells : Bool) (words : List (List ℕ)) (options : Options) (refusal : Refusal) (kept kept' kept'' : List FaultNote) (old mid new : FileState)
+    → KeysTaken tells words options kept kept' old mid → TakesCause {T = T} tells subject.Script (script_name words options) (Err refusal) kept' kept'' mid new
+    → BeginsCause tells words options (Err refusal) kept'' old new
+script-refused T tells words options refusal kept kept' kept'' old mid new keys cause = by-name refusal (script_name words options) refl cause
+  where
+    by-name : (r : Refusal) (named : Option (List ℕ)) → script_name words options ≡ named → TakesCause {T = T} tells subject.Script named (Err r) kept' kept'' mid new
+        → BeginsCause tells words options (Err r) kept'' old new
+    by-name r None is cause = absurd cause
+    by-name (Unopened place) (Some name) is (more, added, unread) =
+        inr (
+          name,
+          is,
+          subst (λ (l : List FaultNote). NotRead tells subject.Script name l old new) (sym added)
+              (not-read-behind tells subject.Script name kept' more old mid new keys.closings keys.same keys.rise keys.ids unread),
+        )
+    by-name (BadKeys place) (Some name) is cause = tt
+    by-name OutOfMemory (Some name) is cause = (
+      λ more. keys.fits,
+      λ free more. let given = keys.unopened free in
+          subst (λ (o : Option (List ℕ)). NamedFits tells o old) (sym is) (fits-before tells name old mid keys.same (cause (omega (arith, more, given)))),
+    )
+
+-- both were taken
+pub both-fit : {T : Type 0} (tells : Bool) (words : List (List ℕ)) (options : Options) (value : T) (kept kept' kept'' : List FaultNote) (old mid new : FileState)
+    → KeysTaken tells words options kept kept' old mid → TakesCause tells subject.Script (script_name words options) (Ok value) kept' kept'' mid new
+    → NamedFits tells (keys_name words options) old × NamedFits tells (script_name words options) old
+both-fit tells words options value kept kept' kept'' old mid new keys cause =
+    (keys.fits, taken-fits tells subject.Script (script_name words options) value kept' kept'' old mid new keys.same cause)
+
+-- ---- the statuses
+
+not-by : (there status sink sink_now other : ℕ) → RefusedCause there status sink sink_now → status ≡ other → other ≡ there ⊎ (other ≡ 102)
+not-by there status sink sink_now other (inl h) is = inl (sym is ∙ h.0)
+not-by there status sink sink_now other (inr h) is = inr (sym is ∙ h.0)
+
+pub usage-opened : (status sink sink_now other : ℕ) → RefusedCause 100 status sink sink_now → status ≡ other → 103 ≤ other ⊎ (other ≡ 101) → ⊥
+usage-opened status sink sink_now other cause is far = elim (not-by 100 status sink sink_now other cause is) [
+  | inl a ↦ elim far [ inl f ↦ omega (arith, a, f) | inr f ↦ omega (arith, a, f) ]
+  | inr a ↦ elim far [ inl f ↦ omega (arith, a, f) | inr f ↦ omega (arith, a, f) ]
+]
+
+pub refused-unopened : (tells : Bool) (words : List (List ℕ)) (options : Options) (refusal : Refusal) (status sink sink_now : ℕ) (notes items : List FaultNote) (old new : FileState)
+    → options_of words ≡ Some options → DeniedCause (denial_of words refusal) status sink sink_now → items ≡ notes
+    → BeginsCause tells words options (Err refusal) notes old new → status ≡ 101 → IsUnopened tells words items old new
+refused-unopened tells words options (Unopened place) status sink sink_now notes items old new chosen denied same begins is =
+    record { options = options; words_are = chosen; unread = subst (λ (l : List FaultNote). WordsNotRead tells words options l old new) (sym same) begins }
+refused-unopened tells words options (BadKeys place) status sink sink_now notes items old new chosen denied same begins is =
+    absurd (elim (not-by 105 status sink sink_now 101 denied is) [ inl a ↦ omega (arith, a) | inr a ↦ omega (arith, a) ])
+refused-unopened tells words options OutOfMemory status sink sink_now notes items old new chosen denied same begins is =
+    absurd (let h = denied.0 in omega (arith, h, is))
+
+pub refused-measured : (tells : Bool) (words : List (List ℕ)) (options : Options) (refusal : Refusal) (status sink sink_now : ℕ) (machine : Option MachineState) (notes : List FaultNote) (old new : FileState)
+    → options_of words ≡ Some options → DeniedCause (denial_of words refusal) status sink sink_now → machine ≡ None
+    → BeginsCause tells words options (Err refusal) notes old new → status ≡ 103 → AreMeasured tells words machine old new
+refused-measured tells words options (Unopened place) status sink sink_now machine notes old new chosen denied none begins is =
+    absurd (elim (not-by 101 status sink sink_now 103 denied is) [ inl a ↦ omega (arith, a) | inr a ↦ omega (arith, a) ])
+refused-measured tells words options (BadKeys place) status sink sink_now machine notes old new chosen denied none begins is =
+    absurd (elim (not-by 105 status sink sink_now 103 denied is) [ inl a ↦ omega (arith, a) | inr a ↦ omega (arith, a) ])
+refused-measured tells words options OutOfMemory status sink sink_now machine notes old new chosen denied none begins is = record {
+  options = options;
+  words_are = chosen;
+  keys = begins.0;
+  script = begins.1;
+  session = λ there. absurd (let no : false ≡ true = subst (λ (m : Option MachineState). IsSome m) none there in cc);
+}
+
+-- memory ran out before any file was opened
+pub none-measured : (tells : Bool) (words : List (List ℕ)) (options : Options) (state : FileState) → options_of words ≡ Some options → AreMeasured tells words None state state
+none-measured tells words options state chosen = record {
+  options = options;
+  words_are = chosen;
+  keys = λ more. absurd (omega (arith, more));
+  script = λ free more. absurd (omega (arith, more));
+  session = λ there. absurd (let no : false ≡ true = there in cc);
+}
+
+-- both were read where there was a session
+pub session-measured : (tells : Bool) (words : List (List ℕ)) (options : Options) (machine : Option MachineState) (old new : FileState) → options_of words ≡ Some options
+    → NamedFits tells (keys_name words options) old × NamedFits tells (script_name words options) old → AreMeasured tells words machine old new
+session-measured tells words options machine old new chosen fit = record {
+  options = options;
+  words_are = chosen;
+  keys = λ more. fit.0;
+  script = λ free more. fit.1;
+  session = λ there. fit;
+}
+
+-- a session ends with no such status
+pub session-opened : (end : Finish) (sink sink_now source source_now : ℕ) → FinishCause end sink sink_now source source_now → status_of end ≡ 101 → ⊥
+session-opened (finish.Exit n) sink sink_now source source_now c is = omega (arith, c.exit, is)
+session-opened finish.EndOfInput sink sink_now source source_now c is = omega (arith, is)
+session-opened finish.FlushFailed sink sink_now source source_now c is = omega (arith, is)
+session-opened finish.Commands sink sink_now source source_now c is = omega (arith, is)
+session-opened finish.Console sink sink_now source source_now c is = omega (arith, is)
+session-opened finish.Input sink sink_now source source_now c is = omega (arith, is)
+session-opened finish.OutOfMemory sink sink_now source source_now c is = omega (arith, is)
