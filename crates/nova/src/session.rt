@@ -3,7 +3,8 @@ ghost use Rattle.std.specs.Process.{exit_status};
 ghost use Rattle.fault_counts.specs.Faults.{Rose};
 ghost use Rattle.nova_top.specs.Standard.{IsStandard};
 ghost use Rattle.nova_top.specs.Words.{options_of, texts_of};
-ghost use Rattle.nova_top.specs.Ends.{IsOutcome, IsCutShort, StatusCause, IsComplete, NoneFailed, KeptUnwritten, HasWorkload};
+ghost use Rattle.nova_top.specs.Ends.{IsOutcome, IsCutShort, StatusCause, IsComplete, NoneFailed, KeptUnwritten};
+ghost use Rattle.nova_top.specs.Ends.{HasWorkload, InputTells};
 ghost use Rattle.nova.specs.Ends.{OfSomeEnd, OfSomeFaults};
 
 use host_files::{Files, Sink, Source};
@@ -24,15 +25,15 @@ pub fn session<U: Unit, C: Source, S: Sink, F: Files>(
     files: &mut F,
 ) -> ExitCode
     requires { IsStandard (map U.unit_state units.items) }
-    ensures outcome { IsTrue C.tells → IsTrue F.tells → IsTrue S.tells → exit_status result ≢ 103
-        → OfSomeEnd (λ machine notes. IsOutcome (texts_of words.now) (C.left input.old) (C.left input.new)
+    ensures outcome { InputTells (texts_of words.now) C.tells → IsTrue F.tells → IsTrue S.tells
+        → exit_status result ≢ 103 → OfSomeEnd (λ machine notes. IsOutcome (texts_of words.now) (C.left input.old) (C.left input.new)
         (S.written output.old) (S.written output.new) (F.state files.old).files (F.state files.new).files
         (exit_status result) machine notes) }
-    ensures memory { IsTrue C.tells → IsTrue F.tells → IsTrue S.tells → exit_status result ≡ 103
-        → OfSomeEnd (λ machine notes. IsCutShort (texts_of words.now) (C.left input.old) (C.left input.new)
+    ensures memory { InputTells (texts_of words.now) C.tells → IsTrue F.tells → IsTrue S.tells
+        → exit_status result ≡ 103 → OfSomeEnd (λ machine notes. IsCutShort (texts_of words.now) (C.left input.old) (C.left input.new)
         (S.written output.old) (S.written output.new) (F.state files.old).files (F.state files.new).files machine notes) }
-    ensures complete { IsTrue C.tells → IsTrue F.tells → IsTrue S.tells → exit_status result ≢ 103
-        → (Rose (S.fault_count output.old) (S.fault_count output.new) → ⊥)
+    ensures complete { InputTells (texts_of words.now) C.tells → IsTrue F.tells → IsTrue S.tells
+        → exit_status result ≢ 103 → (Rose (S.fault_count output.old) (S.fault_count output.new) → ⊥)
         → (Rose (C.fault_count input.old) (C.fault_count input.new) → ⊥)
         → NoneFailed (F.state files.old) (F.state files.new)
         → OfSomeEnd (λ machine notes. IsComplete (texts_of words.now) (C.left input.old) (C.left input.new)

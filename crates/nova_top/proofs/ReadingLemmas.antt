@@ -1,5 +1,5 @@
 -- The reading of a file of the words, with its notes.
-use Rattle.std.proofs.Common.{◌≡◌, inl, ℕ, zero, suc, ◌+◌, ◌<◌, ◌≤◌, ◌==◌, ◌||◌, ◌-◌, Bool, true, false, List, [], ◌∷◌, ◌++◌, length, drop, take, get_or, refl, ap, sym, ◌∙◌, subst, arith, add-one, append_assoc, Option, Some, None, IfSome, IfOk, IsSome, is_some, String, Global, string_bytes, Result, Ok, Err, if◌then◌else◌}
+use Rattle.std.proofs.Common.{◌≡◌, inl, ℕ, ◌+◌, ◌<◌, ◌≤◌, ◌==◌, ◌||◌, ◌-◌, Bool, true, false, List, [], ◌∷◌, ◌++◌, length, drop, take, get_or, refl, ap, sym, ◌∙◌, subst, arith, add-one, append_assoc, Option, Some, None, IfSome, IfOk, IsSome, is_some, String, Global, string_bytes, Result, Ok, Err, if◌then◌else◌}
 use Rattle.std.specs.Global.{Vec}
 use Rattle.std.specs.List.{AllByRecursion}
 use Rattle.std.proofs.lemmas.List.{map-append, length-map, drop-map}
@@ -24,7 +24,7 @@ use Rattle.file_commands.proofs.OwnFiles.{own-both}
 use Rattle.scp_commands.specs.WholeCalls.{both_notes}
 use Rattle.scp_commands.proofs.WholeLemmas.{read-claims}
 use Rattle.scp_commands.proofs.OwnFileLemmas.{whole-own}
-use Rattle.file_commands.proofs.Adding.{noted-append, openings-append, rose-both, rose-none, counted-both}
+use Rattle.file_commands.proofs.Adding.{noted-append, openings-append, counted-both}
 use Rattle.file_commands.proofs.Causes.{rose-one}
 use Rattle.whole_files.specs.declared.whole.FailedCall.{FailedCall}
 use Rattle.whole_files.specs.declared.whole.Whole.{Whole}

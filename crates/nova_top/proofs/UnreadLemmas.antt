@@ -273,16 +273,6 @@ refused-measured tells words options OutOfMemory status sink sink_now machine no
   session = λ there. absurd (let no : false ≡ true = subst (λ (m : Option MachineState). IsSome m) none there in cc);
 }
 
--- memory ran out before any file was opened
-pub none-measured : (tells : Bool) (words : List (List ℕ)) (options : Options) (state : FileState) → options_of words ≡ Some options → AreMeasured tells words None state state
-none-measured tells words options state chosen = record {
-  options = options;
-  words_are = chosen;
-  keys = λ more. absurd (omega (arith, more));
-  script = λ free more. absurd (omega (arith, more));
-  session = λ there. absurd (let no : false ≡ true = there in cc);
-}
-
 -- both were read where there was a session
 pub session-measured : (tells : Bool) (words : List (List ℕ)) (options : Options) (machine : Option MachineState) (old new : FileState) → options_of words ≡ Some options
     → NamedFits tells (keys_name words options) old × NamedFits tells (script_name words options) old → AreMeasured tells words machine old new

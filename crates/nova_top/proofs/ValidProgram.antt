@@ -286,8 +286,8 @@ opening-good words options keys script files input notes handed good =
         input = handed.read;
         least = good.1.0;
         limit = good.1.1;
-        budget = budget;
-        spent = omega (arith, budget);
+        budget = omega (arith, budget);
+        spent = omega arith;
       };
       disk = fresh.disk files keys;
     }

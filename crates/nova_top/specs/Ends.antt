@@ -1,6 +1,6 @@
 -- What the program comes to, for a console that took so many bytes, an input that let so many reads through, and the calls
 -- on files that failed.
-use Rattle.std.specs.Prelude.{◌≡◌, ◌≢◌, ◌⊎◌, ℕ, ◌+◌, ◌≤◌, List, [], ◌++◌, length, drop, Option, Some, None, IsSome, option_map}
+use Rattle.std.specs.Prelude.{◌≡◌, ◌≢◌, ◌⊎◌, ℕ, ◌+◌, ◌≤◌, Bool, IsTrue, List, [], ◌++◌, length, drop, Option, Some, None, IsSome, option_map}
 use Rattle.std.specs.List.{AllByRecursion}
 use Rattle.fault_counts.specs.Faults.{raised, Rose}
 use Rattle.host_files.specs.declared.files.FileCall.TheVariants.{Closing}
@@ -87,6 +87,10 @@ pub record HasWorkload (words : List (List ℕ)) : Type 0 where
   pub options : Options
   pub words_are : options_of words ≡ Some options
   pub given : IsSome options.workload
+
+-- the input tells its bytes where it is read, which it is where no workload is among the words
+abbrev pub InputTells : List (List ℕ) → Bool → Type 0
+InputTells words tells = (HasWorkload words → ⊥) → IsTrue tells
 
 -- Each status has its cause, told or not: 100 comes exactly where the words are outside their grammar, yielding only to
 -- 102; 101 comes only where there is a keys file or a script, and 105 only where there is a keys file; 102 comes only where the console's count rose by one (at the end

@@ -1,4 +1,5 @@
-ghost use Rattle.std.specs.Prelude.{◌≡◌, ◌≢◌, ◌≤◌, ◌^◌, List, [], map, Option, None, false, IsTrue, IsSome, string_bytes};
+ghost use Rattle.std.specs.Prelude.{◌≡◌, ◌≢◌, ◌≤◌, ◌^◌, List, [], map, Option, None};
+ghost use Rattle.std.specs.Prelude.{true, false, IsTrue, IsSome, string_bytes};
 ghost use Rattle.std.specs.List.{AllByRecursion};
 ghost use Rattle.fault_counts.specs.Faults.{Rose, CountsFault};
 ghost use Rattle.observations.specs.Status.{number_of};
@@ -16,7 +17,7 @@ ghost use Rattle.nova_top.specs.Standard.{IsStandard};
 ghost use Rattle.nova_top.specs.Words.{texts_of};
 ghost use Rattle.nova_top.specs.Outside.{usage_text, unopened_text, bad_keys_text};
 ghost use Rattle.nova_top.specs.Ends.{IsOutcome, IsCutShort, StatusCause, MachineThere, IsComplete, FilesAtEnd, KeptUnwritten};
-ghost use Rattle.nova_top.specs.Ends.{NoneFailed, HasWorkload};
+ghost use Rattle.nova_top.specs.Ends.{NoneFailed, HasWorkload, InputTells};
 ghost use Rattle.nova_top.specs.Unread.{IsUnopened, AreMeasured};
 ghost use Rattle.nova_top.specs.Program.{IsRefused, RefusedCause, RefusalCause, SessionEnds};
 ghost use Rattle.nova_top.specs.Program.{denial_of, IsDenied, DeniedCause, status_printed};
@@ -67,15 +68,15 @@ pub fn simulate<U: Unit, C: Source, S: Sink, F: Files>(
     files: &mut F,
 ) -> Ending<U>
     requires { IsStandard (map U.unit_state units.items) }
-    ensures outcome { IsTrue C.tells → IsTrue F.tells → IsTrue S.tells → result.status ≢ 103
+    ensures outcome { InputTells (texts_of words.now) C.tells → IsTrue F.tells → IsTrue S.tells → result.status ≢ 103
         → IsOutcome (texts_of words.now) (C.left input.old) (C.left input.new) (S.written output.old)
         (S.written output.new) (F.state files.old).files (F.state files.new).files result.status result.machine
         (notes_said result.faults.items) }
-    ensures memory { IsTrue C.tells → IsTrue F.tells → IsTrue S.tells → result.status ≡ 103
+    ensures memory { InputTells (texts_of words.now) C.tells → IsTrue F.tells → IsTrue S.tells → result.status ≡ 103
         → IsCutShort (texts_of words.now) (C.left input.old) (C.left input.new) (S.written output.old)
         (S.written output.new) (F.state files.old).files (F.state files.new).files result.machine
         (notes_said result.faults.items) }
-    ensures complete { IsTrue C.tells → IsTrue F.tells → IsTrue S.tells → result.status ≢ 103
+    ensures complete { InputTells (texts_of words.now) C.tells → IsTrue F.tells → IsTrue S.tells → result.status ≢ 103
         → (Rose (S.fault_count output.old) (S.fault_count output.new) → ⊥)
         → (Rose (C.fault_count input.old) (C.fault_count input.new) → ⊥)
         → NoneFailed (F.state files.old) (F.state files.new)
@@ -237,7 +238,7 @@ fn lines<U: Unit, C: Source, S: Sink, F: Files>(
     requires budget { opening.now.budget ≤ 2 ^ 32 }
     requires open { AllOpen session.machine.slots (F.state files.old).opened }
     ensures ended { SessionEnds result.status result.machine
-        (λ finish watch now. IsTrue C.tells → IsTrue F.tells → IsTrue S.tells → Performed
+        (λ finish watch now. (opening.now.reads ≡ true → IsTrue C.tells) → IsTrue F.tells → IsTrue S.tells → Performed
         (λ notes. beginning session (F.state files.old).files opening.now (C.left input.old) notes)
         finish (seen (beside watch session.keys (F.state files.new).files) now) (C.left input.new) (S.written output.old)
         (S.written output.new) (notes_said session.notes) (notes_said result.faults.items))

@@ -9,7 +9,7 @@ use Rattle.script_text.specs.Lines.{first_line, line_cost}
 use Rattle.scp_script.specs.Lines.{Arrival, InputEnds, Unpaid, LineComes, arrival}
 use Rattle.scp_script.specs.Scripts.{Script, still_open, cost_of_line, text_of_line, echo_text}
 use Rattle.scp_script.specs.Actions.{texts_of}
-use Rattle.scp_script.specs.Session.{State, Session, input_end, emptied_in, AllDone, BudgetSpent, Upcoming, Ends, Comes, Going, rested, state_of, asking_in, asking, behind_line, behind_script_line, behind_action, upcoming_in, upcoming, Step, step, ComesTo}
+use Rattle.scp_script.specs.Session.{State, Session, spent_more, input_end, emptied_in, AllDone, BudgetSpent, Upcoming, Ends, Comes, Going, rested, state_of, asking_in, asking, behind_line, behind_script_line, behind_action, upcoming_in, upcoming, Step, step, ComesTo}
 use Rattle.scp_script.specs.Laws.{lines_size, lines_cost, AreBehind, IsBehindLines, OnlyInput, LinesAreConsumed, AreForgotten, ActionsAreForgotten, EndedScriptsDoNotMatter}
 use Rattle.scp_script.proofs.SessionLemmas.{arrival-paid, following-is, step-comes, step-over, upcoming-input, upcoming-done, upcoming-lines, asking-lines, upcoming-action, action-unpaid, asking-action, closing, step-still, course-still}
 use Rattle.scp_script.proofs.LineLemmas.{reply_in, left_by, text-made, text-next, made-reads, asking-reads, comes-reads}
@@ -21,7 +21,7 @@ record IsNextLine (s t : Session) : Type 0 where
   pub rest : t.input ≡ drop (length (first_line s.input) + 1) s.input
   pub reads : reads_of (step s).made ≡ length (first_line s.input) + 1
   pub budget : s.budget ≡ t.budget + line_cost (length (first_line s.input))
-  pub spent : t.spent ≡ s.spent + line_cost (length (first_line s.input))
+  pub spent : t.spent ≡ spent_more s.spent (line_cost (length (first_line s.input)))
   pub limit : t.limit ≡ s.limit
   pub prompt : t.prompt ≡ s.prompt
   pub reading : t.reads ≡ s.reads
@@ -33,7 +33,7 @@ record IsNextScript (s t : Session) : Type 0 where
   pub rest : t.input ≡ s.input
   pub reads : reads_of (step s).made ≡ 0
   pub budget : s.budget ≡ t.budget + cost
-  pub spent : t.spent ≡ s.spent + cost
+  pub spent : t.spent ≡ spent_more s.spent cost
   pub limit : t.limit ≡ s.limit
   pub prompt : t.prompt ≡ s.prompt
   pub reading : t.reads ≡ s.reads
@@ -149,7 +149,7 @@ texts-behind zero s t made (none, same) = record {
   few = omega arith;
   rest = ap (λ (x : Session). x.input) (sym same);
   reads = ap (λ l. reads_of l) none;
-  budget = ap (λ (x : Session). x.budget + x.spent) same;
+  spent = let units = ap (λ (x : Session). x.budget) same in let number = ap (λ (x : Session). x.spent) same in omega (arith, units, number);
   paid = let equal = ap (λ (x : Session). x.budget) same in omega (arith, equal);
   limit = ap (λ (x : Session). x.limit) (sym same);
   prompt = ap (λ (x : Session). x.prompt) (sym same);
@@ -174,7 +174,7 @@ texts-behind (suc count) s t made (mid, more, goes, parts, rest) =
           few = omega (arith, inner.few);
           rest = inner.rest ∙ ap (λ i. drop (lines_size inner.lines i) i) one.rest ∙ drop-drop (lines_size inner.lines (drop size s.input)) size s.input;
           reads = sum ∙ ap (λ n. n + reads_of more) read ∙ ap (λ n. size + n) (inner.reads ∙ ap (lines_size inner.lines) one.rest);
-          budget = omega (arith, one.budget, one.spent, inner.budget);
+          spent = omega (arith, one.budget, one.spent, inner.spent, inner.paid);
           paid = omega (arith, one.budget, inner.paid);
           limit = inner.limit ∙ one.limit;
           prompt = inner.prompt ∙ one.prompt;
@@ -188,7 +188,7 @@ texts-behind (suc count) s t made (mid, more, goes, parts, rest) =
       few = omega (arith, inner.few);
       rest = inner.rest ∙ ap (λ i. drop (lines_size inner.lines i) i) one.rest;
       reads = omega (arith, sum, one.reads, inner.reads ∙ ap (lines_size inner.lines) one.rest);
-      budget = omega (arith, one.budget, one.spent, inner.budget);
+      spent = omega (arith, one.budget, one.spent, inner.spent, inner.paid);
       paid = omega (arith, one.budget, one.some, inner.paid);
       limit = inner.limit ∙ one.limit;
       prompt = inner.prompt ∙ one.prompt;
@@ -200,7 +200,7 @@ lines-behind zero s t made (none, same) closed = record {
   rest = ap (λ (x : Session). x.input) (sym same);
   reads = ap (λ l. reads_of l) none;
   budget = ap (λ (x : Session). x.budget) same ∙ omega arith;
-  spent = ap (λ (x : Session). x.spent) (sym same) ∙ omega arith;
+  spent = let number = ap (λ (x : Session). x.spent) same in omega (arith, number);
 }
 lines-behind (suc count) s t made (mid, more, goes, parts, rest) closed =
     let one = next-line s mid s.reads (closed 0 [] s (omega arith) (refl, refl)) refl goes in

@@ -1,5 +1,5 @@
 -- A line with the notes that were kept in it: what is handed to its text, and what is left.
-use Rattle.std.proofs.Common.{Option, Some, None, ◌≡◌, ◌≢◌, ◌⊎◌, ℕ, ◌+◌, ◌-◌, ◌<◌, ◌≤◌, Bool, true, IsTrue, List, [], ◌∷◌, ◌++◌, length, drop, take, option_map, slice_get, refl, ap, sym, ◌∙◌, subst, arith, append_assoc, append-nil, inl}
+use Rattle.std.proofs.Common.{Option, Some, None, ◌≡◌, ◌≢◌, ◌⊎◌, ℕ, ◌-◌, ◌<◌, ◌≤◌, Bool, true, IsTrue, List, [], ◌∷◌, ◌++◌, length, drop, take, option_map, slice_get, refl, ap, sym, ◌∙◌, subst, arith, append_assoc, append-nil, inl}
 use Rattle.std.proofs.Math.Seq.{take-append_seam}
 use Rattle.expect_actions.specs.Actions.{first_written}
 use Rattle.fault_counts.specs.Faults.{raised}
@@ -28,7 +28,7 @@ use Rattle.scp_script.specs.Lines.{InputEnds, LineComes, arrival, line_reads}
 use Rattle.scp_script.specs.Reading.{AreRead}
 use Rattle.scp_script.specs.Scripts.{Script, still_open, cost_of_line, text_of_line, echo_text, past_line}
 use Rattle.scp_script.specs.Actions.{texts_of, texts_behind}
-use Rattle.scp_script.specs.Session.{State, Session, Upcoming, Ends, Comes, Step, flushes_in, flushes_next, Course, prompt_text, asking, behind_line, behind_script_line, behind_action, upcoming, emptied_in, input_end, closed, text_reply, course, trace}
+use Rattle.scp_script.specs.Session.{State, Session, spent_more, Upcoming, Ends, Comes, Step, flushes_in, flushes_next, Course, prompt_text, asking, behind_line, behind_script_line, behind_action, upcoming, emptied_in, input_end, closed, text_reply, course, trace}
 use Rattle.scp_script.specs.Loop.{session_of, IsAnswer, AreClosings, AreShort, IsShort, Answers, AnswerCounts, HasExitStatus, status_of, finish_of, EndsAs, Finishes, MayFollow, MayCome, StopsShort, RunsOut, Progresses, ProgressCause, Stepped, KeptInLine}
 use Rattle.scp_script.proofs.SessionLemmas.{arrival-paid, upcoming-input, upcoming-script, asking-script, upcoming-action, asking-action, trace-is, closing, asking-still, upcoming-still, step-still, course-still}
 use Rattle.scp_script.proofs.LineLemmas.{none-read, comes-reads, asking-text, asking-reads, IsBehind, answered, input-ended}
@@ -131,7 +131,7 @@ session-equal s t live notes spent limit budget texts reads prompt input open_ =
 -- a session behind a line of the input, as the code leaves it, but for what commands work on, their notes and the texts that
 -- are still to come
 pub record IsBehindLine (old new : Session) : Type 0 where
-  pub spent : new.spent ≡ old.spent + line_cost (length (first_line old.input))
+  pub spent : new.spent ≡ spent_more old.spent (line_cost (length (first_line old.input)))
   pub limit : new.limit ≡ old.limit
   pub budget : new.budget ≡ old.budget - line_cost (length (first_line old.input))
   pub open_ : new.open_ ≡ has_lf old.input
@@ -158,7 +158,7 @@ line-stepped old new line what result tells before mid after notes notes' told n
 
 -- the same behind the next line of a script
 pub record IsBehindScript (old new : Session) (script : Script) : Type 0 where
-  pub spent : new.spent ≡ old.spent + cost_of_line script
+  pub spent : new.spent ≡ spent_more old.spent (cost_of_line script)
   pub limit : new.limit ≡ old.limit
   pub budget : new.budget ≡ old.budget - cost_of_line script
   pub reading : new.reads ≡ old.reads
@@ -189,7 +189,7 @@ script-stepped old new script outer what result tells before mid after notes not
 
 -- the same behind an action
 pub record IsBehindAction (old new : Session) : Type 0 where
-  pub spent : new.spent ≡ old.spent + 1
+  pub spent : new.spent ≡ spent_more old.spent 1
   pub limit : new.limit ≡ old.limit
   pub budget : new.budget ≡ old.budget - 1
   pub reading : new.reads ≡ old.reads
@@ -370,7 +370,7 @@ left-at old new now files lines lines' input left p before after is =
 
 -- what is spent has risen by what a line costs
 pub spent-line : (command command' budget budget' : ℕ) (open_ : Bool) (input line : List ℕ) → arrival budget open_ input ≡ LineComes line → budget' ≡ budget - line_cost (length (first_line input))
-    → command' + budget' ≡ command + budget → command' ≡ command + line_cost (length (first_line input))
+    → command' ≡ spent_more command (budget - budget') → command' ≡ spent_more command (line_cost (length (first_line input)))
 spent-line command command' budget budget' open_ input line e pays sum =
     let enough = arrival-paid budget open_ input line e in
     omega (arith, enough, pays, sum)

@@ -302,7 +302,7 @@ next-valid s t is h =
     let least = is.least in
     let most = is.limit in
     let same = behind.limit in
-    let spent = behind.budget in
+    let spent = behind.spent in
     let paid = behind.paid in
     record {
       live = holds.live;

@@ -1,11 +1,11 @@
 -- Laws above the definition of a session, in a reader's words.
-use Rattle.std.specs.Prelude.{◌≡◌, ℕ, zero, suc, ◌+◌, ◌<◌, ◌≤◌, List, [], length, drop}
+use Rattle.std.specs.Prelude.{◌≡◌, ℕ, zero, suc, ◌+◌, ◌-◌, ◌<◌, ◌≤◌, List, [], length, drop}
 use Rattle.observations.specs.Observations.{Observation, reads_of}
 use Rattle.script_text.specs.Lines.{first_line, line_cost}
 use Rattle.scp_script.specs.Scripts.{still_open}
 use Rattle.scp_script.specs.Actions.{texts_of}
 use Rattle.expect_actions.specs.Watch.{forgotten}
-use Rattle.scp_script.specs.Session.{State, Session, Going, step, after_step, course, ComesTo}
+use Rattle.scp_script.specs.Session.{State, Session, spent_more, Going, step, after_step, course, ComesTo}
 
 -- a session does its next text, and then what the session behind that text does: the bound in the definition of a
 -- course is never what ends it
@@ -23,14 +23,15 @@ lines_cost zero input = 0
 lines_cost (suc count) input = line_cost (length (first_line input)) + lines_cost count (drop (length (first_line input) + 1) input)
 
 -- A session behind that many texts, of which so many were lines of the input and all others actions or lines of scripts:
--- those lines were read, and nothing else; the budget has fallen by what is spent more, which is a unit for each text at
--- least; and the limit of a run and the prompt are as they were, and so is whether the input is read.
+-- those lines were read, and nothing else; by what the budget has fallen is spent more, up to where the number stands
+-- still, which is a unit for each text at least; and the limit of a run and the prompt are as they were, and so is
+-- whether the input is read.
 pub record AreBehind (count : ℕ) (s : Session) (made : List (Observation State)) (t : Session) : Type 0 where
   pub lines : ℕ
   pub few : lines ≤ count
   pub rest : t.input ≡ drop (lines_size lines s.input) s.input
   pub reads : reads_of made ≡ lines_size lines s.input
-  pub budget : s.budget + s.spent ≡ t.budget + t.spent
+  pub spent : t.spent ≡ spent_more s.spent (s.budget - t.budget)
   pub paid : t.budget + count ≤ s.budget
   pub limit : t.limit ≡ s.limit
   pub prompt : t.prompt ≡ s.prompt
@@ -41,7 +42,7 @@ pub record IsBehindLines (count : ℕ) (s : Session) (made : List (Observation S
   pub rest : t.input ≡ drop (lines_size count s.input) s.input
   pub reads : reads_of made ≡ lines_size count s.input
   pub budget : s.budget ≡ t.budget + lines_cost count s.input
-  pub spent : t.spent ≡ s.spent + lines_cost count s.input
+  pub spent : t.spent ≡ spent_more s.spent (lines_cost count s.input)
 
 -- no action waits and no script is open before any of so many texts
 abbrev pub OnlyInput : ℕ → Session → List (Observation State) → Session → Type 0

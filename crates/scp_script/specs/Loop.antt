@@ -1,6 +1,6 @@
 -- What the calls of the loop over texts come to, for a console that had and has these bytes and an input that let so many
 -- reads through.
-use Rattle.std.specs.Prelude.{◌≡◌, ◌≢◌, ◌⊎◌, ℕ, ◌<◌, ◌≤◌, Bool, IsTrue, List, [], ◌++◌, length, Option, Some, None, Ok}
+use Rattle.std.specs.Prelude.{◌≡◌, ◌≢◌, ◌⊎◌, ℕ, ◌+◌, ◌^◌, ◌<◌, ◌≤◌, Bool, IsTrue, List, [], ◌++◌, length, Option, Some, None, Ok}
 use Rattle.std.specs.List.{AllByRecursion}
 use Rattle.fault_counts.specs.Faults.{raised}
 use Rattle.host_files.specs.declared.files.FileCall.TheVariants.{Closing}
@@ -239,6 +239,11 @@ pub record MayFollow (number : ℕ) (live : Live) (notes : List Note) : Type 0 w
 abbrev pub MayCome : Progress → ℕ → Live → List Note → Type 0
 MayCome GoesOn number live notes = MayFollow number live notes
 MayCome (IsOver finish) number live notes = notes ≡ []
+
+-- The numbers suffice for so many units more: each command that is still to come has a number of its own, and so its
+-- notes are told from those of the others.
+abbrev pub NumbersSuffice : ℕ → ℕ → Type 0
+NumbersSuffice spent budget = spent + budget < 2 ^ 64
 
 -- The next text was done, with the notes that were kept in it: with these before any that may follow, the session goes on to
 -- where those are left.

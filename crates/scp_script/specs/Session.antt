@@ -1,5 +1,5 @@
 -- A session: one text after another, to EXIT, the end of the input, or the end of the budget.
-use Rattle.std.specs.Prelude.{◌≡◌, ℕ, zero, suc, ◌+◌, ◌-◌, nat_le, Bool, false, List, [], ◌∷◌, ◌++◌, length, drop, codes, Option, Some, None, Ok, Err, if◌then◌else◌}
+use Rattle.std.specs.Prelude.{◌≡◌, ℕ, zero, suc, ◌+◌, ◌-◌, ◌^◌, min, max, nat_le, Bool, false, List, [], ◌∷◌, ◌++◌, length, drop, codes, Option, Some, None, Ok, Err, if◌then◌else◌}
 use Rattle.observations.specs.declared.exit_status.ExitStatus.TheVariants as exits
 use Rattle.observations.specs.Status.{number_of}
 use Rattle.observations.specs.Observations.{Observation, Prints, Reads, Trace, after_made, map_made}
@@ -28,7 +28,8 @@ pub record State : Type 0 where
 -- budget left, the actions that wait and the scripts that are open, whether the input is read behind these, whether the
 -- prompt is printed, the rest of the input, and whether its end is still to be read. Beside that it is handed the failing
 -- calls that are still to come, each with the number of its command, which is how many units of the budget are spent, those
--- of the command included.
+-- of the command included. At 2^64 - 1 the number stands still: the commands behind have one number, and each of them
+-- is handed all leading notes that have it.
 pub record Session : Type 0 where
   pub live : Live
   pub notes : List Note
@@ -40,6 +41,10 @@ pub record Session : Type 0 where
   pub prompt : Bool
   pub input : List ℕ
   pub open_ : Bool
+
+-- how many units are spent behind so many more
+abbrev pub spent_more : ℕ → ℕ → ℕ
+spent_more spent cost = max spent (min (spent + cost) (2 ^ 64 - 1))
 
 abbrev pub state_of : Session → State
 state_of s = record { live = s.live; notes = s.notes }
@@ -73,7 +78,7 @@ asking s = asking_at s s.texts.actions
 unfoldable pub behind_line : Session → Session
 behind_line s = record s {
   texts = texts_of [] [];
-  spent = s.spent + line_cost (length (first_line s.input));
+  spent = spent_more s.spent (line_cost (length (first_line s.input)));
   budget = s.budget - line_cost (length (first_line s.input));
   input = drop (length (first_line s.input) + 1) s.input;
   open_ = has_lf s.input;
@@ -82,7 +87,7 @@ behind_line s = record s {
 -- the session behind the next line of its innermost script, which was paid
 unfoldable pub behind_script_line : Session → Script → List Script → Session
 behind_script_line s script outer = record s {
-  spent = s.spent + cost_of_line script;
+  spent = spent_more s.spent (cost_of_line script);
   budget = s.budget - cost_of_line script;
   texts = texts_of [] (past_line script ∷ outer);
 }
@@ -90,7 +95,7 @@ behind_script_line s script outer = record s {
 -- the session behind its next action, which costs a unit
 unfoldable pub behind_action : Session → List (List ℕ) → Session
 behind_action s others = record s {
-  spent = s.spent + 1;
+  spent = spent_more s.spent 1;
   budget = s.budget - 1;
   texts = texts_of others s.texts.scripts;
 }

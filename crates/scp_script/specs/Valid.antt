@@ -1,5 +1,5 @@
 -- What every session is: true of the beginning, and kept by every text.
-use Rattle.std.specs.Prelude.{◌≡◌, ℕ, ◌+◌, ◌^◌, ◌≤◌, List, length}
+use Rattle.std.specs.Prelude.{◌≡◌, ℕ, ◌^◌, ◌<◌, ◌≤◌, List, length}
 use Rattle.std.specs.List.{AllByRecursion}
 use Rattle.observations.specs.Observations.{Observation, StandsAt}
 use Rattle.expect_actions.specs.Actions.{most_actions}
@@ -34,8 +34,8 @@ pub record ValidSession (s : Session) : Type 0 where
   pub input : AreBytes s.input
   pub least : 1 ≤ s.limit
   pub limit : s.limit ≤ 2 ^ 48
-  pub budget : s.budget ≤ 2 ^ 32
-  pub spent : s.spent + s.budget ≤ 2 ^ 33
+  pub budget : s.budget < 2 ^ 64
+  pub spent : s.spent < 2 ^ 64
 
 pub record SessionsStayValid : Type 0 where
   -- behind one text, and behind many

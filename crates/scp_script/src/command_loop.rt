@@ -1,4 +1,4 @@
-ghost use Rattle.std.specs.Prelude.{◌≡◌, ◌≢◌, ◌≤◌, ◌<◌, ◌+◌, ◌-◌, ◌^◌, ◌∷◌, [], ℕ, List, IsTrue, true, false, length};
+ghost use Rattle.std.specs.Prelude.{◌≡◌, ◌≢◌, ◌≤◌, ◌<◌, ◌-◌, ◌∷◌, [], ℕ, List, IsTrue, true, false, length};
 ghost use Rattle.fault_counts.specs.Faults.{CountsFault, raised};
 ghost use Rattle.host_files.specs.State.{Opened};
 ghost use Rattle.host_files.specs.Streams.{Puts};
@@ -7,8 +7,9 @@ ghost use Rattle.file_commands.specs.OwnFiles.{AreOwn};
 ghost use Rattle.file_commands.specs.Notes.{notes_said};
 ghost use Rattle.scp_script.specs.Reading.{IsReading, Pays};
 ghost use Rattle.scp_script.specs.Scripts.{cost_of_line};
-ghost use Rattle.scp_script.specs.Session.{prompt_text};
-ghost use Rattle.scp_script.specs.Loop.{session_of, Stepped, ProgressCause, PaysFor, AreKept, KeptInLine};
+ghost use Rattle.scp_script.specs.Session.{prompt_text, spent_more};
+ghost use Rattle.scp_script.specs.Loop.{session_of, NumbersSuffice, Stepped, ProgressCause, PaysFor};
+ghost use Rattle.scp_script.specs.Loop.{AreKept, KeptInLine};
 
 use crate::answers::{answer, deny_line};
 use crate::line_reader::Reading;
@@ -33,17 +34,17 @@ pub fn next_line<U: Unit, C: Source, F: Files, S: Sink>(
     files: &mut F,
     out: &mut S,
 ) -> Progress
-    requires budget { lines.old.budget ≤ 2 ^ 32 }
-    requires command { session.old.command + lines.old.budget ≤ 2 ^ 33 }
     requires open { AllOpen session.old.machine.slots (F.state files.old).opened }
-    ensures told { IsTrue C.tells → IsTrue F.tells → IsTrue S.tells
+    ensures told { NumbersSuffice session.old.command lines.old.budget → (lines.old.reads ≡ true → IsTrue C.tells)
+        → IsTrue F.tells → IsTrue S.tells
         → Stepped (session_of session.old (F.state files.old).files lines.old (C.left input.old)) result
         (session_of session.new (F.state files.new).files lines.new (C.left input.new)) (S.written out.old)
         (S.written out.new) (notes_said session.old.notes) (notes_said session.new.notes) }
     ensures cause { ProgressCause result (S.fault_count out.old) (S.fault_count out.new) (C.fault_count input.old)
         (C.fault_count input.new) }
     ensures pays { PaysFor lines.old.budget result lines.new.budget }
-    ensures command { session.new.command + lines.new.budget ≡ session.old.command + lines.old.budget }
+    ensures command { session.new.command
+        ≡ spent_more session.old.command (lines.old.budget - lines.new.budget) }
     ensures keeps { AreKept session.old.notes session.new.notes (F.state files.old) (F.state files.new) }
     ensures whose { AreOwn session.old.machine.slots session.new.machine.slots session.old.notes session.new.notes
         (F.state files.old) (F.state files.new) }
@@ -78,16 +79,15 @@ fn action<U: Unit, F: Files, S: Sink>(
     out: &mut S,
 ) -> Progress
     requires some { lines.old.texts.actions ≢ [] }
-    requires budget { lines.old.budget ≤ 2 ^ 32 }
-    requires command { session.old.command + lines.old.budget ≤ 2 ^ 33 }
     requires open { AllOpen session.old.machine.slots (F.state files.old).opened }
-    ensures told { IsTrue F.tells → IsTrue S.tells → (input : List ℕ)
-        → Stepped (session_of session.old (F.state files.old).files lines.old input) result
+    ensures told { NumbersSuffice session.old.command lines.old.budget → IsTrue F.tells → IsTrue S.tells
+        → (input : List ℕ) → Stepped (session_of session.old (F.state files.old).files lines.old input) result
         (session_of session.new (F.state files.new).files lines.new input) (S.written out.old) (S.written out.new)
         (notes_said session.old.notes) (notes_said session.new.notes) }
     ensures cause { (source : ℕ) → ProgressCause result (S.fault_count out.old) (S.fault_count out.new) source source }
     ensures pays { PaysFor lines.old.budget result lines.new.budget }
-    ensures command { session.new.command + lines.new.budget ≡ session.old.command + lines.old.budget }
+    ensures command { session.new.command
+        ≡ spent_more session.old.command (lines.old.budget - lines.new.budget) }
     ensures keeps { AreKept session.old.notes session.new.notes (F.state files.old) (F.state files.new) }
     ensures whose { AreOwn session.old.machine.slots session.new.machine.slots session.old.notes session.new.notes
         (F.state files.old) (F.state files.new) }
@@ -130,17 +130,17 @@ fn input_line<U: Unit, C: Source, F: Files, S: Sink>(
     requires scripts { lines.old.texts.scripts ≡ [] }
     requires reads { lines.old.reads ≡ true }
     requires room { 16 ≤ session.old.spare }
-    requires budget { lines.old.budget ≤ 2 ^ 32 }
-    requires command { session.old.command + lines.old.budget ≤ 2 ^ 33 }
     requires open { AllOpen session.old.machine.slots (F.state files.old).opened }
-    ensures told { IsTrue C.tells → IsTrue F.tells → IsTrue S.tells
+    ensures told { NumbersSuffice session.old.command lines.old.budget → IsTrue C.tells → IsTrue F.tells
+        → IsTrue S.tells
         → Stepped (session_of session.old (F.state files.old).files lines.old (C.left input.old)) result
         (session_of session.new (F.state files.new).files lines.new (C.left input.new)) (S.written out.old)
         (S.written out.new) (notes_said session.old.notes) (notes_said session.new.notes) }
     ensures cause { ProgressCause result (S.fault_count out.old) (S.fault_count out.new) (C.fault_count input.old)
         (C.fault_count input.new) }
     ensures pays { PaysFor lines.old.budget result lines.new.budget }
-    ensures command { session.new.command + lines.new.budget ≡ session.old.command + lines.old.budget }
+    ensures command { session.new.command
+        ≡ spent_more session.old.command (lines.old.budget - lines.new.budget) }
     ensures keeps { AreKept session.old.notes session.new.notes (F.state files.old) (F.state files.new) }
     ensures whose { AreOwn session.old.machine.slots session.new.machine.slots session.old.notes session.new.notes
         (F.state files.old) (F.state files.new) }
@@ -190,17 +190,16 @@ fn script_line<U: Unit, F: Files, S: Sink>(
     requires line { script.place < length script.text }
     requires actions { lines.old.texts.actions ≡ [] }
     requires scripts { length lines.old.texts.scripts < 10 }
-    requires budget { lines.old.budget ≤ 2 ^ 32 }
-    requires command { session.old.command + lines.old.budget ≤ 2 ^ 33 }
     requires open { AllOpen session.old.machine.slots (F.state files.old).opened }
-    ensures told { IsTrue F.tells → IsTrue S.tells → (input : List ℕ)
-        → Stepped (session_of session.old (F.state files.old).files
+    ensures told { NumbersSuffice session.old.command lines.old.budget → IsTrue F.tells → IsTrue S.tells
+        → (input : List ℕ) → Stepped (session_of session.old (F.state files.old).files
         (record lines.old { texts = record lines.old.texts { scripts = script ∷ lines.old.texts.scripts } }) input) result
         (session_of session.new (F.state files.new).files lines.new input) (S.written out.old) (S.written out.new)
         (notes_said session.old.notes) (notes_said session.new.notes) }
     ensures cause { (source : ℕ) → ProgressCause result (S.fault_count out.old) (S.fault_count out.new) source source }
     ensures pays { PaysFor lines.old.budget result lines.new.budget }
-    ensures command { session.new.command + lines.new.budget ≡ session.old.command + lines.old.budget }
+    ensures command { session.new.command
+        ≡ spent_more session.old.command (lines.old.budget - lines.new.budget) }
     ensures keeps { AreKept session.old.notes session.new.notes (F.state files.old) (F.state files.new) }
     ensures whose { AreOwn session.old.machine.slots session.new.machine.slots session.old.notes session.new.notes
         (F.state files.old) (F.state files.new) }
@@ -237,10 +236,10 @@ fn script_line<U: Unit, F: Files, S: Sink>(
 /// Pays for an action or a line of a script, where enough units are left, and counts them as spent. Answers whether it
 /// is paid.
 fn pay<U: Unit>(session: &mut Session<U>, lines: &mut CommandLoop, cost: u64) -> bool
-    requires { session.old.command + lines.old.budget ≤ 2 ^ 33 }
     ensures paid { result ≡ true → (cost ≤ lines.old.budget) × (lines.new.budget ≡ lines.old.budget - cost) }
     ensures unpaid { result ≡ false → (lines.old.budget < cost) × (lines.new.budget ≡ lines.old.budget) }
-    ensures command { session.new.command + lines.new.budget ≡ session.old.command + lines.old.budget }
+    ensures command { session.new.command
+        ≡ spent_more session.old.command (lines.old.budget - lines.new.budget) }
     ensures rest { session.new ≡ record session.old { command = session.new.command } }
     ensures lines { lines.new ≡ record lines.old { budget = lines.new.budget } }
 {
@@ -248,7 +247,7 @@ fn pay<U: Unit>(session: &mut Session<U>, lines: &mut CommandLoop, cost: u64) ->
         return false;
     }
     lines.budget -= cost;
-    session.command += cost;
+    session.command = session.command.saturating_add(cost);
     true
 }
 
@@ -258,8 +257,6 @@ fn read_paid<U: Unit, C: Source>(
     lines: &mut CommandLoop,
     input: &mut C,
 ) -> Reading
-    requires budget { lines.old.budget ≤ 2 ^ 32 }
-    requires command { session.old.command + lines.old.budget ≤ 2 ^ 33 }
     ensures reads { IsTrue C.tells
         → IsReading lines.old.budget lines.old.reader.open_ (C.left input.old) result lines.new.budget lines.new.reader
         (C.left input.new) }
@@ -269,12 +266,13 @@ fn read_paid<U: Unit, C: Source>(
     ensures prompt { lines.new.prompt ≡ lines.old.prompt }
     ensures reading { lines.new.reads ≡ lines.old.reads }
     ensures texts { lines.new.texts ≡ lines.old.texts }
-    ensures command { session.new.command + lines.new.budget ≡ session.old.command + lines.old.budget }
+    ensures command { session.new.command
+        ≡ spent_more session.old.command (lines.old.budget - lines.new.budget) }
     ensures rest { session.new ≡ record session.old { command = session.new.command } }
 {
     let before = lines.budget;
     let reading = lines.reader.read_line(input, &mut lines.budget);
-    session.command += before - lines.budget;
+    session.command = session.command.saturating_add(before - lines.budget);
     reading
 }
 

@@ -63,7 +63,6 @@ impl LineReader {
     /// Reads the next line, and pays for it while it is read: a unit with its first byte, and one more as bytes 1024,
     /// 1536 and so on come in.
     pub fn read_line<C: Source>(&mut self, input: &mut C, budget: &mut u64) -> Reading
-        requires { budget.old ≤ 2 ^ 32 }
         ensures reads { IsTrue C.tells
             → IsReading budget.old self.old.open_ (C.left input.old) result budget.new self.new (C.left input.new) }
         ensures pays { Pays budget.old result budget.new }
@@ -79,8 +78,7 @@ impl LineReader {
 
     /// The same, where the end has not been read.
     fn read_open_line<C: Source>(&mut self, input: &mut C, budget: &mut u64) -> Reading
-        requires budget { budget.old ≤ 2 ^ 32 }
-        requires open_ { self.old.open_ ≡ true }
+        requires { self.old.open_ ≡ true }
         ensures reads { IsTrue C.tells
             → IsReading budget.old true (C.left input.old) result budget.new self.new (C.left input.new) }
         ensures pays { Pays budget.old result budget.new }
@@ -88,7 +86,9 @@ impl LineReader {
         ensures quiet { result ≢ Reading.Failed → C.fault_count input.new ≡ C.fault_count input.old }
     {
         self.line.clear();
-        let mut count = 0u64;
+        // Each unit pays for up to 512 bytes, so that there can be more of them than 64 bits count.
+        let _budget = *budget;
+        let mut count = 0u128;
         loop {
             let Ok(next) = next_byte(input) else {
                 return Reading::Failed;
@@ -109,14 +109,14 @@ impl LineReader {
     }
 
     /// Ends a line of that many bytes, or the input where it has none and no LF was read.
-    fn finish(&mut self, count: u64, lf: bool) -> Reading
+    fn finish(&mut self, count: u128, lf: bool) -> Reading
         ensures line { LineEnds count lf self.old.line result self.new.line }
         ensures open_ { self.new.open_ ≡ self.old.open_ }
     {
         if count == 0 && !lf {
             return Reading::End;
         }
-        if count > KEPT as u64 {
+        if count > KEPT as u128 {
             return Reading::TooLong;
         }
         if lf {
@@ -141,8 +141,8 @@ fn drop_cr(line: &mut Text<KEPT>)
 }
 
 /// Pays for the next byte of a line, where it costs a unit. Answers whether it is paid.
-fn pay(budget: &mut u64, count: u64, b: u8) -> bool
-    requires { count < 2 ^ 50 }
+fn pay(budget: &mut u64, count: u128, b: u8) -> bool
+    requires { count < 2 ^ 80 }
     ensures paid { result ≡ true → budget.new + byte_cost count b ≡ budget.old }
     ensures unpaid { result ≡ false → (budget.old ≡ 0) × (is_charged count b ≡ true) × (budget.new ≡ budget.old) }
 {
@@ -157,8 +157,8 @@ fn pay(budget: &mut u64, count: u64, b: u8) -> bool
 }
 
 /// Whether the next byte of a line costs a unit, where that many bytes stand before it.
-fn is_charged(count: u64, b: u8) -> bool
-    requires { count < 2 ^ 50 }
+fn is_charged(count: u128, b: u8) -> bool
+    requires { count < 2 ^ 80 }
     ensures { result ≡ is_charged count b }
 {
     count == 0 || b != b'\n' && count + 1 >= 1024 && (count + 1) % 512 == 0

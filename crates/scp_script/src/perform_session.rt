@@ -1,13 +1,13 @@
-ghost use Rattle.std.specs.Prelude.{◌≡◌, ◌≤◌, ◌^◌, [], true, false, List, map, take, string_bytes, IsTrue, IfOk};
+ghost use Rattle.std.specs.Prelude.{◌≡◌, [], true, false, List, map, take, string_bytes, IsTrue, IfOk};
 ghost use Rattle.host_files.specs.State.{Opened};
 ghost use Rattle.unit_files.specs.Open.{AllOpen, Around};
 ghost use Rattle.expect_actions.specs.Watch.{forgotten};
 ghost use Rattle.file_commands.specs.OwnFiles.{AreOwn};
 ghost use Rattle.file_commands.specs.Notes.{notes_said};
 ghost use Rattle.scp_commands.specs.Live.{live_in};
-ghost use Rattle.scp_script.specs.Loop.{FinishCause, AreKept, KeptCause};
+ghost use Rattle.scp_script.specs.Loop.{NumbersSuffice, FinishCause, AreKept, KeptCause};
 ghost use Rattle.scp_script.specs.Scripts.{first_script};
-ghost use Rattle.scp_script.specs.Perform.{beginning, Performed};
+ghost use Rattle.scp_script.specs.Perform.{beginning, SpendsOf, Performed};
 
 use crate::command_loop::next_line;
 use crate::line_reader::LineReader;
@@ -32,8 +32,8 @@ pub struct Opening {
     pub reads: bool,
     /// Whether the prompt is printed before each line of the input.
     pub prompt: bool,
-    /// The units to pay for lines and actions, at most 2^32: each costs one, and a line one more for each whole 512
-    /// bytes past its first 512.
+    /// The units to pay for lines and actions: each costs one, and a line one more for each whole 512 bytes past its
+    /// first 512.
     pub budget: u64,
 }
 
@@ -51,14 +51,14 @@ pub fn perform<U: Unit, C: Source, F: Files, S: Sink>(
     files: &mut F,
     out: &mut S,
 ) -> Finish
-    requires budget { opening.now.budget ≤ 2 ^ 32 }
-    requires command { session.old.command ≤ 2 ^ 32 }
     requires open { AllOpen session.old.machine.slots (F.state files.old).opened }
-    ensures told { IsTrue C.tells → IsTrue F.tells → IsTrue S.tells
+    ensures told { NumbersSuffice session.old.command opening.now.budget → (opening.now.reads ≡ true → IsTrue C.tells)
+        → IsTrue F.tells → IsTrue S.tells
         → Performed
         (λ notes. beginning session.old (F.state files.old).files opening.now (C.left input.old) notes) result
         (live_in session.new (F.state files.new).files) (C.left input.new) (S.written out.old) (S.written out.new)
         (notes_said session.old.notes) (notes_said session.new.notes) }
+    ensures command { SpendsOf opening.now.budget session.old.command session.new.command }
     ensures cause { FinishCause result (S.fault_count out.old) (S.fault_count out.new) (C.fault_count input.old)
         (C.fault_count input.new) }
     ensures keeps { AreKept session.old.notes session.new.notes (F.state files.old) (F.state files.new) }

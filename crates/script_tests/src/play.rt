@@ -3,7 +3,7 @@
 // (`files`), the input and its read that fails (`input` and `read`), whether it is read behind the script and after a prompt
 // (`reads=no` and `prompt=no`), the budget and how many bytes the console takes (`room`); and then what is printed
 // (`prints`), how the session finishes and how many reads have failed (`faults`).
-ghost use Rattle.std.specs.Prelude.{◌≤◌, ◌^◌, List, IfOk};
+ghost use Rattle.std.specs.Prelude.{List};
 ghost use Rattle.host_files.specs.State.{Opened};
 ghost use Rattle.unit_files.specs.Open.{AllOpen};
 
@@ -39,8 +39,7 @@ fn with_session<U: Unit>(
     session: &mut Session<U>,
     row: Row<'_>,
 ) -> Result<(), Fail>
-    requires command { session.old.command ≤ 2 ^ 32 }
-    requires open { (opened : List Opened) → AllOpen session.old.machine.slots opened }
+    requires { (opened : List Opened) → AllOpen session.old.machine.slots opened }
 {
     let mut files = files_of(rt, alloc, row)?;
     with_files(rt, alloc, session, &mut files, row)
@@ -90,8 +89,7 @@ fn with_files<U: Unit, F: Files>(
     files: &mut F,
     row: Row<'_>,
 ) -> Result<(), Fail>
-    requires command { session.old.command ≤ 2 ^ 32 }
-    requires open { AllOpen session.old.machine.slots (F.state files.old).opened }
+    requires { AllOpen session.old.machine.slots (F.state files.old).opened }
 {
     let room = (number(row, "room", 4096) % 65536) as usize;
     let mut console = ByteSink::with_room(alloc, room)?;
@@ -113,8 +111,7 @@ fn with_console<U: Unit, F: Files, S: Sink>(
     console: &mut S,
     row: Row<'_>,
 ) -> Result<(), Fail>
-    requires command { session.old.command ≤ 2 ^ 32 }
-    requires open { AllOpen session.old.machine.slots (F.state files.old).opened }
+    requires { AllOpen session.old.machine.slots (F.state files.old).opened }
 {
     let mut input = input_of(alloc, row)?;
     let finish = finish_of(alloc, session, &mut input, files, console, row)?;
@@ -139,16 +136,13 @@ fn finish_of<U: Unit, C: Source, F: Files, S: Sink>(
     console: &mut S,
     row: Row<'_>,
 ) -> Result<Finish, AllocError>
-    requires command { session.old.command ≤ 2 ^ 32 }
-    requires open { AllOpen session.old.machine.slots (F.state files.old).opened }
+    requires { AllOpen session.old.machine.slots (F.state files.old).opened }
 {
     let opening = opening_of(alloc, row)?;
     Ok(perform(alloc, session, &opening, input, files, console))
 }
 
-fn opening_of(alloc: Global, row: Row<'_>) -> Result<Opening, AllocError>
-    ensures { IfOk result (λ opening. opening.budget ≤ 2 ^ 32) }
-{
+fn opening_of(alloc: Global, row: Row<'_>) -> Result<Opening, AllocError> {
     let script = script_of(alloc, row)?;
     let arguments = words_of(alloc, row)?;
     Ok(Opening {
@@ -156,7 +150,7 @@ fn opening_of(alloc: Global, row: Row<'_>) -> Result<Opening, AllocError>
         arguments,
         reads: text(row, "reads").is_none(),
         prompt: text(row, "prompt").is_none(),
-        budget: number(row, "budget", 99).min(1 << 32),
+        budget: number(row, "budget", 99),
     })
 }
 

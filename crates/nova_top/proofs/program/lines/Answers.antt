@@ -1,4 +1,4 @@
-use Rattle.std.proofs.Common.{refl, ap, sym, ◌∙◌, subst, List, Option}
+use Rattle.std.proofs.Common.{refl, arith, ap, sym, ◌∙◌, subst, List, Option}
 use Rattle.file_commands.specs.declared.note.FaultNote.{FaultNote}
 use Rattle.file_commands.specs.OwnFiles.{AreOwn}
 use Rattle.scp_script.specs.Loop.{KeptCause}
@@ -17,7 +17,7 @@ returns-clause-ended g c = (
   refl,
   (λ source files sink. lines-told c.args.session c.perform-finish.new.session _ c.args.opening.now (g.F.Files.state c.args.files.now).files (g.F.Files.state c.perform-finish.new.files).files
       (g.C.Source.left c.args.input.now) (g.C.Source.left c.perform-finish.new.input) (g.S.Sink.written c.args.output.now) (g.S.Sink.written c.perform-finish.new.out) c.perform-finish.result
-      c.session.view_is c.perform-finish.ensures.keys (c.perform-finish.ensures.told source files sink)),
+      c.session.view_is c.perform-finish.ensures.keys (c.perform-finish.ensures.told (omega (arith, c.requires.command, c.requires.budget)) source files sink)),
   c.perform-finish.ensures.cause,
 )
 

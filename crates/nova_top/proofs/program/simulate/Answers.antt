@@ -1,4 +1,4 @@
-use Rattle.std.proofs.Common.{◌≡◌, inl, inr, Err, List, [], Option, map, refl, ap, sym, ◌∙◌, subst, arith}
+use Rattle.std.proofs.Common.{◌≡◌, inl, inr, true, IsTrue, Err, List, [], Option, map, refl, ap, sym, ◌∙◌, subst, arith}
 use Rattle.file_commands.specs.declared.note.FaultNote.{FaultNote}
 use Rattle.file_commands.specs.Notes.{notes_said}
 use Rattle.file_commands.specs.Counts.{AreCounted}
@@ -11,7 +11,7 @@ use Rattle.file_commands.proofs.Adding.{counted-none}
 use Rattle.scp_commands.specs.Live.{CommandState}
 use Rattle.scp_script.specs.Loop.{AreKept}
 use Rattle.nova_top.specs.declared.word_files.Refusal.{Refusal}
-use Rattle.nova_top.specs.Ends.{AreWordClosings}
+use Rattle.nova_top.specs.Ends.{AreWordClosings, InputTells}
 use Rattle.nova_top.specs.Words.{texts_of}
 use Rattle.nova_top.specs.Workload.{with_workload}
 use Rattle.nova_top.proofs.ProgramLemmas.{Begun, Made, begun-files, new-slots, workload-given}
@@ -100,6 +100,12 @@ unattached g c =
     ∙ ap (λ (m : MachineState). (with_workload workload m).slots) (ap (λ (s : CommandState). s.machine) c.session.view_is ∙ (made g c).machine)
     ∙ new-slots workload units
 
+-- where the session reads the input, no workload is among the words
+told-input : (g : Over) (c : goal.After-lines-arg-in-Ok-begin-2-1 g) → InputTells (texts_of c.args.words.now) g.C.Source.tells → c.in-Ok-begin.field-0.opening.reads ≡ true → IsTrue g.C.Source.tells
+told-input g c tells on =
+    tells (λ given.
+    let off = c.in-Ok-begin.ensures.opens.reads ∙ workload-given (texts_of c.args.words.now) c.in-Some.options (sym c.options_of.ensures.options ∙ c.in-Some.is) given in absurd (cc (on, off)))
+
 pub lines-requires-clause-open : goal.lines-requires-clause-open
 lines-requires-clause-open g c = (begun g (goal.at.lines-requires-clause-open g c).After-lines-arg-in-Ok-begin-2-1).open_
 
@@ -118,14 +124,14 @@ returns-in-Ok-begin-clause-outcome g c = λ source files sink other.
     let (finish, watch, now, status, machine, told, cause) = c.lines.ensures.ended in
     session-answer g.F.Files.tells (texts_of c.args.words.now) c.in-Some.options _ c.in-Ok-begin.field-0.opening (g.F.Files.state c.args.files.now) (g.F.Files.state c.begin.new.files) (g.F.Files.state c.lines.new.files).files
     (g.C.Source.left c.args.input.now) (g.C.Source.left c.lines.new.input) (g.S.Sink.written c.args.output.now) (g.S.Sink.written c.lines.new.output) finish watch now c.lines.result.status c.lines.result.machine
-    (notes_said c.lines.result.faults.items) (sym c.options_of.ensures.options ∙ c.in-Some.is) (begun g (goal.at.returns-in-Ok-begin-clause-outcome g c).After-lines-arg-in-Ok-begin-2-1) files cause.exit status machine other (told source files sink)
+    (notes_said c.lines.result.faults.items) (sym c.options_of.ensures.options ∙ c.in-Some.is) (begun g (goal.at.returns-in-Ok-begin-clause-outcome g c).After-lines-arg-in-Ok-begin-2-1) files cause.exit status machine other (told (told-input g (goal.at.returns-in-Ok-begin-clause-outcome g c).After-lines-arg-in-Ok-begin-2-1 source) files sink)
 
 pub returns-in-Ok-begin-clause-memory : goal.returns-in-Ok-begin-clause-memory
 returns-in-Ok-begin-clause-memory g c = λ source files sink memory.
     let (finish, watch, now, status, machine, told, cause) = c.lines.ensures.ended in
     memory-answer g.F.Files.tells (texts_of c.args.words.now) c.in-Some.options _ c.in-Ok-begin.field-0.opening (g.F.Files.state c.args.files.now) (g.F.Files.state c.begin.new.files) (g.F.Files.state c.lines.new.files).files
     (g.C.Source.left c.args.input.now) (g.C.Source.left c.lines.new.input) (g.S.Sink.written c.args.output.now) (g.S.Sink.written c.lines.new.output) finish watch now c.lines.result.status c.lines.result.machine
-    (notes_said c.lines.result.faults.items) (sym c.options_of.ensures.options ∙ c.in-Some.is) (begun g (goal.at.returns-in-Ok-begin-clause-memory g c).After-lines-arg-in-Ok-begin-2-1) files cause.exit status machine memory (told source files sink)
+    (notes_said c.lines.result.faults.items) (sym c.options_of.ensures.options ∙ c.in-Some.is) (begun g (goal.at.returns-in-Ok-begin-clause-memory g c).After-lines-arg-in-Ok-begin-2-1) files cause.exit status machine memory (told (told-input g (goal.at.returns-in-Ok-begin-clause-memory g c).After-lines-arg-in-Ok-begin-2-1 source) files sink)
 
 pub returns-in-Ok-begin-clause-notes : goal.returns-in-Ok-begin-clause-notes
 returns-in-Ok-begin-clause-notes g c =

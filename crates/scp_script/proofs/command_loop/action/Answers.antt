@@ -1,4 +1,4 @@
-use Rattle.std.proofs.Common.{◌≡◌, ◌<◌, ◌+◌, ◌-◌, ℕ, List, [], ◌∷◌, refl, ap, sym, ◌∙◌, subst, arith, drop, take, ◌++◌}
+use Rattle.std.proofs.Common.{◌≡◌, ◌<◌, ◌-◌, ℕ, List, [], ◌∷◌, refl, ap, sym, ◌∙◌, subst, arith, drop, take, ◌++◌}
 use Rattle.file_commands.specs.Notes.{Note, notes_said}
 use Rattle.scp_commands.specs.Live.{CommandState, live_in}
 use Rattle.scp_commands.specs.Effect.{asked}
@@ -6,6 +6,7 @@ use Rattle.scp_script.specs.declared.progress.CommandLoop.{CommandLoop}
 use Rattle.scp_script.specs.declared.progress.Progress.TheVariants.{IsOver}
 use Rattle.scp_script.specs.declared.progress.Finish.TheVariants.{Commands}
 use Rattle.scp_script.specs.Actions.{Texts, texts_of}
+use Rattle.scp_script.specs.Session.{spent_more}
 use Rattle.scp_script.specs.Loop.{IsShort, Answers, coming, session_of}
 use Rattle.scp_script.proofs.SessionLemmas.{action-unpaid, asking-action}
 use Rattle.scp_script.proofs.LineLemmas.{text-unpaid}
@@ -13,7 +14,7 @@ use Rattle.scp_script.proofs.NoteLemmas.{has-first, action-text, action-there, a
 use Rattle.scp_script.proofs.command_loop.action.Goals as goal
 
 pub returns-then-not-pay-clause-told : goal.returns-then-not-pay-clause-told
-returns-then-not-pay-clause-told g c = λ files sink input.
+returns-then-not-pay-clause-told g c = λ enough files sink input.
     let session = c.args.session.now in
     let paid = c.pay.new.session in
     let now_state = record session { command = paid.command } in
@@ -32,7 +33,7 @@ returns-then-not-pay-clause-told g c = λ files sink input.
     (same-read lines.reader.open_ now.reader.open_ input input reader refl) refl))
 
 pub returns-in-Some-clause-told : goal.returns-in-Some-clause-told
-returns-in-Some-clause-told g c = λ files sink input.
+returns-in-Some-clause-told g c = λ enough files sink input.
     let session = c.args.session.now in
     let paid = c.pay.new.session in
     let named = (g.F.Files.state c.args.files.now).files in
@@ -55,8 +56,8 @@ returns-in-Some-clause-told g c = λ files sink input.
     let what = asked (take c.in-Some.length c.take.new.out) in
     let left : texts_of c.take.new.self now.texts.scripts ≡ texts_of first.others lines.texts.scripts =
     ap (λ (a : List (List ℕ)). texts_of a now.texts.scripts) (c.take.ensures.rest ∙ ap (drop 1) there) ∙ ap (λ (x : CommandLoop). texts_of first.others x.texts.scripts) c.pay.ensures.lines in
-    let spent : done.command ≡ session.command + 1 = omega (arith, c.pay.ensures.command, c.answer.ensures.command, paid_for.0, budget) in
-    let less : session.command < done.command = omega (arith, spent) in
+    let spent : done.command ≡ spent_more session.command 1 = omega (arith, c.pay.ensures.command, c.answer.ensures.command, paid_for.0, budget) in
+    let less : session.command < done.command = omega (arith, spent, enough, paid_for.0) in
     let told = subst (λ (x : CommandState). Answers x.limit (live_in x named) (texts_of first.others lines.texts.scripts) what done.command result live (coming c.answer.new.texts) tells before after (notes_said x.notes) (notes_said done.notes)) is
     (subst (λ (t : Texts). Answers paid.limit (live_in paid named) t what done.command result live (coming c.answer.new.texts) tells before after (notes_said paid.notes) (notes_said done.notes)) left
     (subst (λ n. Answers paid.limit (live_in paid named) (texts_of c.take.new.self now.texts.scripts) what n result live (coming c.answer.new.texts) tells before after (notes_said paid.notes) (notes_said done.notes)) (sym c.answer.ensures.command)
@@ -84,6 +85,6 @@ returns-in-Some-clause-kept g c =
 
 -- an action is there
 pub returns-in-None-clause-told : goal.returns-in-None-clause-told
-returns-in-None-clause-told g c = λ files sink input.
+returns-in-None-clause-told g c = λ enough files sink input.
     let first = has-first c.args.lines.now.texts.actions c.requires.some in
     absurd (action-there c.pay.new.lines.texts.actions first.action first.others (ap (λ (x : CommandLoop). x.texts.actions) c.pay.ensures.lines ∙ first.is) (sym c.in-None.is ∙ c.take.ensures.count))

@@ -18,7 +18,7 @@ use Rattle.scp_script.proofs.NoteLemmas.{line-stepped, over-alone, input-closed,
 use Rattle.scp_script.proofs.command_loop.input_line.Goals as goal
 
 pub returns-in-Err-clause-told : goal.returns-in-Err-clause-told
-returns-in-Err-clause-told g c = λ source files sink.
+returns-in-Err-clause-told g c = λ enough source files sink.
     let session = c.args.session.now in
     let input = g.C.Source.left c.args.input.now in
     let before = g.S.Sink.written c.args.out.now in
@@ -28,7 +28,7 @@ returns-in-Err-clause-told g c = λ source files sink.
     (prompt-refused old old before after (λ i. texts_of (c.requires.actions i) (c.requires.scripts i)) c.requires.reads refl (none-read c.args.lines.now.reader.open_ input) (c.in-Err.ensures.told sink))
 
 pub returns-in-Line-clause-told : goal.returns-in-Line-clause-told
-returns-in-Line-clause-told g c = λ source files sink.
+returns-in-Line-clause-told g c = λ enough source files sink.
     let session = c.args.session.now in
     let paid = c.read_paid.new.session in
     let named = (g.F.Files.state c.args.files.now).files in
@@ -49,7 +49,7 @@ returns-in-Line-clause-told g c = λ source files sink.
     let none = (λ i. coming (c.read_paid.ensures.texts i)) ∙ (λ i. texts_of (c.requires.actions i) (c.requires.scripts i)) in
     let reads = c.in-Line.ensures.reads source in
     let spent = spent-line session.command paid.command lines.budget now.budget lines.reader.open_ input now.reader.line reads.0 reads.1 c.read_paid.ensures.command in
-    let less : session.command < done.command = omega (arith, c.read_paid.ensures.command, c.in-Line.ensures.pays, c.answer.ensures.command) in
+    let less : session.command < done.command = omega (arith, c.read_paid.ensures.command, c.in-Line.ensures.pays, c.answer.ensures.command, enough) in
     let told = subst (λ (x : CommandState). Answers x.limit (live_in x named) (texts_of [] []) what done.command result live (coming c.answer.new.texts) tells mid after (notes_said x.notes) (notes_said done.notes)) is
     (subst (λ (t : Texts). Answers paid.limit (live_in paid named) t what done.command result live (coming c.answer.new.texts) tells mid after (notes_said paid.notes) (notes_said done.notes)) none
     (subst (λ n. Answers paid.limit (live_in paid named) (coming now.texts) what n result live (coming c.answer.new.texts) tells mid after (notes_said paid.notes) (notes_said done.notes)) (sym c.answer.ensures.command)
@@ -69,7 +69,7 @@ returns-in-Line-clause-around g c = λ base around.
     c.answer.ensures.around base (subst (λ (x : CommandState). Around x.machine.slots base (g.F.Files.state c.args.files.now).opened) (sym c.read_paid.ensures.rest) around)
 
 pub returns-in-TooLong-clause-told : goal.returns-in-TooLong-clause-told
-returns-in-TooLong-clause-told g c = λ source files sink.
+returns-in-TooLong-clause-told g c = λ enough source files sink.
     let session = c.args.session.now in
     let paid = c.read_paid.new.session in
     let named = (g.F.Files.state c.args.files.now).files in
@@ -91,7 +91,7 @@ returns-in-TooLong-clause-told g c = λ source files sink.
     let what = asked reads.0 in
     let long : what ≡ Err (Parse TooLong) = long-asked reads.0 reads.2 in
     let spent = spent-line session.command paid.command lines.budget now.budget lines.reader.open_ input reads.0 reads.1 reads.3 c.read_paid.ensures.command in
-    let less : session.command < paid.command = omega (arith, c.read_paid.ensures.command, c.in-TooLong.ensures.pays) in
+    let less : session.command < paid.command = omega (arith, c.read_paid.ensures.command, c.in-TooLong.ensures.pays, enough) in
     let said = answers-none paid.limit (live_in paid named) (coming now.texts) what paid.command result (coming c.deny_line.new.texts) tells mid after (notes_said paid.notes)
     (λ notes. c.deny_line.ensures.told named notes what (ap (checked now.texts.scripts) long)) in
     let told = subst (λ (x : CommandState). Answers x.limit (live_in x named) (texts_of [] []) what paid.command result (live_in x named) (coming c.deny_line.new.texts) tells mid after (notes_said x.notes) (notes_said x.notes)) is
@@ -104,7 +104,7 @@ returns-in-TooLong-clause-told g c = λ source files sink.
     (c.in-Ok.ensures.told sink) told short)
 
 pub returns-in-Ok-detach_files-clause-told : goal.returns-in-Ok-detach_files-clause-told
-returns-in-Ok-detach_files-clause-told g c = λ source files sink.
+returns-in-Ok-detach_files-clause-told g c = λ enough source files sink.
     let session = c.args.session.now in
     let paid = c.read_paid.new.session in
     let named = (g.F.Files.state c.args.files.now).files in
@@ -125,7 +125,7 @@ returns-in-Ok-detach_files-clause-told g c = λ source files sink.
     (notes_said session.notes) (notes_said done.notes) (λ i. texts_of (c.requires.actions i) (c.requires.scripts i)) c.requires.reads reads.0 closes reads.2 (c.in-Ok.ensures.told sink)
 
 pub returns-in-Err-detach_files-clause-told : goal.returns-in-Err-detach_files-clause-told
-returns-in-Err-detach_files-clause-told g c = λ source files sink.
+returns-in-Err-detach_files-clause-told g c = λ enough source files sink.
     let session = c.args.session.now in
     let paid = c.read_paid.new.session in
     let named = (g.F.Files.state c.args.files.now).files in
@@ -146,7 +146,7 @@ returns-in-Err-detach_files-clause-told g c = λ source files sink.
     (notes_said session.notes) (notes_said done.notes) (λ i. texts_of (c.requires.actions i) (c.requires.scripts i)) c.requires.reads reads.0 closes reads.2 (c.in-Ok.ensures.told sink)
 
 pub returns-in-Unpaid-clause-told : goal.returns-in-Unpaid-clause-told
-returns-in-Unpaid-clause-told g c = λ source files sink.
+returns-in-Unpaid-clause-told g c = λ enough source files sink.
     let session = c.args.session.now in
     let paid = c.read_paid.new.session in
     let named = (g.F.Files.state c.args.files.now).files in
@@ -166,7 +166,7 @@ returns-in-Unpaid-clause-told g c = λ source files sink.
     (budget-spent old new before after (λ i. texts_of (c.requires.actions i) (c.requires.scripts i)) c.requires.reads reads.0 refl reads.1 (c.in-Ok.ensures.told sink)))
 
 pub returns-in-Failed-clause-told : goal.returns-in-Failed-clause-told
-returns-in-Failed-clause-told g c = λ source files sink.
+returns-in-Failed-clause-told g c = λ enough source files sink.
     let session = c.args.session.now in
     let paid = c.read_paid.new.session in
     let named = (g.F.Files.state c.args.files.now).files in

@@ -1,4 +1,4 @@
-use Rattle.std.proofs.Common.{[], ◌∷◌, sym, ◌∙◌, refl, subst}
+use Rattle.std.proofs.Common.{[], ◌∷◌, ap, sym, ◌∙◌, refl, subst, arith}
 use Rattle.file_commands.specs.Notes.{notes_said}
 use Rattle.scp_commands.specs.Live.{CommandState}
 use Rattle.scp_script.specs.declared.progress.Progress.TheVariants.{IsOver}
@@ -10,7 +10,7 @@ use Rattle.scp_script.proofs.NoteLemmas.{over-alone, room-refused, left-at, clos
 use Rattle.scp_script.proofs.command_loop.next_line.Goals as goal
 
 pub returns-then-is_err-clause-told : goal.returns-then-is_err-clause-told
-returns-then-is_err-clause-told g c = λ source files sink.
+returns-then-is_err-clause-told g c = λ enough source files sink.
     let session = c.args.session.now in
     let taken = record session { spare = c.take_room.new.self.spare } in
     let named = (g.F.Files.state c.args.files.now).files in
@@ -22,8 +22,9 @@ returns-then-is_err-clause-told g c = λ source files sink.
     (over-alone old new OutOfMemory before before (notes_said session.notes) (notes_said session.notes) refl (room-refused old new before refl refl))
 
 pub returns-in-Some-clause-told : goal.returns-in-Some-clause-told
-returns-in-Some-clause-told g c = λ source files sink.
+returns-in-Some-clause-told g c = λ enough source files sink.
     let session = c.args.session.now in
+    let number = ap (λ (x : CommandState). x.command) c.take_room.ensures.rest in
     let named = (g.F.Files.state c.args.files.now).files in
     let lines = c.args.lines.now in
     let left = g.C.Source.left c.args.input.now in
@@ -33,11 +34,12 @@ returns-in-Some-clause-told g c = λ source files sink.
     let scripts = c.in-Some.script ∷ c.pop_open.new.self in
     closed-before (session_of session named lines left []) scripts c.script_line.result new before after (notes_said session.notes) (notes_said c.script_line.new.session.notes) (c.is_empty.ensures.0 c.if-not-is_empty.false) c.in-Some.ensures.taken
     (subst (λ (x : CommandState). Stepped (session_of x named (record lines { texts = record lines.texts { scripts = scripts } }) left) c.script_line.result new before after (notes_said x.notes) (notes_said c.script_line.new.session.notes))
-    c.take_room.ensures.rest (c.script_line.ensures.told files sink left))
+    c.take_room.ensures.rest (c.script_line.ensures.told (omega (arith, enough, number)) files sink left))
 
 pub returns-in-None-clause-told : goal.returns-in-None-clause-told
-returns-in-None-clause-told g c = λ source files sink.
+returns-in-None-clause-told g c = λ enough source files sink.
     let session = c.args.session.now in
+    let number = ap (λ (x : CommandState). x.command) c.take_room.ensures.rest in
     let named = (g.F.Files.state c.args.files.now).files in
     let lines = c.args.lines.now in
     let left = g.C.Source.left c.args.input.now in
@@ -48,18 +50,19 @@ returns-in-None-clause-told g c = λ source files sink.
     closed-before (session_of session named lines left []) scripts c.input_line.result new before after (notes_said session.notes) (notes_said c.input_line.new.session.notes)
     (c.is_empty.ensures.0 c.if-not-is_empty.false) (c.in-None.ensures.taken.0 ∙ sym c.in-None.ensures.taken.1)
     (subst (λ (x : CommandState). Stepped (session_of x named (record lines { texts = record lines.texts { scripts = scripts } }) left) c.input_line.result new before after (notes_said x.notes) (notes_said c.input_line.new.session.notes))
-    c.take_room.ensures.rest (c.input_line.ensures.told source files sink))
+    c.take_room.ensures.rest (c.input_line.ensures.told (omega (arith, enough, number)) (source c.if-lines.true) files sink))
 
 pub returns-then-not-is_empty-clause-told : goal.returns-then-not-is_empty-clause-told
-returns-then-not-is_empty-clause-told g c = λ source files sink.
+returns-then-not-is_empty-clause-told g c = λ enough source files sink.
+    let number = ap (λ (x : CommandState). x.command) c.take_room.ensures.rest in
     let named = (g.F.Files.state c.args.files.now).files in
     let left = g.C.Source.left c.args.input.now in
     let new = session_of c.action.new.session (g.F.Files.state c.action.new.files).files c.action.new.lines left in
     subst (λ (x : CommandState). Stepped (session_of x named c.args.lines.now left) c.action.result new (g.S.Sink.written c.args.out.now) (g.S.Sink.written c.action.new.out) (notes_said x.notes) (notes_said c.action.new.session.notes))
-    c.take_room.ensures.rest (c.action.ensures.told files sink left)
+    c.take_room.ensures.rest (c.action.ensures.told (omega (arith, enough, number)) files sink left)
 
 pub returns-in-None-2-clause-told : goal.returns-in-None-2-clause-told
-returns-in-None-2-clause-told g c = λ source files sink.
+returns-in-None-2-clause-told g c = λ enough source files sink.
     let session = c.args.session.now in
     let taken = record session { spare = c.take_room.new.self.spare } in
     let named = (g.F.Files.state c.args.files.now).files in

@@ -1,4 +1,4 @@
-use Rattle.std.proofs.Common.{◌≡◌, ◌<◌, ◌≤◌, ◌+◌, ◌-◌, ℕ, List, [], ◌∷◌, Err, refl, ap, sym, ◌∙◌, subst, arith, ◌++◌}
+use Rattle.std.proofs.Common.{◌≡◌, ◌<◌, ◌≤◌, ◌-◌, ℕ, List, [], ◌∷◌, Err, refl, ap, sym, ◌∙◌, subst, arith, ◌++◌}
 use Rattle.file_commands.specs.Notes.{Note, notes_said}
 use Rattle.scp_parser.specs.declared.fault.ParseFault.TheVariants.{TooLong}
 use Rattle.scp_commands.specs.declared.fault.CommandFault.TheVariants.{Parse}
@@ -8,17 +8,19 @@ use Rattle.scp_commands.proofs.AskedLemmas.{long-asked}
 use Rattle.scp_script.specs.declared.progress.CommandLoop.{CommandLoop}
 use Rattle.scp_script.specs.declared.progress.Progress.TheVariants.{IsOver}
 use Rattle.scp_script.specs.declared.progress.Finish.TheVariants.{Commands, Console}
+use Rattle.scp_script.specs.Session.{spent_more}
 use Rattle.scp_script.specs.Actions.{Texts, texts_of}
 use Rattle.scp_script.specs.Scripts.{Script, cost_of_line, text_of_line, echo_text, past_line, checked}
-use Rattle.scp_script.specs.Loop.{IsShort, Answers, coming, session_of}
+use Rattle.scp_script.specs.Loop.{IsShort, Answers, AreKept, coming, session_of}
 use Rattle.scp_script.proofs.SessionLemmas.{upcoming-unpaid, asking-unpaid, asking-script}
 use Rattle.scp_script.proofs.TextLemmas.{answers-none}
 use Rattle.scp_script.proofs.LineLemmas.{asking-refused, text-unpaid, some-fits, none-fits}
 use Rattle.scp_script.proofs.NoteLemmas.{script-stepped, over-alone, left-at, never-short, same-read, answer-kept}
+use Rattle.scp_script.proofs.WholeLemmas.{kept-none}
 use Rattle.scp_script.proofs.command_loop.script_line.Goals as goal
 
 pub returns-then-not-pay-clause-told : goal.returns-then-not-pay-clause-told
-returns-then-not-pay-clause-told g c = λ files sink input.
+returns-then-not-pay-clause-told g c = λ enough files sink input.
     let session = c.args.session.now in
     let paid = c.pay.new.session in
     let now_state = record session { command = paid.command } in
@@ -41,7 +43,7 @@ returns-then-not-pay-clause-told g c = λ files sink input.
     (same-read lines.reader.open_ now.reader.open_ input input reader refl) refl))
 
 pub returns-in-Err-clause-told : goal.returns-in-Err-clause-told
-returns-in-Err-clause-told g c = λ files sink input.
+returns-in-Err-clause-told g c = λ enough files sink input.
     let session = c.args.session.now in
     let paid = c.pay.new.session in
     let now_state = record session { command = paid.command } in
@@ -65,7 +67,7 @@ returns-in-Err-clause-told g c = λ files sink input.
     (same-read lines.reader.open_ now.reader.open_ input input reader refl) (c.in-Err.ensures.told sink)))
 
 pub returns-in-Some-clause-told : goal.returns-in-Some-clause-told
-returns-in-Some-clause-told g c = λ files sink input.
+returns-in-Some-clause-told g c = λ enough files sink input.
     let session = c.args.session.now in
     let paid = c.pay.new.session in
     let now_state = record session { command = paid.command } in
@@ -95,8 +97,8 @@ returns-in-Some-clause-told g c = λ files sink input.
     c.push.ensures ∙ ap (λ (x : Script). x ∷ now.texts.scripts) c.take_line-text.ensures.past ∙ ap (λ (x : CommandLoop). past_line script ∷ x.texts.scripts) c.pay.ensures.lines in
     let stack : texts_of now.texts.actions c.push.new.self ≡ texts_of [] (past_line script ∷ outer) = ap (λ (a : List (List ℕ)). texts_of a c.push.new.self) none ∙ ap (texts_of []) pushed in
     let line : c.as_slice.result.now ≡ text_of_line script = c.as_slice.ensures ∙ some-fits c.in-Some.text (text_of_line script) (sym c.in-Some.is ∙ c.take_line-text.ensures.text) in
-    let spent : done.command ≡ session.command + cost_of_line script = omega (arith, c.pay.ensures.command, c.answer.ensures.command, fits, budget) in
-    let less : session.command < done.command = omega (arith, spent) in
+    let spent : done.command ≡ spent_more session.command (cost_of_line script) = omega (arith, c.pay.ensures.command, c.answer.ensures.command, fits, budget) in
+    let less : session.command < done.command = omega (arith, spent, enough, fits) in
     let told = subst (λ (x : CommandState). Answers x.limit (live_in x named) (texts_of [] (past_line script ∷ outer)) what done.command result live (coming c.answer.new.texts) tells mid after (notes_said x.notes) (notes_said done.notes)) is
     (subst (λ (t : Texts). Answers paid.limit (live_in paid named) t what done.command result live (coming c.answer.new.texts) tells mid after (notes_said paid.notes) (notes_said done.notes)) stack
     (subst (λ n. Answers paid.limit (live_in paid named) (texts_of now.texts.actions c.push.new.self) what n result live (coming c.answer.new.texts) tells mid after (notes_said paid.notes) (notes_said done.notes)) (sym c.answer.ensures.command)
@@ -112,7 +114,7 @@ returns-in-Some-clause-told g c = λ files sink input.
     (c.in-Ok.ensures.told sink) told short
 
 pub returns-in-None-clause-told : goal.returns-in-None-clause-told
-returns-in-None-clause-told g c = λ files sink input.
+returns-in-None-clause-told g c = λ enough files sink input.
     let session = c.args.session.now in
     let paid = c.pay.new.session in
     let now_state = record session { command = paid.command } in
@@ -141,8 +143,8 @@ returns-in-None-clause-told g c = λ files sink input.
     c.push.ensures ∙ ap (λ (x : Script). x ∷ now.texts.scripts) c.take_line-text.ensures.past ∙ ap (λ (x : CommandLoop). past_line script ∷ x.texts.scripts) c.pay.ensures.lines in
     let stack : texts_of now.texts.actions c.push.new.self ≡ texts_of [] (past_line script ∷ outer) = ap (λ (a : List (List ℕ)). texts_of a c.push.new.self) none ∙ ap (texts_of []) pushed in
     let long : what ≡ Err (Parse TooLong) = long-asked (text_of_line script) (none-fits (text_of_line script) (sym c.in-None.is ∙ c.take_line-text.ensures.text)) in
-    let spent : paid.command ≡ session.command + cost_of_line script = omega (arith, c.pay.ensures.command, fits, budget) in
-    let less : session.command < paid.command = omega (arith, spent) in
+    let spent : paid.command ≡ spent_more session.command (cost_of_line script) = omega (arith, c.pay.ensures.command, fits, budget) in
+    let less : session.command < paid.command = omega (arith, spent, enough, fits) in
     let said = answers-none paid.limit (live_in paid named) (texts_of now.texts.actions c.push.new.self) what paid.command result (coming c.deny_line.new.texts) tells mid after (notes_said paid.notes)
     (λ notes. c.deny_line.ensures.told named notes what (ap (checked c.push.new.self) long)) in
     let told = subst (λ (x : CommandState). Answers x.limit (live_in x named) (texts_of [] (past_line script ∷ outer)) what paid.command result (live_in x named) (coming c.deny_line.new.texts) tells mid after (notes_said x.notes) (notes_said x.notes)) is
@@ -161,3 +163,10 @@ returns-in-Some-clause-kept g c =
 pub returns-in-None-clause-kept : goal.returns-in-None-clause-kept
 returns-in-None-clause-kept g c =
     answer-kept c.deny_line.result _ _ _ _ (g.F.Files.state c.args.files.now) (g.F.Files.state c.args.files.now) c.deny_line.ensures.counts
+
+-- a line that is too long keeps no note
+pub returns-in-None-clause-keeps : goal.returns-in-None-clause-keeps
+returns-in-None-clause-keeps g c =
+    let files = g.F.Files.state c.args.files.now in
+    let notes = c.args.session.now.notes in
+    subst (λ (x : CommandState). AreKept notes x.notes files files) (sym c.pay.ensures.rest) (kept-none notes files)

@@ -1,4 +1,4 @@
-use Rattle.std.proofs.Common.{◌≡◌, true, List, [], Option, refl, ap, sym, ◌∙◌, subst, arith}
+use Rattle.std.proofs.Common.{◌≡◌, ◌-◌, true, List, [], Option, refl, ap, sym, ◌∙◌, subst, arith}
 use Rattle.unit_files.specs.Attachments.{Held}
 use Rattle.unit_files.specs.Open.{AllOpen, Around}
 use Rattle.file_commands.specs.declared.note.FaultNote.{FaultNote}
@@ -20,13 +20,13 @@ lines-init g c =
     let started = c.in-Ok.ensures in
     let budget : c.in-Ok.lines.budget ≡ c.args.opening.now.budget = ap (λ (x : CommandLoop). x.budget) started in
     record {
-      enough = omega (arith, c.requires.budget, budget);
-      command = omega (arith, c.requires.budget, c.requires.command, budget);
+      paid = omega (arith, budget);
+      command = omega (arith, budget);
       limit = refl;
       keys = refl;
       reads = ap (λ (x : CommandLoop). x.reads) started;
       unread = λ off. refl;
-      told = λ source files sink. rw started (begun (session_of c.args.session.now (g.F.Files.state c.args.files.now).files
+      told = λ enough source files sink. rw started (begun (session_of c.args.session.now (g.F.Files.state c.args.files.now).files
           (record { texts = record { actions = []; scripts = first_script c.args.opening.now.script c.args.opening.now.arguments.items }; reads = c.args.opening.now.reads; reader = record { line = []; open_ = true }; budget = c.args.opening.now.budget; prompt = c.args.opening.now.prompt })
           (g.C.Source.left c.args.input.now)) (g.S.Sink.written c.args.out.now) (notes_said c.args.session.now.notes));
       source = refl;
@@ -47,13 +47,13 @@ lines-preserved g c =
     let slots_are : c.rest.new.session.machine.slots ≡ done.machine.slots = ap (λ (x : CommandState). x.machine.slots) is in
     let new = g.F.Files.state c.next_line.new.files in
     record {
-      enough = omega (arith, c.lines.invariant.enough, c.in-GoesOn.ensures.pays);
-      command = omega (arith, c.lines.invariant.command, c.in-GoesOn.ensures.command, number);
+      paid = omega (arith, c.lines.invariant.paid, c.in-GoesOn.ensures.pays);
+      command = omega (arith, c.lines.invariant.command, c.in-GoesOn.ensures.command, number, c.lines.invariant.paid, c.in-GoesOn.ensures.pays);
       limit = ap (λ (x : CommandState). x.limit) is ∙ c.in-GoesOn.ensures.limit ∙ c.lines.invariant.limit;
       keys = ap (λ (x : CommandState). x.keys) is ∙ c.in-GoesOn.ensures.keys ∙ c.lines.invariant.keys;
       reads = c.in-GoesOn.ensures.reads ∙ c.lines.invariant.reads;
       unread = λ off. c.in-GoesOn.ensures.unread (c.lines.invariant.reads ∙ off) ∙ c.lines.invariant.unread off;
-      told = λ source files sink.
+      told = λ enough source files sink.
           let start : List Note → Session = λ notes. beginning c.args.session.now (g.F.Files.state c.args.files.now).files c.args.opening.now (g.C.Source.left c.args.input.now) notes in
           subst (λ (x : CommandState). ComesSoFar start (session_of x new.files c.next_line.new.lines (g.C.Source.left c.next_line.new.input))
           (g.S.Sink.written c.args.out.now) (g.S.Sink.written c.next_line.new.out) (notes_said c.args.session.now.notes) (notes_said x.notes)) (sym is)
@@ -62,7 +62,7 @@ lines-preserved g c =
           (session_of done new.files c.next_line.new.lines (g.C.Source.left c.next_line.new.input))
           (g.S.Sink.written c.args.out.now) (g.S.Sink.written c.lines.out) (g.S.Sink.written c.next_line.new.out)
           (notes_said c.args.session.now.notes) (notes_said c.lines.session.notes) (notes_said done.notes)
-          (c.lines.invariant.told source files sink) (c.in-GoesOn.ensures.told source files sink));
+          (c.lines.invariant.told enough source files sink) (c.in-GoesOn.ensures.told (omega (arith, enough, c.lines.invariant.command, c.lines.invariant.paid)) (λ on. source (sym c.lines.invariant.reads ∙ on)) files sink));
       source = c.in-GoesOn.ensures.cause.1 ∙ c.lines.invariant.source;
       sink = c.in-GoesOn.ensures.cause.0 ∙ c.lines.invariant.sink;
       keeps = subst (λ (kept : List FaultNote). AreKept c.args.session.now.notes kept (g.F.Files.state c.args.files.now) new) (sym notes_are)
@@ -82,13 +82,24 @@ lines-preserved g c =
     }
 
 pub returns-in-IsOver-clause-told : goal.returns-in-IsOver-clause-told
-returns-in-IsOver-clause-told g c = λ source files sink.
+returns-in-IsOver-clause-told g c = λ enough source files sink.
     over (λ notes. beginning c.args.session.now (g.F.Files.state c.args.files.now).files c.args.opening.now (g.C.Source.left c.args.input.now) notes)
     (session_of c.lines.session (g.F.Files.state c.lines.files).files c.lines.lines (g.C.Source.left c.lines.input))
     (session_of c.next_line.new.session (g.F.Files.state c.next_line.new.files).files c.next_line.new.lines (g.C.Source.left c.next_line.new.input) [])
     c.in-IsOver.finish (g.S.Sink.written c.args.out.now) (g.S.Sink.written c.lines.out) (g.S.Sink.written c.next_line.new.out)
     (notes_said c.args.session.now.notes) (notes_said c.lines.session.notes) (notes_said c.next_line.new.session.notes)
-    (c.lines.invariant.told source files sink) (c.in-IsOver.ensures.told source files sink)
+    (c.lines.invariant.told enough source files sink) (c.in-IsOver.ensures.told (omega (arith, enough, c.lines.invariant.command, c.lines.invariant.paid)) (λ on. source (sym c.lines.invariant.reads ∙ on)) files sink)
+
+pub returns-in-IsOver-clause-command : goal.returns-in-IsOver-clause-command
+returns-in-IsOver-clause-command g c =
+    let budget = c.args.opening.now.budget in (
+      budget - c.next_line.new.lines.budget,
+      omega arith,
+      omega (arith, c.lines.invariant.command, c.lines.invariant.paid, c.in-IsOver.ensures.command, c.in-IsOver.ensures.pays),
+    )
+
+pub returns-in_default-clause-command : goal.returns-in_default-clause-command
+returns-in_default-clause-command g c = (0, omega arith, omega arith)
 
 pub returns-in-IsOver-clause-cause : goal.returns-in-IsOver-clause-cause
 returns-in-IsOver-clause-cause g c =
@@ -119,6 +130,6 @@ returns-in-IsOver-clause-kept g c =
 
 pub returns-in_default-clause-told : goal.returns-in_default-clause-told
 unfolding beginning beginning_with
-returns-in_default-clause-told g c = λ source files sink.
+returns-in_default-clause-told g c = λ enough source files sink.
     never-begun (λ notes. beginning c.args.session.now (g.F.Files.state c.args.files.now).files c.args.opening.now (g.C.Source.left c.args.input.now) notes)
     (g.S.Sink.written c.args.out.now) (notes_said c.args.session.now.notes) refl

@@ -1,22 +1,23 @@
-use Rattle.std.proofs.Common.{◌≡◌, ◌≤◌, ◌+◌, List, IsTrue, false}
+use Rattle.std.proofs.Common.{◌≡◌, ◌≤◌, ◌-◌, List, IsTrue, true, false}
 use Rattle.host_files.specs.State.{Opened}
 use Rattle.unit_files.specs.Open.{AllOpen, Around}
 use Rattle.file_commands.specs.OwnFiles.{AreOwn}
 use Rattle.file_commands.specs.Notes.{notes_said}
+use Rattle.scp_script.specs.Session.{spent_more}
 use Rattle.scp_script.specs.Perform.{beginning}
-use Rattle.scp_script.specs.Loop.{AreKept, session_of}
+use Rattle.scp_script.specs.Loop.{AreKept, NumbersSuffice, session_of}
 use Rattle.scp_script.proofs.WholeLemmas.{ComesSoFar}
 use Rattle.scp_script.proofs.perform_session.perform.Given as goal
 
 abbrev pub invariant-lines : goal.invariant-lines
 invariant-lines g l = record {
-  enough : l.lines.budget ≤ 4294967296;
-  command : l.session.command + l.lines.budget ≤ 8589934592;
+  paid : l.lines.budget ≤ l.fn.opening.budget;
+  command : l.session.command ≡ spent_more l.fn.session.command (l.fn.opening.budget - l.lines.budget);
   limit : l.session.limit ≡ l.fn.session.limit;
   keys : l.session.keys ≡ l.fn.session.keys;
   reads : l.lines.reads ≡ l.fn.opening.reads;
   unread : l.fn.opening.reads ≡ false → l.input ≡ l.fn.input;
-  told : IsTrue g.C.Source.tells → IsTrue g.F.Files.tells → IsTrue g.S.Sink.tells → ComesSoFar
+  told : NumbersSuffice l.fn.session.command l.fn.opening.budget → (l.fn.opening.reads ≡ true → IsTrue g.C.Source.tells) → IsTrue g.F.Files.tells → IsTrue g.S.Sink.tells → ComesSoFar
       (λ notes. beginning l.fn.session (g.F.Files.state l.fn.files).files l.fn.opening (g.C.Source.left l.fn.input) notes)
       (session_of l.session (g.F.Files.state l.files).files l.lines (g.C.Source.left l.input))
       (g.S.Sink.written l.fn.out) (g.S.Sink.written l.out) (notes_said l.fn.session.notes) (notes_said l.session.notes);
