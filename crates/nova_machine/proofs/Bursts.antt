@@ -32,7 +32,7 @@ use Rattle.expect_actions.specs.Breaks.{has_break}
 use Rattle.expect_actions.specs.Watch.{WatchState}
 use Rattle.nova_machine.specs.Bursts.{passed_by, IsCalm, Bursts}
 use Rattle.nova_machine.proofs.Plain.{plain-prepared}
-use Rattle.nova_machine.proofs.Opened.{turn-is, turns-stop, turns-go, next-early}
+use Rattle.nova_machine.proofs.Opened.{turn-opened, turns-stop, turns-go, next-early}
 
 -- the machine behind an instruction of the processor alone
 pub behind_step : MachineState → ProcessorState → MachineState
@@ -110,7 +110,7 @@ IsUnbroken s = has_break s.machine.processor.cpu.pc s.watch.breaks.list ≡ fals
 
 pub plain-turn : (note : Option UnitNote) (s : Seen) → IsPlain s.machine → IsUnbroken s → turn note false s ≡ still s (fetch s.machine)
 plain-turn note s plain none =
-    turn-is note false s ∙ ap (λ (p : Part). then_part p (λ ready. still ready (fetch ready.machine))) (plain-prepared note s plain none)
+    (turn-opened note false s).executes ∙ ap (λ (p : Part). then_part p (λ ready. still ready (fetch ready.machine))) (plain-prepared note s plain none)
 
 pub plain-next : (note : Option RunNote) (s : Seen) (p : ProcessorState) → IsPlain s.machine → IsUnbroken s → s.machine.time < last_time → step s.machine.processor ≡ steps p
     → next_turn note false s ≡ silent None (with_machine s (behind_step s.machine p))

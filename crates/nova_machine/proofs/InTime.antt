@@ -23,7 +23,7 @@ use Rattle.nova_machine.specs.Turn.{fetch, is_interrupted, jump_to, interrupt_re
 use Rattle.nova_machine.specs.Turned.{goes_on}
 use Rattle.nova_machine.specs.Run.{last_time, expired, next_turn, turns, run}
 use Rattle.nova_machine.specs.ValidLaws.{IsInTime}
-use Rattle.nova_machine.proofs.Opened.{turn-is, turns-none, turns-some}
+use Rattle.nova_machine.proofs.Opened.{turn-opened, turns-none, turns-some}
 use Rattle.nova_machine.proofs.Turns.{turns-turn}
 use Rattle.nova_machine.proofs.Walks.{OfServices, OfPieces, walk-prepared}
 
@@ -106,7 +106,7 @@ turn-made : (note : Option UnitNote) (first : Bool) (s t : Seen) → StandsAt t 
 turn-made note first s t h =
     let p = prepared note first s in
     let at = walk-prepared AtTime at-pieces note first s in
-    made-followed s p.made p.stop p.after (record { after = at.after; made = at.made }) t (subst (λ (q : Part). StandsAt t q.made) (turn-is note first s) h)
+    made-followed s p.made p.stop p.after (record { after = at.after; made = at.made }) t (subst (λ (q : Part). StandsAt t q.made) (turn-opened note first s).executes h)
 
 -- ---- a run
 

@@ -38,38 +38,38 @@ pub serving-is : (note : Option UnitNote) (s : Seen) → serving note s ≡ serv
 unfolding serving
 serving-is note s = refl
 
-pub attended-is : (note : Option UnitNote) (s : Seen) → attended note s ≡ then_part (serving note s) (λ served. still served (interrupt served.machine))
-unfolding attended
-attended-is note s = refl
+-- A turn, opened: what is attended to, what comes before its instruction, and the whole of it. Each is one part, and what
+-- comes behind that where it goes on.
+pub record Opened (note : Option UnitNote) (first : Bool) (s : Seen) : Type 0 where
+  pub attends : attended note s ≡ then_part (serving note s) (λ served. still served (interrupt served.machine))
+  pub prepares : prepared note first s ≡ then_part (attended note s) (λ at. breaks_tested_unless first at)
+  pub executes : turn note first s ≡ then_part (prepared note first s) (λ ready. still ready (fetch ready.machine))
+
+-- the one lemma that opens a turn
+pub turn-opened : (note : Option UnitNote) (first : Bool) (s : Seen) → Opened note first s
+unfolding attended prepared turn
+turn-opened note first s = record { attends = refl; prepares = refl; executes = refl }
 
 pub attended-stops : (note : Option UnitNote) (s : Seen) (stop : Stop) → (serving note s).stop ≡ Some stop → attended note s ≡ serving note s
-attended-stops note s stop is = attended-is note s ∙ then-stops (serving note s) _ stop is
+attended-stops note s stop is = (turn-opened note false s).attends ∙ then-stops (serving note s) _ stop is
 
 pub attended-goes : (note : Option UnitNote) (s : Seen) → (serving note s).stop ≡ None
     → attended note s ≡ behind_made (serving note s).made (still (serving note s).after (interrupt (serving note s).after.machine))
-attended-goes note s is = attended-is note s ∙ then-goes (serving note s) _ is
-
-pub prepared-is : (note : Option UnitNote) (first : Bool) (s : Seen) → prepared note first s ≡ then_part (attended note s) (λ at. breaks_tested_unless first at)
-unfolding prepared
-prepared-is note first s = refl
+attended-goes note s is = (turn-opened note false s).attends ∙ then-goes (serving note s) _ is
 
 pub prepared-stops : (note : Option UnitNote) (first : Bool) (s : Seen) (stop : Stop) → (attended note s).stop ≡ Some stop → prepared note first s ≡ attended note s
-prepared-stops note first s stop is = prepared-is note first s ∙ then-stops (attended note s) _ stop is
+prepared-stops note first s stop is = (turn-opened note first s).prepares ∙ then-stops (attended note s) _ stop is
 
 pub prepared-goes : (note : Option UnitNote) (first : Bool) (s : Seen) → (attended note s).stop ≡ None
     → prepared note first s ≡ behind_made (attended note s).made (breaks_tested_unless first (attended note s).after)
-prepared-goes note first s is = prepared-is note first s ∙ then-goes (attended note s) _ is
-
-pub turn-is : (note : Option UnitNote) (first : Bool) (s : Seen) → turn note first s ≡ then_part (prepared note first s) (λ ready. still ready (fetch ready.machine))
-unfolding turn
-turn-is note first s = refl
+prepared-goes note first s is = (turn-opened note first s).prepares ∙ then-goes (attended note s) _ is
 
 pub turn-stops : (note : Option UnitNote) (first : Bool) (s : Seen) (stop : Stop) → (prepared note first s).stop ≡ Some stop → turn note first s ≡ prepared note first s
-turn-stops note first s stop is = turn-is note first s ∙ then-stops (prepared note first s) _ stop is
+turn-stops note first s stop is = (turn-opened note first s).executes ∙ then-stops (prepared note first s) _ stop is
 
 pub turn-goes : (note : Option UnitNote) (first : Bool) (s : Seen) → (prepared note first s).stop ≡ None
     → turn note first s ≡ behind_made (prepared note first s).made (still (prepared note first s).after (fetch (prepared note first s).after.machine))
-turn-goes note first s is = turn-is note first s ∙ then-goes (prepared note first s) _ is
+turn-goes note first s is = (turn-opened note first s).executes ∙ then-goes (prepared note first s) _ is
 
 pub services-none : (note : Option UnitNote) (s : Seen) → services note [] s ≡ silent None s
 unfolding services

@@ -15,7 +15,7 @@ use Rattle.expect_actions.specs.declared.breaks.Break.{Break as BreakAt}
 use Rattle.expect_actions.specs.Breaks.{table, has_break, tested, stopped_actions}
 use Rattle.expect_actions.proofs.BreakLemmas.{stop_none, tested_none}
 use Rattle.nova_machine.specs.declared.machine.Stop.TheVariants.{Break}
-use Rattle.nova_machine.proofs.Opened.{attended-is, prepared-is}
+use Rattle.nova_machine.proofs.Opened.{turn-opened}
 
 interrupt-none : (m : MachineState) → is_interrupted m ≡ false → interrupt m ≡ goes_on m
 unfolding interrupt
@@ -36,12 +36,12 @@ plain-erased m plain = record { none = plain.none; uninterrupted = plain.uninter
 
 pub plain-attended : (note : Option UnitNote) (s : Seen) → IsPlain s.machine → attended note s ≡ silent None s
 plain-attended note s plain =
-    attended-is note s ∙ ap (λ (p : Part). then_part p (λ served. still served (interrupt served.machine))) (serving-none note s plain.none)
+    (turn-opened note false s).attends ∙ ap (λ (p : Part). then_part p (λ served. still served (interrupt served.machine))) (serving-none note s plain.none)
     ∙ ap (λ (t : Turned). silent t.stop (with_machine s t.machine)) (interrupt-none s.machine plain.uninterrupted)
 
 pub plain-prepared : (note : Option UnitNote) (s : Seen) → IsPlain s.machine → has_break s.machine.processor.cpu.pc s.watch.breaks.list ≡ false → prepared note false s ≡ silent None s
 plain-prepared note s plain none =
-    prepared-is note false s ∙ ap (λ (p : Part). then_part p (λ at. breaks_tested_unless false at)) (plain-attended note s plain)
+    (turn-opened note false s).prepares ∙ ap (λ (p : Part). then_part p (λ at. breaks_tested_unless false at)) (plain-attended note s plain)
     ∙ breaks-none s none
 
 pub plain-whole : (note : Option UnitNote) (watch : WatchState) (keys : List (ℕ × ℕ)) (files : List NamedBytes) (m : MachineState) (tells : Bool) (b : List ℕ) → IsPlain m

@@ -14,7 +14,7 @@ use Rattle.expect_actions.specs.Breaks.{has_break}
 use Rattle.nova_machine.proofs.Plain.{breaks-none}
 use Rattle.nova_machine.proofs.Walks.{OfCounted, walk-next, walk-counted, limit-expired}
 use Rattle.nova_machine.proofs.Turns.{turns-turn, unchanged-same, unchanged-then}
-use Rattle.nova_machine.proofs.Opened.{stop-cases, prepared-is, turn-is, turns-none, turns-stop, turns-go, next-late}
+use Rattle.nova_machine.proofs.Opened.{stop-cases, turn-opened, turns-none, turns-stop, turns-go, next-late}
 
 -- a turn where time may have ended: it stops for a limit exactly there, and then all is as it was
 pub record NextTurn (before : Seen) (p : Part) : Type 0 where
@@ -133,10 +133,10 @@ unbroken-turn : (note : Option UnitNote) (s : Seen)
     → turn note true s ≡ turn note false s
 unbroken-turn note s none =
     let at = attended note s in
-    turn-is note true s
+    (turn-opened note true s).executes
     ∙ ap (λ (p : Part). then_part p (λ ready. still ready (fetch ready.machine)))
-    (prepared-is note true s ∙ unbroken-part at.made at.stop at.after none ∙ sym (prepared-is note false s))
-    ∙ sym (turn-is note false s)
+    ((turn-opened note true s).prepares ∙ unbroken-part at.made at.stop at.after none ∙ sym (turn-opened note false s).prepares)
+    ∙ sym (turn-opened note false s).executes
 
 unbroken-next : (note : Option RunNote) (s : Seen) → PassesNoBreak note s → next_turn note true s ≡ next_turn note false s
 unfolding next_turn

@@ -17,7 +17,7 @@ use Rattle.nova_machine.specs.Service.{serving}
 use Rattle.nova_machine.specs.Comes.{Comes, IsOwn}
 use Rattle.nova_machine.proofs.Parts.{silent-comes, comes-then, comes-stopped}
 use Rattle.nova_machine.proofs.Erased.{erased_turned, erased-fetch, erased-interrupt}
-use Rattle.nova_machine.proofs.Opened.{attended-is, prepared-is, turn-is}
+use Rattle.nova_machine.proofs.Opened.{turn-opened}
 
 pub own-note : (r : Option Stop) → IsOwn r → unit_note r ≡ None
 own-note (Some (FileFault f)) own = absurd own
@@ -40,7 +40,7 @@ attended-comes watch keys files s mid last r tells b a served own stops is =
     let P : Part → Type 0 = λ p. Comes p r (seen (beside watch keys files) last) tells b a in
     let Q : Option UnitNote → Type 0 = λ n. Comes (attended n s) r (seen (beside watch keys files) last) tells b a in
     subst Q (sym (own-note r own))
-    (subst P (sym (attended-is None s))
+    (subst P (sym (turn-opened None false s).attends)
     (comes-then (serving None s) (λ x. still x (interrupt x.machine)) (seen (beside watch keys files) mid) r (seen (beside watch keys files) last) tells b a a served
     (still-comes watch keys files interrupt mid last r tells a (erased-interrupt mid) own stops is)))
 
@@ -53,7 +53,7 @@ prepared-comes watch watch' keys files s mid r tells b a ready own is =
     let Q : Option UnitNote → Type 0 = λ n. Comes (prepared n false s) r (seen (beside watch' keys files) mid) tells b a in
     let T : Part → Type 0 = λ p. Comes p r (seen (beside watch' keys files) mid) tells a a in
     subst Q (sym (own-note r own))
-    (subst P (sym (prepared-is None false s))
+    (subst P (sym (turn-opened None false s).prepares)
     (comes-then (attended None s) (λ at. breaks_tested_unless false at) (seen (beside watch keys files) mid) r (seen (beside watch' keys files) mid) tells b a a ready
     (subst T (sym is) (silent-comes r r (seen (beside watch' keys files) mid) (seen (beside watch' keys files) mid) tells a own refl refl))))
 
@@ -61,7 +61,7 @@ pub first-comes : (watch : WatchState) (keys : List (ℕ × ℕ)) (files : List 
     → Comes (attended None s) None (seen (beside watch keys files) mid) tells b a → Comes (prepared None true s) None (seen (beside watch keys files) mid) tells b a
 first-comes watch keys files s mid tells b a ready =
     let P : Part → Type 0 = λ p. Comes p None (seen (beside watch keys files) mid) tells b a in
-    subst P (sym (prepared-is None true s))
+    subst P (sym (turn-opened None true s).prepares)
     (comes-then (attended None s) (λ at. breaks_tested_unless true at) (seen (beside watch keys files) mid) None (seen (beside watch keys files) mid) tells b a a ready
     (silent-comes None None (seen (beside watch keys files) mid) (seen (beside watch keys files) mid) tells a tt refl refl))
 
@@ -70,7 +70,7 @@ pub attended-stops : (note : Option UnitNote) (first : Bool) (s last : Seen) (st
     → Comes (attended note s) (Some stop) last tells b a → Comes (prepared note first s) (Some stop) last tells b a
 attended-stops note first s last stop tells b a ends =
     let P : Part → Type 0 = λ p. Comes p (Some stop) last tells b a in
-    subst P (sym (prepared-is note first s)) (comes-stopped (attended note s) (λ at. breaks_tested_unless first at) stop last tells b a ends)
+    subst P (sym (turn-opened note first s).prepares) (comes-stopped (attended note s) (λ at. breaks_tested_unless first at) stop last tells b a ends)
 
 -- what comes before the instruction goes on, and it is executed
 pub turn-comes : (first : Bool) (watch : WatchState) (keys : List (ℕ × ℕ)) (files : List NamedBytes) (s : Seen) (mid last : MachineState) (r : Option Stop) (tells : Bool) (b a : List ℕ)
@@ -80,7 +80,7 @@ turn-comes first watch keys files s mid last r tells b a ready own stops is =
     let P : Part → Type 0 = λ p. Comes p r (seen (beside watch keys files) last) tells b a in
     let Q : Option UnitNote → Type 0 = λ n. Comes (turn n first s) r (seen (beside watch keys files) last) tells b a in
     subst Q (sym (own-note r own))
-    (subst P (sym (turn-is None first s))
+    (subst P (sym (turn-opened None first s).executes)
     (comes-then (prepared None first s) (λ x. still x (fetch x.machine)) (seen (beside watch keys files) mid) r (seen (beside watch keys files) last) tells b a a ready
     (still-comes watch keys files fetch mid last r tells a (erased-fetch mid) own stops is)))
 

@@ -14,7 +14,7 @@ use Rattle.nova_machine.specs.Service.{service, services, serving, taken}
 use Rattle.nova_machine.specs.Turn.{fetch, interrupt, breaks_tested, breaks_tested_unless, attended, prepared, turn}
 use Rattle.nova_machine.specs.Run.{last_time, expired, next_turn, turns, run}
 use Rattle.nova_machine.specs.Laws.{IsLimit}
-use Rattle.nova_machine.proofs.Opened.{serving-is, attended-is, prepared-is, turn-is, services-none, services-some, turns-none, turns-some}
+use Rattle.nova_machine.proofs.Opened.{serving-is, turn-opened, services-none, services-some, turns-none, turns-some}
 
 -- ---- what holds from a state on, of a part of a run
 
@@ -72,7 +72,7 @@ stages-of P of = record {
 
 stages-attended : (P : Seen → Part → Type 0) → OfStages P → (note : Option UnitNote) (s : Seen) → P s (attended note s)
 stages-attended P of note s =
-    subst (P s) (sym (attended-is note s)) (of.both s (serving note s) (λ served. still served (interrupt served.machine)) (of.served note s) of.interrupted)
+    subst (P s) (sym (turn-opened note false s).attends) (of.both s (serving note s) (λ served. still served (interrupt served.machine)) (of.served note s) of.interrupted)
 
 stages-tested : (P : Seen → Part → Type 0) → OfStages P → (first : Bool) (s : Seen) → P s (breaks_tested_unless first s)
 stages-tested P of true s = of.none s
@@ -80,7 +80,7 @@ stages-tested P of false s = of.tested s
 
 stages-prepared : (P : Seen → Part → Type 0) → OfStages P → (note : Option UnitNote) (first : Bool) (s : Seen) → P s (prepared note first s)
 stages-prepared P of note first s =
-    subst (P s) (sym (prepared-is note first s)) (of.both s (attended note s) (λ at. breaks_tested_unless first at) (stages-attended P of note s) (stages-tested P of first))
+    subst (P s) (sym (turn-opened note first s).prepares) (of.both s (attended note s) (λ at. breaks_tested_unless first at) (stages-attended P of note s) (stages-tested P of first))
 
 pub walk-prepared : (P : Seen → Part → Type 0) → OfPieces P → (note : Option UnitNote) (first : Bool) (s : Seen) → P s (prepared note first s)
 walk-prepared P of note first s = stages-prepared P (stages-of P of) note first s
@@ -97,7 +97,7 @@ pub record OfInstruction (P Q : Seen → Part → Type 0) : Type 0 where
 
 pub walk-instruction : (P Q : Seen → Part → Type 0) → OfInstruction P Q → (note : Option UnitNote) (first : Bool) (s : Seen) → Q s (turn note first s)
 walk-instruction P Q of note first s =
-    subst (Q s) (sym (turn-is note first s)) (of.fetched s (prepared note first s) (stages-prepared P of.stages note first s))
+    subst (Q s) (sym (turn-opened note first s).executes) (of.fetched s (prepared note first s) (stages-prepared P of.stages note first s))
 
 pub each-turn : (P : Seen → Part → Type 0) → OfEach P → (note : Option UnitNote) (first : Bool) (s : Seen) → P s (turn note first s)
 each-turn P of note first s =
