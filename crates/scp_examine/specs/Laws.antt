@@ -3,6 +3,7 @@ use Rattle.std.specs.Prelude.{◌≡◌, ℕ, ◌<◌, List, [], ◌∷◌, ◌+
 use Rattle.nova_memory.specs.Memory.{IsMemory}
 use Rattle.nova_symbols.specs.Names.{device_names}
 use Rattle.nova_machine.specs.Machine.{MachineState}
+use Rattle.nova_machine.specs.Valid.{ValidMachine}
 use Rattle.unit_trait.specs.declared.kind.Kind.{Kind}
 use Rattle.unit_trait.specs.declared.kind.Kind.TheVariants.{Dsk, Mta, Lpt, Ptr, Ptp, Clk, Tti, Tto, Tti1, Tto1, Qty}
 use Rattle.unit_trait.specs.Kinds.{kind_name}
@@ -21,6 +22,10 @@ pub record IsMachine (m : MachineState) : Type 0 where
   pub accumulators : length m.processor.cpu.accumulators ≡ 4
   pub memory : IsMemory m.processor.memory
   pub units : AllFit m.units
+
+-- every state of a session has one: what these laws ask for holds there
+abbrev pub EveryStateIsMachine : Type 0
+EveryStateIsMachine = (m : MachineState) → ValidMachine m → IsMachine m
 
 -- a place of the machine: a word below the size, a register of the processor, or one of a device that is there
 abbrev pub IsPlace : MachineState → Place → Type 0

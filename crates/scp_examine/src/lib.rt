@@ -18,6 +18,6 @@ pub use deposit_command::deposit;
 pub use examine_command::examine;
 pub use fault::ExamineFault;
 pub use laws::{
-    deposits_change_the_listed_places_alone, deposits_read_back,
+    deposits_change_the_listed_places_alone, deposits_read_back, every_state_is_a_machine,
     registers_are_printed_by_their_names, symbolic_devices_are_the_kinds,
 };
