@@ -257,7 +257,8 @@ may-want spare request few = few
 
 -- ---- what is left of the commands, by their nature
 
-pub record IsNotTold (v : Verb) : Type 0 where
+-- none of those that run, or work on a file by its name
+pub record IsNoRunOrFile (v : Verb) : Type 0 where
   pub run : (address : Option ℕ) → v ≡ verb.Run address → ⊥
   pub go : (address : Option ℕ) → v ≡ verb.Go address → ⊥
   pub cont : v ≡ verb.Cont → ⊥
@@ -268,7 +269,7 @@ pub record IsNotTold (v : Verb) : Type 0 where
   pub dump : (from to : ℕ) (name : Piece) → v ≡ verb.Dump from to name → ⊥
 
 -- a command that neither runs nor works on a file by its name
-pub is-untold : (line : List ℕ) (v : Verb) → IsNotTold v → (nature (request_of line v)).telling ≡ Nothing
+pub is-untold : (line : List ℕ) (v : Verb) → IsNoRunOrFile v → (nature (request_of line v)).telling ≡ Nothing
 is-untold line (verb.Run address) o = absurd (o.run address refl)
 is-untold line (verb.Go address) o = absurd (o.go address refl)
 is-untold line verb.Cont o = absurd (o.cont refl)
@@ -279,14 +280,15 @@ is-untold line (verb.Load name) o = absurd (o.load name refl)
 is-untold line (verb.Dump from to name) o = absurd (o.dump from to name refl)
 is-untold line v o = refl
 
-pub record IsNotMarked (v : Verb) : Type 0 where
+-- none of the others that are not plain
+pub record IsNoWatchOrClosing (v : Verb) : Type 0 where
   pub break_ : (at count : ℕ) (actions : Piece) → v ≡ verb.Break at count actions → ⊥
   pub expect : (count : ℕ) (text actions : Piece) → v ≡ verb.Expect count text actions → ⊥
   pub detach : (unit : Option UnitName) → v ≡ verb.Detach unit → ⊥
   pub exit : (status : Option ℕ) → v ≡ verb.Exit status → ⊥
 
 -- one that is none of the others either
-pub is-plain : (line : List ℕ) (v : Verb) → (nature (request_of line v)).telling ≡ Nothing → IsNotMarked v → nature (request_of line v) ≡ plain
+pub is-plain : (line : List ℕ) (v : Verb) → (nature (request_of line v)).telling ≡ Nothing → IsNoWatchOrClosing v → nature (request_of line v) ≡ plain
 is-plain line (verb.Run address) untold o = absurd (cc untold)
 is-plain line (verb.Go address) untold o = absurd (cc untold)
 is-plain line verb.Cont untold o = absurd (cc untold)
@@ -301,6 +303,7 @@ is-plain line (verb.Detach unit) untold o = absurd (o.detach unit refl)
 is-plain line (verb.Exit status) untold o = absurd (o.exit status refl)
 is-plain line v untold o = refl
 
+-- none of those that are plain and built
 pub record IsNoPlain (v : Verb) : Type 0 where
   pub nothing : v ≡ verb.Nothing → ⊥
   pub examine : (l : Listing) → v ≡ verb.Examine l → ⊥

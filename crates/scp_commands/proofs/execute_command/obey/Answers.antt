@@ -3,7 +3,7 @@ use Rattle.file_commands.specs.Notes.{notes_said}
 use Rattle.scp_parser.specs.Command.{request_of, Request, Attach, Do, Load, Dump, file_name_of}
 use Rattle.scp_commands.specs.Live.{live_in}
 use Rattle.scp_commands.specs.Effect.{effect}
-use Rattle.scp_commands.proofs.ObeyLemmas.{noted-did, do-named, load-named, dump-named, IsNotTold, is-untold}
+use Rattle.scp_commands.proofs.ObeyLemmas.{noted-did, do-named, load-named, dump-named, IsNoRunOrFile, is-untold}
 use Rattle.scp_commands.specs.ScriptEffects.{do_reply}
 use Rattle.scp_commands.specs.Nature.{Nothing, nature}
 use Rattle.scp_commands.specs.Doing.{says_files, IsTold}
@@ -115,7 +115,7 @@ returns-in-Dump-clause-undone g c = λ is.
 
 pub obey_untold-requires : goal.obey_untold-requires
 obey_untold-requires g c =
-    let others : IsNotTold c.command.inside.verb = record {
+    let others : IsNoRunOrFile c.command.inside.verb = record {
       run = c.in_default.not-Run;
       go = c.in_default.not-Go;
       cont = c.in_default.not-Cont;

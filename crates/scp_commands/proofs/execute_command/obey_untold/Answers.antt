@@ -3,7 +3,7 @@ use Rattle.file_commands.specs.Notes.{notes_said}
 use Rattle.scp_parser.specs.Command.{request_of, Break, Expect, Request, Detach, Exit}
 use Rattle.scp_commands.specs.Live.{CommandState, live_in}
 use Rattle.scp_commands.specs.Effect.{effect}
-use Rattle.scp_commands.proofs.ObeyLemmas.{plain-did, keeps-none, does-of-no-file, break-given, expect-given, break-no-file, expect-no-file, noted-did, IsNotMarked, is-plain}
+use Rattle.scp_commands.proofs.ObeyLemmas.{plain-did, keeps-none, does-of-no-file, break-given, expect-given, break-no-file, expect-no-file, noted-did, IsNoWatchOrClosing, is-plain}
 use Rattle.unit_files.specs.Open.{AllOpen, Around}
 use Rattle.scp_commands.specs.WatchEffects.{break_reply, expect_reply}
 use Rattle.scp_commands.specs.Nature.{Nothing, plain, nature}
@@ -121,7 +121,7 @@ returns-in-Exit-clause-told g c = λ told.
 
 pub obey_plain-requires : goal.obey_plain-requires
 obey_plain-requires g c =
-    let others : IsNotMarked c.command.inside.verb = record {
+    let others : IsNoWatchOrClosing c.command.inside.verb = record {
       break_ = c.in_default.not-Break;
       expect = c.in_default.not-Expect;
       detach = c.in_default.not-Detach;
