@@ -36,7 +36,8 @@ use Rattle.scp_commands.specs.ShowEffects.{show_reply}
 use Rattle.scp_commands.specs.SetEffects.{set_size_reply}
 use Rattle.scp_commands.specs.ScriptEffects.{test_answer, echo_reply, assert_reply, goto_reply}
 use Rattle.scp_commands.specs.Effect.{effect}
-use Rattle.scp_commands.specs.Parts.{IsPastRuns, IsPastSettings, IsPastWatches}
+use Rattle.file_commands.specs.declared.note.Subject.{Subject}
+use Rattle.scp_commands.specs.Nature.{Telling, Nothing, Attached, Nature, of_nature, plain, nature}
 use Rattle.file_commands.specs.declared.stamp.Stamp.{Stamp}
 use Rattle.scp_commands.specs.Refusals.{IsMeasured}
 use Rattle.scp_commands.specs.Doing.{Does, Did, FileCause, Keeps, MayWant, AttachNote}
@@ -254,117 +255,108 @@ may-want spare (Load name) few = tt
 may-want spare (Dump from to name) few = tt
 may-want spare request few = few
 
--- ---- the parts in which commands are told apart
+-- ---- what is left of the commands, by their nature
 
-pub record IsNoRun (v : Verb) : Type 0 where
-  pub examine : (l : Listing) → v ≡ verb.Examine l → ⊥
-  pub deposit : (l : Listing) (value : ℕ) → v ≡ verb.Deposit l value → ⊥
+-- none of those that run, or work on a file by its name
+pub record IsNoRunOrFile (v : Verb) : Type 0 where
   pub run : (address : Option ℕ) → v ≡ verb.Run address → ⊥
   pub go : (address : Option ℕ) → v ≡ verb.Go address → ⊥
   pub cont : v ≡ verb.Cont → ⊥
   pub step : (count : Option ℕ) → v ≡ verb.Step count → ⊥
+  pub attach : (option : ℕ) (unit : UnitName) (name : Piece) → v ≡ verb.Attach option unit name → ⊥
+  pub do_ : (echo strict : Bool) (name arguments : Piece) → v ≡ verb.Do echo strict name arguments → ⊥
+  pub load : (name : Piece) → v ≡ verb.Load name → ⊥
+  pub dump : (from to : ℕ) (name : Piece) → v ≡ verb.Dump from to name → ⊥
 
-pub past-runs : (line : List ℕ) (v : Verb) → IsNoRun v → IsPastRuns (request_of line v)
-past-runs line (verb.Examine l) o = absurd (o.examine l refl)
-past-runs line (verb.Deposit l value) o = absurd (o.deposit l value refl)
-past-runs line (verb.Run address) o = absurd (o.run address refl)
-past-runs line (verb.Go address) o = absurd (o.go address refl)
-past-runs line verb.Cont o = absurd (o.cont refl)
-past-runs line (verb.Step count) o = absurd (o.step count refl)
-past-runs line v o = tt
+-- a command that neither runs nor works on a file by its name
+pub is-untold : (line : List ℕ) (v : Verb) → IsNoRunOrFile v → (nature (request_of line v)).telling ≡ Nothing
+is-untold line (verb.Run address) o = absurd (o.run address refl)
+is-untold line (verb.Go address) o = absurd (o.go address refl)
+is-untold line verb.Cont o = absurd (o.cont refl)
+is-untold line (verb.Step count) o = absurd (o.step count refl)
+is-untold line (verb.Attach option unit name) o = absurd (o.attach option unit name refl)
+is-untold line (verb.Do echo strict name arguments) o = absurd (o.do_ echo strict name arguments refl)
+is-untold line (verb.Load name) o = absurd (o.load name refl)
+is-untold line (verb.Dump from to name) o = absurd (o.dump from to name refl)
+is-untold line v o = refl
 
-pub record IsNoSetting (v : Verb) : Type 0 where
+-- none of the others that are not plain
+pub record IsNoWatchOrClosing (v : Verb) : Type 0 where
+  pub break_ : (at count : ℕ) (actions : Piece) → v ≡ verb.Break at count actions → ⊥
+  pub expect : (count : ℕ) (text actions : Piece) → v ≡ verb.Expect count text actions → ⊥
+  pub detach : (unit : Option UnitName) → v ≡ verb.Detach unit → ⊥
+  pub exit : (status : Option ℕ) → v ≡ verb.Exit status → ⊥
+
+-- one that is none of the others either
+pub is-plain : (line : List ℕ) (v : Verb) → (nature (request_of line v)).telling ≡ Nothing → IsNoWatchOrClosing v → nature (request_of line v) ≡ plain
+is-plain line (verb.Run address) untold o = absurd (cc untold)
+is-plain line (verb.Go address) untold o = absurd (cc untold)
+is-plain line verb.Cont untold o = absurd (cc untold)
+is-plain line (verb.Step count) untold o = absurd (cc untold)
+is-plain line (verb.Attach option unit name) untold o = absurd (cc untold)
+is-plain line (verb.Do echo strict name arguments) untold o = absurd (cc untold)
+is-plain line (verb.Load name) untold o = absurd (cc untold)
+is-plain line (verb.Dump from to name) untold o = absurd (cc untold)
+is-plain line (verb.Break at count actions) untold o = absurd (o.break_ at count actions refl)
+is-plain line (verb.Expect count text actions) untold o = absurd (o.expect count text actions refl)
+is-plain line (verb.Detach unit) untold o = absurd (o.detach unit refl)
+is-plain line (verb.Exit status) untold o = absurd (o.exit status refl)
+is-plain line v untold o = refl
+
+-- none of those that are plain and built
+pub record IsNoPlain (v : Verb) : Type 0 where
   pub nothing : v ≡ verb.Nothing → ⊥
+  pub examine : (l : Listing) → v ≡ verb.Examine l → ⊥
+  pub deposit : (l : Listing) (value : ℕ) → v ≡ verb.Deposit l value → ⊥
   pub reset : v ≡ verb.Reset → ⊥
+  pub no_break : (at : Option ℕ) → v ≡ verb.NoBreak at → ⊥
+  pub no_expect : v ≡ verb.NoExpect → ⊥
+  pub send : (after delay : ℕ) (text : Piece) → v ≡ verb.Send after delay text → ⊥
+  pub no_send : v ≡ verb.NoSend → ⊥
   pub set_size : (k : ℕ) → v ≡ verb.SetSize k → ⊥
   pub show : (subject : Shown) → v ≡ verb.Show subject → ⊥
   pub goto : (label : Piece) → v ≡ verb.Goto label → ⊥
   pub assert : (test : Test) → v ≡ verb.Assert test → ⊥
   pub echo : (text : Piece) → v ≡ verb.Echo text → ⊥
 
-pub past-settings : (line : List ℕ) (v : Verb) → IsPastRuns (request_of line v) → IsNoSetting v → IsPastSettings (request_of line v)
-past-settings line (verb.Examine l) past o = absurd past
-past-settings line (verb.Deposit l value) past o = absurd past
-past-settings line (verb.Run address) past o = absurd past
-past-settings line (verb.Go address) past o = absurd past
-past-settings line verb.Cont past o = absurd past
-past-settings line (verb.Step count) past o = absurd past
-past-settings line verb.Nothing past o = absurd (o.nothing refl)
-past-settings line verb.Reset past o = absurd (o.reset refl)
-past-settings line (verb.SetSize k) past o = absurd (o.set_size k refl)
-past-settings line (verb.Show subject) past o = absurd (o.show subject refl)
-past-settings line (verb.Goto label) past o = absurd (o.goto label refl)
-past-settings line (verb.Assert test) past o = absurd (o.assert test refl)
-past-settings line (verb.Echo text) past o = absurd (o.echo text refl)
-past-settings line v past o = tt
+takes-memory : (kind : Telling) (reads : Option Subject) (leaves flushes : Bool) → of_nature kind true reads leaves flushes ≡ plain → ⊥
+takes-memory kind reads leaves flushes is = absurd (cc (ap (λ (n : Nature). n.takes_memory) is))
 
-pub record IsNoWatch (v : Verb) : Type 0 where
-  pub break_ : (at count : ℕ) (actions : Piece) → v ≡ verb.Break at count actions → ⊥
-  pub no_break : (at : Option ℕ) → v ≡ verb.NoBreak at → ⊥
-  pub expect : (count : ℕ) (text actions : Piece) → v ≡ verb.Expect count text actions → ⊥
-  pub no_expect : v ≡ verb.NoExpect → ⊥
-  pub send : (after delay : ℕ) (text : Piece) → v ≡ verb.Send after delay text → ⊥
-  pub no_send : v ≡ verb.NoSend → ⊥
+leaves-part : (kind : Telling) (takes : Bool) (reads : Option Subject) (flushes : Bool) → of_nature kind takes reads true flushes ≡ plain → ⊥
+leaves-part kind takes reads flushes is = absurd (cc (ap (λ (n : Nature). n.leaves_part) is))
 
-pub past-watches : (line : List ℕ) (v : Verb) → IsPastSettings (request_of line v) → IsNoWatch v → IsPastWatches (request_of line v)
-past-watches line (verb.Examine l) past o = absurd past
-past-watches line (verb.Deposit l value) past o = absurd past
-past-watches line (verb.Run address) past o = absurd past
-past-watches line (verb.Go address) past o = absurd past
-past-watches line verb.Cont past o = absurd past
-past-watches line (verb.Step count) past o = absurd past
-past-watches line verb.Nothing past o = absurd past
-past-watches line verb.Reset past o = absurd past
-past-watches line (verb.SetSize k) past o = absurd past
-past-watches line (verb.Show subject) past o = absurd past
-past-watches line (verb.Goto label) past o = absurd past
-past-watches line (verb.Assert test) past o = absurd past
-past-watches line (verb.Echo text) past o = absurd past
-past-watches line (verb.Break at count actions) past o = absurd (o.break_ at count actions refl)
-past-watches line (verb.NoBreak at) past o = absurd (o.no_break at refl)
-past-watches line (verb.Expect count text actions) past o = absurd (o.expect count text actions refl)
-past-watches line verb.NoExpect past o = absurd (o.no_expect refl)
-past-watches line (verb.Send after delay text) past o = absurd (o.send after delay text refl)
-past-watches line verb.NoSend past o = absurd (o.no_send refl)
-past-watches line v past o = tt
-
-pub record IsNoFile (v : Verb) : Type 0 where
-  pub attach : (option : ℕ) (unit : UnitName) (name : Piece) → v ≡ verb.Attach option unit name → ⊥
-  pub detach : (unit : Option UnitName) → v ≡ verb.Detach unit → ⊥
-  pub do_ : (echo strict : Bool) (name arguments : Piece) → v ≡ verb.Do echo strict name arguments → ⊥
-  pub exit : (status : Option ℕ) → v ≡ verb.Exit status → ⊥
-  pub load : (name : Piece) → v ≡ verb.Load name → ⊥
-  pub dump : (from to : ℕ) (name : Piece) → v ≡ verb.Dump from to name → ⊥
+tells-attached : (takes : Bool) (reads : Option Subject) (leaves flushes : Bool) → of_nature Attached takes reads leaves flushes ≡ plain → ⊥
+tells-attached takes reads leaves flushes is = absurd (cc (ap (λ (n : Nature). n.telling) is))
 
 -- what is not built
-pub other-is : (limit : ℕ) (own : List CommandNote) (live : Live) (line : List ℕ) (v : Verb) → IsPastWatches (request_of line v) → IsNoFile v → effect limit own live (request_of line v) ≡ refused NotBuilt live
+pub other-is : (limit : ℕ) (own : List CommandNote) (live : Live) (line : List ℕ) (v : Verb) → nature (request_of line v) ≡ plain → IsNoPlain v → effect limit own live (request_of line v) ≡ refused NotBuilt live
 unfolding effect
-other-is limit own live line (verb.Examine l) past o = absurd past
-other-is limit own live line (verb.Deposit l value) past o = absurd past
-other-is limit own live line (verb.Run address) past o = absurd past
-other-is limit own live line (verb.Go address) past o = absurd past
-other-is limit own live line verb.Cont past o = absurd past
-other-is limit own live line (verb.Step count) past o = absurd past
-other-is limit own live line verb.Nothing past o = absurd past
-other-is limit own live line verb.Reset past o = absurd past
-other-is limit own live line (verb.SetSize k) past o = absurd past
-other-is limit own live line (verb.Show subject) past o = absurd past
-other-is limit own live line (verb.Goto label) past o = absurd past
-other-is limit own live line (verb.Assert test) past o = absurd past
-other-is limit own live line (verb.Echo text) past o = absurd past
-other-is limit own live line (verb.Break at count actions) past o = absurd past
-other-is limit own live line (verb.NoBreak at) past o = absurd past
-other-is limit own live line (verb.Expect count text actions) past o = absurd past
-other-is limit own live line verb.NoExpect past o = absurd past
-other-is limit own live line (verb.Send after delay text) past o = absurd past
-other-is limit own live line verb.NoSend past o = absurd past
-other-is limit own live line (verb.Attach option unit name) past o = absurd (o.attach option unit name refl)
-other-is limit own live line (verb.Detach unit) past o = absurd (o.detach unit refl)
-other-is limit own live line (verb.Do echo strict name arguments) past o = absurd (o.do_ echo strict name arguments refl)
-other-is limit own live line (verb.Exit status) past o = absurd (o.exit status refl)
-other-is limit own live line (verb.Load name) past o = absurd (o.load name refl)
-other-is limit own live line (verb.Dump from to name) past o = absurd (o.dump from to name refl)
-other-is limit own live line v past o = refl
+other-is limit own live line (verb.Run address) is o = absurd (tells-attached _ _ _ _ is)
+other-is limit own live line (verb.Go address) is o = absurd (tells-attached _ _ _ _ is)
+other-is limit own live line verb.Cont is o = absurd (tells-attached _ _ _ _ is)
+other-is limit own live line (verb.Step count) is o = absurd (tells-attached _ _ _ _ is)
+other-is limit own live line (verb.Attach option unit name) is o = absurd (takes-memory _ _ _ _ is)
+other-is limit own live line (verb.Do echo strict name arguments) is o = absurd (takes-memory _ _ _ _ is)
+other-is limit own live line (verb.Load name) is o = absurd (takes-memory _ _ _ _ is)
+other-is limit own live line (verb.Dump from to name) is o = absurd (takes-memory _ _ _ _ is)
+other-is limit own live line (verb.Break at count actions) is o = absurd (takes-memory _ _ _ _ is)
+other-is limit own live line (verb.Expect count text actions) is o = absurd (takes-memory _ _ _ _ is)
+other-is limit own live line (verb.Detach unit) is o = absurd (leaves-part _ _ _ _ is)
+other-is limit own live line (verb.Exit status) is o = absurd (leaves-part _ _ _ _ is)
+other-is limit own live line verb.Nothing is o = absurd (o.nothing refl)
+other-is limit own live line (verb.Examine l) is o = absurd (o.examine l refl)
+other-is limit own live line (verb.Deposit l value) is o = absurd (o.deposit l value refl)
+other-is limit own live line verb.Reset is o = absurd (o.reset refl)
+other-is limit own live line (verb.NoBreak at) is o = absurd (o.no_break at refl)
+other-is limit own live line verb.NoExpect is o = absurd (o.no_expect refl)
+other-is limit own live line (verb.Send after delay text) is o = absurd (o.send after delay text refl)
+other-is limit own live line verb.NoSend is o = absurd (o.no_send refl)
+other-is limit own live line (verb.SetSize k) is o = absurd (o.set_size k refl)
+other-is limit own live line (verb.Show subject) is o = absurd (o.show subject refl)
+other-is limit own live line (verb.Goto label) is o = absurd (o.goto label refl)
+other-is limit own live line (verb.Assert test) is o = absurd (o.assert test refl)
+other-is limit own live line (verb.Echo text) is o = absurd (o.echo text refl)
+other-is limit own live line v is o = refl
 
 -- a command that is not built attaches nothing
 pub no-note : (r : Request) (stamp : Stamp) (notes notes' : List FaultNote) (old new : FileState) → AttachNote r (Err NotBuilt) stamp notes notes' old new

@@ -19,6 +19,5 @@ pub mod Nature
 pub mod Remains
 pub mod Refusals
 pub mod Doing
-pub mod Parts
 pub mod Laws
 pub mod Valid

@@ -34,6 +34,10 @@ of_nature telling takes_memory reads_whole leaves_part flushes = record {
   flushes = flushes;
 }
 
+-- a command that none of this holds of
+abbrev pub plain : Nature
+plain = of_nature Nothing false None false false
+
 abbrev pub nature : Request → Nature
 nature (Attach option unit name) = of_nature Named true None true false
 nature (Do echo strict name arguments) = of_nature Named true (Some subject.Script) false false
@@ -47,4 +51,4 @@ nature (Break at count actions) = of_nature Nothing true None false false
 nature (Expect count text actions) = of_nature Nothing true None false false
 nature (Detach unit) = of_nature Nothing false None true false
 nature (Exit status) = of_nature Nothing false None true false
-nature request = of_nature Nothing false None false false
+nature request = plain

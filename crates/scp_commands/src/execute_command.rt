@@ -8,9 +8,8 @@ ghost use Rattle.scp_commands.specs.declared.next.Next.TheVariants.{Ran};
 ghost use Rattle.scp_commands.specs.declared.fault.CommandFault.TheVariants.{OutOfMemory};
 ghost use Rattle.scp_commands.specs.Live.{live_in};
 ghost use Rattle.scp_commands.specs.Effect.{effect};
-ghost use Rattle.scp_commands.specs.Nature.{nature};
+ghost use Rattle.scp_commands.specs.Nature.{nature, plain, Nothing};
 ghost use Rattle.scp_commands.specs.Remains.{AreLeft};
-ghost use Rattle.scp_commands.specs.Parts.{IsPastRuns, IsPastSettings, IsPastWatches};
 ghost use Rattle.scp_commands.specs.Refusals.{IsUnrefused, IsMeasured};
 ghost use Rattle.scp_commands.specs.Doing.{Did, IsTold, Keeps, ConsoleCounts, MayWant, IsUndone, says_files, IsExitAnswer, RunCause, IsRefusal, AttachNote};
 
@@ -131,19 +130,27 @@ fn obey<U: Unit, F: Files, S: Sink>(
         → Around session.new.machine.slots base (F.state files.new).opened }
 {
     match &command.verb {
-        Verb::Examine(listing) => examine_list(session, listing, out),
-        Verb::Deposit(listing, value) => deposit_list(session, listing, *value),
         Verb::Run(address) => run_from(session, true, *address, files, out),
         Verb::Go(address) => run_from(session, false, *address, files, out),
         Verb::Cont => run(session, files, out),
         Verb::Step(count) => step(session, count.unwrap_or(1), files, out),
-        _ => obey_setting(alloc, session, command, files, out),
+        Verb::Attach { option, unit, .. } => {
+            attach(alloc, session, *option, *unit, command.file_name(), files)
+        }
+        Verb::Do { echo, strict, .. } => {
+            do_script(alloc, session, *echo, *strict, command.file_name(), files)
+        }
+        Verb::Load(_) => load_file(alloc, session, command.file_name(), files),
+        Verb::Dump { from, to, .. } => {
+            dump_file(alloc, session, *from, *to, command.file_name(), files)
+        }
+        _ => obey_untold(alloc, session, command, files, out),
     }
 }
 
-// The same of all commands but lists and runs.
+// The same of all commands but those that run, or work on a file by its name.
 #[tactic(auto, using(crate::proofs::RemainLemmas::leaves, file_commands::proofs::OwnFiles::unused), unfolding(crate::specs::Effect::effect))]
-fn obey_setting<U: Unit, F: Files, S: Sink>(
+fn obey_untold<U: Unit, F: Files, S: Sink>(
     alloc: Global,
     session: &mut Session<U>,
     command: &Command,
@@ -152,62 +159,7 @@ fn obey_setting<U: Unit, F: Files, S: Sink>(
 ) -> Result<Next, CommandFault>
     requires room { 16 ≤ session.old.spare }
     requires open { AllOpen session.old.machine.slots (F.state files.old).opened }
-    requires part { IsPastRuns command.now }
-    ensures refused { IsRefusal command.now result
-        → AreLeft (nature command.now).flushes session.old session.new }
-    ensures told { IsTold F.tells session.old.machine.slots command.now
-        → Did (λ notes. effect session.old.limit notes (live_in session.old (F.state files.old).files) command.now)
-        session.old.command result (live_in session.new (F.state files.new).files) S.tells (S.written out.old)
-        (S.written out.new) (notes_said session.old.notes) (notes_said session.new.notes) }
-    ensures undone { result ≡ Err OutOfMemory → IsUndone (nature command.now).flushes (nature command.now).reads_whole
-        (says_files F.tells command.now) session.old session.new (S.written out.old) (S.written out.new)
-        (F.state files.old) (F.state files.new) }
-    ensures want { result ≡ Err OutOfMemory → MayWant 16 command.now }
-    ensures unrefused { result ≡ Err OutOfMemory
-        → IsUnrefused command.now session.old.machine session.old.watch }
-    ensures measured { IsMeasured F.tells command.now result (F.state files.old) (F.state files.new) }
-    ensures keeps { Keeps session.old.command session.new.machine.time F.tells result session.old.notes
-        session.new.notes (F.state files.old) (F.state files.new) }
-    ensures whose { AreOwn session.old.machine.slots session.new.machine.slots session.old.notes session.new.notes
-        (F.state files.old) (F.state files.new) }
-    ensures keys { session.new.keys ≡ session.old.keys }
-    ensures limit { session.new.limit ≡ session.old.limit }
-    ensures command { session.new.command ≡ session.old.command }
-    ensures counts { ConsoleCounts result (S.fault_count out.old) (S.fault_count out.new) }
-    ensures ran { RunCause result session.old.machine.slots (F.state files.old) (F.state files.new) }
-    ensures attach_note { AttachNote command.now result
-        (record { command = session.old.command; time = session.old.machine.time }) session.old.notes session.new.notes
-        (F.state files.old) (F.state files.new) }
-    ensures stop { result ≢ Ok (Ran ConsoleFault) }
-    ensures exit { IsExitAnswer result }
-    ensures open { AllOpen session.new.machine.slots (F.state files.new).opened }
-    ensures around { (base : List Opened) → Around session.old.machine.slots base (F.state files.old).opened
-        → Around session.new.machine.slots base (F.state files.new).opened }
-{
-    match &command.verb {
-        Verb::Nothing => Ok(Next::Go),
-        Verb::Reset => reset(session),
-        Verb::SetSize(k) => set_size(session, *k),
-        Verb::Show(subject) => show(session, *subject, out),
-        Verb::Goto(_) => Ok(Next::Goto),
-        Verb::Assert(what) => assert_condition(session, what),
-        Verb::Echo(_) => echo(command.text(), out),
-        _ => obey_watch(alloc, session, command, files, out),
-    }
-}
-
-// The same of all commands but these, and those that set, show, test or print something.
-#[tactic(auto, using(crate::proofs::RemainLemmas::leaves, file_commands::proofs::OwnFiles::unused), unfolding(crate::specs::Effect::effect))]
-fn obey_watch<U: Unit, F: Files, S: Sink>(
-    alloc: Global,
-    session: &mut Session<U>,
-    command: &Command,
-    files: &mut F,
-    out: &mut S,
-) -> Result<Next, CommandFault>
-    requires room { 16 ≤ session.old.spare }
-    requires open { AllOpen session.old.machine.slots (F.state files.old).opened }
-    requires part { IsPastSettings command.now }
+    requires part { (nature command.now).telling ≡ Nothing }
     ensures refused { IsRefusal command.now result
         → AreLeft (nature command.now).flushes session.old session.new }
     ensures told { IsTold F.tells session.old.machine.slots command.now
@@ -241,73 +193,71 @@ fn obey_watch<U: Unit, F: Files, S: Sink>(
 {
     match &command.verb {
         Verb::Break { at, count, .. } => add_break(session, *at, *count, command.text()),
-        Verb::NoBreak(at) => remove_breaks(session, *at),
         Verb::Expect { count, .. } => {
             add_expect(session, *count, command.quoted(), command.text())
         }
-        Verb::NoExpect => remove_expects(session),
-        Verb::Send { after, delay, .. } => send(session, *after, *delay, command.quoted()),
-        Verb::NoSend => remove_sends(session),
-        _ => obey_file(alloc, session, command, files, out),
+        Verb::Detach(unit) => detach_one_or_every(session, *unit, files),
+        Verb::Exit(status) => exit(session, *status, files),
+        _ => obey_plain(session, command, files, out),
     }
 }
 
-// The same of the commands that work with files, and of those that are not built.
+// The same of all commands that are plain by nature, and of those that are not built.
 #[tactic(auto, using(crate::proofs::RemainLemmas::leaves, file_commands::proofs::OwnFiles::unused), unfolding(crate::specs::Effect::effect))]
-fn obey_file<U: Unit, F: Files, S: Sink>(
-    alloc: Global,
+fn obey_plain<U: Unit, F: Files, S: Sink>(
     session: &mut Session<U>,
     command: &Command,
-    files: &mut F,
+    files: &F,
     out: &mut S,
 ) -> Result<Next, CommandFault>
     requires room { 16 ≤ session.old.spare }
-    requires open { AllOpen session.old.machine.slots (F.state files.old).opened }
-    requires part { IsPastWatches command.now }
+    requires open { AllOpen session.old.machine.slots (F.state files.now).opened }
+    requires part { nature command.now ≡ plain }
     ensures refused { IsRefusal command.now result
         → AreLeft (nature command.now).flushes session.old session.new }
     ensures told { IsTold F.tells session.old.machine.slots command.now
-        → Did (λ notes. effect session.old.limit notes (live_in session.old (F.state files.old).files) command.now)
-        session.old.command result (live_in session.new (F.state files.new).files) S.tells (S.written out.old)
+        → Did (λ notes. effect session.old.limit notes (live_in session.old (F.state files.now).files) command.now)
+        session.old.command result (live_in session.new (F.state files.now).files) S.tells (S.written out.old)
         (S.written out.new) (notes_said session.old.notes) (notes_said session.new.notes) }
     ensures undone { result ≡ Err OutOfMemory → IsUndone (nature command.now).flushes (nature command.now).reads_whole
         (says_files F.tells command.now) session.old session.new (S.written out.old) (S.written out.new)
-        (F.state files.old) (F.state files.new) }
+        (F.state files.now) (F.state files.now) }
     ensures want { result ≡ Err OutOfMemory → MayWant 16 command.now }
     ensures unrefused { result ≡ Err OutOfMemory
         → IsUnrefused command.now session.old.machine session.old.watch }
-    ensures measured { IsMeasured F.tells command.now result (F.state files.old) (F.state files.new) }
+    ensures measured { IsMeasured F.tells command.now result (F.state files.now) (F.state files.now) }
     ensures keeps { Keeps session.old.command session.new.machine.time F.tells result session.old.notes
-        session.new.notes (F.state files.old) (F.state files.new) }
+        session.new.notes (F.state files.now) (F.state files.now) }
     ensures whose { AreOwn session.old.machine.slots session.new.machine.slots session.old.notes session.new.notes
-        (F.state files.old) (F.state files.new) }
+        (F.state files.now) (F.state files.now) }
     ensures keys { session.new.keys ≡ session.old.keys }
     ensures limit { session.new.limit ≡ session.old.limit }
     ensures command { session.new.command ≡ session.old.command }
     ensures counts { ConsoleCounts result (S.fault_count out.old) (S.fault_count out.new) }
-    ensures ran { RunCause result session.old.machine.slots (F.state files.old) (F.state files.new) }
+    ensures ran { RunCause result session.old.machine.slots (F.state files.now) (F.state files.now) }
     ensures attach_note { AttachNote command.now result
         (record { command = session.old.command; time = session.old.machine.time }) session.old.notes session.new.notes
-        (F.state files.old) (F.state files.new) }
+        (F.state files.now) (F.state files.now) }
     ensures stop { result ≢ Ok (Ran ConsoleFault) }
     ensures exit { IsExitAnswer result }
-    ensures open { AllOpen session.new.machine.slots (F.state files.new).opened }
-    ensures around { (base : List Opened) → Around session.old.machine.slots base (F.state files.old).opened
-        → Around session.new.machine.slots base (F.state files.new).opened }
+    ensures open { AllOpen session.new.machine.slots (F.state files.now).opened }
+    ensures around { (base : List Opened) → Around session.old.machine.slots base (F.state files.now).opened
+        → Around session.new.machine.slots base (F.state files.now).opened }
 {
     match &command.verb {
-        Verb::Attach { option, unit, .. } => {
-            attach(alloc, session, *option, *unit, command.file_name(), files)
-        }
-        Verb::Detach(unit) => detach_one_or_every(session, *unit, files),
-        Verb::Do { echo, strict, .. } => {
-            do_script(alloc, session, *echo, *strict, command.file_name(), files)
-        }
-        Verb::Exit(status) => exit(session, *status, files),
-        Verb::Load(_) => load_file(alloc, session, command.file_name(), files),
-        Verb::Dump { from, to, .. } => {
-            dump_file(alloc, session, *from, *to, command.file_name(), files)
-        }
+        Verb::Nothing => Ok(Next::Go),
+        Verb::Examine(listing) => examine_list(session, listing, out),
+        Verb::Deposit(listing, value) => deposit_list(session, listing, *value),
+        Verb::Reset => reset(session),
+        Verb::NoBreak(at) => remove_breaks(session, *at),
+        Verb::NoExpect => remove_expects(session),
+        Verb::Send { after, delay, .. } => send(session, *after, *delay, command.quoted()),
+        Verb::NoSend => remove_sends(session),
+        Verb::SetSize(k) => set_size(session, *k),
+        Verb::Show(subject) => show(session, *subject, out),
+        Verb::Goto(_) => Ok(Next::Goto),
+        Verb::Assert(what) => assert_condition(session, what),
+        Verb::Echo(_) => echo(command.text(), out),
         _ => Err(CommandFault::NotBuilt),
     }
 }

@@ -13,6 +13,8 @@ use Rattle.scp_parser.specs.declared.command.Shown.TheVariants as shown
 use Rattle.scp_parser.specs.declared.command.Verb.{Verb}
 use Rattle.scp_parser.specs.declared.command.Verb.TheVariants as verb
 use Rattle.scp_parser.specs.declared.fault.ParseFault.{ParseFault}
+use Rattle.scp_parser.specs.declared.names.AloneName.{AloneName}
+use Rattle.scp_parser.specs.declared.names.AloneName.TheVariants as alone
 use Rattle.scp_parser.specs.declared.names.CommandName.{CommandName}
 use Rattle.scp_parser.specs.declared.names.CommandName.TheVariants as name
 use Rattle.scp_parser.specs.Command.{IsNamedUnit, IsFileUnit, IsAttachOption, ShowsUnit, Keeps}
@@ -21,7 +23,7 @@ use Rattle.scp_parser.specs.Forms.{IsOption, existing, new, read_only, IsTarget}
 use Rattle.scp_parser.specs.Grammar.{MayBegin, there, not_there, Takes, option_letter}
 use Rattle.line_text.specs.Words.{is_spelled}
 use Rattle.operand_forms.specs.Names.{unit_kinds, first_of}
-use Rattle.scp_parser.specs.Names.{command_named}
+use Rattle.scp_parser.specs.Names.{command_named, alone_verb}
 use Rattle.operand_forms.specs.Operands.{or_else, unit_alone, drive_at, drive_of, kind_named, octal, decimal, unit_of}
 use Rattle.scp_parser.specs.Operands.{subject_of, option_of, target_of, detached_of}
 use Rattle.scp_parser.specs.Reading.{◌>>=◌, next_word, needed, ended, last_number, numbered, listing, examine, valued, instruction, deposit, show, operands, command_found, named, maybe, attach_file, attach_port, attach_unit, attach_target, attach, detach}
@@ -198,19 +200,22 @@ attach_keeps line text v end h =
     let there : MayBegin IsOption text option.0 option.1 = maybe_begins IsOption option_of decided.option no_option text in
     attach_target_keeps line option.1 option.0 v (behind_maybe IsOption line text option.1 option.0 end there) (option_keeps text option.1 option.0 there) h
 
+alone_keeps : (line : List ℕ) (which : AloneName) → Keeps line (alone_verb which)
+alone_keeps line alone.Cont = tt
+alone_keeps line alone.Reset = tt
+alone_keeps line alone.NoExpect = tt
+alone_keeps line alone.NoSend = tt
+
 operands_keeps : (line : List ℕ) (name : CommandName) (text : List ℕ) (v : Verb) → IsEnd line text → operands (length line) name text ≡ Ok v → Keeps line v
 unfolding operands
+operands_keeps line (name.Alone which) text v end h = ended_keeps (Keeps line) (alone_verb which) text v h (alone_keeps line which)
 operands_keeps line name.Examine text v end h = examine_keeps line text v h
 operands_keeps line name.Deposit text v end h = deposit_keeps line text v h
 operands_keeps line name.Run text v end h = numbered_keeps line (λ n. verb.Run n) (last_number octal text) v (λ n. tt) h
 operands_keeps line name.Go text v end h = numbered_keeps line (λ n. verb.Go n) (last_number octal text) v (λ n. tt) h
-operands_keeps line name.Cont text v end h = ended_keeps (Keeps line) verb.Cont text v h tt
 operands_keeps line name.Step text v end h = numbered_keeps line (λ n. verb.Step n) (last_number decimal text) v (λ n. tt) h
-operands_keeps line name.Reset text v end h = ended_keeps (Keeps line) verb.Reset text v h tt
 operands_keeps line name.Show text v end h = show_keeps line text v h
 operands_keeps line name.Exit text v end h = numbered_keeps line (λ n. verb.Exit n) (last_number decimal text) v (λ n. tt) h
-operands_keeps line name.NoExpect text v end h = ended_keeps (Keeps line) verb.NoExpect text v h tt
-operands_keeps line name.NoSend text v end h = ended_keeps (Keeps line) verb.NoSend text v h tt
 operands_keeps line name.Break text v end h = break_keeps line text v end h
 operands_keeps line name.NoBreak text v end h = no_break_keeps decided line text v h
 operands_keeps line name.Expect text v end h = expect_keeps line text v end h

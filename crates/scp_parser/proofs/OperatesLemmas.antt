@@ -4,11 +4,14 @@ use Rattle.operand_forms.specs.declared.listing.Listing.{Listing}
 use Rattle.scp_parser.specs.declared.command.Verb.{Verb}
 use Rattle.scp_parser.specs.declared.command.Verb.TheVariants as verb
 use Rattle.scp_parser.specs.declared.fault.ParseFault.{ParseFault}
+use Rattle.scp_parser.specs.declared.names.AloneName.{AloneName}
+use Rattle.scp_parser.specs.declared.names.AloneName.TheVariants.{Cont, Reset, NoExpect, NoSend}
 use Rattle.scp_parser.specs.declared.names.CommandName.{CommandName}
-use Rattle.scp_parser.specs.declared.names.CommandName.TheVariants.{Examine, Deposit, Run, Go, Cont, Step, Reset, Attach, Detach, Show, Exit}
-use Rattle.scp_parser.specs.declared.names.CommandName.TheVariants.{NoExpect, NoSend, Break, NoBreak, Expect, Send, Load, Save, Dump, Restore, Set, Do, Goto, Assert, Echo}
+use Rattle.scp_parser.specs.declared.names.CommandName.TheVariants.{Alone, Examine, Deposit, Run, Go, Step, Attach, Detach, Show, Exit}
+use Rattle.scp_parser.specs.declared.names.CommandName.TheVariants.{Break, NoBreak, Expect, Send, Load, Save, Dump, Restore, Set, Do, Goto, Assert, Echo}
 use Rattle.scp_parser.specs.Command.{Request, request_of}
 use Rattle.scp_parser.specs.Command as request
+use Rattle.scp_parser.specs.Names.{alone_verb, alone_request}
 use Rattle.operand_forms.specs.Forms.{IsOctal, IsDecimal}
 use Rattle.scp_parser.specs.Forms.{IsSubject}
 use Rattle.operand_forms.specs.Operands.{octal, decimal}
@@ -90,21 +93,25 @@ module _ (d : Forms_decided) (line : List ℕ) where
       → Settles (map_ok see (numbered make (last_number decimal text))) (HasNumber IsDecimal text (λ n. see (make n))) (LastNumberFaults IsDecimal text)
   decimal_settles make text = number_seen see IsDecimal decimal d.decimal no_decimal make text
 
+  -- what a command that stands alone asks for has no text of its line
+  alone_settles : (which : AloneName) (text : List ℕ) → Settles (map_ok see (ended (alone_verb which) text)) (Ends (alone_request which) text) (EndFaults text)
+  alone_settles Cont text = ended_seen see verb.Cont text
+  alone_settles Reset text = ended_seen see verb.Reset text
+  alone_settles NoExpect text = ended_seen see verb.NoExpect text
+  alone_settles NoSend text = ended_seen see verb.NoSend text
+
   pub operands_settle : (name : CommandName) (text : List ℕ) → IsEnd line text → Settles (map_ok see (operands (length line) name text)) (Operates name text) (OperandFaults name text)
   unfolding operands
+  operands_settle (Alone which) text end = alone_settles which text
   operands_settle Examine text end = examine_settles text
   operands_settle Deposit text end = deposit_settles text
   operands_settle Run text end = octal_settles (λ n. verb.Run n) text
   operands_settle Go text end = octal_settles (λ n. verb.Go n) text
-  operands_settle Cont text end = ended_seen see verb.Cont text
   operands_settle Step text end = decimal_settles (λ n. verb.Step n) text
-  operands_settle Reset text end = ended_seen see verb.Reset text
   operands_settle Attach text end = attach_settles d line text end
   operands_settle Detach text end = detach_settles d line text
   operands_settle Show text end = show_settles text
   operands_settle Exit text end = decimal_settles (λ n. verb.Exit n) text
-  operands_settle NoExpect text end = ended_seen see verb.NoExpect text
-  operands_settle NoSend text end = ended_seen see verb.NoSend text
   operands_settle Break text end = break_settles line text end
   operands_settle NoBreak text end = no_break_settles d line text
   operands_settle Expect text end = expect_settles line text end

@@ -11,8 +11,8 @@ use Rattle.operand_forms.specs.declared.listing.Condition.{Condition}
 use Rattle.scp_parser.specs.declared.fault.ParseFault.{ParseFault}
 use Rattle.scp_parser.specs.declared.fault.ParseFault.TheVariants.{Unknown, Missing, BadNumber, BadName, BadSymbol, Extra, TooLong}
 use Rattle.scp_parser.specs.declared.names.CommandName.{CommandName}
-use Rattle.scp_parser.specs.declared.names.CommandName.TheVariants.{Examine, Deposit, Run, Go, Cont, Step, Reset, Attach, Detach, Show, Exit}
-use Rattle.scp_parser.specs.declared.names.CommandName.TheVariants.{NoExpect, NoSend, Break, NoBreak, Expect, Send, Load, Save, Dump, Restore, Set, Do, Goto, Assert, Echo}
+use Rattle.scp_parser.specs.declared.names.CommandName.TheVariants.{Alone, Examine, Deposit, Run, Go, Step, Attach, Detach, Show, Exit}
+use Rattle.scp_parser.specs.declared.names.CommandName.TheVariants.{Break, NoBreak, Expect, Send, Load, Save, Dump, Restore, Set, Do, Goto, Assert, Echo}
 use Rattle.scp_parser.specs.Names.{IsCommandName}
 use Rattle.scp_parser.specs.Command.{IsFileName}
 use Rattle.operand_forms.specs.Forms.{IsOctal, IsDecimal, IsList, IsDevice}
@@ -92,19 +92,16 @@ SetFaults (whose.Device kind) text fault =
 
 -- the faults of the operands of each command
 abbrev pub OperandFaults : CommandName → List ℕ → ParseFault → Type 0
+OperandFaults (Alone which) text fault = EndFaults text fault
 OperandFaults Examine text fault = FaultThen (ListFaults true text) (IsListing true text) (λ l. EndFaults l.1) fault
 OperandFaults Deposit text fault = FaultThen (ListFaults false text) (IsListing false text) (λ l. ValueFaults l.0.symbolic l.1) fault
 OperandFaults Run text fault = LastNumberFaults IsOctal text fault
 OperandFaults Go text fault = LastNumberFaults IsOctal text fault
-OperandFaults Cont text fault = EndFaults text fault
 OperandFaults Step text fault = LastNumberFaults IsDecimal text fault
-OperandFaults Reset text fault = EndFaults text fault
 OperandFaults Attach text fault = Then (MayTake IsOption text) (λ option. TargetFaults option.0 option.1) fault
 OperandFaults Detach text fault = FaultThen (WordFaults IsDetached false text) (Takes IsDetached text) (λ u. EndFaults u.1) fault
 OperandFaults Show text fault = FaultThen (WordFaults IsSubject false text) (Takes IsSubject text) (λ s. EndFaults s.1) fault
 OperandFaults Exit text fault = LastNumberFaults IsDecimal text fault
-OperandFaults NoExpect text fault = EndFaults text fault
-OperandFaults NoSend text fault = EndFaults text fault
 OperandFaults Break text fault = FaultThen (PartFaults IsPoint true text) (TakesAt IsPoint text) (λ point. ActionFaults point.1) fault
 OperandFaults NoBreak text fault = FaultThen (WordFaults IsNoBreak false text) (Takes IsNoBreak text) (λ at. EndFaults at.1) fault
 OperandFaults Expect text fault = Then (MayTake IsCount text) (λ count. PartFaults IsTextAt false count.1) fault

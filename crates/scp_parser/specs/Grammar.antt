@@ -13,11 +13,11 @@ use Rattle.operand_forms.specs.declared.listing.Item.{Item}
 use Rattle.operand_forms.specs.declared.listing.Listing.{Listing}
 use Rattle.operand_forms.specs.declared.listing.Test.{Test}
 use Rattle.scp_parser.specs.declared.names.CommandName.{CommandName}
-use Rattle.scp_parser.specs.declared.names.CommandName.TheVariants.{Examine, Deposit, Run, Go, Cont, Step, Reset, Attach, Detach, Show, Exit}
-use Rattle.scp_parser.specs.declared.names.CommandName.TheVariants.{NoExpect, NoSend, Break, NoBreak, Expect, Send, Load, Save, Dump, Restore, Set, Do, Goto, Assert, Echo}
+use Rattle.scp_parser.specs.declared.names.CommandName.TheVariants.{Alone, Examine, Deposit, Run, Go, Step, Attach, Detach, Show, Exit}
+use Rattle.scp_parser.specs.declared.names.CommandName.TheVariants.{Break, NoBreak, Expect, Send, Load, Save, Dump, Restore, Set, Do, Goto, Assert, Echo}
 use Rattle.scp_parser.specs.Command.{Request, IsFileName}
 use Rattle.scp_parser.specs.Command as request
-use Rattle.scp_parser.specs.Names.{IsCommandName}
+use Rattle.scp_parser.specs.Names.{IsCommandName, alone_request}
 use Rattle.operand_forms.specs.Forms.{IsOctal, IsDecimal, IsList, IsCondition, IsDevice}
 use Rattle.scp_parser.specs.Forms.{IsSubject, IsSymbolic, IsOption, IsTarget, IsDetached, IsFlag, IsCount, IsPoint, IsNoBreak, IsKeyed, IsTextAt}
 use Rattle.scp_parser.specs.Forms.{AreAddresses, IsSet, IsSize, IsScriptName, IsAnyWord, IsTest}
@@ -188,19 +188,16 @@ Asserts device text asked = Then (Takes (IsTest device) text) (λ t. Ends (reque
 
 -- what a command asks for, by its name and the operands behind it
 abbrev pub Operates : CommandName → List ℕ → Request → Type 0
+Operates (Alone which) text asked = Ends (alone_request which) text asked
 Operates Examine text asked = Then (IsListing true text) (λ l. Ends (request.Examine l.0) l.1) asked
 Operates Deposit text asked = Then (IsListing false text) (λ l. HasValue l.0.symbolic l.1 (λ n. request.Deposit l.0 n)) asked
 Operates Run text asked = HasNumber IsOctal text (λ n. request.Run n) asked
 Operates Go text asked = HasNumber IsOctal text (λ n. request.Go n) asked
-Operates Cont text asked = Ends request.Cont text asked
 Operates Step text asked = HasNumber IsDecimal text (λ n. request.Step n) asked
-Operates Reset text asked = Ends request.Reset text asked
 Operates Attach text asked = Then (MayTake IsOption text) (λ option. HasTarget option.0 option.1) asked
 Operates Detach text asked = Then (Takes IsDetached text) (λ u. Ends (request.Detach u.0) u.1) asked
 Operates Show text asked = Then (Takes IsSubject text) (λ s. Ends (request.Show s.0) s.1) asked
 Operates Exit text asked = HasNumber IsDecimal text (λ n. request.Exit n) asked
-Operates NoExpect text asked = Ends request.NoExpect text asked
-Operates NoSend text asked = Ends request.NoSend text asked
 Operates Break text asked = Then (TakesAt IsPoint text) (λ point a. Then (HasActions point.1) (λ actions b. b ≡ request.Break point.0.0 point.0.1 actions) a) asked
 Operates NoBreak text asked = Then (Takes IsNoBreak text) (λ at. Ends (request.NoBreak at.0) at.1) asked
 Operates Expect text asked = Then (MayTake IsCount text) (λ count. Expects count.0 count.1) asked

@@ -3,8 +3,14 @@
 use Rattle.std.specs.Prelude.{◌≡◌, ℕ, ◌≤◌, Bool, ◌&&◌, List, [], ◌∷◌, length, take, codes, nat_le, Option, option_map, Contains}
 use Rattle.line_text.specs.Words.{IsSpelled, is_spelled}
 use Rattle.operand_forms.specs.Names.{first_of}
+use Rattle.scp_parser.specs.Command.{Request}
+use Rattle.scp_parser.specs.Command as request
+use Rattle.scp_parser.specs.declared.command.Verb.{Verb}
+use Rattle.scp_parser.specs.declared.command.Verb.TheVariants as verb
+use Rattle.scp_parser.specs.declared.names.AloneName.{AloneName}
+use Rattle.scp_parser.specs.declared.names.AloneName.TheVariants.{Cont, Reset, NoExpect, NoSend}
 use Rattle.scp_parser.specs.declared.names.CommandName.{CommandName}
-use Rattle.scp_parser.specs.declared.names.CommandName.TheVariants.{Examine, Deposit, Run, Go, Cont, Reset, NoExpect, NoSend, Step, Break, NoBreak, Expect, Send, Attach, Detach, Load, Save, Dump, Restore, Set, Show, Do, Goto, Assert, Echo, Exit}
+use Rattle.scp_parser.specs.declared.names.CommandName.TheVariants.{Alone, Examine, Deposit, Run, Go, Step, Break, NoBreak, Expect, Send, Attach, Detach, Load, Save, Dump, Restore, Set, Show, Do, Goto, Assert, Echo, Exit}
 
 -- a name of a command, and how many letters an abbreviation of it has at least
 pub record CommandRow : Type 0 where
@@ -22,10 +28,10 @@ command_rows =
     ∷ row (codes "DEPOSIT") 1 Deposit
     ∷ row (codes "RUN") 2 Run
     ∷ row (codes "GO") 1 Go
-    ∷ row (codes "CONT") 1 Cont
-    ∷ row (codes "RESET") 4 Reset
-    ∷ row (codes "NOEXPECT") 3 NoExpect
-    ∷ row (codes "NOSEND") 3 NoSend
+    ∷ row (codes "CONT") 1 (Alone Cont)
+    ∷ row (codes "RESET") 4 (Alone Reset)
+    ∷ row (codes "NOEXPECT") 3 (Alone NoExpect)
+    ∷ row (codes "NOSEND") 3 (Alone NoSend)
     ∷ row (codes "STEP") 1 Step
     ∷ row (codes "BREAK") 1 Break
     ∷ row (codes "NOBREAK") 3 NoBreak
@@ -47,6 +53,13 @@ command_rows =
     ∷ row (codes "QUIT") 1 Exit
     ∷ row (codes "BYE") 2 Exit
     ∷ []
+
+-- what a command that stands alone asks for: nothing follows its name
+abbrev pub alone_request : AloneName → Request
+alone_request Cont = request.Cont
+alone_request Reset = request.Reset
+alone_request NoExpect = request.NoExpect
+alone_request NoSend = request.NoSend
 
 -- the name of a row, or a first part of it that is long enough
 pub record IsRowName (word : List ℕ) (of : CommandRow) : Type 0 where
@@ -76,3 +89,10 @@ command_in rows word = option_map (λ (of : CommandRow). of.command) (first_of (
 -- the command that a word names
 unfoldable pub command_named : List ℕ → Option CommandName
 command_named word = command_in command_rows word
+
+-- what a command that stands alone asks for
+abbrev pub alone_verb : AloneName → Verb
+alone_verb Cont = verb.Cont
+alone_verb Reset = verb.Reset
+alone_verb NoExpect = verb.NoExpect
+alone_verb NoSend = verb.NoSend

@@ -19,10 +19,10 @@ use Rattle.scp_parser.specs.declared.command.Verb.TheVariants as verb
 use Rattle.scp_parser.specs.declared.fault.ParseFault.{ParseFault}
 use Rattle.scp_parser.specs.declared.fault.ParseFault.TheVariants.{Unknown, Missing, BadSymbol, Extra, TooLong}
 use Rattle.scp_parser.specs.declared.names.CommandName.{CommandName}
-use Rattle.scp_parser.specs.declared.names.CommandName.TheVariants.{Examine, Deposit, Run, Go, Cont, Step, Reset, Attach, Detach, Show, Exit}
-use Rattle.scp_parser.specs.declared.names.CommandName.TheVariants.{NoExpect, NoSend, Break, NoBreak, Expect, Send, Load, Save, Dump, Restore, Set, Do, Goto, Assert, Echo}
+use Rattle.scp_parser.specs.declared.names.CommandName.TheVariants.{Alone, Examine, Deposit, Run, Go, Step, Attach, Detach, Show, Exit}
+use Rattle.scp_parser.specs.declared.names.CommandName.TheVariants.{Break, NoBreak, Expect, Send, Load, Save, Dump, Restore, Set, Do, Goto, Assert, Echo}
 use Rattle.scp_parser.specs.Command.{Request, request_of}
-use Rattle.scp_parser.specs.Names.{command_named}
+use Rattle.scp_parser.specs.Names.{command_named, alone_verb}
 use Rattle.operand_forms.specs.Operands.{octal, decimal, items_of, condition_of, device_of}
 use Rattle.scp_parser.specs.Operands.{subject_of, symbolic_of, option_of, target_of, detached_of, as_file_name, flag_of, count_of, point_of, no_break_of, keyed_of, text_at}
 use Rattle.scp_parser.specs.Operands.{addresses_of, set_of, size_of, any_word, test_of}
@@ -258,19 +258,16 @@ detach text = needed false detached_of text >>= (λ u. ended (verb.Detach u.0) u
 
 -- what a command asks for, by what stands behind its name in a line of so many bytes
 unfoldable pub operands : ℕ → CommandName → List ℕ → Result Verb ParseFault
+operands bytes (Alone which) text = ended (alone_verb which) text
 operands bytes Examine text = examine text
 operands bytes Deposit text = deposit text
 operands bytes Run text = numbered (λ n. verb.Run n) (last_number octal text)
 operands bytes Go text = numbered (λ n. verb.Go n) (last_number octal text)
-operands bytes Cont text = ended verb.Cont text
 operands bytes Step text = numbered (λ n. verb.Step n) (last_number decimal text)
-operands bytes Reset text = ended verb.Reset text
 operands bytes Attach text = attach bytes text
 operands bytes Detach text = detach text
 operands bytes Show text = show text
 operands bytes Exit text = numbered (λ n. verb.Exit n) (last_number decimal text)
-operands bytes NoExpect text = ended verb.NoExpect text
-operands bytes NoSend text = ended verb.NoSend text
 operands bytes Break text = break_at bytes text
 operands bytes NoBreak text = no_break text
 operands bytes Expect text = expect bytes text

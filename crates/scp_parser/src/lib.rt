@@ -16,7 +16,7 @@ mod watches;
 
 pub use command::{Command, LONGEST_FILE_NAME, LONGEST_LINE, Piece, Shown, Verb};
 pub use fault::ParseFault;
-pub use names::{CommandName, command_named};
+pub use names::{AloneName, CommandName, command_named};
 pub use operand_forms::{
     Condition, Item, Items, Listing, MOST_ITEMS, Name, Rel, Test, register_name,
 };

@@ -1,20 +1,27 @@
 ghost use Rattle.std.specs.Prelude.{◌≡◌, take, map};
 ghost use Rattle.line_text.specs.Words.{is_spelled};
-ghost use Rattle.scp_parser.specs.Names.{row, abbreviates, command_in, command_named};
+ghost use Rattle.scp_parser.specs.Names.{row, abbreviates, command_in, command_named, alone_verb};
 
+use crate::command::Verb;
 use line_text::is_spelled;
 
-/// The commands. Some have several names.
+/// The commands that stand alone: nothing follows their names.
 #[derive(Clone, Copy, Debug, PartialEq, Eq)]
-pub enum CommandName {
-    Examine,
-    Deposit,
-    Run,
-    Go,
+pub enum AloneName {
     Cont,
     Reset,
     NoExpect,
     NoSend,
+}
+
+/// The commands. Some have several names.
+#[derive(Clone, Copy, Debug, PartialEq, Eq)]
+pub enum CommandName {
+    Alone(AloneName),
+    Examine,
+    Deposit,
+    Run,
+    Go,
     Step,
     Break,
     NoBreak,
@@ -41,10 +48,10 @@ const COMMAND_ROWS: [(&str, usize, CommandName); 28] = [
     ("DEPOSIT", 1, CommandName::Deposit),
     ("RUN", 2, CommandName::Run),
     ("GO", 1, CommandName::Go),
-    ("CONT", 1, CommandName::Cont),
-    ("RESET", 4, CommandName::Reset),
-    ("NOEXPECT", 3, CommandName::NoExpect),
-    ("NOSEND", 3, CommandName::NoSend),
+    ("CONT", 1, CommandName::Alone(AloneName::Cont)),
+    ("RESET", 4, CommandName::Alone(AloneName::Reset)),
+    ("NOEXPECT", 3, CommandName::Alone(AloneName::NoExpect)),
+    ("NOSEND", 3, CommandName::Alone(AloneName::NoSend)),
     ("STEP", 1, CommandName::Step),
     ("BREAK", 1, CommandName::Break),
     ("NOBREAK", 3, CommandName::NoBreak),
@@ -73,6 +80,18 @@ pub fn command_named(word: &[u8]) -> Option<CommandName>
     ensures { result ≡ command_named word.now }
 {
     command_in(&COMMAND_ROWS, word)
+}
+
+// What a command that stands alone asks for.
+pub(crate) fn alone_verb(which: AloneName) -> Verb
+    ensures { result ≡ alone_verb which }
+{
+    match which {
+        AloneName::Cont => Verb::Cont,
+        AloneName::Reset => Verb::Reset,
+        AloneName::NoExpect => Verb::NoExpect,
+        AloneName::NoSend => Verb::NoSend,
+    }
 }
 
 // The command of the first row whose name a word is.

@@ -12,7 +12,7 @@ use crate::attachment::{attach, detach};
 use crate::command::{Command, LONGEST_LINE, Verb};
 use crate::fault::ParseFault;
 use crate::media::{dump, load, restore, save};
-use crate::names::{CommandName, command_named};
+use crate::names::{CommandName, alone_verb, command_named};
 use crate::operands::{
     ended, instruction, last_decimal, last_octal, listing, needed_octal, needed_subject, next_word,
 };
@@ -111,19 +111,16 @@ fn operands(bytes: usize, name: CommandName, text: &[u8]) -> Result<Verb, ParseF
     ensures { result ≡ operands bytes name text.now }
 {
     match name {
+        CommandName::Alone(which) => ended(alone_verb(which), text),
         CommandName::Examine => examine(text),
         CommandName::Deposit => deposit(text),
         CommandName::Run => run(text),
         CommandName::Go => go(text),
-        CommandName::Cont => ended(Verb::Cont, text),
         CommandName::Step => step(text),
-        CommandName::Reset => ended(Verb::Reset, text),
         CommandName::Attach => attach(bytes, text),
         CommandName::Detach => detach(text),
         CommandName::Show => show(text),
         CommandName::Exit => exit(text),
-        CommandName::NoExpect => ended(Verb::NoExpect, text),
-        CommandName::NoSend => ended(Verb::NoSend, text),
         CommandName::Break => break_at(bytes, text),
         CommandName::NoBreak => no_break(text),
         CommandName::Expect => expect(bytes, text),

@@ -1,67 +1,132 @@
-use Rattle.std.proofs.Common.{refl, ap, sym, ◌∙◌, subst}
+use Rattle.std.proofs.Common.{refl, ap, sym, ◌∙◌, subst, ◌≡◌, true, Some, None}
 use Rattle.file_commands.specs.Notes.{notes_said}
-use Rattle.scp_parser.specs.Command.{Examine, Deposit, request_of}
-use Rattle.scp_commands.specs.Live.{CommandState, live_in}
-use Rattle.scp_commands.specs.ListEffects.{examine_reply, deposit_reply}
+use Rattle.scp_parser.specs.Command.{request_of, Request, Attach, Do, Load, Dump, file_name_of}
+use Rattle.scp_commands.specs.Live.{live_in}
 use Rattle.scp_commands.specs.Effect.{effect}
-use Rattle.scp_commands.specs.Parts.{IsPastRuns}
-use Rattle.scp_commands.proofs.ObeyLemmas.{plain-did, keeps-none, does-of-no-file, examine-no-file, deposit-no-file, IsNoRun, past-runs}
+use Rattle.scp_commands.proofs.ObeyLemmas.{noted-did, do-named, load-named, dump-named, IsNoRunOrFile, is-untold}
+use Rattle.scp_commands.specs.ScriptEffects.{do_reply}
+use Rattle.scp_commands.specs.Nature.{Nothing, nature}
+use Rattle.scp_commands.specs.Doing.{says_files, IsTold}
+use Rattle.scp_commands.proofs.RemainLemmas.{undone-as}
+use Rattle.file_commands.specs.declared.note.Subject.TheVariants as subject
+use Rattle.scp_commands.specs.FileEffects.{attach_reply}
+use Rattle.scp_commands.specs.TapeEffects.{load_reply, dump_reply}
+use Rattle.scp_commands.specs.Refusals.{IsMeasured}
 use Rattle.scp_commands.proofs.execute_command.obey.Goals as goal
 
-pub returns-in-Examine-clause-told : goal.returns-in-Examine-clause-told
+pub returns-in-Attach-clause-told : goal.returns-in-Attach-clause-told
 unfolding effect
-returns-in-Examine-clause-told g c = λ told.
+returns-in-Attach-clause-told g c = λ told.
     let s = c.args.session.now in
-    let files = (g.F.Files.state c.args.files.now).files in
-    let live = live_in s files in
-    plain-did s.limit s.command live live c.args.command.now (Examine c.in-Examine.listing) (examine_reply live c.in-Examine.listing) c.examine_list.result g.S.Sink.tells
-    (g.S.Sink.written c.args.out.now) (g.S.Sink.written c.examine_list.new.out) (notes_said s.notes) (notes_said s.notes)
-    (sym c.command.view_is ∙ ap (request_of _) c.in-Examine.is) (λ own. refl) refl (c.examine_list.ensures.told files)
+    let new = c.attach.new.session in
+    let live = live_in s (g.F.Files.state c.args.files.now).files in
+    let text = g.S.Sink.written c.args.out.now in
+    let what = c.in-Attach in
+    let name = c.file_name.result.now in
+    let read = sym c.command.view_is ∙ ap (request_of _) what.is in
+    let is : c.args.command.now ≡ Attach what.option what.unit name = read ∙ ap (Attach what.option what.unit) (sym (c.file_name.ensures.name ∙ ap file_name_of read)) in
+    noted-did s.limit s.command live (live_in new (g.F.Files.state c.attach.new.files).files) c.args.command.now (Attach what.option what.unit name)
+    (λ own. attach_reply own live what.option what.unit name) c.attach.result g.S.Sink.tells text text (notes_said s.notes) (notes_said new.notes) is (λ own. refl)
+    (c.attach.ensures.told g.S.Sink.tells text (subst (λ (r : Request). IsTold g.F.Files.tells s.machine.slots r) is told))
 
-pub returns-in-Examine-clause-keeps : goal.returns-in-Examine-clause-keeps
-returns-in-Examine-clause-keeps g c =
-    let s = c.args.session.now in
-    let state = g.F.Files.state c.args.files.now in
-    let live = live_in s state.files in
-    keeps-none s.command s.machine.time g.F.Files.tells c.examine_list.result s.notes s.notes state refl
-    (does-of-no-file (examine_reply live c.in-Examine.listing) c.examine_list.result _ _ _ _ (c.examine_list.ensures.told state.files) (examine-no-file live c.in-Examine.listing))
+pub returns-in-Attach-clause-undone : goal.returns-in-Attach-clause-undone
+returns-in-Attach-clause-undone g c = λ is.
+    let text = g.S.Sink.written c.args.out.now in
+    let asks = sym c.command.view_is ∙ ap (request_of _) c.in-Attach.is in
+    undone-as (nature c.args.command.now).flushes None (nature c.args.command.now).reads_whole true (says_files g.F.Files.tells c.args.command.now) c.args.session.now c.attach.new.session text text
+    (g.F.Files.state c.args.files.now) (g.F.Files.state c.attach.new.files) (ap (λ (r : Request). (nature r).reads_whole) asks) (λ _. refl) (c.attach.ensures.undone text is)
 
-pub returns-in-Deposit-clause-told : goal.returns-in-Deposit-clause-told
+pub returns-in-Do-clause-told : goal.returns-in-Do-clause-told
 unfolding effect
-returns-in-Deposit-clause-told g c = λ told.
+returns-in-Do-clause-told g c = λ told.
     let s = c.args.session.now in
-    let new = c.deposit_list.new.session in
-    let files = (g.F.Files.state c.args.files.now).files in
-    let live = live_in s files in
+    let new = c.do_script.new.session in
+    let live = live_in s (g.F.Files.state c.args.files.now).files in
     let text = g.S.Sink.written c.args.out.now in
-    let what = c.in-Deposit in
-    plain-did s.limit s.command live (live_in new files) c.args.command.now (Deposit what.listing what.value) (deposit_reply live what.listing what.value) c.deposit_list.result g.S.Sink.tells
-    text text (notes_said s.notes) (notes_said new.notes)
-    (sym c.command.view_is ∙ ap (request_of _) what.is) (λ own. refl) (ap (λ (x : CommandState). notes_said x.notes) c.deposit_list.ensures.rest) (c.deposit_list.ensures.told files g.S.Sink.tells text)
+    let what = c.in-Do in
+    let name = c.file_name-in-Do.result.now in
+    let (arguments, is) = do-named _ c.command.inside.verb what.echo what.strict _ _ c.args.command.now name (sym c.command.view_is) what.is c.file_name-in-Do.ensures.name in
+    noted-did s.limit s.command live (live_in new (g.F.Files.state c.do_script.new.files).files) c.args.command.now (Do what.echo what.strict name arguments)
+    (λ own. do_reply own live what.echo what.strict name) c.do_script.result g.S.Sink.tells text text (notes_said s.notes) (notes_said new.notes) is (λ own. refl)
+    (c.do_script.ensures.told g.S.Sink.tells text (subst (λ (r : Request). IsTold g.F.Files.tells s.machine.slots r) is told))
 
-pub returns-in-Deposit-clause-keeps : goal.returns-in-Deposit-clause-keeps
-returns-in-Deposit-clause-keeps g c =
+pub returns-in-Do-clause-undone : goal.returns-in-Do-clause-undone
+returns-in-Do-clause-undone g c = λ is.
+    let text = g.S.Sink.written c.args.out.now in
+    let asks = sym c.command.view_is ∙ ap (request_of _) c.in-Do.is in
+    let says = ap (says_files g.F.Files.tells) asks in
+    undone-as (nature c.args.command.now).flushes (Some subject.Script) (nature c.args.command.now).reads_whole g.F.Files.tells (says_files g.F.Files.tells c.args.command.now) c.args.session.now c.do_script.new.session text text
+    (g.F.Files.state c.args.files.now) (g.F.Files.state c.do_script.new.files) (ap (λ (r : Request). (nature r).reads_whole) asks) (λ told. sym says ∙ told) (c.do_script.ensures.undone text is)
+
+pub returns-in-Do-clause-measured : goal.returns-in-Do-clause-measured
+returns-in-Do-clause-measured g c =
+    let what = c.in-Do in
+    let name = c.file_name-in-Do.result.now in
+    let (arguments, is) = do-named _ c.command.inside.verb what.echo what.strict _ _ c.args.command.now name (sym c.command.view_is) what.is c.file_name-in-Do.ensures.name in
+    subst (λ (r : Request). IsMeasured g.F.Files.tells r c.do_script.result (g.F.Files.state c.args.files.now) (g.F.Files.state c.do_script.new.files)) (sym is) c.do_script.ensures.whole
+
+pub returns-in-Load-clause-told : goal.returns-in-Load-clause-told
+unfolding effect
+returns-in-Load-clause-told g c = λ told.
     let s = c.args.session.now in
-    let new = c.deposit_list.new.session in
-    let state = g.F.Files.state c.args.files.now in
-    let live = live_in s state.files in
-    let what = c.in-Deposit in
+    let new = c.load_file.new.session in
+    let live = live_in s (g.F.Files.state c.args.files.now).files in
     let text = g.S.Sink.written c.args.out.now in
-    keeps-none s.command new.machine.time g.F.Files.tells c.deposit_list.result s.notes new.notes state (ap (λ (x : CommandState). x.notes) c.deposit_list.ensures.rest)
-    (does-of-no-file (deposit_reply live what.listing what.value) c.deposit_list.result _ _ _ _ (c.deposit_list.ensures.told state.files g.S.Sink.tells text) (deposit-no-file live what.listing what.value))
+    let name = c.file_name-in-Load.result.now in
+    let is = load-named _ c.command.inside.verb _ c.args.command.now name (sym c.command.view_is) c.in-Load.is c.file_name-in-Load.ensures.name in
+    noted-did s.limit s.command live (live_in new (g.F.Files.state c.load_file.new.files).files) c.args.command.now (Load name)
+    (λ own. load_reply own live name) c.load_file.result g.S.Sink.tells text text (notes_said s.notes) (notes_said new.notes) is (λ own. refl)
+    (c.load_file.ensures.told g.S.Sink.tells text (subst (λ (r : Request). IsTold g.F.Files.tells s.machine.slots r) is told))
 
-pub obey_setting-requires : goal.obey_setting-requires
-obey_setting-requires g c =
-    let others : IsNoRun c.command.inside.verb = record {
-      examine = c.in_default.not-Examine;
-      deposit = c.in_default.not-Deposit;
+pub returns-in-Load-clause-undone : goal.returns-in-Load-clause-undone
+returns-in-Load-clause-undone g c = λ is.
+    let text = g.S.Sink.written c.args.out.now in
+    let asks = sym c.command.view_is ∙ ap (request_of _) c.in-Load.is in
+    let says = ap (says_files g.F.Files.tells) asks in
+    undone-as (nature c.args.command.now).flushes (Some subject.Load) (nature c.args.command.now).reads_whole g.F.Files.tells (says_files g.F.Files.tells c.args.command.now) c.args.session.now c.load_file.new.session text text
+    (g.F.Files.state c.args.files.now) (g.F.Files.state c.load_file.new.files) (ap (λ (r : Request). (nature r).reads_whole) asks) (λ told. sym says ∙ told) (c.load_file.ensures.undone text is)
+
+pub returns-in-Load-clause-measured : goal.returns-in-Load-clause-measured
+returns-in-Load-clause-measured g c =
+    let name = c.file_name-in-Load.result.now in
+    let is = load-named _ c.command.inside.verb _ c.args.command.now name (sym c.command.view_is) c.in-Load.is c.file_name-in-Load.ensures.name in
+    subst (λ (r : Request). IsMeasured g.F.Files.tells r c.load_file.result (g.F.Files.state c.args.files.now) (g.F.Files.state c.load_file.new.files)) (sym is) c.load_file.ensures.whole
+
+pub returns-in-Dump-clause-told : goal.returns-in-Dump-clause-told
+unfolding effect
+returns-in-Dump-clause-told g c = λ told.
+    let s = c.args.session.now in
+    let new = c.dump_file.new.session in
+    let live = live_in s (g.F.Files.state c.args.files.now).files in
+    let text = g.S.Sink.written c.args.out.now in
+    let what = c.in-Dump in
+    let name = c.file_name-in-Dump.result.now in
+    let is = dump-named _ c.command.inside.verb what.from what.to _ c.args.command.now name (sym c.command.view_is) what.is c.file_name-in-Dump.ensures.name in
+    noted-did s.limit s.command live (live_in new (g.F.Files.state c.dump_file.new.files).files) c.args.command.now (Dump what.from what.to name)
+    (λ own. dump_reply own live what.from what.to name) c.dump_file.result g.S.Sink.tells text text (notes_said s.notes) (notes_said new.notes) is (λ own. refl)
+    (c.dump_file.ensures.told g.S.Sink.tells text (subst (λ (r : Request). IsTold g.F.Files.tells s.machine.slots r) is told))
+
+pub returns-in-Dump-clause-undone : goal.returns-in-Dump-clause-undone
+returns-in-Dump-clause-undone g c = λ is.
+    let text = g.S.Sink.written c.args.out.now in
+    let asks = sym c.command.view_is ∙ ap (request_of _) c.in-Dump.is in
+    undone-as (nature c.args.command.now).flushes None (nature c.args.command.now).reads_whole true (says_files g.F.Files.tells c.args.command.now) c.args.session.now c.dump_file.new.session text text
+    (g.F.Files.state c.args.files.now) (g.F.Files.state c.dump_file.new.files) (ap (λ (r : Request). (nature r).reads_whole) asks) (λ _. refl) (c.dump_file.ensures.undone text is)
+
+pub obey_untold-requires : goal.obey_untold-requires
+obey_untold-requires g c =
+    let others : IsNoRunOrFile c.command.inside.verb = record {
       run = c.in_default.not-Run;
       go = c.in_default.not-Go;
       cont = c.in_default.not-Cont;
       step = c.in_default.not-Step;
+      attach = c.in_default.not-Attach;
+      do_ = c.in_default.not-Do;
+      load = c.in_default.not-Load;
+      dump = c.in_default.not-Dump;
     } in
     record {
       room = c.requires.room;
       «open» = c.requires.«open»;
-      part = subst IsPastRuns c.command.view_is (past-runs _ c.command.inside.verb others);
+      part = subst (λ (r : Request). (nature r).telling ≡ Nothing) c.command.view_is (is-untold _ c.command.inside.verb others);
     }
