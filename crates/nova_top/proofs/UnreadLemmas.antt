@@ -1,5 +1,5 @@
 -- Why the keys file or the script was not read.
-use Rattle.std.proofs.Common.{◌≡◌, ◌⊎◌, inl, inr, ℕ, ◌<◌, ◌≤◌, Bool, true, false, not, IsTrue, List, [], ◌∷◌, ◌++◌, length, get_or, refl, ap, sym, ◌∙◌, subst, arith, append_assoc, Option, Some, None, IsSome, is_some, String, Global, string_bytes, Result, Ok, Err, if◌then◌else◌}
+use Rattle.std.proofs.Common.{◌≡◌, ◌⊎◌, inl, inr, ℕ, ◌+◌, ◌<◌, ◌≤◌, Bool, true, false, not, IsTrue, List, [], ◌∷◌, ◌++◌, length, get_or, refl, ap, sym, ◌∙◌, subst, arith, append_assoc, Option, Some, None, IsSome, is_some, String, Global, string_bytes, Result, Ok, Err, if◌then◌else◌}
 use Rattle.std.specs.Global.{Vec}
 use Rattle.fault_counts.specs.Faults.{raised}
 use Rattle.host_files.specs.Lists.{NamedBytes, find_file, bytes_of}
@@ -27,7 +27,7 @@ use Rattle.nova_top.specs.declared.word_files.Refusal.TheVariants.{Unopened, Bad
 use Rattle.nova_top.specs.Ends.{AreWordClosings}
 use Rattle.nova_top.specs.Words.{options_of, keys_name, script_name, texts_of}
 use Rattle.nova_top.specs.Program.{noted_call, AddsClosings, denial_of, RefusedCause, DeniedCause}
-use Rattle.nova_top.specs.Unread.{NotRead, WordsNotRead, IsUnopened, NamedFits, AreMeasured, NotedAs, WordCause, AnswersRead, TakesCause, BeginsCause}
+use Rattle.nova_top.specs.Unread.{NotRead, WordsNotRead, IsUnopened, NamedFits, AreMeasured, keys_ids, NotedAs, WordCause, AnswersRead, TakesCause, BeginsCause}
 use Rattle.nova_top.proofs.WordFileLemmas.{name-at}
 use Rattle.nova_top.proofs.ReadingLemmas.{two-kept, noted-as, word-there}
 
@@ -166,13 +166,11 @@ taken-fits tells whose (Some name) value kept kept' old mid new same cause = fit
 from-none : (kept kept' more : List FaultNote) → kept ≡ [] → kept' ≡ kept ++ more → kept' ≡ more
 from-none kept kept' more none added = added ∙ ap (λ (l : List FaultNote). l ++ more) none
 
-named-none : (words : List (List ℕ)) (options : Options) → options.keys ≡ None → keys_name words options ≡ None
-named-none words options none = λ i. keys_name words (record options { keys = none i })
-
 -- the keys were refused
 pub keys-refused : (T : Type 0) (tells : Bool) (words : List (List ℕ)) (options : Options) (refusal : Refusal) (kept kept' : List FaultNote) (old new : FileState) → kept ≡ []
-    → TakesCause {T = T} tells subject.Keys (keys_name words options) (Err refusal) kept kept' old new → BeginsCause tells words options (Err refusal) kept' old new
-keys-refused T tells words options refusal kept kept' old new none cause = by-name refusal (keys_name words options) refl cause
+    → new.given ≤ old.given + keys_ids options.keys → TakesCause {T = T} tells subject.Keys (keys_name words options) (Err refusal) kept kept' old new
+    → BeginsCause tells words options (Err refusal) kept' old new
+keys-refused T tells words options refusal kept kept' old new none most cause = by-name refusal (keys_name words options) refl cause
   where
     by-name : (r : Refusal) (named : Option (List ℕ)) → keys_name words options ≡ named → TakesCause {T = T} tells subject.Keys named (Err r) kept kept' old new
         → BeginsCause tells words options (Err r) kept' old new
@@ -181,13 +179,13 @@ keys-refused T tells words options refusal kept kept' old new none cause = by-na
         inl (name, is, subst (λ (l : List FaultNote). NotRead tells subject.Keys name l old new) (sym (from-none kept kept' more none added)) unread)
     by-name (BadKeys place) (Some name) is cause = tt
     by-name OutOfMemory (Some name) is cause =
-        (λ more. subst (λ (o : Option (List ℕ)). NamedFits tells o old) (sym is) (cause more), λ free more. absurd (let both = sym is ∙ named-none words options free in cc))
+        (λ more. subst (λ (o : Option (List ℕ)). NamedFits tells o old) (sym is) (cause more), λ more. absurd (omega (arith, more, most)))
 
 -- what stands once the keys were taken
 pub record KeysTaken (tells : Bool) (words : List (List ℕ)) (options : Options) (kept kept' : List FaultNote) (old mid : FileState) : Type 0 where
   pub none : kept ≡ []
   pub fits : NamedFits tells (keys_name words options) old
-  pub unopened : options.keys ≡ None → mid.given ≡ old.given
+  pub most : mid.given ≤ old.given + keys_ids options.keys
   pub closings : AllClosings kept'
   pub same : IsTrue tells → mid.files ≡ old.files
   pub rise : old.open_faults ≤ mid.open_faults
@@ -195,11 +193,11 @@ pub record KeysTaken (tells : Bool) (words : List (List ℕ)) (options : Options
 
 pub keys-taken : {T : Type 0} (tells : Bool) (words : List (List ℕ)) (options : Options) (value : T) (kept kept' : List FaultNote) (old mid : FileState) → kept ≡ []
     → TakesCause tells subject.Keys (keys_name words options) (Ok value) kept kept' old mid → AddsClosings kept kept' → (IsTrue tells → mid.files ≡ old.files)
-    → AreKept kept kept' old mid → old.given ≤ mid.given → KeysTaken tells words options kept kept' old mid
-keys-taken {T} tells words options value kept kept' old mid none cause closings same keeps ids = record {
+    → AreKept kept kept' old mid → old.given ≤ mid.given → mid.given ≤ old.given + keys_ids options.keys → KeysTaken tells words options kept kept' old mid
+keys-taken {T} tells words options value kept kept' old mid none cause closings same keeps ids most = record {
   none = none;
   fits = taken-fits tells subject.Keys (keys_name words options) value kept kept' old old mid (λ _. refl) cause;
-  unopened = λ free. subst (λ (o : Option (List ℕ)). TakesCause {T = T} tells subject.Keys o (Ok value) kept kept' old mid) (named-none words options free) cause;
+  most = most;
   closings = subst AllClosings (sym (from-none kept kept' closings.more none closings.added)) (closings-said closings.more closings.are);
   same = same;
   rise = keeps.counted.openings.0;
@@ -225,8 +223,8 @@ script-refused T tells words options refusal kept kept' kept'' old mid new keys 
     by-name (BadKeys place) (Some name) is cause = tt
     by-name OutOfMemory (Some name) is cause = (
       λ more. keys.fits,
-      λ free more. let given = keys.unopened free in
-          subst (λ (o : Option (List ℕ)). NamedFits tells o old) (sym is) (fits-before tells name old mid keys.same (cause (omega (arith, more, given)))),
+      λ more. let most = keys.most in
+          subst (λ (o : Option (List ℕ)). NamedFits tells o old) (sym is) (fits-before tells name old mid keys.same (cause (omega (arith, more, most)))),
     )
 
 -- both were taken
@@ -280,7 +278,7 @@ session-measured tells words options machine old new chosen fit = record {
   options = options;
   words_are = chosen;
   keys = λ more. fit.0;
-  script = λ free more. fit.1;
+  script = λ more. fit.1;
   session = λ there. fit;
 }
 

@@ -47,8 +47,8 @@ pub struct Whole {
 
 /// Reads the file of a name, and closes it again, whatever comes of it. `NoFile` comes where there is no such file,
 /// `Failed` where a call on it failed, `TooLong` where it is longer than `LONGEST_FILE`, and `OutOfMemory` where there
-/// is no memory for its opening or its bytes. Its length is asked before memory is taken for these. No file changes, and
-/// at most this one is opened.
+/// is no memory for its opening or its bytes. Its length is asked before memory is taken for these. No file changes,
+/// and at most this one is opened.
 #[tactic(auto, unfolding(crate::specs::Whole::whole_act))]
 pub fn read_file<F: Files>(alloc: Global, name: &str, files: &mut F) -> Whole
     ensures said { IsTrue F.tells → IfSome (said_of result) (λ said.
