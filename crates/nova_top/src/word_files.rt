@@ -143,6 +143,8 @@ fn take_keys<F: Files>(
     ensures unread { TakesCause F.tells subject.Keys (keys_name (texts_of words.now) options) result notes.old.items
         notes.new.items (F.state files.old) (F.state files.new) }
     ensures ids { (F.state files.new).given ≤ (F.state files.old).given + keys_ids options.keys }
+    ensures taken { IfOk result (λ keys.
+        (F.state files.new).given ≡ (F.state files.old).given + keys_ids options.keys) }
 {
     match options.keys {
         Some(place) => {
@@ -205,6 +207,7 @@ fn read_word<F: Files>(
     ensures unread { WordCause F.tells whose (string_bytes name.now) result notes.old.items notes.new.items
         (F.state files.old) (F.state files.new) }
     ensures one { (F.state files.new).given ≤ (F.state files.old).given + 1 }
+    ensures taken { IfOk result (λ bytes. (F.state files.old).given < (F.state files.new).given) }
 {
     let whole = read_file(alloc, name.as_str(), files);
     note_call(whose, notes, whole.failed);

@@ -67,6 +67,7 @@ pub fn read_file<F: Files>(alloc: Global, name: &str, files: &mut F) -> Whole
     ensures closing { IsNew result.closing (F.state files.old) (F.state files.new) }
     ensures ids { (F.state files.old).given ≤ (F.state files.new).given }
     ensures one { (F.state files.new).given ≤ (F.state files.old).given + 1 }
+    ensures taken { IfOk result.bytes (λ v. (F.state files.old).given < (F.state files.new).given) }
     ensures cause { WholeCause F.tells name.now result.bytes (F.state files.old) (F.state files.new) }
 {
     match files.open_file(alloc, name, OpenMode::Read) {
