@@ -34,10 +34,10 @@ after_opening files name Read = files
 after_opening files name Update = files
 after_opening files name Create = with_file files name []
 
--- an opening that succeeded: its id is open now, and was never given before
+-- an opening that succeeded: its id is open now, and is the next one: each opening that succeeds gives one id
 pub record HasOpened (tells : Bool) (old new : FileState) (name : List ℕ) (mode : OpenMode) (file : ℕ) : Type 0 where
   pub opened : new.opened ≡ record { file = file; name = name; mode = mode } ∷ old.opened
-  pub rising : old.given ≤ file
+  pub next : file ≡ old.given
   pub given : new.given ≡ file + 1
   pub fresh : opened_at old.opened file ≡ None
   pub files : IsTrue tells → new.files ≡ after_opening old.files name mode

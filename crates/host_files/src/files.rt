@@ -8,7 +8,7 @@ ghost use Rattle.host_files.specs.Streams.{LeavesFree};
 use crate::streams::Failed;
 use std::alloc::Global;
 
-/// An open file. Ids are given in rising order, and never again.
+/// An open file. Ids are given from 0 on, one to each opening that succeeds, and never again.
 #[derive(Clone, Copy, Debug, PartialEq, Eq)]
 pub struct FileId(pub u32);
 

@@ -1,5 +1,5 @@
 -- Why the keys file or the script was not read.
-use Rattle.std.proofs.Common.{◌≡◌, ◌⊎◌, inl, inr, ℕ, ◌<◌, ◌≤◌, Bool, true, false, not, IsTrue, List, [], ◌∷◌, ◌++◌, length, get_or, refl, ap, sym, ◌∙◌, subst, arith, append_assoc, Option, Some, None, IsSome, is_some, String, Global, string_bytes, Result, Ok, Err, if◌then◌else◌}
+use Rattle.std.proofs.Common.{◌≡◌, ◌⊎◌, inl, inr, ℕ, ◌+◌, ◌<◌, ◌≤◌, Bool, true, false, IsTrue, List, [], ◌∷◌, ◌++◌, length, get_or, refl, ap, sym, ◌∙◌, subst, arith, append_assoc, Option, Some, None, IsSome, is_some, String, Global, string_bytes, Result, Ok, Err, IfOk, if◌then◌else◌}
 use Rattle.std.specs.Global.{Vec}
 use Rattle.fault_counts.specs.Faults.{raised}
 use Rattle.host_files.specs.Lists.{NamedBytes, find_file, bytes_of}
@@ -27,7 +27,7 @@ use Rattle.nova_top.specs.declared.word_files.Refusal.TheVariants.{Unopened, Bad
 use Rattle.nova_top.specs.Ends.{AreWordClosings}
 use Rattle.nova_top.specs.Words.{options_of, keys_name, script_name, texts_of}
 use Rattle.nova_top.specs.Program.{noted_call, AddsClosings, denial_of, RefusedCause, DeniedCause}
-use Rattle.nova_top.specs.Unread.{NotRead, WordsNotRead, IsUnopened, NamedFits, AreMeasured, NotedAs, WordCause, AnswersRead, TakesCause, BeginsCause}
+use Rattle.nova_top.specs.Unread.{NotRead, WordsNotRead, IsUnopened, NamedFits, AreMeasured, keys_ids, behind_ids, NotedAs, WordCause, AnswersRead, TakesCause, BeginsCause}
 use Rattle.nova_top.proofs.WordFileLemmas.{name-at}
 use Rattle.nova_top.proofs.ReadingLemmas.{two-kept, noted-as, word-there}
 
@@ -106,6 +106,21 @@ script-cause tells words options place word bytes result kept kept' old new some
     subst (λ (o : Option (List ℕ)). TakesCause tells subject.Script o result kept kept' old new) (sym name)
     (word-taken tells subject.Script (string_bytes word) bytes result kept kept' old new w answers)
 
+-- the keys file that was read took one id
+pub keys-given : {T : Type 0} (bytes : Result (Vec ℕ) WholeFault) (result : Result T Refusal) (keys : Option ℕ) (place : ℕ) (old new : FileState) → keys ≡ Some place
+    → AnswersRead bytes result → IfOk bytes (λ v. old.given < new.given) → new.given ≤ old.given + 1 → IfOk result (λ value. new.given ≡ old.given + keys_ids keys)
+keys-given (Ok v) (Ok value) keys place old new some answers taken one = let at = ap keys_ids some in omega (arith, at, taken, one)
+keys-given (Ok v) (Err refusal) keys place old new some answers taken one = tt
+keys-given (Err whole.NoFile) (Ok value) keys place old new some answers taken one = absurd answers
+keys-given (Err whole.TooLong) (Ok value) keys place old new some answers taken one = absurd answers
+keys-given (Err whole.Failed) (Ok value) keys place old new some answers taken one = absurd answers
+keys-given (Err whole.OutOfMemory) (Ok value) keys place old new some answers taken one = absurd answers
+keys-given (Err why) (Err refusal) keys place old new some answers taken one = tt
+
+-- without one none was given
+pub none-given : (keys : Option ℕ) (s : FileState) → keys ≡ None → s.given ≡ s.given + keys_ids keys
+none-given keys s none = let at = ap keys_ids none in omega (arith, at)
+
 -- without a name nothing was opened
 pub none-taken : {T : Type 0} (tells : Bool) (whose : Subject) (name : Option (List ℕ)) (value : T) (kept : List FaultNote) (state : FileState)
     → name ≡ None → TakesCause tells whose name (Ok value) kept kept state state
@@ -125,10 +140,10 @@ closings-said : (notes : List FaultNote) → AreWordClosings (notes_said notes) 
 closings-said [] are = tt
 closings-said (n ∷ notes) are = (are.0.2, closings-said notes are.1)
 
-not-read-behind : (tells : Bool) (whose : Subject) (name : List ℕ) (first more : List FaultNote) (old mid new : FileState)
-    → AllClosings first → (IsTrue tells → mid.files ≡ old.files) → old.open_faults ≤ mid.open_faults → old.given ≤ mid.given
-    → NotRead tells whose name more mid new → NotRead tells whose name (first ++ more) old new
-not-read-behind tells whose name first more old mid new shut same rise ids (inl h) =
+not-read-behind : (tells : Bool) (whose : Subject) (name : List ℕ) (first more : List FaultNote) (ids : ℕ) (old mid new : FileState)
+    → AllClosings first → (IsTrue tells → mid.files ≡ old.files) → old.open_faults ≤ mid.open_faults → mid.given ≡ old.given + ids
+    → NotRead tells whose name more mid new → NotRead tells whose name (first ++ more) (behind_ids ids old) new
+not-read-behind tells whose name first more ids old mid new shut same rise given (inl h) =
     inl (
       closings-append first more shut h.0,
       (
@@ -136,7 +151,7 @@ not-read-behind tells whose name first more old mid new shut same rise ids (inl 
         λ untold. let rose = h.1.1 untold in omega (arith, rose, rise),
       ),
     )
-not-read-behind tells whose name first more old mid new shut same rise ids (inr (inl h)) =
+not-read-behind tells whose name first more ids old mid new shut same rise given (inr (inl h)) =
     inr (inl (record {
       before = first ++ h.before;
       own = h.own;
@@ -146,11 +161,11 @@ not-read-behind tells whose name first more old mid new shut same rise ids (inr 
       earlier = closings-append first h.before shut h.earlier;
       later = h.later;
     }))
-not-read-behind tells whose name first more old mid new shut same rise ids (inr (inr h)) =
+not-read-behind tells whose name first more ids old mid new shut same rise given (inr (inr h)) =
     inr (inr (
       closings-append first more shut h.0,
       (
-        let less = h.1.0 in omega (arith, less, ids),
+        let less = h.1.0 in omega (arith, less, given),
         λ told. subst (λ (f : List NamedBytes). longest_file < length (bytes_of f name)) (same told) (h.1.1 told),
       ),
     ))
@@ -166,13 +181,11 @@ taken-fits tells whose (Some name) value kept kept' old mid new same cause = fit
 from-none : (kept kept' more : List FaultNote) → kept ≡ [] → kept' ≡ kept ++ more → kept' ≡ more
 from-none kept kept' more none added = added ∙ ap (λ (l : List FaultNote). l ++ more) none
 
-named-none : (words : List (List ℕ)) (options : Options) → options.keys ≡ None → keys_name words options ≡ None
-named-none words options none = λ i. keys_name words (record options { keys = none i })
-
 -- the keys were refused
 pub keys-refused : (T : Type 0) (tells : Bool) (words : List (List ℕ)) (options : Options) (refusal : Refusal) (kept kept' : List FaultNote) (old new : FileState) → kept ≡ []
-    → TakesCause {T = T} tells subject.Keys (keys_name words options) (Err refusal) kept kept' old new → BeginsCause tells words options (Err refusal) kept' old new
-keys-refused T tells words options refusal kept kept' old new none cause = by-name refusal (keys_name words options) refl cause
+    → new.given ≤ old.given + keys_ids options.keys → TakesCause {T = T} tells subject.Keys (keys_name words options) (Err refusal) kept kept' old new
+    → BeginsCause tells words options (Err refusal) kept' old new
+keys-refused T tells words options refusal kept kept' old new none most cause = by-name refusal (keys_name words options) refl cause
   where
     by-name : (r : Refusal) (named : Option (List ℕ)) → keys_name words options ≡ named → TakesCause {T = T} tells subject.Keys named (Err r) kept kept' old new
         → BeginsCause tells words options (Err r) kept' old new
@@ -181,29 +194,27 @@ keys-refused T tells words options refusal kept kept' old new none cause = by-na
         inl (name, is, subst (λ (l : List FaultNote). NotRead tells subject.Keys name l old new) (sym (from-none kept kept' more none added)) unread)
     by-name (BadKeys place) (Some name) is cause = tt
     by-name OutOfMemory (Some name) is cause =
-        (λ more. subst (λ (o : Option (List ℕ)). NamedFits tells o old) (sym is) (cause more), λ free more. absurd (let both = sym is ∙ named-none words options free in cc))
+        (λ more. subst (λ (o : Option (List ℕ)). NamedFits tells o old) (sym is) (cause more), λ more. absurd (omega (arith, more, most)))
 
 -- what stands once the keys were taken
 pub record KeysTaken (tells : Bool) (words : List (List ℕ)) (options : Options) (kept kept' : List FaultNote) (old mid : FileState) : Type 0 where
   pub none : kept ≡ []
   pub fits : NamedFits tells (keys_name words options) old
-  pub unopened : options.keys ≡ None → mid.given ≡ old.given
+  pub given : mid.given ≡ old.given + keys_ids options.keys
   pub closings : AllClosings kept'
   pub same : IsTrue tells → mid.files ≡ old.files
   pub rise : old.open_faults ≤ mid.open_faults
-  pub ids : old.given ≤ mid.given
 
 pub keys-taken : {T : Type 0} (tells : Bool) (words : List (List ℕ)) (options : Options) (value : T) (kept kept' : List FaultNote) (old mid : FileState) → kept ≡ []
     → TakesCause tells subject.Keys (keys_name words options) (Ok value) kept kept' old mid → AddsClosings kept kept' → (IsTrue tells → mid.files ≡ old.files)
-    → AreKept kept kept' old mid → old.given ≤ mid.given → KeysTaken tells words options kept kept' old mid
-keys-taken {T} tells words options value kept kept' old mid none cause closings same keeps ids = record {
+    → AreKept kept kept' old mid → mid.given ≡ old.given + keys_ids options.keys → KeysTaken tells words options kept kept' old mid
+keys-taken {T} tells words options value kept kept' old mid none cause closings same keeps given = record {
   none = none;
   fits = taken-fits tells subject.Keys (keys_name words options) value kept kept' old old mid (λ _. refl) cause;
-  unopened = λ free. subst (λ (o : Option (List ℕ)). TakesCause {T = T} tells subject.Keys o (Ok value) kept kept' old mid) (named-none words options free) cause;
+  given = given;
   closings = subst AllClosings (sym (from-none kept kept' closings.more none closings.added)) (closings-said closings.more closings.are);
   same = same;
   rise = keeps.counted.openings.0;
-  ids = ids;
 }
 
 -- the script was refused behind them
@@ -219,13 +230,13 @@ script-refused T tells words options refusal kept kept' kept'' old mid new keys 
         inr (
           name,
           is,
-          subst (λ (l : List FaultNote). NotRead tells subject.Script name l old new) (sym added)
-              (not-read-behind tells subject.Script name kept' more old mid new keys.closings keys.same keys.rise keys.ids unread),
+          subst (λ (l : List FaultNote). NotRead tells subject.Script name l (behind_ids (keys_ids options.keys) old) new) (sym added)
+              (not-read-behind tells subject.Script name kept' more (keys_ids options.keys) old mid new keys.closings keys.same keys.rise keys.given unread),
         )
     by-name (BadKeys place) (Some name) is cause = tt
     by-name OutOfMemory (Some name) is cause = (
       λ more. keys.fits,
-      λ free more. let given = keys.unopened free in
+      λ more. let given = keys.given in
           subst (λ (o : Option (List ℕ)). NamedFits tells o old) (sym is) (fits-before tells name old mid keys.same (cause (omega (arith, more, given)))),
     )
 
@@ -280,7 +291,7 @@ session-measured tells words options machine old new chosen fit = record {
   options = options;
   words_are = chosen;
   keys = λ more. fit.0;
-  script = λ free more. fit.1;
+  script = λ more. fit.1;
   session = λ there. fit;
 }
 

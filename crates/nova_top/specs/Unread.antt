@@ -1,5 +1,5 @@
 -- Why the keys file or the script was not read, also where files tell nothing.
-use Rattle.std.specs.Prelude.{◌≡◌, ◌⊎◌, ◌<◌, ℕ, Bool, List, ◌++◌, Option, Some, None, IfSome, IsSome, Result, Ok, Err}
+use Rattle.std.specs.Prelude.{◌≡◌, ◌⊎◌, ◌+◌, ◌<◌, ℕ, Bool, List, ◌++◌, Option, Some, None, IfSome, IsSome, Result, Ok, Err}
 use Rattle.std.specs.Global.{Vec}
 use Rattle.host_files.specs.State.{FileState}
 use Rattle.file_commands.specs.declared.note.FaultNote.{FaultNote}
@@ -28,11 +28,20 @@ NotRead tells whose name notes old new =
 abbrev pub NamedNotRead : Bool → Subject → Option (List ℕ) → List FaultNote → FileState → FileState → Type 0
 NamedNotRead tells whose named notes old new = (name : List ℕ) × (named ≡ Some name) × NotRead tells whose name notes old new
 
--- the keys file or the script was not read
+-- how many ids an opening of the keys file gives, which comes before that of the script: none where none is named
+abbrev pub keys_ids : Option ℕ → ℕ
+keys_ids None = 0
+keys_ids (Some place) = 1
+
+-- a state once so many more ids were given
+abbrev pub behind_ids : ℕ → FileState → FileState
+behind_ids ids s = record s { given = s.given + ids }
+
+-- the keys file was not read, or the script, behind the id that the keys file took
 abbrev pub WordsNotRead : Bool → List (List ℕ) → Options → List FaultNote → FileState → FileState → Type 0
 WordsNotRead tells words options notes old new =
     NamedNotRead tells subject.Keys (keys_name words options) notes old new
-    ⊎ NamedNotRead tells subject.Script (script_name words options) notes old new
+    ⊎ NamedNotRead tells subject.Script (script_name words options) notes (behind_ids (keys_ids options.keys) old) new
 
 -- status 101 comes only where that is so
 pub record IsUnopened (tells : Bool) (words : List (List ℕ)) (notes : List FaultNote) (old new : FileState) : Type 0 where
@@ -44,14 +53,14 @@ pub record IsUnopened (tells : Bool) (words : List (List ℕ)) (notes : List Fau
 abbrev pub NamedFits : Bool → Option (List ℕ) → FileState → Type 0
 NamedFits tells named s = IfSome named (λ name. Fits tells name s)
 
--- Status 103 comes in place of 101 for no file that was opened and is too long. Where an id was given, the first file that
--- the words name was opened, and it is not too long: the keys file, or without one the script. Where there is a machine,
--- neither of them is.
+-- Status 103 comes in place of 101 for no file that was opened and is too long. Each opening gives one id: where one was
+-- given, the keys file is not too long; and where more were given than that of the keys file, the script was opened, and is
+-- not too long. Where there is a machine, neither of them is.
 pub record AreMeasured (tells : Bool) (words : List (List ℕ)) (machine : Option MachineState) (old new : FileState) : Type 0 where
   pub options : Options
   pub words_are : options_of words ≡ Some options
   pub keys : old.given < new.given → NamedFits tells (keys_name words options) old
-  pub script : options.keys ≡ None → old.given < new.given → NamedFits tells (script_name words options) old
+  pub script : old.given + keys_ids options.keys < new.given → NamedFits tells (script_name words options) old
   pub session : IsSome machine → NamedFits tells (keys_name words options) old × NamedFits tells (script_name words options) old
 
 -- ---- the parts
@@ -93,4 +102,4 @@ BeginsCause tells words options (Err (Unopened place)) notes old new = WordsNotR
 BeginsCause tells words options (Err (BadKeys place)) notes old new = Unit {0}
 BeginsCause tells words options (Err OutOfMemory) notes old new =
     (old.given < new.given → NamedFits tells (keys_name words options) old)
-    × (options.keys ≡ None → old.given < new.given → NamedFits tells (script_name words options) old)
+    × (old.given + keys_ids options.keys < new.given → NamedFits tells (script_name words options) old)

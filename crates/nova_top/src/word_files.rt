@@ -13,7 +13,7 @@ ghost use Rattle.nova_top.specs.Outside.{keys_from, taken_keys, script_from, tak
 ghost use Rattle.nova_top.specs.Program.{noted_call, ReadsFile, ComesOf, Takes, RefusalCause, as_file, BeginsAs};
 ghost use Rattle.nova_top.specs.Program.{OpensAs, AddsClosings, IsUnrefused};
 ghost use Rattle.nova_top.specs.Ends.{AreWordClosings};
-ghost use Rattle.nova_top.specs.Unread.{WordCause, AnswersRead, TakesCause, BeginsCause};
+ghost use Rattle.nova_top.specs.Unread.{WordCause, AnswersRead, TakesCause, BeginsCause, keys_ids};
 ghost use Rattle.nova_top.specs.declared.word_files.Refusal.TheVariants.{OutOfMemory};
 ghost use Rattle.whole_files.specs.declared.whole.WholeFault.TheVariants as whole_faults;
 ghost use Rattle.nova_top.specs.Workload.{first_text};
@@ -142,6 +142,9 @@ fn take_keys<F: Files>(
     ensures closings { IsUnrefused result → AddsClosings notes.old.items notes.new.items }
     ensures unread { TakesCause F.tells subject.Keys (keys_name (texts_of words.now) options) result notes.old.items
         notes.new.items (F.state files.old) (F.state files.new) }
+    ensures ids { (F.state files.new).given ≤ (F.state files.old).given + keys_ids options.keys }
+    ensures taken { IfOk result (λ keys.
+        (F.state files.new).given ≡ (F.state files.old).given + keys_ids options.keys) }
 {
     match options.keys {
         Some(place) => {
@@ -203,6 +206,8 @@ fn read_word<F: Files>(
     ensures closings { result ≢ Err whole_faults.Failed → AddsClosings notes.old.items notes.new.items }
     ensures unread { WordCause F.tells whose (string_bytes name.now) result notes.old.items notes.new.items
         (F.state files.old) (F.state files.new) }
+    ensures one { (F.state files.new).given ≤ (F.state files.old).given + 1 }
+    ensures taken { IfOk result (λ bytes. (F.state files.old).given < (F.state files.new).given) }
 {
     let whole = read_file(alloc, name.as_str(), files);
     note_call(whose, notes, whole.failed);

@@ -1,11 +1,13 @@
 -- What is open and what is attached, once a file was attached or detached.
 use Rattle.std.proofs.Common.{inl, inr, ◌⊎◌, ◌≡◌, ◌≢◌, ℕ, zero, suc, ◌<◌, List, [], ◌∷◌, Option, Some, None, length}
-use Rattle.std.proofs.Common.{get_or, set, replicate, refl, ap, sym, ◌∙◌, subst, arith}
+use Rattle.std.proofs.Common.{get_or, set, map, replicate, refl, ap, sym, ◌∙◌, subst, arith}
 use Rattle.host_files.specs.State.{FileState, Opened, opened_at, without}
 use Rattle.unit_trait.specs.declared.kind.UnitName.{UnitName}
 use Rattle.unit_files.specs.Attachments.{Held, file_place, held_at, with_held}
 use Rattle.unit_files.specs.Causes.{IsNewId, OnlyKept, AreFrom}
-use Rattle.unit_files.specs.Open.{is_reading, AllOpen, IsHeldOpen, Around, without_held}
+use Rattle.unit_files.specs.Open.{is_reading, AllOpen, HaveOwnNumbers, IsFree, IsHeldOpen, Around, without_held}
+use Rattle.unit_files.specs.View.{slot_of, held_of}
+use Rattle.unit_files.specs.declared.slots.UnitFile.{UnitFile}
 use Rattle.unit_files.proofs.Entries.{other-kept, closed-both}
 use Rattle.host_files.proofs.Tables.{front-found, front-out, front-passed, front-kept}
 
@@ -31,11 +33,8 @@ some-none o x is none = absurd (cc)
 held-is : (g h : Held) → Some h ≡ Some g → h ≡ g
 held-is g h is = cc
 
--- no attached file has this number
-abbrev IsFree : List (Option Held) → ℕ → Type 0
-IsFree slots file = (place : ℕ) (g : Held) → get_or slots place None ≡ Some g → file ≢ g.file
-
-free : (slots : List (Option Held)) (opened : List Opened) (file : ℕ) → AllOpen slots opened → opened_at opened file
+-- a number that is not open is none of an attached file
+pub free : (slots : List (Option Held)) (opened : List Opened) (file : ℕ) → AllOpen slots opened → opened_at opened file
     ≡ None → IsFree slots file
 free slots opened file all fresh place g there same =
     let at = all.there place g there in
@@ -69,23 +68,33 @@ module _ (slots : List (Option Held)) (opened : List Opened) (p : ℕ) (h : Held
     | inr there ↦ still-open q g there.1
   ]
 
-  apart-after : (one other : ℕ) (f g : Held) → get_or (set slots p (Some h)) one None ≡ Some f
-      → get_or (set slots p (Some h)) other None ≡ Some g → f.file ≡ g.file → one ≡ other
-  apart-after one other f g is_f is_g same = elim (found-after slots p one (Some h) f is_f) [
-    | inl here ↦ elim (found-after slots p other (Some h) g is_g) [
-      | inl too ↦ here.0 ∙ sym too.0
-      | inr there ↦ absurd (free slots opened h.file all fresh other g there.1 (ap (λ (x : Held). x.file) (held-is f h
-          here.1) ∙ same))
-    ]
-    | inr there ↦ elim (found-after slots p other (Some h) g is_g) [
-      | inl here ↦ absurd (free slots opened h.file all fresh one f there.1 (ap (λ (x : Held). x.file) (held-is g h
-          here.1) ∙ sym same))
-      | inr too ↦ all.apart one other f g there.1 too.1 same
-    ]
-  ]
-
   pub open-attached : AllOpen (set slots p (Some h)) (entry ∷ opened)
-  open-attached = record { there = open-after; apart = apart-after }
+  open-attached = record { there = open-after }
+
+-- its number is that of no other unit
+pub own-attached : (slots : List (Option Held)) (p : ℕ) (h : Held) → HaveOwnNumbers slots → IsFree slots h.file
+    → HaveOwnNumbers (set slots p (Some h))
+own-attached slots p h own other = record {
+  apart = λ one two f g is_f is_g same. elim (found-after slots p one (Some h) f is_f) [
+    | inl here ↦ elim (found-after slots p two (Some h) g is_g) [
+      | inl too ↦ here.0 ∙ sym too.0
+      | inr there ↦ absurd (other two g there.1 (ap (λ (x : Held). x.file) (held-is f h here.1) ∙ same))
+    ]
+    | inr there ↦ elim (found-after slots p two (Some h) g is_g) [
+      | inl here ↦ absurd (other one f there.1 (ap (λ (x : Held). x.file) (held-is g h here.1) ∙ sym same))
+      | inr too ↦ own.apart one two f g there.1 too.1 same
+    ]
+  ];
+}
+
+-- the same of what is held of them
+pub own-put : (items : List (Option UnitFile)) (slots after : List (Option Held)) (unit : UnitName) (f : UnitFile)
+    → after ≡ set (map slot_of items) (file_place unit) (Some (held_of f)) → map slot_of items ≡ slots
+    → HaveOwnNumbers (map slot_of items) → IsFree slots f.file.0 → HaveOwnNumbers after
+own-put items slots after unit f is view own other =
+    subst HaveOwnNumbers (sym is)
+    (own-attached (map slot_of items) (file_place unit) (held_of f) own
+    (subst (λ (s : List (Option Held)). IsFree s f.file.0) (sym view) other))
 
 -- what is open beside the attached files, once one more is open
 rest-front : (slots : List (Option Held)) (entry : Opened) (opened : List Opened) → IsFree slots entry.file
@@ -142,25 +151,29 @@ around-attached slots base opened p h entry number was within fresh all around =
 -- ---- a file is detached
 
 pub open-detached : (slots : List (Option Held)) (opened : List Opened) (p : ℕ) (h : Held) → get_or slots p None
-    ≡ Some h → AllOpen slots opened
+    ≡ Some h → HaveOwnNumbers slots → AllOpen slots opened
     → AllOpen (set slots p None) (without opened h.file)
-open-detached slots opened p h was all = record {
+open-detached slots opened p h was own all = record {
   there = λ q g is. elim (found-after slots p q None g is) [
     | inl here ↦ absurd (none-some g here.1)
     | inr there ↦
         let at = all.there q g there.1 in
         record {
           entry = at.entry;
-          there = other-kept opened h.file g.file (λ same. there.0 (all.apart q p g h there.1 was same)) ∙ at.there;
+          there = other-kept opened h.file g.file (λ same. there.0 (own.apart q p g h there.1 was same)) ∙ at.there;
           name = at.name;
           mode = at.mode;
         }
   ];
+}
+
+pub own-detached : (slots : List (Option Held)) (p : ℕ) → HaveOwnNumbers slots → HaveOwnNumbers (set slots p None)
+own-detached slots p own = record {
   apart = λ one other f g is_f is_g same. elim (found-after slots p one None f is_f) [
     | inl here ↦ absurd (none-some f here.1)
     | inr there ↦ elim (found-after slots p other None g is_g) [
       | inl here ↦ absurd (none-some g here.1)
-      | inr too ↦ all.apart one other f g there.1 too.1 same
+      | inr too ↦ own.apart one other f g there.1 too.1 same
     ]
   ];
 }
@@ -196,10 +209,10 @@ empty (suc n) zero = refl
 empty (suc n) (suc place) = empty n place
 
 pub open-none : (n : ℕ) (opened : List Opened) → AllOpen (replicate n None) opened
-open-none n opened = record {
-  there = λ place h is. absurd (none-some h (sym (empty n place) ∙ is));
-  apart = λ one other g h is_g is_h same. absurd (none-some g (sym (empty n one) ∙ is_g));
-}
+open-none n opened = record { there = λ place h is. absurd (none-some h (sym (empty n place) ∙ is)) }
+
+pub own-none : (n : ℕ) → HaveOwnNumbers (replicate n None)
+own-none n = record { apart = λ one other g h is_g is_h same. absurd (none-some g (sym (empty n one) ∙ is_g)) }
 
 rest-none : (n : ℕ) (opened : List Opened) → without_held (replicate n None) opened ≡ opened
 rest-none zero opened = refl

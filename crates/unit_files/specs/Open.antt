@@ -1,5 +1,5 @@
--- The files of units are open, each with its own number.
-use Rattle.std.specs.Prelude.{◌≡◌, ℕ, Bool, true, false, List, [], ◌∷◌, Option, Some, None, get_or}
+-- The files of units are open, and each has a number of its own.
+use Rattle.std.specs.Prelude.{◌≡◌, ◌≢◌, ℕ, Bool, true, false, List, [], ◌∷◌, Option, Some, None, get_or}
 use Rattle.host_files.specs.declared.files.OpenMode.{OpenMode}
 use Rattle.host_files.specs.declared.files.OpenMode.TheVariants.{Read}
 use Rattle.host_files.specs.State.{Opened, opened_at, without}
@@ -16,11 +16,18 @@ pub record IsHeldOpen (h : Held) (opened : List Opened) : Type 0 where
   pub name : entry.name ≡ h.attachment.name
   pub mode : is_reading entry.mode ≡ h.attachment.read_only
 
--- each attached file is open, and no two units hold one number
+-- each attached file is open
 pub record AllOpen (slots : List (Option Held)) (opened : List Opened) : Type 0 where
   pub there : (place : ℕ) (h : Held) → get_or slots place None ≡ Some h → IsHeldOpen h opened
+
+-- no two units hold one number
+pub record HaveOwnNumbers (slots : List (Option Held)) : Type 0 where
   pub apart : (one other : ℕ) (g h : Held) → get_or slots one None ≡ Some g → get_or slots other None ≡ Some h
       → g.file ≡ h.file → one ≡ other
+
+-- no unit holds this number
+abbrev pub IsFree : List (Option Held) → ℕ → Type 0
+IsFree slots file = (place : ℕ) (h : Held) → get_or slots place None ≡ Some h → file ≢ h.file
 
 -- the files that are open beside the attached ones
 abbrev pub without_held : List (Option Held) → List Opened → List Opened

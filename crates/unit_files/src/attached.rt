@@ -10,7 +10,7 @@ ghost use Rattle.unit_files.specs.Acts.{attach_said, attach_files, attached_by, 
 ghost use Rattle.unit_files.specs.Acts.{detach_said, detached_by, buffer_left, flush_said, flush_files, buffer_flushed};
 ghost use Rattle.unit_files.specs.Answers.{said_of_attach, failure_of_attach, first_refusal, IfNoMemory};
 ghost use Rattle.unit_files.specs.Answers.{said_of_detach, failure_of_detach, said_of_flush, failure_of_flush};
-ghost use Rattle.unit_files.specs.Open.{AllOpen, Around};
+ghost use Rattle.unit_files.specs.Open.{AllOpen, Around, HaveOwnNumbers, IsFree};
 ghost use Rattle.unit_files.specs.Causes.{OnlyNewCounts, AttachCause, DetachCause, FlushCause, OnlyKept, AreFrom};
 ghost use Rattle.unit_files.specs.Shapes.{CloseCause, WriteCause, IsPart};
 ghost use Rattle.unit_files.specs.Acts.{detached, is_due_back, written_back};
@@ -39,6 +39,7 @@ impl Model for Attached {
     ghost use Rattle.std.specs.Prelude.{◌≡◌, map, length, IsTrue};
     ghost use Rattle.unit_files.specs.Attachments.{file_units, writers_write};
     ghost use Rattle.unit_files.specs.Buffer.{AttachedFiles};
+    ghost use Rattle.unit_files.specs.Open.{HaveOwnNumbers};
     ghost use Rattle.unit_files.specs.View.{slot_of, buffer_of, CanWrite};
 
     ghost Value = { AttachedFiles };
@@ -46,7 +47,7 @@ impl Model for Attached {
     ghost view = { λ a. record { slots = map slot_of a.slots.items; disk = buffer_of a.disk } };
 
     ghost invariant = { λ a. (length a.slots.items ≡ file_units) × IsTrue (writers_write (map slot_of a.slots.items))
-        × CanWrite (map slot_of a.slots.items) a.disk };
+        × CanWrite (map slot_of a.slots.items) a.disk × HaveOwnNumbers (map slot_of a.slots.items) };
 }
 
 impl Attached {
@@ -233,9 +234,10 @@ impl Attached {
         }
     }
 
-    /// The number of a unit's open file; none where nothing is attached.
+    /// The number of a unit's open file, which no other unit has; none where nothing is attached.
     pub fn file_of(&self, unit: UnitName) -> Option<FileId>
         ensures holds { Holds self.now.slots unit result }
+        ensures own { HaveOwnNumbers self.now.slots }
         ensures number { option_map (λ id. id.0) result ≡ option_map (λ h. h.file) (held_at self.now.slots unit) }
     {
         self.held_file(unit)
@@ -264,7 +266,8 @@ impl Attached {
 
     // The number of a unit's open file.
     pub(crate) fn held_file(&self, unit: UnitName) -> Option<FileId>
-        ensures { Holds self.now.slots unit result }
+        ensures holds { Holds self.now.slots unit result }
+        ensures own { HaveOwnNumbers self.now.slots }
     {
         match self.unit_file(unit) {
             Some(held) => Some(held.file),
@@ -288,6 +291,7 @@ impl Attached {
     fn unit_file(&self, unit: UnitName) -> Option<&UnitFile>
         ensures held { option_map (λ f. held_of f.now) result ≡ held_at self.now.slots unit }
         ensures writers { only_writes unit.kind ≡ true → read_only_at self.now.slots unit ≡ false }
+        ensures own { HaveOwnNumbers self.now.slots }
     {
         match self.slots.get(place_of(unit)) {
             Some(slot) => slot.as_ref(),
@@ -295,9 +299,10 @@ impl Attached {
         }
     }
 
-    // Attaches a file to a unit, with its bytes where the unit is the disk.
+    // Attaches a file that no unit has to a unit, with its bytes where the unit is the disk.
     fn put(&mut self, unit: UnitName, held: UnitFile, bytes: Vec<u8>)
         requires unit { IsTrue (takes_attachment unit) }
+        requires own { IsFree self.old.slots held.file.0 }
         requires writers { only_writes unit.kind ≡ true → held.read_only ≡ false }
         requires room { IsTrue (is_disk unit.kind) → disk_bytes ≤ vec_capacity bytes }
         requires short { IsTrue (is_disk unit.kind) → length bytes.items ≤ disk_bytes }

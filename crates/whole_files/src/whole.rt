@@ -1,4 +1,4 @@
-ghost use Rattle.std.specs.Prelude.{◌≡◌, ◌<◌, ◌≤◌, ℕ, IsTrue, IfOk, IfSome, None, Err, length, if◌then◌else◌};
+ghost use Rattle.std.specs.Prelude.{◌≡◌, ◌<◌, ◌≤◌, ◌+◌, ℕ, IsTrue, IfOk, IfSome, None, Err, length, if◌then◌else◌};
 ghost use Rattle.fault_counts.specs.Faults.{raised};
 ghost use Rattle.host_files.specs.State.{IsOpen, without};
 ghost use Rattle.whole_files.specs.Reading.{Fails, IsClosing, failure_count, answer_of, failure_of};
@@ -47,7 +47,8 @@ pub struct Whole {
 
 /// Reads the file of a name, and closes it again, whatever comes of it. `NoFile` comes where there is no such file,
 /// `Failed` where a call on it failed, `TooLong` where it is longer than `LONGEST_FILE`, and `OutOfMemory` where there
-/// is no memory for its opening or its bytes. Its length is asked before memory is taken for these. No file changes.
+/// is no memory for its opening or its bytes. Its length is asked before memory is taken for these. No file changes,
+/// and at most this one is opened.
 #[tactic(auto, unfolding(crate::specs::Whole::whole_act))]
 pub fn read_file<F: Files>(alloc: Global, name: &str, files: &mut F) -> Whole
     ensures said { IsTrue F.tells → IfSome (said_of result) (λ said.
@@ -65,6 +66,8 @@ pub fn read_file<F: Files>(alloc: Global, name: &str, files: &mut F) -> Whole
     ensures failed { IsNew result.failed (F.state files.old) (F.state files.new) }
     ensures closing { IsNew result.closing (F.state files.old) (F.state files.new) }
     ensures ids { (F.state files.old).given ≤ (F.state files.new).given }
+    ensures one { (F.state files.new).given ≤ (F.state files.old).given + 1 }
+    ensures taken { IfOk result.bytes (λ v. (F.state files.old).given < (F.state files.new).given) }
     ensures cause { WholeCause F.tells name.now result.bytes (F.state files.old) (F.state files.new) }
 {
     match files.open_file(alloc, name, OpenMode::Read) {

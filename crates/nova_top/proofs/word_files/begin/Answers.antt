@@ -99,7 +99,7 @@ returns-in_err-keys-clause-unread g c =
     let refusal = c.in_err-keys.field-0.0 in
     let is : c.from_residual.result ≡ Err refusal = search rules in
     subst (λ (r : Result Beginning Refusal). BeginsCause g.F.Files.tells words c.args.options r c.take_keys.new.notes.items old mid) (sym is)
-    (keys-refused _ g.F.Files.tells words c.args.options refusal c.args.notes.now.items c.take_keys.new.notes.items old mid c.requires.none c.in_err-keys.ensures.unread)
+    (keys-refused _ g.F.Files.tells words c.args.options refusal c.args.notes.now.items c.take_keys.new.notes.items old mid c.requires.none c.take_keys.ensures.ids c.in_err-keys.ensures.unread)
 
 pub returns-in_err-script-clause-unread : goal.returns-in_err-script-clause-unread
 returns-in_err-script-clause-unread g c =
@@ -110,7 +110,7 @@ returns-in_err-script-clause-unread g c =
     let refusal = c.in_err-script.field-0.0 in
     let is : c.from_residual-in_err-script.result ≡ Err refusal = search rules in
     let keys = keys-taken g.F.Files.tells words c.args.options c.in_ok-keys.keys c.args.notes.now.items c.take_keys.new.notes.items old mid c.requires.none
-    c.in_ok-keys.ensures.unread (c.in_ok-keys.ensures.closings tt) c.take_keys.ensures.files c.take_keys.ensures.keeps c.take_keys.ensures.whose.ids in
+    c.in_ok-keys.ensures.unread (c.in_ok-keys.ensures.closings tt) c.take_keys.ensures.files c.take_keys.ensures.keeps c.in_ok-keys.ensures.taken in
     subst (λ (r : Result Beginning Refusal). BeginsCause g.F.Files.tells words c.args.options r c.take_script.new.notes.items old new) (sym is)
     (script-refused _ g.F.Files.tells words c.args.options refusal c.args.notes.now.items c.take_keys.new.notes.items c.take_script.new.notes.items old mid new keys c.in_err-script.ensures.unread)
 
@@ -121,7 +121,7 @@ returns-in-Ok-clause-unread g c =
     let mid = g.F.Files.state c.take_keys.new.files in
     let new = g.F.Files.state c.take_script.new.files in
     let keys = keys-taken g.F.Files.tells words c.args.options c.in_ok-keys.keys c.args.notes.now.items c.take_keys.new.notes.items old mid c.requires.none
-    c.in_ok-keys.ensures.unread (c.in_ok-keys.ensures.closings tt) c.take_keys.ensures.files c.take_keys.ensures.keeps c.take_keys.ensures.whose.ids in
+    c.in_ok-keys.ensures.unread (c.in_ok-keys.ensures.closings tt) c.take_keys.ensures.files c.take_keys.ensures.keeps c.in_ok-keys.ensures.taken in
     both-fit g.F.Files.tells words c.args.options c.in_ok-script.script c.args.notes.now.items c.take_keys.new.notes.items c.take_script.new.notes.items old mid new keys c.in_ok-script.ensures.unread
 
 pub returns-in-Err-clause-unread : goal.returns-in-Err-clause-unread
@@ -131,6 +131,6 @@ returns-in-Err-clause-unread g c =
     let mid = g.F.Files.state c.take_keys.new.files in
     let new = g.F.Files.state c.take_script.new.files in
     let keys = keys-taken g.F.Files.tells words c.args.options c.in_ok-keys.keys c.args.notes.now.items c.take_keys.new.notes.items old mid c.requires.none
-    c.in_ok-keys.ensures.unread (c.in_ok-keys.ensures.closings tt) c.take_keys.ensures.files c.take_keys.ensures.keeps c.take_keys.ensures.whose.ids in
+    c.in_ok-keys.ensures.unread (c.in_ok-keys.ensures.closings tt) c.take_keys.ensures.files c.take_keys.ensures.keeps c.in_ok-keys.ensures.taken in
     let fit = both-fit g.F.Files.tells words c.args.options c.in_ok-script.script c.args.notes.now.items c.take_keys.new.notes.items c.take_script.new.notes.items old mid new keys c.in_ok-script.ensures.unread in
-    (λ more. fit.0, λ free more. fit.1)
+    (λ more. fit.0, λ more. fit.1)

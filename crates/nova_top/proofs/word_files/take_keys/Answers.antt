@@ -1,7 +1,8 @@
-use Rattle.std.proofs.Common.{length}
+use Rattle.std.proofs.Common.{ℕ, ◌+◌, ◌≤◌, length, Option, sym, subst}
 use Rattle.file_commands.specs.declared.note.Subject.TheVariants as subject
 use Rattle.nova_top.specs.Words.{texts_of, keys_name}
-use Rattle.nova_top.proofs.UnreadLemmas.{keys-cause, none-taken}
+use Rattle.nova_top.specs.Unread.{keys_ids}
+use Rattle.nova_top.proofs.UnreadLemmas.{keys-cause, keys-given, none-given, none-taken}
 use Rattle.nova_top.proofs.ReadingLemmas.{named-at, keys-take}
 use Rattle.nova_top.proofs.word_files.take_keys.Goals as goal
 
@@ -29,3 +30,17 @@ pub returns-in-None-clause-unread : goal.returns-in-None-clause-unread
 returns-in-None-clause-unread g c =
     none-taken g.F.Files.tells subject.Keys (keys_name (texts_of c.args.words.now) c.args.options) _ c.args.notes.now.items (g.F.Files.state c.args.files.now)
     (λ i. keys_name (texts_of c.args.words.now) (record c.args.options { keys = c.in-None.is i }))
+
+pub returns-in-Some-clause-ids : goal.returns-in-Some-clause-ids
+returns-in-Some-clause-ids g c =
+    let old = g.F.Files.state c.args.files.now in
+    let new = g.F.Files.state c.read_word-read.new.files in
+    subst (λ (k : Option ℕ). new.given ≤ old.given + keys_ids k) (sym c.in-Some.is) c.read_word-read.ensures.one
+
+pub returns-in-Some-clause-taken : goal.returns-in-Some-clause-taken
+returns-in-Some-clause-taken g c =
+    keys-given c.read_word-read.result c.keys_of.result c.args.options.keys c.in-Some.place (g.F.Files.state c.args.files.now) (g.F.Files.state c.read_word-read.new.files) c.in-Some.is
+    c.keys_of.ensures.answers c.read_word-read.ensures.taken c.read_word-read.ensures.one
+
+pub returns-in-None-clause-taken : goal.returns-in-None-clause-taken
+returns-in-None-clause-taken g c = none-given c.args.options.keys (g.F.Files.state c.args.files.now) c.in-None.is

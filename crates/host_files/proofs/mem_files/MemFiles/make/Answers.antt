@@ -25,7 +25,7 @@ returns-in-Ok-add-clause-opens c =
     ap (λ fs. map named_of fs.items) c.add.ensures.files ∙ pushed ∙ sym (with-new files c.args.name.now [] c.requires.missing) in
     record {
       opened = search rules;
-      rising = search rules;
+      next = c.in-Ok-add.ensures.file;
       given = ap (λ (xs : List ℕ). length xs) c.in-Ok-add.ensures.counts ∙ length-append c.args.self.now.table.counts (0 ∷ []) ∙ ap (λ (n : ℕ). n + 1) (sym c.in-Ok-add.ensures.file);
       fresh = search rules;
       files = λ tells. told;

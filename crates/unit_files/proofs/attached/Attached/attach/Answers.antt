@@ -5,8 +5,16 @@ use Rattle.unit_files.specs.Attachments.{Held, held_at, with_held, file_place}
 use Rattle.unit_files.specs.Open.{AllOpen, Around}
 use Rattle.unit_files.specs.Opening.{IsNewlyOpen}
 use Rattle.unit_files.specs.Causes.{AreFrom}
-use Rattle.unit_files.proofs.Attaching.{open-attached, around-attached, from-with}
+use Rattle.unit_files.proofs.Attaching.{free, open-attached, around-attached, from-with}
 use Rattle.unit_files.proofs.attached.Attached.attach.Goals as goal
+
+pub put-requires-clause-own : goal.put-requires-clause-own
+put-requires-clause-own g c =
+    let old = g.F.Files.state c.args.files.now in
+    let new = g.F.Files.state c.take_file.new.files in
+    let file = c.in-Ok-take_file.taken.file.0 in
+    let is : IsNewlyOpen old new c.args.name.now c.args.mode file = c.in-Ok-take_file.ensures.opened in
+    free c.args.self.now.slots old.opened file c.requires.«open» is.fresh
 
 pub returns-in-Ok-take_file-clause-open : goal.returns-in-Ok-take_file-clause-open
 returns-in-Ok-take_file-clause-open g c =

@@ -10,19 +10,19 @@ use Rattle.unit_files.proofs.attached.Attached.flush.Goals as goal
 
 pub write_copy-requires-clause-open : goal.write_copy-requires-clause-open
 write_copy-requires-clause-open g c =
-    let holds : HoldsFile c.args.self.now.slots c.args.unit c.in-Some.field-0 = c.in-Some.ensures in
+    let holds : HoldsFile c.args.self.now.slots c.args.unit c.in-Some.field-0 = c.in-Some.ensures.holds in
     (file-of _ _ _ (g.F.Files.state c.args.files.now).opened c.requires.«open» holds).is_open
 
 pub write_copy-requires-clause-writable : goal.write_copy-requires-clause-writable
 write_copy-requires-clause-writable g c =
-    let holds : HoldsFile c.args.self.now.slots c.args.unit c.in-Some.field-0 = c.in-Some.ensures in
+    let holds : HoldsFile c.args.self.now.slots c.args.unit c.in-Some.field-0 = c.in-Some.ensures.holds in
     (file-of _ _ _ (g.F.Files.state c.args.files.now).opened c.requires.«open» holds).writable
     (c.is_due_back.ensures.writable (search rules))
 
 pub returns-in-None-write_copy-clause-files : goal.returns-in-None-write_copy-clause-files
 returns-in-None-write_copy-clause-files g c =
     let old = g.F.Files.state c.args.files.now in
-    let holds : HoldsFile c.args.self.now.slots c.args.unit c.in-Some.field-0 = c.in-Some.ensures in
+    let holds : HoldsFile c.args.self.now.slots c.args.unit c.in-Some.field-0 = c.in-Some.ensures.holds in
     let of = file-of _ _ _ old.opened c.requires.«open» holds in
     let due : is_due_back c.args.unit c.args.self.now.disk ≡ true = search rules in
     let same = c.as_slice.ensures.value ∙ ap (λ (a : AttachedFiles). a.disk.bytes) c.self.view_is in
@@ -35,7 +35,7 @@ pub returns-in-Some-write_copy-clause-files : goal.returns-in-Some-write_copy-cl
 returns-in-Some-write_copy-clause-files g c =
     let old = g.F.Files.state c.args.files.now in
     let fault = Some (failure_in c.in-Some-write_copy.fault) in
-    let holds : HoldsFile c.args.self.now.slots c.args.unit c.in-Some.field-0 = c.in-Some.ensures in
+    let holds : HoldsFile c.args.self.now.slots c.args.unit c.in-Some.field-0 = c.in-Some.ensures.holds in
     let of = file-of _ _ _ old.opened c.requires.«open» holds in
     let due : is_due_back c.args.unit c.args.self.now.disk ≡ true = search rules in
     let same = c.as_slice.ensures.value ∙ ap (λ (a : AttachedFiles). a.disk.bytes) c.self.view_is in

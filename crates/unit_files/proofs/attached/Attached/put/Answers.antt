@@ -5,6 +5,7 @@ use Rattle.unit_files.specs.Buffer.{AttachedFiles}
 use Rattle.unit_files.specs.View.{slot_of, held_of, CanWrite}
 use Rattle.unit_files.specs.declared.slots.UnitFile.{UnitFile}
 use Rattle.unit_files.proofs.Places.{view-set, attachments-set, writers-set, within}
+use Rattle.unit_files.proofs.Attaching.{own-put}
 use Rattle.unit_files.proofs.Copies.{can-new, can-other}
 use Rattle.unit_files.proofs.attached.Attached.put.Goals as goal
 
@@ -20,6 +21,7 @@ invariant_of-self c =
           ∙ writers-set (map slot_of items) c.args.unit (Some (held_of c.args.held)) long c.self.invariant.1
           c.requires.writers,
       can-new _ _ (c.requires.short is) (c.requires.room is) refl,
+      own-put items c.args.self.now.slots _ c.args.unit c.args.held view (ap (λ (a : AttachedFiles). a.slots) c.self.view_is) c.self.invariant.3 c.requires.own,
     )
 
 pub invariant_of-self-else-is_disk : goal.invariant_of-self-else-is_disk
@@ -36,6 +38,7 @@ invariant_of-self-else-is_disk c =
       subst (λ (s : List (Option Held)). CanWrite s c.self.inside.disk) (sym view)
           (can-other (map slot_of items) c.args.unit (Some (held_of c.args.held)) c.self.inside.disk other
           c.self.invariant.2),
+      own-put items c.args.self.now.slots _ c.args.unit c.args.held view (ap (λ (a : AttachedFiles). a.slots) c.self.view_is) c.self.invariant.3 c.requires.own,
     )
 
 pub returns-then-is_disk-clause-held : goal.returns-then-is_disk-clause-held

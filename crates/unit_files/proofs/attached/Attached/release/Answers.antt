@@ -10,21 +10,21 @@ use Rattle.unit_files.proofs.attached.Attached.release.Goals as goal
 
 pub close_one-requires : goal.close_one-requires
 close_one-requires g c =
-    let holds : HoldsFile c.args.self.now.slots c.args.unit c.in-Some.file = c.in-Some.ensures in
+    let holds : HoldsFile c.args.self.now.slots c.args.unit c.in-Some.file = c.in-Some.ensures.holds in
     (file-of _ _ _ (g.F.Files.state c.args.files.now).opened c.requires.«open» holds).is_open
 
 pub returns-in-Some-clause-open : goal.returns-in-Some-clause-open
 returns-in-Some-clause-open g c =
-    let holds : HoldsFile c.args.self.now.slots c.args.unit c.in-Some.file = c.in-Some.ensures in
+    let holds : HoldsFile c.args.self.now.slots c.args.unit c.in-Some.file = c.in-Some.ensures.holds in
     let old = g.F.Files.state c.args.files.now in
     let all = open-detached c.args.self.now.slots old.opened (file_place c.args.unit) holds.held holds.there
-    c.requires.«open» in
+    c.in-Some.ensures.own c.requires.«open» in
     let closed = ap (λ n. without old.opened n) holds.number ∙ sym c.close_one.ensures.closed in
     subst (λ (x : List (Option Held) × List Opened). AllOpen x.0 x.1) (λ i. (sym c.take.ensures.held i, closed i)) all
 
 pub returns-in-Some-clause-around : goal.returns-in-Some-clause-around
 returns-in-Some-clause-around g c = λ base around.
-    let holds : HoldsFile c.args.self.now.slots c.args.unit c.in-Some.file = c.in-Some.ensures in
+    let holds : HoldsFile c.args.self.now.slots c.args.unit c.in-Some.file = c.in-Some.ensures.holds in
     let old = g.F.Files.state c.args.files.now in
     let less = around-detached c.args.self.now.slots base old.opened (file_place c.args.unit) holds.held holds.there around in
     let closed = ap (λ n. without old.opened n) holds.number ∙ sym c.close_one.ensures.closed in

@@ -1,10 +1,12 @@
 use Rattle.std.proofs.Common.{◌≡◌, true, false, map, length, List, Option, None, ap, sym, subst, ◌∙◌, refl, rules}
 use Rattle.std.proofs.lemmas.List.{length-set, length-map}
-use Rattle.unit_files.specs.Attachments.{Held, attachments_of, writers_write, is_disk}
+use Rattle.unit_files.specs.Attachments.{Held, file_place, attachments_of, writers_write, is_disk}
 use Rattle.unit_files.specs.Buffer.{AttachedFiles}
+use Rattle.unit_files.specs.Open.{HaveOwnNumbers}
 use Rattle.unit_files.specs.View.{slot_of, CanWrite}
 use Rattle.unit_files.specs.declared.slots.UnitFile.{UnitFile}
 use Rattle.unit_files.proofs.Places.{view-set, attachments-set, writers-set}
+use Rattle.unit_files.proofs.Attaching.{own-detached}
 use Rattle.unit_files.proofs.Copies.{can-none, can-other}
 use Rattle.unit_files.proofs.attached.Attached.take.Goals as goal
 
@@ -18,6 +20,7 @@ invariant_of-self c =
       length-set items c.place_of.result h ∙ c.self.invariant.0,
       ap writers_write view ∙ writers-set (map slot_of items) c.args.unit None long c.self.invariant.1 (λ is. refl),
       can-none (map slot_of items) _ c.args.unit _ is c.requires view (search rules),
+      subst HaveOwnNumbers (sym view) (own-detached (map slot_of items) (file_place c.args.unit) c.self.invariant.3),
     )
 
 pub invariant_of-self-else-is_disk : goal.invariant_of-self-else-is_disk
@@ -31,6 +34,7 @@ invariant_of-self-else-is_disk c =
       ap writers_write view ∙ writers-set (map slot_of items) c.args.unit None long c.self.invariant.1 (λ is. refl),
       subst (λ (s : List (Option Held)). CanWrite s c.self.inside.disk) (sym view)
           (can-other (map slot_of items) c.args.unit None c.self.inside.disk other c.self.invariant.2),
+      subst HaveOwnNumbers (sym view) (own-detached (map slot_of items) (file_place c.args.unit) c.self.invariant.3),
     )
 
 pub returns-then-is_disk-clause-held : goal.returns-then-is_disk-clause-held
