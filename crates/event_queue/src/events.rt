@@ -1,6 +1,7 @@
 ghost use Rattle.std.specs.Prelude.{◌≡◌, ◌<◌, ◌≤◌, [], false, None, length, option_map, slice_get, IfOk, IfSome};
 ghost use Rattle.unit_trait.specs.Kinds.{units_of};
 ghost use Rattle.unit_trait.specs.Row.{IsLater, IsAgain};
+ghost use Rattle.event_queue.specs.Idle.{AreOthersLater, idled};
 ghost use Rattle.event_queue.specs.EventList.{Sound, activated, cancelled, wished, due, dues, served, lowered, ticked, IsApart, IsClear};
 
 use crate::entries::Entries;
@@ -140,6 +141,20 @@ impl Events {
         ensures { self.new ≡ lowered count self.old }
     {
         self.ticks = self.ticks.wrapping_add(count);
+    }
+
+    /// Lets so many instructions pass in front of which nothing is due but looks of the first event's unit, each of
+    /// which asks for the event again after so many instructions.
+    #[tactic(auto, using(crate::proofs::Ticks::ticks))]
+    pub fn pass_looks(&mut self, count: u32, period: u32)
+        requires others { AreOthersLater count self.old }
+        requires period { 1 ≤ period }
+        ensures { self.new ≡ idled period count self.old }
+    {
+        self.entries.lower(self.ticks);
+        self.ticks = 0;
+        self.entries.pass_looks(count, period);
+        self.first = self.entries.first();
     }
 
     /// How many events wait.
