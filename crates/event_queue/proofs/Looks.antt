@@ -1,13 +1,15 @@
 -- Looks that pass at once.
-use Rattle.std.proofs.Common.{◌≡◌, ◌⊎◌, inl, inr, subst, ℕ, zero, suc, ◌+◌, ◌-◌, ◌*◌, ◌/◌, ◌%◌, ◌<◌, ◌≤◌, ◌==◌, nat_le, Bool, true, false, List, [], ◌∷◌, remove, slice_get, Some, None, refl, sym, ap, ◌∙◌, arith, if◌then◌else◌}
+use Rattle.std.proofs.Common.{◌≡◌, ◌⊎◌, inl, inr, subst, ℕ, zero, suc, ◌+◌, ◌-◌, ◌*◌, ◌/◌, ◌%◌, ◌<◌, ◌≤◌, ◌==◌, nat_le, Bool, true, false, List, [], ◌∷◌, remove, slice_get, Some, None, option_map, if◌then◌else◌, refl, sym, ap, ◌∙◌, arith}
 use Rattle.std.proofs.Math.Nat.{mod-eq_of_lt, mod-lt, mod_self, suc-mod}
 use Rattle.std.proofs.lemmas.Bool.{cases_lt}
 use Rattle.std.proofs.lemmas.Bool.Decides.{nat_tests}
 use Rattle.std.specs.List.{AllByRecursion}
 use Rattle.unit_trait.specs.declared.kind.UnitName.{UnitName}
-use Rattle.event_queue.specs.EventList.{Event, event, placed, lowered, ticked}
+use Rattle.event_queue.specs.EventList.{Event, event, waits, placed, activated, due, dues, served, lowered, ticked, Sound}
 use Rattle.event_queue.specs.Idle.{AreOthersLater, looked, idled, rest_behind}
 use Rattle.event_queue.proofs.Ticks.{lowered-none, lowered-more}
+use Rattle.event_queue.proofs.Dues.{dues-placed, due-placed}
+use Rattle.event_queue.proofs.SoundLists.{first-alone}
 
 -- how many instructions remain to an event that has so many left, and is asked for again each so many, behind a count
 pub rest_of : ℕ → ℕ → ℕ → ℕ
@@ -220,3 +222,70 @@ first-none period n [] is = idled-nothing period n
 first-none period n (x ∷ es) is = absurd (cc)
 
 pub ruleset looks = (first-early, first-late, first-none)
+
+-- ---- where such a look is due
+
+AreSafe : UnitName → List Event → Type 0
+AreSafe u xs = AreAtLeast 1 xs × (waits u xs ≡ false)
+
+none-due : (xs : List Event) → AreAtLeast 1 xs → dues xs ≡ []
+none-due [] all = refl
+none-due (e ∷ xs) all = let least = all.0 in grind (arith, nat_tests)
+
+-- the look is due and nothing else, and asks for its event again; or nothing is due
+pub data LooksOrNot (u : UnitName) (period : ℕ) (es : List Event) : Type 0 where
+  is_look : due es ≡ Some u → dues (served es) ≡ [] → activated u period (served es) ≡ looked period es → due (looked period es) ≡ None → LooksOrNot u period es
+  no_look : due es ≡ None → looked period es ≡ es → LooksOrNot u period es
+
+look-now : (u : UnitName) (period : ℕ) (xs : List Event) → 1 ≤ period → AreSafe u xs → LooksOrNot u period (event u 0 ∷ xs)
+unfolding AreSafe
+look-now u period xs some safe =
+    is_look refl (none-due xs safe.0)
+    (ap (λ (b : Bool). if b then xs else placed u period xs) safe.1)
+    (dues-due (placed u period xs) (dues-placed u period xs some ∙ none-due xs safe.0))
+  where
+    dues-due : (es : List Event) → dues es ≡ [] → due es ≡ None
+    dues-due [] is = refl
+    dues-due (e ∷ es) is = grind (arith, nat_tests)
+
+not-look : (u : UnitName) (period : ℕ) (es : List Event) → due es ≡ None → LooksOrNot u period es
+not-look u period [] none = no_look none refl
+not-look u period (e ∷ es) none = no_look none (grind (arith, nat_tests))
+
+shape-first : (u : UnitName) (period d : ℕ) (xs : List Event) → 1 ≤ period → AreSafe u xs → LooksOrNot u period (event u d ∷ xs)
+shape-first u period zero xs some safe = look-now u period xs some safe
+shape-first u period (suc d) xs some safe = not-look u period (event u (suc d) ∷ xs) (grind (arith, nat_tests))
+
+shape-placed : (u : UnitName) (period r : ℕ) (xs : List Event) → 1 ≤ period → AreSafe u xs → LooksOrNot u period (placed u r xs)
+unfolding AreSafe
+shape-placed u period zero xs some safe =
+    subst (λ (es : List Event). LooksOrNot u period es) (sym (placed-due u xs safe.0)) (look-now u period xs some safe)
+shape-placed u period (suc r) xs some safe =
+    not-look u period (placed u (suc r) xs) (due-placed u (suc r) xs (omega arith) (none-first xs safe.0))
+  where
+    none-first : (es : List Event) → AreAtLeast 1 es → due es ≡ None
+    none-first [] all = refl
+    none-first (e ∷ es) all = let least = all.0 in grind (arith, nat_tests)
+
+safe-lowered : (u : UnitName) (n : ℕ) (others : List Event) → AreAtLeast (n + 1) others → waits u (lowered n others) ≡ false → AreSafe u (lowered n others)
+unfolding AreSafe
+safe-lowered u n others all alone = (lowered-least n 1 others all, alone)
+
+-- behind so many instructions, before another event is due
+pub look-behind : (u : UnitName) (period n count : ℕ) (es : List Event) → 1 ≤ period → Sound es → option_map (λ e. e.unit) (slice_get es 0) ≡ Some u
+    → AreOthersLater count es → n < count → LooksOrNot u period (idled period n es)
+look-behind u period n count [] some sound is later before = absurd (cc)
+look-behind u period n count (x ∷ others) some sound is later before =
+    let same : x.unit ≡ u = grind arith in
+    let all : AreAtLeast (n + 1) others = fewer (n + 1) count others (omega (arith, before)) later in
+    let alone : waits x.unit (lowered n others) ≡ false = first-alone n (x ∷ others) x sound refl in
+    subst (λ (v : UnitName). LooksOrNot v period (idled period n (x ∷ others))) same
+    (by (cases_lt x.remaining n) all (safe-lowered x.unit n others all alone))
+  where
+    by : (x.remaining < n) ⊎ (n ≤ x.remaining) → AreAtLeast (n + 1) others → AreSafe x.unit (lowered n others) → LooksOrNot x.unit period (idled period n (x ∷ others))
+    by (inr early) all safe =
+        subst (λ (es : List Event). LooksOrNot x.unit period es) (sym (idled-early x.remaining period n x.unit others some (fewer n (n + 1) others (omega arith) all) early))
+        (shape-first x.unit period (x.remaining - n) (lowered n others) some safe)
+    by (inl late) all safe =
+        subst (λ (es : List Event). LooksOrNot x.unit period es) (sym (idled-late x.remaining period n x.unit others some (fewer n (n + 1) others (omega arith) all) late))
+        (shape-placed x.unit period (rest_behind x.remaining period n) (lowered n others) some safe)
