@@ -156,6 +156,7 @@ rest-more period r low = by (cases_lt (suc r) period)
   where
     left : (if (if r == 0 then 0 else period - r) == 0 then period else (if r == 0 then 0 else period - r)) - 1 ≡ period - suc r
     left = grind (arith, nat_tests, low)
+
     by : (suc r < period) ⊎ (period ≤ suc r) → ((if (if r == 0 then 0 else period - r) == 0 then period else (if r == 0 then 0 else period - r)) - 1)
         ≡ (if suc r % period == 0 then 0 else period - suc r % period)
     by (inl below) =
@@ -220,6 +221,44 @@ first-late period n e (x ∷ es) some later is late =
 pub first-none : (period n : ℕ) (es : List Event) → slice_get es 0 ≡ None → idled period n es ≡ es
 first-none period n [] is = idled-nothing period n
 first-none period n (x ∷ es) is = absurd (cc)
+
+-- the first event is taken where it is due, and asked for again
+pub again-due : (period : ℕ) (u : UnitName) (es : List Event) → Sound es → due es ≡ Some u → activated u period (served es) ≡ looked period es
+again-due period u [] sound first = absurd (cc)
+again-due period u (e ∷ es) sound first =
+    let now : (e.remaining == 0) ≡ true = grind (arith, nat_tests) in
+    let same : e.unit ≡ u = grind (arith, nat_tests) in
+    let alone : waits e.unit es ≡ false = ap (λ (xs : List Event). waits e.unit xs) (sym (lowered-none es)) ∙ first-alone 0 (e ∷ es) e sound refl in
+    ap (λ (b : Bool). activated u period (if b then es else e ∷ es)) now
+    ∙ ap (λ (v : UnitName). activated v period es) (sym same)
+    ∙ ap (λ (b : Bool). if b then es else placed e.unit period es) alone
+    ∙ ap (λ (b : Bool). if b then placed e.unit period es else e ∷ es) (sym now)
+
+pub again-none : (period : ℕ) (es : List Event) → due es ≡ None → looked period es ≡ es
+again-none period [] none = refl
+again-none period (e ∷ es) none = grind (arith, nat_tests)
+
+pub later-none : (n count : ℕ) (es : List Event) → slice_get es 1 ≡ None → AreOthersLater count (lowered n es)
+later-none n count [] none = tt
+later-none n count (x ∷ []) none = tt
+later-none n count (x ∷ y ∷ es) none = absurd (cc)
+
+later-all : (n least : ℕ) (es : List Event) → AllByRecursion (λ (e : Event). least ≤ e.remaining) es → AreAtLeast (least - n) (lowered n es)
+later-all n least [] all = tt
+later-all n least (e ∷ es) all = let more = all.0 in (omega (arith, more), later-all n least es all.1)
+
+pub later-some : (n : ℕ) (e : Event) (es : List Event) → Sound es → slice_get es 1 ≡ Some e → AreOthersLater (e.remaining - n) (lowered n es)
+later-some n e [] sound is = absurd (cc)
+later-some n e (x ∷ []) sound is = absurd (cc)
+later-some n e (x ∷ y ∷ es) sound is =
+    let same : y ≡ e = grind arith in
+    subst (λ (z : Event). AreOthersLater (z.remaining - n) (lowered n (x ∷ y ∷ es))) same (omega arith, later-all n y.remaining es sound.rising.1.0)
+
+pub others-fewer : (n m : ℕ) (es : List Event) → n ≤ m → AreOthersLater m es → AreOthersLater n es
+others-fewer n m [] less later = tt
+others-fewer n m (e ∷ es) less later = fewer n m es less later
+
+pub ruleset again = (again-due, again-none)
 
 pub ruleset looks = (first-early, first-late, first-none)
 

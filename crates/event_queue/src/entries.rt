@@ -178,11 +178,7 @@ fn rest_behind(left: u32, period: u32, count: u32) -> u32
     ensures { result ≡ rest_behind left period count }
 {
     let over = (count - left) % period;
-    if over == 0 {
-        0
-    } else {
-        period - over
-    }
+    if over == 0 { 0 } else { period - over }
 }
 
 /// Whether an event is not of a unit of that kind.

@@ -121,6 +121,9 @@ pub asked-same : (m : MachineState) → asked keyboard m ≡ m
 unfolding asked
 asked-same m = ap (λ (us : List UnitState). record m { units = us }) (units-kept (Due 0) asked-keeps m.units)
 
+pub answer-same : (us : List UnitState) → after_at (code_of Tti) (Answered 0 NoKey) us ≡ us
+answer-same us = units-kept (Answered 0 NoKey) answer-keeps us
+
 pub answered-same : (m : MachineState) → is_some (unit_at (code_of Tti) m.units) ≡ true → answered keyboard NoKey m ≡ goes_on (looked_again m)
 unfolding answered
 answered-same m there =
@@ -139,3 +142,5 @@ looks-change-nothing fault s there none =
     ∙ unlooked fault s (none-sent m.time s.watch.sends both.0)
     ∙ ap (λ (x : MachineState). still s (answered keyboard NoKey x)) (asked-same m)
     ∙ ap (λ (t : Turned). still s t) (answered-same m there)
+
+pub ruleset answers = answer-same
