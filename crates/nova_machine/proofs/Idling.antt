@@ -33,7 +33,7 @@ use Rattle.nova_machine.specs.Service.{service, services, serving, taken, key_at
 use Rattle.nova_machine.specs.Turn.{fetch, is_interrupted, interrupt, breaks_tested_unless, attended, prepared, turn}
 use Rattle.nova_machine.specs.Run.{last_time, next_turn, turns}
 use Rattle.nova_machine.specs.Bursts.{Bursts}
-use Rattle.nova_machine.specs.Looks.{keyboard, wish_of, looked_again, IsKeyless, IsLooking, IsIdle, idled_by, looked_at}
+use Rattle.nova_machine.specs.Looks.{keyboard, wish_of, looked_again, IsKeyless, IsLooking, IsIdle, idled_by, looked_at, idle_end}
 use Rattle.nova_machine.proofs.Opened.{turn-opened, services-none, next-early, turns-stop}
 use Rattle.nova_machine.proofs.Serving.{serving-some}
 use Rattle.nova_machine.proofs.Plain.{plain-attended, interrupt-none, breaks-none}
@@ -145,7 +145,7 @@ idle-keyless : (period count most : ℕ) (s : Seen) (q : ProcessorState) → IsI
     → key_at (with_machine s (idle_behind period count s.machine q)) ≡ None
 unfolding idle_behind idled_by
 idle-keyless period count most s q idle before =
-    let none = idle.keyless (s.machine.time + count) (omega (arith, before)) in
+    let none = idle.keyless count before in
     no-key _ _ none.0 none.1
 
 idle-early : (period count most : ℕ) (m : MachineState) (q : ProcessorState) → count < most → m.time + most ≤ last_time → (idle_behind period count m q).time < last_time
@@ -248,11 +248,6 @@ ended period stops watch note one keys files most done budget old new mid q at_b
     ∙ ap (λ (x : MachineState). silent (Some ChainLimit) (with_machine s x)) (looked-with period done m mid q ∙ looked-erased period done old q)
     ∙ ap (λ (x : MachineState). silent (Some ChainLimit) (seen (beside watch keys files) x)) (sym (is ∙ looked-is period _ _ (idle-is period done old q)))
 
--- where a chain without an end stops the machine, the look that is due there has passed
-abbrev pub idle_end : BurstEnd → ℕ → MachineState → MachineState
-idle_end burst_end.ChainLimit period m = looked_at period m
-idle_end end period m = m
-
 pub idle-told : (period : ℕ) (stops : ℕ → Bool) (watch : WatchState) (keys : List (ℕ × ℕ)) (most done budget : ℕ) (end : BurstEnd) (old new : MachineState) (q : ProcessorState) → AreAtBreaks stops watch
     → IsIdle budget period old watch.sends keys → old.time + budget ≤ last_time → budget ≤ most → IsBurst stops old.processor budget done end q
     → new ≡ idle_end end period (idled_by period done (record old { processor = q })) → Bursts watch keys most done end old new
@@ -284,8 +279,8 @@ looked-time period m = refl
 
 -- fewer of them
 pub idle-less : (less others period : ℕ) (m : MachineState) (sends : List Send) (keys : List (ℕ × ℕ)) → less ≤ others → IsLooking others period m
-    → IsKeyless (m.time + less) m.taken sends keys → IsIdle less period m sends keys
-idle-less less others period m sends keys within looking keyless = record {
+    → (until : ℕ) → IsKeyless until m.taken sends keys → less ≤ until - m.time → IsIdle less period m sends keys
+idle-less less others period m sends keys within looking until keyless early = record {
   looking = record {
     quiet = looking.quiet;
     there = looking.there;
@@ -295,7 +290,7 @@ idle-less less others period m sends keys within looking keyless = record {
     first = looking.first;
     later = others-fewer less others m.events within looking.later;
   };
-  keyless = keyless;
+  keyless = λ n before. keyless (m.time + n) (omega (arith, before, early));
 }
 
 -- ---- until a key comes
@@ -310,3 +305,17 @@ sends-later until send (s ∷ sends) is low time before =
 pub sends-never : (sends : List Send) → slice_get sends 0 ≡ None → (time : ℕ) → due_send time sends ≡ None
 sends-never [] is time = refl
 sends-never (s ∷ sends) is time = absurd (cc)
+
+pub end-slots : (end : BurstEnd) (period : ℕ) (m : MachineState) → (idle_end end period m).slots ≡ m.slots
+end-slots burst_end.ChainLimit period m = looked-slots period m
+end-slots burst_end.Spent period m = refl
+end-slots burst_end.Transfer period m = refl
+end-slots burst_end.AtStop period m = refl
+
+pub end-time : (end : BurstEnd) (period : ℕ) (m : MachineState) → (idle_end end period m).time ≡ m.time
+end-time burst_end.ChainLimit period m = looked-time period m
+end-time burst_end.Spent period m = refl
+end-time burst_end.Transfer period m = refl
+end-time burst_end.AtStop period m = refl
+
+pub ruleset idles = idle-less

@@ -15,6 +15,8 @@ use Rattle.nova_interrupts.specs.Requests.{requested}
 use Rattle.expect_actions.specs.KeysFile.{due_key}
 use Rattle.expect_actions.specs.Sends.{Send, due_send}
 use Rattle.unit_files.specs.Acts.{Failure}
+use Rattle.nova_processor.specs.declared.burst.BurstEnd.{BurstEnd}
+use Rattle.nova_processor.specs.declared.burst.BurstEnd.TheVariants.{ChainLimit}
 use Rattle.nova_machine.specs.Machine.{MachineState}
 use Rattle.nova_machine.specs.Seen.{Seen, with_machine}
 use Rattle.nova_machine.specs.Parts.{silent}
@@ -56,7 +58,7 @@ pub record IsLooking (others period : ℕ) (m : MachineState) : Type 0 where
 -- so within so many instructions nothing comes but looks for which no key comes
 pub record IsIdle (count period : ℕ) (m : MachineState) (sends : List Send) (keys : List (ℕ × ℕ)) : Type 0 where
   pub looking : IsLooking count period m
-  pub keyless : IsKeyless (m.time + count) m.taken sends keys
+  pub keyless : (n : ℕ) → n < count → (due_send (m.time + n) sends ≡ None) × (due_key keys m.taken (m.time + n) ≡ None)
 
 -- so many instructions have passed, and the looks before them
 unfoldable pub idled_by : ℕ → ℕ → MachineState → MachineState
@@ -69,3 +71,8 @@ idled_by period count m = record m {
 -- the look that is due has passed, where one is
 unfoldable pub looked_at : ℕ → MachineState → MachineState
 looked_at period m = record m { events = looked period m.events }
+
+-- where a chain without an end stops the machine, the look that is due there has passed
+abbrev pub idle_end : BurstEnd → ℕ → MachineState → MachineState
+idle_end ChainLimit period m = looked_at period m
+idle_end end period m = m

@@ -11,7 +11,7 @@ ghost use Rattle.event_queue.specs.EventList.{Sound};
 ghost use Rattle.event_queue.specs.Idle.{AreOthersLater};
 ghost use Rattle.nova_interrupts.specs.Requests.{requested};
 ghost use Rattle.nova_machine.specs.Run.{last_time};
-ghost use Rattle.nova_machine.specs.Looks.{IsKeyless, IsLooking, keyboard, wish_of, idled_by, looked_at};
+ghost use Rattle.nova_machine.specs.Looks.{IsKeyless, IsLooking, IsIdle, keyboard, wish_of, idled_by, looked_at, idle_end};
 
 use crate::machine::Machine;
 use crate::run::LAST_TIME;
@@ -63,18 +63,26 @@ impl<U: Unit> Machine<U> {
         ensures slots { self.new.slots ≡ self.old.slots }
         ensures later { self.old.time ≤ self.new.time }
     {
-        let until = self.keyless_until(watch, keys);
-        let budget = most
-            .min(LAST_TIME - self.time)
-            .min(u64::from(looks.others))
-            .min(until.saturating_sub(self.time));
+        let budget = self.idle_budget(most, looks, watch, keys);
         let burst = self.step_to_break(budget, &watch.breaks);
         self.pass_looks(burst.done as u32, looks.period);
-        match burst.end {
-            BurstEnd::ChainLimit => self.look(looks.period),
-            BurstEnd::Spent | BurstEnd::Transfer | BurstEnd::AtStop => (),
-        }
+        self.end_looks(burst.end, looks.period);
         burst
+    }
+
+    /// For how many instructions, as many at the most, nothing can come but such looks.
+    #[tactic(auto, using(crate::proofs::Idling::idles))]
+    fn idle_budget(&self, most: u64, looks: Looks, watch: &Watch, keys: &Keys) -> u64
+        requires next { IsLooking looks.others looks.period self.now }
+        ensures few { result ≤ most }
+        ensures end { self.now.time + result ≤ last_time }
+        ensures idle { IsIdle result looks.period self.now watch.now.sends keys.now }
+        ensures range { result < 2 ^ 32 }
+    {
+        let until = self.keyless_until(watch, keys);
+        most.min(LAST_TIME - self.time)
+            .min(u64::from(looks.others))
+            .min(until.saturating_sub(self.time))
     }
 
     /// How the keyboard looks for keys, where no interrupt can come and its look is the next event.
@@ -132,6 +140,17 @@ impl<U: Unit> Machine<U> {
         }
         self.time += u64::from(count);
         self.events.pass_looks(count, period);
+    }
+
+    /// A chain without an end stops the machine behind the look that is due there, where one is.
+    fn end_looks(&mut self, end: BurstEnd, period: u32)
+        requires { 1 ≤ period }
+        ensures { self.new ≡ idle_end end period self.old }
+    {
+        match end {
+            BurstEnd::ChainLimit => self.look(period),
+            BurstEnd::Spent | BurstEnd::Transfer | BurstEnd::AtStop => (),
+        }
     }
 
     /// Lets the look that is due pass, where one is.
