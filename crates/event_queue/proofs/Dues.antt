@@ -28,7 +28,7 @@ wished-dues u Keep es again = refl
 wished-dues u Cancel es again = absurd again
 wished-dues u (After t) es again = dues-activated u t es again
 
-due-placed : (u : UnitName) (t : ℕ) (es : List Event) → 1 ≤ t → due es ≡ None → due (placed u t es) ≡ None
+pub due-placed : (u : UnitName) (t : ℕ) (es : List Event) → 1 ≤ t → due es ≡ None → due (placed u t es) ≡ None
 due-placed u t [] later none = grind (arith, nat_tests)
 due-placed u t (e ∷ es) later none = grind (arith, nat_tests)
 

@@ -1,5 +1,5 @@
 -- Whatever is done to a sound list leaves one.
-use Rattle.std.proofs.Common.{◌≡◌, ℕ, ◌-◌, ◌<◌, ◌≤◌, ◌^◌, ◌||◌, not, leb, eqb, Bool, List, [], ◌∷◌, filter, remove, get_or, is_some, None, true, false, refl, ap, ◌∙◌, arith}
+use Rattle.std.proofs.Common.{◌≡◌, ℕ, ◌-◌, ◌<◌, ◌≤◌, ◌^◌, ◌||◌, not, leb, eqb, Bool, List, [], ◌∷◌, filter, remove, slice_get, get_or, is_some, Some, None, true, false, refl, sym, ap, subst, ◌∙◌, arith}
 use Rattle.std.specs.List.{AllByRecursion, IsDistinct}
 use Rattle.std.proofs.lemmas.Bool.{cond_both, leb-true, leb-false}
 use Rattle.std.proofs.lemmas.Bool.Decides.{nat_tests}
@@ -171,3 +171,19 @@ pub apart-removed : (es : List Event) (e : Event) → Sound es → is_some (due 
 unfolding IsDistinct
 apart-removed [] e sound is first = absurd (cc)
 apart-removed (x ∷ es) e sound is first = rw first (apart-dues x.unit es sound.distinct.0)
+
+apart-waits : (u : UnitName) (es : List Event) → IsApart u (waiting es) → waits u es ≡ false
+apart-waits u [] apart = refl
+apart-waits u (e ∷ es) apart =
+    let other : same_unit e.unit u ≡ false = same-unit-flips e.unit u ∙ apart.0 in
+    ap (λ (b : Bool). b || waits u es) other ∙ apart-waits u es apart.1
+
+-- the first event's unit does not wait among the others
+pub first-alone : (n : ℕ) (es : List Event) (e : Event) → Sound es → slice_get es 0 ≡ Some e → waits e.unit (lowered n (remove es 0)) ≡ false
+unfolding IsDistinct
+first-alone n [] e sound is = absurd (cc)
+first-alone n (x ∷ es) e sound is =
+    let same : x ≡ e = grind arith in
+    let apart : IsApart x.unit (waiting es) = sound.distinct.0 in
+    ap (λ (y : Event). waits y.unit (lowered n es)) (sym same)
+    ∙ apart-waits x.unit (lowered n es) (subst (λ (us : List UnitName). IsApart x.unit us) (sym (waiting-lowered n es)) apart)

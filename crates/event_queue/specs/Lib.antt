@@ -1,3 +1,4 @@
 pub mod EventList
+pub mod Idle
 pub mod DueTimes
 pub mod Laws

@@ -1,5 +1,6 @@
 ghost use Rattle.std.specs.Prelude.{◌≡◌, ◌<◌, ◌≤◌, [], length, insert, not, false, None, slice_get, is_some, IfOk, IfSome};
 ghost use Rattle.unit_trait.specs.Kinds.{units_of};
+ghost use Rattle.event_queue.specs.Idle.{AreOthersLater, idled, rest_behind};
 ghost use Rattle.event_queue.specs.EventList.{Sound, event, waits, placed, activated, is_of_kind, cancelled, due, dues, served, lowered, IsApart, IsFirst};
 
 use crate::entry::Entry;
@@ -97,6 +98,26 @@ impl Entries {
         lower_all(self.list.as_mut_slice(), ticks);
     }
 
+    /// Lets so many instructions pass in front of which nothing is due but looks of the first event's unit, each of
+    /// which asks for the event again after so many.
+    #[tactic(auto, using(crate::proofs::Looks::looks))]
+    pub(crate) fn pass_looks(&mut self, count: u32, period: u32)
+        requires others { AreOthersLater count self.old }
+        requires period { 1 ≤ period }
+        ensures { self.new ≡ idled period count self.old }
+    {
+        let Some(first) = self.get(0) else {
+            return;
+        };
+        if count <= first.remaining {
+            self.lower(count);
+            return;
+        }
+        self.list.remove(0);
+        self.lower(count);
+        self.put(first.unit, rest_behind(first.remaining, period, count));
+    }
+
     /// The remaining time of the first event; 2^32 - 1 where none waits.
     pub(crate) fn first(&self) -> u32
         ensures { IsFirst self.now result }
@@ -148,6 +169,16 @@ fn place(entries: &[Entry], delay: u32) -> usize
         }
     }
     entries.len()
+}
+
+/// What remains to an event that had so many instructions left, and was asked for again each so many.
+fn rest_behind(left: u32, period: u32, count: u32) -> u32
+    requires late { left < count }
+    requires period { 1 ≤ period }
+    ensures { result ≡ rest_behind left period count }
+{
+    let over = (count - left) % period;
+    if over == 0 { 0 } else { period - over }
 }
 
 /// Whether an event is not of a unit of that kind.

@@ -1,6 +1,7 @@
 ghost use Rattle.std.specs.Prelude.{◌≡◌, ◌<◌, ◌≤◌, [], false, None, length, option_map, slice_get, IfOk, IfSome};
 ghost use Rattle.unit_trait.specs.Kinds.{units_of};
 ghost use Rattle.unit_trait.specs.Row.{IsLater, IsAgain};
+ghost use Rattle.event_queue.specs.Idle.{AreOthersLater, looked, idled};
 ghost use Rattle.event_queue.specs.EventList.{Sound, activated, cancelled, wished, due, dues, served, lowered, ticked, IsApart, IsClear};
 
 use crate::entries::Entries;
@@ -140,6 +141,54 @@ impl Events {
         ensures { self.new ≡ lowered count self.old }
     {
         self.ticks = self.ticks.wrapping_add(count);
+    }
+
+    /// Lets so many instructions pass in front of which nothing is due but looks of the first event's unit, each of
+    /// which asks for the event again after so many instructions.
+    #[tactic(auto, using(crate::proofs::Ticks::ticks))]
+    pub fn pass_looks(&mut self, count: u32, period: u32)
+        requires others { AreOthersLater count self.old }
+        requires period { 1 ≤ period }
+        ensures { self.new ≡ idled period count self.old }
+    {
+        self.entries.lower(self.ticks);
+        self.ticks = 0;
+        self.entries.pass_looks(count, period);
+        self.first = self.entries.first();
+    }
+
+    /// Where an event is due, asks for the first one again after so many instructions, behind those that are due no later.
+    #[tactic(auto, using(crate::proofs::Looks::again))]
+    pub fn look(&mut self, period: u32)
+        requires { 1 ≤ period }
+        ensures { self.new ≡ looked period self.old }
+    {
+        self.sound();
+        match self.next_due() {
+            None => (),
+            Some(unit) => self.activate(unit, period),
+        }
+    }
+
+    /// The unit whose event comes first, where one waits.
+    pub fn first_unit(&self) -> Option<UnitName>
+        ensures { result ≡ option_map (λ e. e.unit) (slice_get self.now 0) }
+    {
+        match self.entries.get(0) {
+            None => None,
+            Some(entry) => Some(entry.unit),
+        }
+    }
+
+    /// How many instructions can pass, at least, before one in front of which an event is due that is not the first.
+    pub fn others_later(&self) -> u32
+        ensures { AreOthersLater result self.now }
+    {
+        self.entries.sound();
+        match self.entries.get(1) {
+            None => u32::MAX,
+            Some(entry) => entry.remaining.saturating_sub(self.ticks),
+        }
     }
 
     /// How many events wait.

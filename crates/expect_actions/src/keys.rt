@@ -1,4 +1,4 @@
-ghost use Rattle.std.specs.Prelude.{◌≡◌, ◌<◌, ◌≤◌, ◌++◌, [], length, map, OnOk, IfSome};
+ghost use Rattle.std.specs.Prelude.{◌≡◌, ◌<◌, ◌≤◌, ◌++◌, [], length, map, option_map, slice_get, OnOk, IfSome};
 ghost use Rattle.expect_actions.specs.KeysFile.{WithMemory, IsAnswer, keys_read, due_key};
 ghost use Rattle.expect_actions.specs.KeysFile.{KeysHaveOneAnswer, KeysAreComputed};
 
@@ -81,6 +81,16 @@ impl Keys {
     {
         match self.list.get(taken as usize) {
             Some(key) => { if key.0 <= now { Some(key.1) } else { None } }
+            None => None,
+        }
+    }
+
+    /// The time at which the key with that number is due, counted from 0; None exactly past the last one.
+    pub fn time_of(&self, taken: u64) -> Option<u64>
+        ensures { result ≡ option_map (λ key. key.0) (slice_get self.now taken) }
+    {
+        match self.list.get(taken as usize) {
+            Some(key) => Some(key.0),
             None => None,
         }
     }

@@ -35,13 +35,13 @@ use Rattle.nova_machine.proofs.Plain.{plain-prepared}
 use Rattle.nova_machine.proofs.Opened.{turn-opened, turns-stop, turns-go, next-early}
 
 -- the machine behind an instruction of the processor alone
-pub behind_step : MachineState → ProcessorState → MachineState
+unfoldable pub behind_step : MachineState → ProcessorState → MachineState
 behind_step m p = record m { processor = p; ints = released m.ints; time = m.time + 1; events = ticked_events m.events }
 
 -- a step and what the turn's instruction comes to
-record Agrees (m : MachineState) (s : Stepped) (t : Turned) : Type 0 where
-  executed_is : (p : ProcessorState) → s ≡ steps p → t ≡ goes_on (behind_step m p)
-  endless : (p : ProcessorState) → s ≡ record { processor = p; end = step_end.ChainLimit } → t ≡ stops ChainLimit (record m { processor = p })
+pub record Agrees (m : MachineState) (s : Stepped) (t : Turned) : Type 0 where
+  pub executed_is : (p : ProcessorState) → s ≡ steps p → t ≡ goes_on (behind_step m p)
+  pub endless : (p : ProcessorState) → s ≡ record { processor = p; end = step_end.ChainLimit } → t ≡ stops ChainLimit (record m { processor = p })
 
 agrees-if : (b : Bool) (m : MachineState) (s s' : Stepped) (t t' : Turned) → Agrees m s t → Agrees m s' t' → Agrees m (if b then s else s') (if b then t else t')
 agrees-if true m s s' t t' first second = first
@@ -98,7 +98,7 @@ agrees-step_of w m =
     agrees-if (nat_lt w 0o60000) m _ _ _ _ (agrees-refer w m)
     (agrees-if (nat_lt w 0o100000) m _ _ _ _ (agrees-pass w m) (agrees-on (arithmetic w) m))
 
-agrees-step : (m : MachineState) → Agrees m (step m.processor) (fetch m)
+pub agrees-step : (m : MachineState) → Agrees m (step m.processor) (fetch m)
 unfolding step fetch
 agrees-step m = agrees-step_of (get m.processor.memory m.processor.cpu.pc) m
 
@@ -144,11 +144,11 @@ behind-none m q is =
     ∙ ap (λ (n : ℕ). record m { time = n; events = lowered 0 m.events }) time
     ∙ ap (λ (es : List Event). record m { events = es }) (lowered-none m.events)
 
-released-if : (b : Bool) (i : Ints) → released (if b then i else released i) ≡ released i
+pub released-if : (b : Bool) (i : Ints) → released (if b then i else released i) ≡ released i
 released-if true i = refl
 released-if false i = refl
 
-never : (n : ℕ) → (suc n == 0) ≡ false
+pub never : (n : ℕ) → (suc n == 0) ≡ false
 never n = grind (arith, nat_tests)
 
 pub behind-more : (count : ℕ) (m : MachineState) (mid q : ProcessorState) → behind_step (behind count m mid) q ≡ behind (suc count) m q
@@ -163,11 +163,11 @@ behind-more count m mid q =
     ∙ ap (λ (i : Ints). record m { processor = q; ints = i; time = m.time + suc count; events = ticked_events (lowered count m.events) }) ints
     ∙ ap (λ (es : List Event). record m { processor = q; ints = if suc count == 0 then m.ints else released m.ints; time = m.time + suc count; events = es }) events
 
-on-if : (b : Bool) (i : Ints) → (if b then i else released i).on ≡ i.on
+pub on-if : (b : Bool) (i : Ints) → (if b then i else released i).on ≡ i.on
 on-if true i = refl
 on-if false i = refl
 
-mask-if : (b : Bool) (i : Ints) → (if b then i else released i).mask ≡ i.mask
+pub mask-if : (b : Bool) (i : Ints) → (if b then i else released i).mask ≡ i.mask
 mask-if true i = refl
 mask-if false i = refl
 
@@ -176,7 +176,7 @@ calm-and true true asked h = refl
 calm-and true false asked h = h
 calm-and false hold asked h = refl
 
-calm-ints : (i now : Ints) (units : List UnitState) → now.on ≡ i.on → now.mask ≡ i.mask → (i.on && requested i.mask units) ≡ false → ((now.on && not now.hold) && requested now.mask units) ≡ false
+pub calm-ints : (i now : Ints) (units : List UnitState) → now.on ≡ i.on → now.mask ≡ i.mask → (i.on && requested i.mask units) ≡ false → ((now.on && not now.hold) && requested now.mask units) ≡ false
 calm-ints i now units on mask quiet =
     calm-and now.on now.hold (requested now.mask units)
     (ap (λ (b : Bool). b && requested now.mask units) on ∙ ap (λ (n : ℕ). i.on && requested n units) mask ∙ quiet)
@@ -276,16 +276,16 @@ ended stops watch note one keys files most done budget old new mid q at_breaks c
     ∙ ap (λ (x : MachineState). silent (Some ChainLimit) (with_machine s x)) (behind-with done m mid q ∙ erased-behind done old q)
     ∙ ap (λ (x : MachineState). silent (Some ChainLimit) (seen (beside watch keys files) x)) (sym (is ∙ behind-is done old q))
 
-pub burst-told : (stops : ℕ → Bool) (watch : WatchState) (most done budget : ℕ) (end : BurstEnd) (old new : MachineState) (q : ProcessorState) → AreAtBreaks stops watch → IsCalm budget old
-    → old.time + budget ≤ last_time → budget ≤ most → IsBurst stops old.processor budget done end q → new ≡ passed_by done (record old { processor = q }) → Bursts watch most done end old new
-burst-told stops watch most done budget burst_end.Spent old new q at_breaks calm last few burst is =
-    λ note one keys files. let all = burst.0 in went stops watch note one keys files most done budget old new q at_breaks calm last few (omega (arith, all)) burst.1 is
-burst-told stops watch most done budget burst_end.Transfer old new q at_breaks calm last few burst is =
-    λ note one keys files. let some = burst.0 in went stops watch note one keys files most done budget old new q at_breaks calm last few (omega (arith, some)) burst.1 is
-burst-told stops watch most done budget burst_end.AtStop old new q at_breaks calm last few burst is =
-    λ note one keys files. let some = burst.0 in went stops watch note one keys files most done budget old new q at_breaks calm last few (omega (arith, some)) burst.1 is
-burst-told stops watch most done budget burst_end.ChainLimit old new q at_breaks calm last few burst is =
-    λ note one keys files. let (mid, within, reaches, passes, chain) = burst in
+pub burst-told : (stops : ℕ → Bool) (watch : WatchState) (keys : List (ℕ × ℕ)) (most done budget : ℕ) (end : BurstEnd) (old new : MachineState) (q : ProcessorState) → AreAtBreaks stops watch → IsCalm budget old
+    → old.time + budget ≤ last_time → budget ≤ most → IsBurst stops old.processor budget done end q → new ≡ passed_by done (record old { processor = q }) → Bursts watch keys most done end old new
+burst-told stops watch keys most done budget burst_end.Spent old new q at_breaks calm last few burst is =
+    λ note one files. let all = burst.0 in went stops watch note one keys files most done budget old new q at_breaks calm last few (omega (arith, all)) burst.1 is
+burst-told stops watch keys most done budget burst_end.Transfer old new q at_breaks calm last few burst is =
+    λ note one files. let some = burst.0 in went stops watch note one keys files most done budget old new q at_breaks calm last few (omega (arith, some)) burst.1 is
+burst-told stops watch keys most done budget burst_end.AtStop old new q at_breaks calm last few burst is =
+    λ note one files. let some = burst.0 in went stops watch note one keys files most done budget old new q at_breaks calm last few (omega (arith, some)) burst.1 is
+burst-told stops watch keys most done budget burst_end.ChainLimit old new q at_breaks calm last few burst is =
+    λ note one files. let (mid, within, reaches, passes, chain) = burst in
     ended stops watch note one keys files most done budget old new mid q at_breaks calm last few within reaches passes chain is
 
 -- a calm that is longer

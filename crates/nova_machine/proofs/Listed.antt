@@ -1,5 +1,5 @@
 -- Each event is one of a unit that is there.
-use Rattle.std.proofs.Common.{◌≡◌, inl, inr, ℕ, ◌≤◌, ◌==◌, Bool, true, false, not, List, [], ◌∷◌, Option, Some, None, IfSome, option_map, refl, ap, sym, subst, ◌∙◌, arith, nat_le, if◌then◌else◌}
+use Rattle.std.proofs.Common.{◌≡◌, inl, inr, ℕ, zero, suc, ◌≤◌, ◌==◌, Bool, true, false, not, List, [], ◌∷◌, Option, Some, None, IfSome, option_map, refl, ap, sym, subst, ◌∙◌, arith, nat_le, if◌then◌else◌}
 use Rattle.std.specs.List.{AllByRecursion}
 use Rattle.unit_trait.specs.declared.kind.Kind.{Kind}
 use Rattle.unit_trait.specs.declared.kind.UnitName.{UnitName}
@@ -10,6 +10,7 @@ use Rattle.unit_trait.specs.Calls.{UnitState, Reset}
 use Rattle.unit_trait.specs.Row.{row}
 use Rattle.event_queue.specs.EventList.{Event, event, waits, placed, is_of_kind, cancelled, due, served, lowered, ticked, wished}
 use Rattle.event_queue.specs.DueTimes.{scheduled}
+use Rattle.event_queue.specs.Idle.{looked, idled}
 use Rattle.unit_list.specs.declared.bus.BusAnswer.{BusAnswer}
 use Rattle.unit_list.specs.Bus.{unit_at, kinds_of}
 use Rattle.unit_list.specs.Reset.{first_unit, reset_events}
@@ -96,4 +97,15 @@ pub times_later : (now : ℕ) (es : List Event) → AllByRecursion (λ (x : ℕ 
 times_later now [] = tt
 times_later now (e ∷ es) = (omega arith, times_later now es)
 
-pub ruleset listings = (listed-lowered, listed-ticked, listed-served, listed-wished, listed-due, among-said)
+pub listed-looked : (ks : List Kind) (period : ℕ) (es : List Event) → AreListed ks es → AreListed ks (looked period es)
+listed-looked ks period [] all = tt
+listed-looked ks period (e ∷ es) all =
+    if-listed ks (e.remaining == 0) (placed e.unit period es) (e ∷ es) (listed-placed ks e.unit period es all.0 all.1) all
+
+pub listed-idled : (ks : List Kind) (period n : ℕ) (es : List Event) → AreListed ks es → AreListed ks (idled period n es)
+unfolding idled
+listed-idled ks period zero es all = all
+listed-idled ks period (suc n) es all =
+    listed-ticked ks (looked period (idled period n es)) (listed-looked ks period (idled period n es) (listed-idled ks period n es all))
+
+pub ruleset listings = (listed-looked, listed-idled, listed-lowered, listed-ticked, listed-served, listed-wished, listed-due, among-said)

@@ -17,7 +17,7 @@ use Rattle.expect_actions.proofs.BreakLemmas.{stop_none, tested_none}
 use Rattle.nova_machine.specs.declared.machine.Stop.TheVariants.{Break}
 use Rattle.nova_machine.proofs.Opened.{turn-opened}
 
-interrupt-none : (m : MachineState) → is_interrupted m ≡ false → interrupt m ≡ goes_on m
+pub interrupt-none : (m : MachineState) → is_interrupted m ≡ false → interrupt m ≡ goes_on m
 unfolding interrupt
 interrupt-none m quiet = ap (λ (b : Bool). if b then enter m else goes_on m) quiet
 

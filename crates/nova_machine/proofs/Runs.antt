@@ -78,17 +78,17 @@ chain-of note one first left most s mid next tells b c early is turned same =
 
 -- a burst that no chain has ended
 pub burst-goes : (watch : WatchState) (note : Option RunNote) (most done : ℕ) (end : BurstEnd) (old new : MachineState) (one : Bool) (keys : List (ℕ × ℕ)) (files : List NamedBytes)
-    → end ≢ burst_end.ChainLimit → Bursts watch most done end old new
+    → end ≢ burst_end.ChainLimit → Bursts watch keys most done end old new
     → turns note one false most (seen (beside watch keys files) old) ≡ turns note one false (most - done) (seen (beside watch keys files) new)
-burst-goes watch note most done burst_end.Spent old new one keys files other told = told note one keys files
-burst-goes watch note most done burst_end.Transfer old new one keys files other told = told note one keys files
-burst-goes watch note most done burst_end.AtStop old new one keys files other told = told note one keys files
+burst-goes watch note most done burst_end.Spent old new one keys files other told = told note one files
+burst-goes watch note most done burst_end.Transfer old new one keys files other told = told note one files
+burst-goes watch note most done burst_end.AtStop old new one keys files other told = told note one files
 burst-goes watch note most done burst_end.ChainLimit old new one keys files other told = absurd (other refl)
 
 pub burst-ends : (watch : WatchState) (note : Option RunNote) (most done : ℕ) (end : BurstEnd) (old new : MachineState) (one : Bool) (keys : List (ℕ × ℕ)) (files : List NamedBytes)
-    → end ≡ burst_end.ChainLimit → Bursts watch most done end old new
+    → end ≡ burst_end.ChainLimit → Bursts watch keys most done end old new
     → turns note one false most (seen (beside watch keys files) old) ≡ silent (Some ChainLimit) (seen (beside watch keys files) new)
-burst-ends watch note most done burst_end.ChainLimit old new one keys files is told = told note one keys files
+burst-ends watch note most done burst_end.ChainLimit old new one keys files is told = told note one files
 burst-ends watch note most done burst_end.Spent old new one keys files is told = absurd (cc)
 burst-ends watch note most done burst_end.Transfer old new one keys files is told = absurd (cc)
 burst-ends watch note most done burst_end.AtStop old new one keys files is told = absurd (cc)

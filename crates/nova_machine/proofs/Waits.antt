@@ -1,5 +1,5 @@
 -- A loop that waits for a flag: a round of it takes two instructions of time and changes nothing else.
-use Rattle.std.proofs.Common.{◌≡◌, ℕ, zero, suc, ◌+◌, ◌-◌, ◌*◌, ◌%◌, ◌^◌, ◌<◌, ◌≤◌, ◌==◌, Bool, true, false, not, nat_lt, is_some, option_map, unwrap_or, Option, Some, None, refl, ap, sym, ◌∙◌, arith, if◌then◌else◌}
+use Rattle.std.proofs.Common.{◌≡◌, ◌≢◌, List, ℕ, zero, suc, ◌+◌, ◌-◌, ◌*◌, ◌%◌, ◌^◌, ◌<◌, ◌≤◌, ◌==◌, Bool, true, false, not, nat_lt, is_some, option_map, unwrap_or, Option, Some, None, refl, ap, sym, ◌∙◌, arith, if◌then◌else◌}
 use Rattle.std.proofs.lemmas.Bool.Decides.{nat_tests}
 use Rattle.nova_word.specs.Bits.{bits}
 use Rattle.nova_memory.specs.Memory.{get}
@@ -26,6 +26,8 @@ use Rattle.nova_machine.specs.Run.{last_time, next_turn, turns}
 use Rattle.nova_machine.specs.Quiet.{IsPlain}
 use Rattle.nova_machine.specs.Bursts.{passed_by, IsCalm, Bursts}
 use Rattle.nova_machine.specs.Waits.{IsTest, IsUntaken, IsJump, IsWaiting}
+use Rattle.nova_processor.specs.declared.burst.BurstEnd.{BurstEnd}
+use Rattle.nova_machine.proofs.Runs.{burst-goes}
 use Rattle.nova_machine.proofs.Opened.{next-early}
 use Rattle.nova_machine.proofs.Bursts.{behind_step, executed-is, IsUnbroken, plain-turn, plain-next, turns-silent, behind, behind-none, behind-more, behind-plain, behind-early, behind-processor, behind-is, calm-erased, erased-behind}
 
@@ -188,9 +190,9 @@ waiting-erased m waiting = record {
   back = waiting.back;
 }
 
-pub waits-told : (watch : WatchState) (most rounds budget : ℕ) (old new : MachineState) → AreUnbroken watch old → IsWaiting old → IsCalm budget old → old.time + budget ≤ last_time → budget ≤ most → rounds * 2 ≤ budget
-    → new ≡ passed_by (rounds * 2) old → Bursts watch most (rounds * 2) burst_end.Transfer old new
-waits-told watch most rounds budget old new unbroken waiting calm end few within is = λ note one keys files.
+pub waits-told : (watch : WatchState) (keys : List (ℕ × ℕ)) (most rounds budget : ℕ) (old new : MachineState) → AreUnbroken watch old → IsWaiting old → IsCalm budget old → old.time + budget ≤ last_time → budget ≤ most → rounds * 2 ≤ budget
+    → new ≡ passed_by (rounds * 2) old → Bursts watch keys most (rounds * 2) burst_end.Transfer old new
+waits-told watch keys most rounds budget old new unbroken waiting calm end few within is = λ note one files.
     let all : most ≡ rounds * 2 + (most - rounds * 2) = omega (arith, few, within) in
     let s = seen (beside watch keys files) old in
     ap (λ (n : ℕ). turns note one false n s) all
@@ -198,9 +200,17 @@ waits-told watch most rounds budget old new unbroken waiting calm end few within
     ∙ ap (λ (x : MachineState). turns note one false (most - rounds * 2) (with_machine s x)) (erased-behind (rounds * 2) old old.processor)
     ∙ ap (λ (x : MachineState). turns note one false (most - rounds * 2) (seen (beside watch keys files) x)) (sym (is ∙ behind-is (rounds * 2) old old.processor))
 
--- a burst, and a wait behind it
-pub burst-and-wait : (watch : WatchState) (most done waited : ℕ) (old mid new : MachineState) → Bursts watch most done burst_end.Transfer old mid → Bursts watch (most - done) waited burst_end.Transfer mid new
-    → Bursts watch most (done + waited) burst_end.Transfer old new
-burst-and-wait watch most done waited old mid new first second = λ note one keys files.
-    let rest : most - done - waited ≡ most - (done + waited) = omega arith in
-    first note one keys files ∙ second note one keys files ∙ ap (λ (n : ℕ). turns note one false n (seen (beside watch keys files) new)) rest
+all-done : (most done more : ℕ) → most - done - more ≡ most - (done + more)
+all-done most done more = omega arith
+
+-- a burst that no chain has ended, and another behind it
+pub burst-then : (watch : WatchState) (keys : List (ℕ × ℕ)) (most done more : ℕ) (first end : BurstEnd) (old mid new : MachineState) → first ≢ burst_end.ChainLimit
+    → Bursts watch keys most done first old mid → Bursts watch keys (most - done) more end mid new → Bursts watch keys most (done + more) end old new
+burst-then watch keys most done more first burst_end.ChainLimit old mid new other told behind = λ note one files.
+    burst-goes watch note most done first old mid one keys files other told ∙ behind note one files
+burst-then watch keys most done more first burst_end.Spent old mid new other told behind = λ note one files.
+    burst-goes watch note most done first old mid one keys files other told ∙ behind note one files ∙ ap (λ (n : ℕ). turns note one false n (seen (beside watch keys files) new)) (all-done most done more)
+burst-then watch keys most done more first burst_end.Transfer old mid new other told behind = λ note one files.
+    burst-goes watch note most done first old mid one keys files other told ∙ behind note one files ∙ ap (λ (n : ℕ). turns note one false n (seen (beside watch keys files) new)) (all-done most done more)
+burst-then watch keys most done more first burst_end.AtStop old mid new other told behind = λ note one files.
+    burst-goes watch note most done first old mid one keys files other told ∙ behind note one files ∙ ap (λ (n : ℕ). turns note one false n (seen (beside watch keys files) new)) (all-done most done more)

@@ -27,12 +27,12 @@ pub record IsCalm (count : ℕ) (m : MachineState) : Type 0 where
   pub quiet : 0 < count → (m.ints.on && requested m.ints.mask m.units) ≡ false
   pub clear : IsClear count m.events
 
--- Of so many turns some are done, under these watch tables: those that are left come to what they all come to, whichever
--- keys, files and failing calls there are. A chain without an end has ended them.
-abbrev pub Bursts : WatchState → ℕ → ℕ → BurstEnd → MachineState → MachineState → Type 0
-Bursts watch most done burst_end.ChainLimit old new =
-    (note : Option RunNote) (step : Bool) (keys : List (ℕ × ℕ)) (files : List NamedBytes)
+-- Of so many turns some are done, under these watch tables: those that are left come to what they all come to, with
+-- these keys, whichever files and failing calls there are. A chain without an end has ended them.
+abbrev pub Bursts : WatchState → List (ℕ × ℕ) → ℕ → ℕ → BurstEnd → MachineState → MachineState → Type 0
+Bursts watch keys most done burst_end.ChainLimit old new =
+    (note : Option RunNote) (step : Bool) (files : List NamedBytes)
     → turns note step false most (seen (beside watch keys files) old) ≡ silent (Some ChainLimit) (seen (beside watch keys files) new)
-Bursts watch most done end old new =
-    (note : Option RunNote) (step : Bool) (keys : List (ℕ × ℕ)) (files : List NamedBytes)
+Bursts watch keys most done end old new =
+    (note : Option RunNote) (step : Bool) (files : List NamedBytes)
     → turns note step false most (seen (beside watch keys files) old) ≡ turns note step false (most - done) (seen (beside watch keys files) new)

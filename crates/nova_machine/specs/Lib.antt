@@ -16,6 +16,7 @@ pub mod Service
 pub mod Turn
 pub mod Run
 pub mod Bursts
+pub mod Looks
 pub mod Waits
 pub mod Comes
 pub mod Quiet

@@ -1,11 +1,11 @@
 // Bursts of the processor, as turns of the machine.
-ghost use Rattle.std.specs.Prelude.{◌≡◌, ◌+◌, ◌≤◌, ◌<◌, ◌^◌};
+ghost use Rattle.std.specs.Prelude.{ℕ, List, ◌≡◌, ◌+◌, ◌≤◌, ◌<◌, ◌^◌};
 ghost use Rattle.event_queue.specs.EventList.{IsClear};
 ghost use Rattle.nova_machine.specs.Run.{last_time};
 
 use crate::machine::Machine;
 use crate::run::LAST_TIME;
-use expect_actions::{Breaks, Watch};
+use expect_actions::{Breaks, Keys, Watch};
 use nova_processor::{Burst, BurstEnd, Nowhere, Stops};
 use nova_word::Addr;
 use unit_trait::Unit;
@@ -30,17 +30,25 @@ impl<U: Unit> Machine<U> {
     ghost use Rattle.expect_actions.specs.Breaks.{has_break};
     ghost use Rattle.nova_machine.specs.Bursts.{Bursts, IsCalm, passed_by};
 
-    /// Makes turns, as many at the most, while nothing but an instruction of the processor alone can come. Where a word
-    /// of input and output is next and begins a loop that waits for a flag, the rounds of the loop pass too.
-    pub(crate) fn burst(&mut self, most: u64, watch: &Watch) -> Burst
+    /// Makes turns, as many at the most, while nothing but an instruction of the processor alone can come, or a look of
+    /// the keyboard for which no key does. Where a word of input and output is next and begins a loop that waits for a
+    /// flag, the rounds of the loop pass too.
+    pub(crate) fn burst(&mut self, most: u64, watch: &Watch, keys: &Keys) -> Burst
         ensures few { result.done ≤ most }
-        ensures told { Bursts watch.now most result.done result.end self.old self.new }
+        ensures told { Bursts watch.now keys.now most result.done result.end self.old self.new }
         ensures slots { self.new.slots ≡ self.old.slots }
         ensures later { self.old.time ≤ self.new.time }
     {
         let burst = self.work(most, watch);
         match burst.end {
-            BurstEnd::Spent | BurstEnd::ChainLimit | BurstEnd::AtStop => burst,
+            BurstEnd::ChainLimit | BurstEnd::AtStop => burst,
+            BurstEnd::Spent => {
+                let idled = self.idle(most - burst.done, watch, keys);
+                Burst {
+                    done: burst.done + idled.done,
+                    end: idled.end,
+                }
+            }
             BurstEnd::Transfer => {
                 let waited = self.wait(most - burst.done, watch);
                 Burst {
@@ -54,7 +62,7 @@ impl<U: Unit> Machine<U> {
     /// Makes turns, as many at the most, of instructions of the processor alone.
     fn work(&mut self, most: u64, watch: &Watch) -> Burst
         ensures few { result.done ≤ most }
-        ensures told { Bursts watch.now most result.done result.end self.old self.new }
+        ensures told { (keys : List (ℕ × ℕ)) → Bursts watch.now keys most result.done result.end self.old self.new }
         ensures slots { self.new.slots ≡ self.old.slots }
         ensures later { self.old.time ≤ self.new.time }
     {
@@ -65,7 +73,7 @@ impl<U: Unit> Machine<U> {
     }
 
     /// Executes instructions of the processor alone, as many at the most, up to a break. Time does not pass.
-    fn step_to_break(&mut self, budget: u64, breaks: &Breaks) -> Burst
+    pub(crate) fn step_to_break(&mut self, budget: u64, breaks: &Breaks) -> Burst
         ensures few { result.done ≤ budget }
         ensures told { IsBurst (λ address. has_break address breaks.now.list) self.old.processor budget result.done result.end
             self.new.processor }

@@ -4,6 +4,7 @@ ghost use Rattle.nova_machine.specs.ServiceLaws.{ServesWhileDue};
 ghost use Rattle.nova_machine.specs.StopLaws.{TurnStops};
 ghost use Rattle.nova_machine.specs.ValidLaws.{RunsStayValid};
 ghost use Rattle.nova_machine.specs.WordLaws.{WordsReadBack};
+ghost use Rattle.nova_machine.specs.Looks.{LooksChangeNothing};
 
 /// The law that a run of n + k is a run of n and then a run of k, with what the first made in front, where only the
 /// count or the end of time ended the first. Another stop within the first n ends the whole run.
@@ -45,4 +46,10 @@ pub fn runs_stay_valid()
 /// each address where there is memory, and that no other word changes.
 pub fn words_read_back()
     ensures { WordsReadBack }
+{}
+
+/// The law that a look of the console's keyboard for which no key comes asks for the keyboard's event again, and
+/// changes nothing else.
+pub fn looks_change_nothing()
+    ensures { LooksChangeNothing }
 {}

@@ -3,6 +3,7 @@
 
 mod burst;
 mod drive;
+mod idle;
 mod instruction_end;
 pub mod laws;
 mod lending;

@@ -66,7 +66,7 @@ impl<U: Unit> Machine<U> {
                 Turn::Executed => (),
             }
             first = false;
-            let burst = self.burst(left - 1, watch);
+            let burst = self.burst(left - 1, watch, keys);
             match burst.end {
                 BurstEnd::ChainLimit => return Stop::ChainLimit,
                 BurstEnd::Spent | BurstEnd::Transfer | BurstEnd::AtStop => {

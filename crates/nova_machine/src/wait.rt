@@ -1,5 +1,5 @@
 // Loops that wait for a flag of a unit, a skip and a JMP back to it: their rounds pass at once, up to the next event.
-ghost use Rattle.std.specs.Prelude.{◌≡◌, ◌≤◌, ◌||◌, true};
+ghost use Rattle.std.specs.Prelude.{ℕ, List, ◌≡◌, ◌≤◌, ◌||◌, true};
 ghost use Rattle.expect_actions.specs.Breaks.{has_break};
 ghost use Rattle.nova_processor.specs.Instruction.{following};
 ghost use Rattle.nova_machine.specs.Waits.{IsTest};
@@ -22,7 +22,7 @@ impl<U: Unit> Machine<U> {
     /// how many instructions that were, as many as that at the most. All but the time is as it was then.
     pub(crate) fn wait(&mut self, most: u64, watch: &Watch) -> u64
         ensures few { result ≤ most }
-        ensures told { Bursts watch.now most result Transfer self.old self.new }
+        ensures told { (keys : List (ℕ × ℕ)) → Bursts watch.now keys most result Transfer self.old self.new }
         ensures slots { self.new.slots ≡ self.old.slots }
         ensures later { self.old.time ≤ self.new.time }
     {

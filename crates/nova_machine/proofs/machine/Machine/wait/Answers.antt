@@ -8,7 +8,7 @@ use Rattle.nova_machine.proofs.Waits.{AreUnbroken, waits-told}
 use Rattle.nova_machine.proofs.machine.Machine.wait.Goals as goal
 
 pub returns-clause-told : goal.returns-clause-told
-returns-clause-told g c =
+returns-clause-told g c = λ keys.
     let old = c.args.self.now in
     let budget = c.min-budget.result in
     let rounds = budget / 2 in
@@ -20,7 +20,7 @@ returns-clause-told g c =
     let waiting : IsWaiting old = search rules in
     let half : rounds * 2 ≤ budget = omega arith in
     let is : c.pass_time.new.self ≡ passed_by (rounds * 2) old = search rules in
-    waits-told c.args.watch.now c.args.most rounds budget old c.pass_time.new.self unbroken waiting calm last few half is
+    waits-told c.args.watch.now keys c.args.most rounds budget old c.pass_time.new.self unbroken waiting calm last few half is
 
 pub returns-clause-slots : goal.returns-clause-slots
 returns-clause-slots g c =

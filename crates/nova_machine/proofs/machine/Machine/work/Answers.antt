@@ -10,7 +10,7 @@ use Rattle.nova_machine.proofs.Bursts.{burst-told, calm-less, passed-slots, pass
 use Rattle.nova_machine.proofs.machine.Machine.work.Goals as goal
 
 pub returns-clause-told : goal.returns-clause-told
-returns-clause-told g c =
+returns-clause-told g c = λ keys.
     let old = c.args.self.now in
     let budget = c.min-budget.result in
     let within : budget ≤ c.calm.result = search rules in
@@ -22,7 +22,7 @@ returns-clause-told g c =
     λ breaks. IsBurst (λ address. has_break address breaks) old.processor budget c.step_to_break-burst.result.done c.step_to_break-burst.result.end c.step_to_break-burst.new.self.processor in
     let burst : P c.args.watch.now.breaks.list = subst P list c.step_to_break-burst.ensures.told in
     let is : c.pass_time.new.self ≡ passed_by c.step_to_break-burst.result.done (record old { processor = c.step_to_break-burst.new.self.processor }) = search rules in
-    burst-told (λ address. has_break address c.args.watch.now.breaks.list) c.args.watch.now c.args.most c.step_to_break-burst.result.done budget c.step_to_break-burst.result.end old c.pass_time.new.self c.step_to_break-burst.new.self.processor (λ address. refl) calm last few burst is
+    burst-told (λ address. has_break address c.args.watch.now.breaks.list) c.args.watch.now keys c.args.most c.step_to_break-burst.result.done budget c.step_to_break-burst.result.end old c.pass_time.new.self c.step_to_break-burst.new.self.processor (λ address. refl) calm last few burst is
 
 pub returns-clause-slots : goal.returns-clause-slots
 returns-clause-slots g c =

@@ -1,0 +1,321 @@
+-- Turns of instructions alone, and of looks of the console's keyboard for which no key comes.
+use Rattle.std.proofs.Common.{◌≡◌, ℕ, zero, suc, ◌+◌, ◌-◌, ◌<◌, ◌≤◌, ◌==◌, ◌&&◌, Bool, true, false, List, [], ◌∷◌, Option, Some, None, is_some, slice_get, option_map, refl, ap, sym, ◌∙◌, subst, arith, if◌then◌else◌}
+use Rattle.std.proofs.lemmas.Bool.Decides.{nat_tests}
+use Rattle.host_files.specs.Lists.{NamedBytes}
+use Rattle.unit_trait.specs.declared.kind.UnitName.{UnitName}
+use Rattle.unit_trait.specs.declared.kind.Kind.TheVariants.{Tti}
+use Rattle.unit_trait.specs.declared.calls.Queue.{Queue}
+use Rattle.unit_trait.specs.declared.calls.Queue.TheVariants.{After}
+use Rattle.unit_trait.specs.Kinds.{code_of}
+use Rattle.unit_list.specs.Bus.{unit_at}
+use Rattle.event_queue.specs.EventList.{Event, Sound, due, dues, served, wished, activated, ticked as ticked_events}
+use Rattle.event_queue.specs.Idle.{looked, idled, AreOthersLater}
+use Rattle.event_queue.proofs.Looks.{LooksOrNot, is_look, no_look, look-behind, others-fewer}
+use Rattle.nova_interrupts.specs.declared.interrupts.Ints.{Ints}
+use Rattle.nova_interrupts.specs.Interrupts.{released}
+use Rattle.nova_interrupts.specs.Requests.{requested}
+use Rattle.nova_processor.specs.declared.burst.BurstEnd.{BurstEnd}
+use Rattle.nova_processor.specs.declared.burst.BurstEnd.TheVariants as burst_end
+use Rattle.nova_processor.specs.declared.burst.Step.TheVariants as step_end
+use Rattle.nova_processor.specs.Processor.{ProcessorState}
+use Rattle.nova_processor.specs.Burst.{Stepped, steps, step, Reaches, IsBurst}
+use Rattle.expect_actions.specs.Breaks.{has_break}
+use Rattle.expect_actions.specs.Watch.{WatchState}
+use Rattle.expect_actions.specs.Sends.{Send, due_send}
+use Rattle.nova_machine.specs.declared.machine.Stop.TheVariants.{ChainLimit}
+use Rattle.nova_machine.specs.Machine.{MachineState}
+use Rattle.nova_machine.specs.Notes.{UnitNote, RunNote, at_time, at_unit}
+use Rattle.nova_machine.specs.Seen.{Seen, seen, beside, erased, with_machine}
+use Rattle.nova_machine.specs.Parts.{Part, silent, then_part}
+use Rattle.nova_machine.specs.Turned.{Turned, still}
+use Rattle.nova_machine.specs.Wants.{first_key}
+use Rattle.nova_machine.specs.Service.{service, services, serving, taken, key_at}
+use Rattle.nova_machine.specs.Turn.{fetch, is_interrupted, interrupt, breaks_tested_unless, attended, prepared, turn}
+use Rattle.nova_machine.specs.Run.{last_time, next_turn, turns}
+use Rattle.nova_machine.specs.Bursts.{Bursts}
+use Rattle.nova_machine.specs.Looks.{keyboard, wish_of, looked_again, IsKeyless, IsLooking, IsIdle, idled_by, looked_at, idle_end}
+use Rattle.nova_machine.proofs.Opened.{turn-opened, services-none, next-early, turns-stop}
+use Rattle.nova_machine.proofs.Serving.{serving-some}
+use Rattle.nova_machine.proofs.Plain.{plain-attended, interrupt-none, breaks-none}
+use Rattle.nova_machine.proofs.Looks.{looks-change-nothing}
+use Rattle.nova_machine.proofs.Bursts.{behind_step, agrees-step, IsUnbroken, turns-silent, AreAtBreaks, released-if, never, on-if, mask-if, calm-ints}
+
+-- what holds of a machine that may look: no interrupt comes, its keyboard is there and looks each so many instructions
+record Looks (period : ℕ) (m : MachineState) : Type 0 where
+  uninterrupted : is_interrupted m ≡ false
+  there : is_some (unit_at (code_of Tti) m.units) ≡ true
+  wish : wish_of m ≡ After period
+  turn_of : LooksOrNot keyboard period m.events
+
+look-serving : (note : Option UnitNote) (period : ℕ) (s : Seen) → Looks period s.machine → key_at s ≡ None
+    → due s.machine.events ≡ Some keyboard → dues (served s.machine.events) ≡ [] → activated keyboard period (served s.machine.events) ≡ looked period s.machine.events
+    → serving note s ≡ silent None (with_machine s (looked_at period s.machine))
+unfolding looked_at
+look-serving note period s looks none first alone same =
+    let m = s.machine in
+    let at = with_machine (taken s) (looked_again (taken s).machine) in
+    let wished_is : wished keyboard (wish_of m) (served m.events) ≡ looked period m.events =
+    ap (λ (q : Queue). wished keyboard q (served m.events)) looks.wish ∙ same in
+    serving-some note s keyboard first
+    ∙ ap (λ (p : Part). then_part p (λ next. services note (dues (served m.events)) next)) (looks-change-nothing (at_unit keyboard note) (taken s) looks.there none)
+    ∙ ap (λ (us : List UnitName). then_part (silent None at) (λ next. services note us next)) alone
+    ∙ ap (λ (p : Part). record { made = p.made; after = p.after; stop = p.stop }) (services-none note at)
+    ∙ ap (λ (es : List Event). silent None (with_machine s (record m { events = es }))) wished_is
+
+look-attended : (note : Option UnitNote) (period : ℕ) (s : Seen) → Looks period s.machine → key_at s ≡ None
+    → attended note s ≡ silent None (with_machine s (looked_at period s.machine))
+unfolding looked_at
+look-attended note period s looks none = by looks.turn_of
+  where
+    by : LooksOrNot keyboard period s.machine.events → attended note s ≡ silent None (with_machine s (looked_at period s.machine))
+    by (no_look nothing same) =
+        plain-attended note s (record { none = nothing; uninterrupted = looks.uninterrupted })
+        ∙ ap (λ (es : List Event). silent None (with_machine s (record s.machine { events = es }))) (sym same)
+    by (is_look first alone same later) =
+        (turn-opened note false s).attends
+        ∙ ap (λ (p : Part). then_part p (λ served. still served (interrupt served.machine))) (look-serving note period s looks none first alone same)
+        ∙ ap (λ (t : Turned). silent t.stop (with_machine s t.machine)) (interrupt-none (looked_at period s.machine) looks.uninterrupted)
+
+look-turn : (note : Option UnitNote) (period : ℕ) (s : Seen) → Looks period s.machine → key_at s ≡ None → IsUnbroken s
+    → turn note false s ≡ still s (fetch (looked_at period s.machine))
+unfolding looked_at
+look-turn note period s looks none unbroken =
+    let at = with_machine s (looked_at period s.machine) in
+    (turn-opened note false s).executes
+    ∙ ap (λ (p : Part). then_part p (λ ready. still ready (fetch ready.machine)))
+    ((turn-opened note false s).prepares
+    ∙ ap (λ (p : Part). then_part p (λ x. breaks_tested_unless false x)) (look-attended note period s looks none)
+    ∙ breaks-none at unbroken)
+
+look-next : (note : Option RunNote) (period : ℕ) (s : Seen) (q : ProcessorState) → Looks period s.machine → key_at s ≡ None → IsUnbroken s
+    → s.machine.time < last_time → step s.machine.processor ≡ steps q
+    → next_turn note false s ≡ silent None (with_machine s (behind_step (looked_at period s.machine) q))
+unfolding looked_at
+look-next note period s q looks none unbroken early is =
+    next-early note false s early ∙ look-turn (at_time s.machine.time note) period s looks none unbroken
+    ∙ ap (λ (t : Turned). still s t) ((agrees-step (looked_at period s.machine)).executed_is q is)
+
+look-chain : (note : Option RunNote) (period : ℕ) (s : Seen) (q : ProcessorState) → Looks period s.machine → key_at s ≡ None → IsUnbroken s
+    → s.machine.time < last_time → step s.machine.processor ≡ record { processor = q; end = step_end.ChainLimit }
+    → next_turn note false s ≡ silent (Some ChainLimit) (with_machine s (record (looked_at period s.machine) { processor = q }))
+unfolding looked_at
+look-chain note period s q looks none unbroken early is =
+    next-early note false s early ∙ look-turn (at_time s.machine.time note) period s looks none unbroken
+    ∙ ap (λ (t : Turned). still s t) ((agrees-step (looked_at period s.machine)).endless q is)
+
+-- ---- so many of them
+
+-- the machine behind so many steps, and the looks before them
+pub idle_behind : ℕ → ℕ → MachineState → ProcessorState → MachineState
+idle_behind period count m q = record (idled_by period count m) { processor = q }
+
+idle-none : (period : ℕ) (m : MachineState) (q : ProcessorState) → q ≡ m.processor → idle_behind period 0 m q ≡ m
+unfolding idle_behind idled_by idled
+idle-none period m q is =
+    let time : m.time + 0 ≡ m.time = omega arith in
+    ap (λ (p : ProcessorState). record m { processor = p; time = m.time + 0 }) is ∙ ap (λ (n : ℕ). record m { time = n }) time
+
+idle-more : (period count : ℕ) (m : MachineState) (mid q : ProcessorState) → behind_step (looked_at period (idle_behind period count m mid)) q ≡ idle_behind period (suc count) m q
+unfolding looked_at idle_behind idled_by idled behind_step
+idle-more period count m mid q =
+    let time : m.time + count + 1 ≡ m.time + suc count = omega arith in
+    let events = ticked_events (looked period (idled period count m.events)) in
+    let ints : released (if count == 0 then m.ints else released m.ints) ≡ (if suc count == 0 then m.ints else released m.ints) =
+    released-if (count == 0) m.ints ∙ ap (λ (b : Bool). if b then m.ints else released m.ints) (sym (never count)) in
+    ap (λ (n : ℕ). record m { processor = q; ints = released (if count == 0 then m.ints else released m.ints); time = n; events = events }) time
+    ∙ ap (λ (i : Ints). record m { processor = q; ints = i; time = m.time + suc count; events = events }) ints
+
+idle-looks : (period count most : ℕ) (m : MachineState) (q : ProcessorState) (sends : List Send) (keys : List (ℕ × ℕ)) → IsIdle most period m sends keys → count < most
+    → Looks period (idle_behind period count m q)
+unfolding idle_behind idled_by
+idle-looks period count most m q sends keys idle before = record {
+  uninterrupted =
+      calm-ints m.ints (if count == 0 then m.ints else released m.ints) m.units (on-if (count == 0) m.ints) (mask-if (count == 0) m.ints) idle.looking.quiet;
+  there = idle.looking.there;
+  wish = idle.looking.wish;
+  turn_of = look-behind keyboard period count most m.events idle.looking.some idle.looking.sound idle.looking.first idle.looking.later before;
+}
+
+no-key : (sent typed : Option ℕ) → sent ≡ None → typed ≡ None → first_key sent typed ≡ None
+no-key None None none nothing = refl
+no-key (Some b) typed none nothing = absurd (cc)
+no-key None (Some b) none nothing = absurd (cc)
+
+idle-keyless : (period count most : ℕ) (s : Seen) (q : ProcessorState) → IsIdle most period s.machine s.watch.sends s.keys → count < most
+    → key_at (with_machine s (idle_behind period count s.machine q)) ≡ None
+unfolding idle_behind idled_by
+idle-keyless period count most s q idle before =
+    let none = idle.keyless count before in
+    no-key _ _ none.0 none.1
+
+idle-early : (period count most : ℕ) (m : MachineState) (q : ProcessorState) → count < most → m.time + most ≤ last_time → (idle_behind period count m q).time < last_time
+unfolding idle_behind idled_by
+idle-early period count most m q before end = omega (arith, before, end)
+
+idle-processor : (period count : ℕ) (m : MachineState) (q : ProcessorState) → (idle_behind period count m q).processor ≡ q
+unfolding idle_behind
+idle-processor period count m q = refl
+
+idle-unbroken : (period : ℕ) (stops : ℕ → Bool) (count : ℕ) (s : Seen) (mid : ProcessorState) → AreAtBreaks stops s.watch → stops mid.cpu.pc ≡ false
+    → IsUnbroken (with_machine s (idle_behind period count s.machine mid))
+idle-unbroken period stops count s mid at passes =
+    ap (λ (p : ProcessorState). has_break p.cpu.pc s.watch.breaks.list) (idle-processor period count s.machine mid) ∙ at mid.cpu.pc ∙ passes
+
+idle-turns : (period : ℕ) (stops : ℕ → Bool) (note : Option RunNote) (one : Bool) (count most left : ℕ) (s : Seen) (q : ProcessorState) → AreAtBreaks stops s.watch
+    → IsIdle most period s.machine s.watch.sends s.keys → count ≤ most → s.machine.time + most ≤ last_time → Reaches stops count s.machine.processor q
+    → turns note one false (count + left) s ≡ turns note one false left (with_machine s (idle_behind period count s.machine q))
+idle-turns period stops note one zero most left s q at_breaks idle within end reaches =
+    let none : zero + left ≡ left = omega arith in
+    ap (λ (n : ℕ). turns note one false n s) none ∙ ap (λ (x : MachineState). turns note one false left (with_machine s x)) (sym (idle-none period s.machine q reaches))
+idle-turns period stops note one (suc count) most left s q at_breaks idle within end reaches =
+    let (mid, before, passes, last) = reaches in
+    let both : suc count + left ≡ count + suc left = omega arith in
+    let m = s.machine in
+    let less : count < most = omega (arith, within) in
+    let at = with_machine s (idle_behind period count m mid) in
+    let next = look-next note period at q (idle-looks period count most m mid s.watch.sends s.keys idle less) (idle-keyless period count most s mid idle less)
+    (idle-unbroken period stops count s mid at_breaks passes) (idle-early period count most m mid less end) (ap step (idle-processor period count m mid) ∙ last) in
+    ap (λ (n : ℕ). turns note one false n s) both
+    ∙ idle-turns period stops note one count most (suc left) s mid at_breaks idle (omega (arith, within)) end before
+    ∙ turns-silent note one left at (with_machine s (behind_step (looked_at period at.machine) q)) next
+    ∙ ap (λ (x : MachineState). turns note one false left (with_machine s x)) (idle-more period count m mid q)
+
+-- ---- what the calls come to
+
+idle-is : (period count : ℕ) (m : MachineState) (q : ProcessorState) → idled_by period count (record m { processor = q }) ≡ idle_behind period count m q
+unfolding idle_behind idled_by
+idle-is period count m q = refl
+
+idle-erased : (most period : ℕ) (m : MachineState) (sends : List Send) (keys : List (ℕ × ℕ)) → IsIdle most period m sends keys → IsIdle most period (erased m) sends keys
+idle-erased most period m sends keys idle = record {
+  looking = record {
+    quiet = idle.looking.quiet;
+    there = idle.looking.there;
+    wish = idle.looking.wish;
+    some = idle.looking.some;
+    sound = idle.looking.sound;
+    first = idle.looking.first;
+    later = idle.looking.later;
+  };
+  keyless = idle.keyless;
+}
+
+erased-idle : (period count : ℕ) (m : MachineState) (q : ProcessorState) → idle_behind period count (erased m) q ≡ erased (idle_behind period count m q)
+unfolding idle_behind idled_by
+erased-idle period count m q = refl
+
+went : (period : ℕ) (stops : ℕ → Bool) (watch : WatchState) (note : Option RunNote) (one : Bool) (keys : List (ℕ × ℕ)) (files : List NamedBytes) (most done budget : ℕ) (old new : MachineState) (q : ProcessorState)
+    → AreAtBreaks stops watch → IsIdle budget period old watch.sends keys → old.time + budget ≤ last_time → budget ≤ most → done ≤ budget
+    → Reaches stops done old.processor q → new ≡ idled_by period done (record old { processor = q })
+    → turns note one false most (seen (beside watch keys files) old) ≡ turns note one false (most - done) (seen (beside watch keys files) new)
+went period stops watch note one keys files most done budget old new q at_breaks idle end few within reaches is =
+    let all : most ≡ done + (most - done) = omega (arith, few, within) in
+    let s = seen (beside watch keys files) old in
+    ap (λ (n : ℕ). turns note one false n s) all
+    ∙ idle-turns period stops note one done budget (most - done) s q at_breaks (idle-erased budget period old watch.sends keys idle) within end reaches
+    ∙ ap (λ (x : MachineState). turns note one false (most - done) (with_machine s x)) (erased-idle period done old q)
+    ∙ ap (λ (x : MachineState). turns note one false (most - done) (seen (beside watch keys files) x)) (sym (is ∙ idle-is period done old q))
+
+looked-with : (period count : ℕ) (m : MachineState) (mid q : ProcessorState) → record (looked_at period (idle_behind period count m mid)) { processor = q } ≡ looked_at period (idle_behind period count m q)
+unfolding looked_at idle_behind
+looked-with period count m mid q = refl
+
+looked-erased : (period count : ℕ) (m : MachineState) (q : ProcessorState) → looked_at period (idle_behind period count (erased m) q) ≡ erased (looked_at period (idle_behind period count m q))
+unfolding looked_at idle_behind idled_by
+looked-erased period count m q = refl
+
+looked-is : (period : ℕ) (x y : MachineState) → x ≡ y → looked_at period x ≡ looked_at period y
+looked-is period x y is = ap (looked_at period) is
+
+ended : (period : ℕ) (stops : ℕ → Bool) (watch : WatchState) (note : Option RunNote) (one : Bool) (keys : List (ℕ × ℕ)) (files : List NamedBytes) (most done budget : ℕ) (old new : MachineState) (mid q : ProcessorState)
+    → AreAtBreaks stops watch → IsIdle budget period old watch.sends keys → old.time + budget ≤ last_time → budget ≤ most → done < budget
+    → Reaches stops done old.processor mid → stops mid.cpu.pc ≡ false → step mid ≡ record { processor = q; end = step_end.ChainLimit }
+    → new ≡ looked_at period (idled_by period done (record old { processor = q }))
+    → turns note one false most (seen (beside watch keys files) old) ≡ silent (Some ChainLimit) (seen (beside watch keys files) new)
+ended period stops watch note one keys files most done budget old new mid q at_breaks idle end few within reaches passes chain is =
+    let left = most - done - 1 in
+    let all : most ≡ done + suc left = omega (arith, few, within) in
+    let s = seen (beside watch keys files) old in
+    let m = s.machine in
+    let quiet = idle-erased budget period old watch.sends keys idle in
+    let at = with_machine s (idle_behind period done m mid) in
+    let next = look-chain note period at q (idle-looks period done budget m mid watch.sends keys quiet within) (idle-keyless period done budget s mid quiet within)
+    (idle-unbroken period stops done s mid at_breaks passes) (idle-early period done budget m mid within end) (ap step (idle-processor period done m mid) ∙ chain) in
+    ap (λ (n : ℕ). turns note one false n s) all
+    ∙ idle-turns period stops note one done budget (suc left) s mid at_breaks quiet (omega (arith, within)) end reaches
+    ∙ turns-stop note one false left at ChainLimit (ap (λ (p : Part). p.stop) next)
+    ∙ next
+    ∙ ap (λ (x : MachineState). silent (Some ChainLimit) (with_machine s x)) (looked-with period done m mid q ∙ looked-erased period done old q)
+    ∙ ap (λ (x : MachineState). silent (Some ChainLimit) (seen (beside watch keys files) x)) (sym (is ∙ looked-is period _ _ (idle-is period done old q)))
+
+pub idle-told : (period : ℕ) (stops : ℕ → Bool) (watch : WatchState) (keys : List (ℕ × ℕ)) (most done budget : ℕ) (end : BurstEnd) (old new : MachineState) (q : ProcessorState) → AreAtBreaks stops watch
+    → IsIdle budget period old watch.sends keys → old.time + budget ≤ last_time → budget ≤ most → IsBurst stops old.processor budget done end q
+    → new ≡ idle_end end period (idled_by period done (record old { processor = q })) → Bursts watch keys most done end old new
+idle-told period stops watch keys most done budget burst_end.Spent old new q at_breaks idle last few burst is =
+    λ note one files. let all = burst.0 in went period stops watch note one keys files most done budget old new q at_breaks idle last few (omega (arith, all)) burst.1 is
+idle-told period stops watch keys most done budget burst_end.Transfer old new q at_breaks idle last few burst is =
+    λ note one files. let some = burst.0 in went period stops watch note one keys files most done budget old new q at_breaks idle last few (omega (arith, some)) burst.1 is
+idle-told period stops watch keys most done budget burst_end.AtStop old new q at_breaks idle last few burst is =
+    λ note one files. let some = burst.0 in went period stops watch note one keys files most done budget old new q at_breaks idle last few (omega (arith, some)) burst.1 is
+idle-told period stops watch keys most done budget burst_end.ChainLimit old new q at_breaks idle last few burst is =
+    λ note one files. let (mid, within, reaches, passes, chain) = burst in
+    ended period stops watch note one keys files most done budget old new mid q at_breaks idle last few within reaches passes chain is
+
+pub idled-slots : (period count : ℕ) (m : MachineState) → (idled_by period count m).slots ≡ m.slots
+unfolding idled_by
+idled-slots period count m = refl
+
+pub idled-time : (period count : ℕ) (m : MachineState) → (idled_by period count m).time ≡ m.time + count
+unfolding idled_by
+idled-time period count m = refl
+
+pub looked-slots : (period : ℕ) (m : MachineState) → (looked_at period m).slots ≡ m.slots
+unfolding looked_at
+looked-slots period m = refl
+
+pub looked-time : (period : ℕ) (m : MachineState) → (looked_at period m).time ≡ m.time
+unfolding looked_at
+looked-time period m = refl
+
+-- fewer of them
+pub idle-less : (less others period : ℕ) (m : MachineState) (sends : List Send) (keys : List (ℕ × ℕ)) → less ≤ others → IsLooking others period m
+    → (until : ℕ) → IsKeyless until m.taken sends keys → less ≤ until - m.time → IsIdle less period m sends keys
+idle-less less others period m sends keys within looking until keyless early = record {
+  looking = record {
+    quiet = looking.quiet;
+    there = looking.there;
+    wish = looking.wish;
+    some = looking.some;
+    sound = looking.sound;
+    first = looking.first;
+    later = others-fewer less others m.events within looking.later;
+  };
+  keyless = λ n before. keyless (m.time + n) (omega (arith, before, early));
+}
+
+-- ---- until a key comes
+
+pub sends-later : (until : ℕ) (send : Send) (sends : List Send) → slice_get sends 0 ≡ Some send → until ≤ send.0 → (time : ℕ) → time < until → due_send time sends ≡ None
+sends-later until send [] is low time before = absurd (cc)
+sends-later until send (s ∷ sends) is low time before =
+    let same : s ≡ send = grind arith in
+    let first : s.0 ≡ send.0 = ap (λ (x : Send). x.0) same in
+    grind (arith, nat_tests)
+
+pub sends-never : (sends : List Send) → slice_get sends 0 ≡ None → (time : ℕ) → due_send time sends ≡ None
+sends-never [] is time = refl
+sends-never (s ∷ sends) is time = absurd (cc)
+
+pub end-slots : (end : BurstEnd) (period : ℕ) (m : MachineState) → (idle_end end period m).slots ≡ m.slots
+end-slots burst_end.ChainLimit period m = looked-slots period m
+end-slots burst_end.Spent period m = refl
+end-slots burst_end.Transfer period m = refl
+end-slots burst_end.AtStop period m = refl
+
+pub end-time : (end : BurstEnd) (period : ℕ) (m : MachineState) → (idle_end end period m).time ≡ m.time
+end-time burst_end.ChainLimit period m = looked-time period m
+end-time burst_end.Spent period m = refl
+end-time burst_end.Transfer period m = refl
+end-time burst_end.AtStop period m = refl
+
+pub ruleset idles = idle-less
