@@ -157,7 +157,8 @@ impl Events {
         self.first = self.entries.first();
     }
 
-    /// Where an event is due, asks for the first one again after so many instructions, behind those that are due no later.
+    /// Where an event is due, asks for the first one again after so many instructions, behind those that are due no
+    /// later.
     #[tactic(auto, using(crate::proofs::Looks::again))]
     pub fn look(&mut self, period: u32)
         requires { 1 ≤ period }

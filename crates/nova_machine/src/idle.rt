@@ -168,10 +168,12 @@ fn is_keyboard(unit: Option<UnitName>) -> bool
     ensures { result ≡ true → unit ≡ Some keyboard }
 {
     match unit {
-        Some(UnitName {
-            kind: Kind::Tti,
-            unit: 0,
-        }) => true,
+        Some(
+            UnitName {
+                kind: Kind::Tti,
+                unit: 0,
+            },
+        ) => true,
         _ => false,
     }
 }
