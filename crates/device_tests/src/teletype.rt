@@ -1,6 +1,6 @@
-// The keyboard and the printer of the console: BUSY, DONE, TIME and BUF of each.
+// The keyboards and printers of both teletypes: BUSY, DONE, TIME and BUF of each.
 use crate::rows::all;
-use tty_units::{Tti, Tto};
+use tty_units::{Tti, Tti1, Tto, Tto1};
 
 const THE_PULSES_OF_A_KEYBOARD_CHANGE_ITS_FLAGS_ALONE: &str =
     "1 1 7 0o101 | DIA 0o123456 = 0o101 keep | 1 1 7 0o101
@@ -116,5 +116,27 @@ fn a_register_takes_its_limits_and_nothing_past_them(rt: HostRuntime) {
         &rt,
         &mut Tto::new(),
         A_REGISTER_TAKES_ITS_LIMITS_AND_NOTHING_PAST_THEM,
+    );
+}
+
+const THE_SECOND_KEYBOARD_LOOKS_ON_LINE_0: &str =
+    "1 0 7 0o101 | DIAC 0 = 0o101 keep | 0 0 7 0o101 | due 0 = line_key 0 | 0 0 7 0o101
+1 0 9 5 | due 0 = line_key 0 | 1 0 9 5 | got 0 key 0o377 = after:9 go | 0 1 9 0o377
+0 1 1 5 | due 0 = line_key 0 | 0 1 1 5 | got 0 no_key = after:1 go | 0 1 1 5
+1 1 5 0o377 | reset = after:5 | 0 0 5 0o377";
+
+const THE_SECOND_PRINTER_PUTS_EIGHT_BITS_ON_LINE_0: &str =
+    "0 1 7 0 | DOAS 0o701 = 0 after:7 | 1 0 7 0o301
+1 0 9 0o377 | due 0 = line_put 0 0o377 | 1 0 9 0o377 | got 0 done = keep go | 0 1 9 0o377
+1 0 9 5 | due 0 = line_put 0 5 | 1 0 9 5 | got 0 line_full = after:9 go | 1 0 9 5
+1 1 5 0o377 | reset = keep | 0 0 5 0o377";
+
+#[test]
+fn the_second_teletype_works_on_line_0(rt: HostRuntime) {
+    all(&rt, &mut Tti1::new(), THE_SECOND_KEYBOARD_LOOKS_ON_LINE_0);
+    all(
+        &rt,
+        &mut Tto1::new(),
+        THE_SECOND_PRINTER_PUTS_EIGHT_BITS_ON_LINE_0,
     );
 }

@@ -99,8 +99,8 @@ fn unit_stop(word: &str) -> Option<UnitStop> {
     }
 }
 
-/// `nothing`, `key`, `console 65`, `read 5`, `write 5 65`, `sector_read 7 0`, `sector_write 7 0`, or `tape` with the
-/// command, the place, the address and the count.
+/// `nothing`, `key`, `console 65`, `line_key 0`, `line_put 0 65`, `read 5`, `write 5 65`, `sector_read 7 0`,
+/// `sector_write 7 0`, or `tape` with the command, the place, the address and the count.
 pub fn want(text: &str) -> Option<Want> {
     let (name, operands) = cut(text);
     match name {
@@ -117,6 +117,11 @@ pub fn want(text: &str) -> Option<Want> {
 fn transfer(name: &str, first: &str, second: &str) -> Option<Want> {
     match name {
         "console" => Some(Want::Console(byte(first)?)),
+        "line_key" => Some(Want::LineKey(byte(first)?)),
+        "line_put" => Some(Want::LinePut {
+            line: byte(first)?,
+            byte: byte(second)?,
+        }),
         "read" => Some(Want::ReadByte {
             place: place(first)?,
         }),

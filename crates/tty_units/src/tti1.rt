@@ -69,7 +69,7 @@ impl Unit for Tti1 {
 
     #[tactic(auto, unfolding(unit_trait::specs::Row::row_of, unit_trait::specs::Keyboard::keyboard_row))]
     fn due(&mut self, _unit: u8) -> Want {
-        Want::LineKey(1)
+        Want::LineKey(0)
     }
 
     fn got(&mut self, unit: u8, got: Got) -> After {

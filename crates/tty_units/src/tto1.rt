@@ -69,7 +69,7 @@ impl Unit for Tto1 {
     fn due(&mut self, _unit: u8) -> Want {
         Want::LinePut {
             line: 0,
-            byte: self.teleprinter.character() & 0o177,
+            byte: self.teleprinter.character(),
         }
     }
 
