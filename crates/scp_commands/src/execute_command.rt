@@ -12,6 +12,7 @@ ghost use Rattle.scp_commands.specs.Nature.{nature};
 ghost use Rattle.scp_commands.specs.Remains.{AreLeft};
 ghost use Rattle.scp_commands.specs.Parts.{IsPastRuns, IsPastSettings, IsPastWatches};
 ghost use Rattle.scp_commands.specs.Refusals.{IsUnrefused, IsMeasured};
+ghost use Rattle.scp_commands.specs.RunStops.{RunStops, IsNoStop, run_count, is_step};
 ghost use Rattle.scp_commands.specs.Doing.{Did, IsTold, Keeps, ConsoleCounts, MayWant, IsUndone, says_files, IsExitAnswer, RunCause, IsRefusal, AttachNote};
 
 use crate::do_command::do_script;
@@ -73,6 +74,8 @@ pub fn execute<U: Unit, F: Files, S: Sink>(
     ensures command { session.new.command ≡ session.old.command }
     ensures counts { ConsoleCounts result (S.fault_count out.old) (S.fault_count out.new) }
     ensures ran { RunCause result session.old.machine.slots (F.state files.old) (F.state files.new) }
+    ensures stopped { RunStops (is_step command.now session.old.limit) (run_count command.now session.old.limit) result
+        session.old session.new S.tells (S.written out.old) (S.written out.new) }
     ensures attach_note { AttachNote command.now result
         (record { command = session.old.command; time = session.old.machine.time }) session.old.notes session.new.notes
         (F.state files.old) (F.state files.new) }
@@ -121,6 +124,8 @@ fn obey<U: Unit, F: Files, S: Sink>(
     ensures command { session.new.command ≡ session.old.command }
     ensures counts { ConsoleCounts result (S.fault_count out.old) (S.fault_count out.new) }
     ensures ran { RunCause result session.old.machine.slots (F.state files.old) (F.state files.new) }
+    ensures stopped { RunStops (is_step command.now session.old.limit) (run_count command.now session.old.limit) result
+        session.old session.new S.tells (S.written out.old) (S.written out.new) }
     ensures attach_note { AttachNote command.now result
         (record { command = session.old.command; time = session.old.machine.time }) session.old.notes session.new.notes
         (F.state files.old) (F.state files.new) }
@@ -175,6 +180,7 @@ fn obey_setting<U: Unit, F: Files, S: Sink>(
     ensures command { session.new.command ≡ session.old.command }
     ensures counts { ConsoleCounts result (S.fault_count out.old) (S.fault_count out.new) }
     ensures ran { RunCause result session.old.machine.slots (F.state files.old) (F.state files.new) }
+    ensures no_stop { IsNoStop result }
     ensures attach_note { AttachNote command.now result
         (record { command = session.old.command; time = session.old.machine.time }) session.old.notes session.new.notes
         (F.state files.old) (F.state files.new) }
@@ -230,6 +236,7 @@ fn obey_watch<U: Unit, F: Files, S: Sink>(
     ensures command { session.new.command ≡ session.old.command }
     ensures counts { ConsoleCounts result (S.fault_count out.old) (S.fault_count out.new) }
     ensures ran { RunCause result session.old.machine.slots (F.state files.old) (F.state files.new) }
+    ensures no_stop { IsNoStop result }
     ensures attach_note { AttachNote command.now result
         (record { command = session.old.command; time = session.old.machine.time }) session.old.notes session.new.notes
         (F.state files.old) (F.state files.new) }
@@ -286,6 +293,7 @@ fn obey_file<U: Unit, F: Files, S: Sink>(
     ensures command { session.new.command ≡ session.old.command }
     ensures counts { ConsoleCounts result (S.fault_count out.old) (S.fault_count out.new) }
     ensures ran { RunCause result session.old.machine.slots (F.state files.old) (F.state files.new) }
+    ensures no_stop { IsNoStop result }
     ensures attach_note { AttachNote command.now result
         (record { command = session.old.command; time = session.old.machine.time }) session.old.notes session.new.notes
         (F.state files.old) (F.state files.new) }
