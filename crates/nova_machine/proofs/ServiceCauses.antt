@@ -1,5 +1,5 @@
 -- Why a service stops, and what it makes of the watch tables.
-use Rattle.std.proofs.Common.{◌≡◌, ◌≢◌, ℕ, zero, suc, ◌+◌, ◌≤◌, ◌==◌, Bool, true, false, IsTrue, List, [], ◌∷◌, ◌++◌, Option, Some, None, Ok, nat_lt, option_map, option_and_then, slice_index, slice_get, refl, ap, sym, subst, ◌∙◌, arith, nat_le, if◌then◌else◌}
+use Rattle.std.proofs.Common.{◌≡◌, ◌≢◌, ℕ, zero, suc, ◌+◌, ◌<◌, ◌≤◌, ◌==◌, Bool, true, false, IsTrue, List, [], ◌∷◌, ◌++◌, Option, Some, None, Ok, nat_lt, option_map, option_and_then, slice_index, slice_get, refl, ap, sym, subst, ◌∙◌, arith, nat_le, if◌then◌else◌}
 use Rattle.std.specs.Prelude.{IfSome}
 use Rattle.std.proofs.lemmas.Bool.Decides.{nat_tests}
 use Rattle.unit_trait.specs.declared.kind.Kind.{Kind}
@@ -11,8 +11,10 @@ use Rattle.unit_trait.specs.declared.calls.Got.{Got}
 use Rattle.unit_trait.specs.declared.calls.Got.TheVariants as got
 use Rattle.unit_trait.specs.declared.calls.UnitStop.{UnitStop}
 use Rattle.unit_trait.specs.declared.calls.UnitStop.TheVariants as unit_stop
+use Rattle.unit_trait.specs.Device.{position}
+use Rattle.unit_trait.specs.Registers.{pos_number}
 use Rattle.unit_trait.specs.Kinds.{code_of}
-use Rattle.unit_trait.specs.Calls.{UnitState, Answered, Row, holds}
+use Rattle.unit_trait.specs.Calls.{UnitState, Due, Answered, Row, holds}
 use Rattle.unit_trait.specs.Row.{row, row_of, moved, console_want, line_want}
 use Rattle.unit_trait.specs.Usual.{flagged, completed, stopping}
 use Rattle.unit_trait.specs.Disk.{with_status, disk_missing, disk_error}
@@ -25,7 +27,7 @@ use Rattle.unit_trait.specs.Teleprinter.{teleprinter_row}
 use Rattle.unit_list.specs.Bus.{unit_at, row_or_nothing, row_at, after_at}
 use Rattle.unit_list.proofs.Calls.{after-here}
 use Rattle.unit_list.proofs.Room.{kind-found}
-use Rattle.unit_files.specs.Attachments.{Attachment, Held, attachment_at, attachments_of, takes_files}
+use Rattle.unit_files.specs.Attachments.{Attachment, Held, attachment_at, attachments_of, only_writes, takes_files}
 use Rattle.unit_files.specs.declared.faults.ByteAnswer.{ByteAnswer}
 use Rattle.unit_files.specs.declared.faults.ByteAnswer.TheVariants as byte
 use Rattle.unit_files.specs.Acts.{NothingThere, WasWritten, AtEnd, most_bytes, write_act}
@@ -42,10 +44,10 @@ use Rattle.nova_machine.specs.declared.service.Hosted.TheVariants.{Gets, Matched
 use Rattle.nova_machine.specs.declared.service.Hosted.TheVariants as hosted
 use Rattle.nova_machine.specs.Machine.{MachineState}
 use Rattle.nova_machine.specs.Seen.{attached_in}
-use Rattle.nova_machine.specs.Service.{asked, answered}
-use Rattle.nova_machine.specs.Hosting.{hosted_of, bytes_printed, watch_behind}
+use Rattle.nova_machine.specs.Service.{want_at, asked, answered}
+use Rattle.nova_machine.specs.Hosting.{CanBeHosted, hosted_of, bytes_printed, watch_behind}
 use Rattle.nova_machine.specs.Wants.{first_key, typed_key, wru, key_stop, own_stop, watch_after, taken_after, bytes_of, stop_by}
-use Rattle.nova_machine.specs.StopCauses.{IsThere, stop_ioe_number, StopIoeHasItsName, StopsForFile, IsAtFileEnd, IsWithoutFile, IsGotOf, IsOfTape, IsMadeOf, Moment, moment_of, AreCountedDown, all_printed, NoneMatches, LastMatches, Matches, Watches, TookWru, ServiceCause}
+use Rattle.nova_machine.specs.StopCauses.{IsThere, stop_ioe_number, StopIoeHasItsName, StopsForFile, IsFull, IsAtFileEnd, IsWithoutFile, IsGotOf, IsPastRoom, IsOfTape, IsMadeOf, Moment, moment_of, AreCountedDown, all_printed, NoneMatches, LastMatches, Matches, Watches, TookWru, ServiceCause}
 use Rattle.nova_machine.proofs.Causes.{counted-same, IsNoMatch, matches-none}
 
 -- ---- a unit that stops has STOP_IOE on, and was told of an end, or that it has no file
@@ -182,12 +184,12 @@ row-stops Tti1 values n g = keyboard-stops Tti1 (want.LineKey 0) values n g
 row-stops Tto1 values n g = teleprinter-stops Tto1 (line_want 0) values n g
 row-stops kind values n g = goes-row kind g _ refl
 
--- a register that holds 1 is there
-found-one : (values : List ℕ) (i : ℕ) → slice_index values i ≡ 1 → slice_get values i ≡ Some 1
-found-one [] zero is = absurd (cc)
-found-one [] (suc i) is = absurd (cc)
-found-one (v ∷ values) zero is = ap Some is
-found-one (v ∷ values) (suc i) is = found-one values i is
+-- a register that holds another value than 0 is there
+found-value : (values : List ℕ) (i v : ℕ) → 0 < v → slice_index values i ≡ v → slice_get values i ≡ Some v
+found-value [] zero v some is = absurd (omega (arith, some, is))
+found-value [] (suc i) v some is = absurd (omega (arith, some, is))
+found-value (x ∷ values) zero v some is = ap Some is
+found-value (x ∷ values) (suc i) v some is = found-value values i v some is
 
 -- the unit that is found by the code of a kind
 record StopsUnit (kind : Kind) (n : ℕ) (g : Got) (there : Option UnitState) : Type 0 where
@@ -201,8 +203,51 @@ unit-stops kind n g (Some u) same =
     let r = row-stops u.kind u.registers n g in
     record {
       row = subst (λ (k : Kind). StopsRow k g (row u (Answered n g))) same r;
-      register = λ other. found-one (row u (Answered n g)).registers 2 (r.on other);
+      register = λ other. found-value (row u (Answered n g)).registers 2 1 (omega arith) (r.on other);
     }
+
+-- ---- a unit that only writes and is at its end
+
+sixth-kept : (values : List ℕ) → slice_index (flagged 0 1 values) 5 ≡ slice_index values 5
+sixth-kept [] = refl
+sixth-kept (a ∷ []) = refl
+sixth-kept (a ∷ b ∷ rest) = refl
+
+-- what a unit of that kind comes to that is asked, and then gets an answer
+abbrev Behind : Kind → List ℕ → ℕ → Got → Row
+Behind kind values n g = row_of kind (row_of kind values (Due n)).registers (Answered n g)
+
+full-values : (values : List ℕ) (most : ℕ) → 0 < most → most ≤ slice_index values 5 → slice_index values 5 ≤ most → slice_get (flagged 0 1 values) 5 ≡ Some most
+full-values values most some least largest =
+    let is : slice_index values 5 ≡ most = omega (arith, least, largest) in
+    found-value (flagged 0 1 values) 5 most some (sixth-kept values ∙ is)
+
+full-printer : (values : List ℕ) (n : ℕ) (g : Got) → IsPastRoom (row_of Lpt values (Due n)).want (Gets g) → CanBeHosted (row_of Lpt values (Due n)).want Lpt
+    → (Behind Lpt values n g).stop ≡ unit_stop.End → slice_get (Behind Lpt values n g).registers 5 ≡ Some position.largest
+unfolding row_of writer_row
+full-printer values n got.End past can is = full-values values position.largest (omega arith) past can.1
+full-printer values n got.NoFile past can is = let other = stop-is (slice_index (completed values).registers 2 == 1) unit_stop.NoFile unit_stop.End is (λ e. absurd (cc)) in absurd (cc)
+full-printer values n g past can is = absurd (cc)
+
+full-punch : (values : List ℕ) (n : ℕ) (g : Got) → IsPastRoom (row_of Ptp values (Due n)).want (Gets g) → CanBeHosted (row_of Ptp values (Due n)).want Ptp
+    → (Behind Ptp values n g).stop ≡ unit_stop.End → slice_get (Behind Ptp values n g).registers 5 ≡ Some position.largest
+unfolding row_of writer_row
+full-punch values n got.End past can is = full-values values position.largest (omega arith) past can.1
+full-punch values n got.NoFile past can is = let other = stop-is (slice_index (completed values).registers 2 == 1) unit_stop.NoFile unit_stop.End is (λ e. absurd (cc)) in absurd (cc)
+full-punch values n g past can is = absurd (cc)
+
+full-kind : (kind : Kind) (values : List ℕ) (n : ℕ) (g : Got) → only_writes kind ≡ true → IsPastRoom (row_of kind values (Due n)).want (Gets g) → CanBeHosted (row_of kind values (Due n)).want kind
+    → (Behind kind values n g).stop ≡ unit_stop.End → slice_get (Behind kind values n g).registers 5 ≡ Some position.largest
+full-kind Lpt values n g writes past can is = full-printer values n g past can is
+full-kind Ptp values n g writes past can is = full-punch values n g past can is
+full-kind kind values n g writes past can is = absurd (cc)
+
+full-found : (kind : Kind) (n : ℕ) (g : Got) (there : Option UnitState) → IfSome there (λ u. u.kind ≡ kind) → only_writes kind ≡ true → IsPastRoom (row_or_nothing (Due n) there).want (Gets g)
+    → CanBeHosted (row_or_nothing (Due n) there).want kind → (row_or_nothing (Answered n g) (option_map (λ (u : UnitState). moved u (Due n)) there)).stop ≡ unit_stop.End
+    → option_and_then (λ (u : UnitState). slice_get u.registers pos_number) (option_map (λ u. moved u (Answered n g)) (option_map (λ (u : UnitState). moved u (Due n)) there)) ≡ Some position.largest
+full-found kind n g None same writes past can is = absurd (cc)
+full-found kind n g (Some u) same writes past can is =
+    full-kind u.kind u.registers n g (ap only_writes same ∙ writes) past (subst (λ (k : Kind). CanBeHosted (row u (Due n)).want k) (sym same) can) is
 
 got-there : (a : Option Attachment) (g : Got) → IsEnd g → IsGotOf a g → IsThere a
 got-there a got.End end of = of
@@ -226,10 +271,12 @@ unit-cause keys start watch u now unit_stop.End ended none = ended refl
 unit-cause keys start watch u now unit_stop.NoFile ended none = none refl
 
 -- a unit gets an answer, and may stop the machine
-pub answered-cause : (keys : List (ℕ × ℕ)) (start : Moment) (watch : WatchState) (u : UnitName) (g : Got) (h now : MachineState) (a : Option Attachment) (stop : Option Stop)
-    → IsGotOf a g → attachment_at (attached_in now) u ≡ a → stop ≡ (answered u g h).stop → now ≡ (answered u g h).machine → ServiceCause stop keys start watch now
+answered-cause : (keys : List (ℕ × ℕ)) (start : Moment) (watch : WatchState) (u : UnitName) (g : Got) (h now : MachineState) (a : Option Attachment) (stop : Option Stop)
+    → IsGotOf a g → attachment_at (attached_in now) u ≡ a
+    → ((row_or_nothing (Answered u.unit g) (unit_at (code_of u.kind) h.units)).stop ≡ unit_stop.End → IsFull u now)
+    → stop ≡ (answered u g h).stop → now ≡ (answered u g h).machine → ServiceCause stop keys start watch now
 unfolding answered
-answered-cause keys start watch u g h now a stop of held stops is =
+answered-cause keys start watch u g h now a stop of held full stops is =
     let call = Answered u.unit g in
     let code = code_of u.kind in
     let there = unit_at code h.units in
@@ -246,6 +293,7 @@ answered-cause keys start watch u g h now a stop of held stops is =
       kind = found.row.takes (ends-not why same);
       file = file (got-there a g (found.row.ended same) of);
       stops = register (ends-not why same);
+      full = full same;
     }) (λ same. record {
       kind = found.row.takes (none-not why same);
       none = none (got-none a g (found.row.none same) of);
@@ -440,12 +488,38 @@ hosts-wru keys u w watch watch' m n h now x =
     (subst W time x.watched)
     (subst (λ (t : ℕ). T t m.taken) time (subst (λ (k : ℕ). T n.time k) same (x.kept ∙ x.taken)))
 
+asked-units : (u : UnitName) (m : MachineState) → (asked u m).units ≡ after_at (code_of u.kind) (Due u.unit) m.units
+unfolding asked
+asked-units u m = refl
+
+answered-units : (u : UnitName) (g : Got) (h : MachineState) → (answered u g h).machine.units ≡ after_at (code_of u.kind) (Answered u.unit g) h.units
+unfolding answered
+answered-units u g h = refl
+
+-- a unit that only writes is at the largest place where it is told that it is at the end
+full-behind : (u : UnitName) (g : Got) (m n h now : MachineState) → n ≡ asked u m → h.units ≡ n.units → now ≡ (answered u g h).machine → IsPastRoom (want_at u m) (Gets g) → CanBeHosted (want_at u m) u.kind
+    → (row_or_nothing (Answered u.unit g) (unit_at (code_of u.kind) h.units)).stop ≡ unit_stop.End → IsFull u now
+full-behind u g m n h now asks units is past can ends = λ writes.
+    let code = code_of u.kind in
+    let there = unit_at code m.units in
+    let before : unit_at code h.units ≡ option_map (λ (x : UnitState). moved x (Due u.unit)) there =
+    ap (unit_at code) (units ∙ ap (λ (y : MachineState). y.units) asks ∙ asked-units u m) ∙ after-here code (Due u.unit) m.units in
+    let behind : unit_at code now.units ≡ option_map (λ x. moved x (Answered u.unit g)) (unit_at code h.units) =
+    ap (unit_at code) (ap (λ (y : MachineState). y.units) is ∙ answered-units u g h) ∙ after-here code (Answered u.unit g) h.units in
+    let stop : (row_or_nothing (Answered u.unit g) (option_map (λ (x : UnitState). moved x (Due u.unit)) there)).stop ≡ unit_stop.End =
+    subst (λ (o : Option UnitState). (row_or_nothing (Answered u.unit g) o).stop ≡ unit_stop.End) before ends in
+    ap (λ (o : Option UnitState). option_and_then (λ (x : UnitState). slice_get x.registers pos_number) o)
+    (behind ∙ ap (λ (o : Option UnitState). option_map (λ x. moved x (Answered u.unit g)) o) before)
+    ∙ full-found u.kind u.unit g there (kind-found u.kind m.units) writes past can stop
+
 -- a unit is answered
 pub hosts-gets : (keys : List (ℕ × ℕ)) (u : UnitName) (w : Want) (g : Got) (watch watch' : WatchState) (m n h now : MachineState) (stop : Option Stop) → Hosts keys u w (Gets g) watch watch' m n h now
-    → now.slots ≡ n.slots → stop ≡ (answered u g h).stop → now ≡ (answered u g h).machine → ServiceCause stop keys (moment_of watch m) watch' now
-hosts-gets keys u w g watch watch' m n h now stop x slots stops is =
+    → now.slots ≡ n.slots → w ≡ want_at u m → h.units ≡ n.units → CanBeHosted w u.kind → IsPastRoom w (Gets g)
+    → stop ≡ (answered u g h).stop → now ≡ (answered u g h).machine → ServiceCause stop keys (moment_of watch m) watch' now
+hosts-gets keys u w g watch watch' m n h now stop x slots want_is units can past stops is =
     answered-cause keys (moment_of watch m) watch' u g h now (attachment_at (attached_in n) u) stop x.made_is.0
-    (ap (λ (s : List (Option Held)). attachment_at (attachments_of s) u) slots) stops is
+    (ap (λ (s : List (Option Held)). attachment_at (attachments_of s) u) slots)
+    (full-behind u g m n h now x.asked_is units is (subst (λ (y : Want). IsPastRoom y (Gets g)) want_is past) (subst (λ (y : Want). CanBeHosted y u.kind) want_is can)) stops is
 
 -- ---- what the files of units say
 
@@ -464,6 +538,17 @@ write-made byte.NoFile (Some a) place b kind key expects said = absurd (never (n
     never true e = absurd (cc)
     never false e = absurd (cc)
 write-made (byte.Failed f) a place b kind key expects said = tt
+
+pub write-past : (answer : ByteAnswer) (a : Option Attachment) (place byte_written : ℕ) → said_of_byte answer ≡ write_act (failure_of_byte answer) a place
+    → IsPastRoom (want.WriteByte place byte_written) (hosted_of answer)
+unfolding write_act most_bytes
+write-past byte.End None place b said = absurd (cc)
+write-past byte.End (Some a) place b said = by-test (nat_lt place 16777216) refl said
+  where
+    by-test : (t : Bool) → nat_lt place 16777216 ≡ t → AtEnd ≡ (if t then WasWritten else AtEnd) → position.largest ≤ place
+    by-test true low e = absurd (cc)
+    by-test false low e = grind (arith, nat_tests)
+write-past answer a place b said = tt
 
 -- an operation on the file of a drive has an answer
 pub tape-made : (g : Got) (a : Option Attachment) → IsThere a → IsOfTape (Ok g) → IsGotOf a g

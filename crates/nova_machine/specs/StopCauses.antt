@@ -8,9 +8,10 @@ use Rattle.unit_trait.specs.declared.calls.Want.{Want}
 use Rattle.unit_trait.specs.declared.calls.Want.TheVariants as want
 use Rattle.unit_trait.specs.declared.calls.Got.{Got}
 use Rattle.unit_trait.specs.declared.calls.Got.TheVariants as got
-use Rattle.unit_trait.specs.Registers.{name_at}
+use Rattle.unit_trait.specs.Device.{position}
+use Rattle.unit_trait.specs.Registers.{pos_number, name_at}
 use Rattle.unit_list.specs.Bus.{register_in}
-use Rattle.unit_files.specs.Attachments.{Attachment, attachment_at, is_tape, takes_files}
+use Rattle.unit_files.specs.Attachments.{Attachment, attachment_at, is_tape, only_writes, takes_files}
 use Rattle.expect_actions.specs.declared.breaks.Break.{Break}
 use Rattle.expect_actions.specs.Breaks.{BreakTable, stop_at, after_test}
 use Rattle.expect_actions.specs.Expects.{ExpectTable, match_at, after_printed}
@@ -76,11 +77,16 @@ IsThere a = (file : Attachment) × (a ≡ Some file)
 abbrev pub HasFile : UnitName → MachineState → Type 0
 HasFile unit m = IsThere (attachment_at (attached_in m) unit)
 
--- a file is attached to a unit, and its STOP_IOE is on
+-- a unit that only writes is at the end of its file where its POS is the largest that there is
+abbrev pub IsFull : UnitName → MachineState → Type 0
+IsFull unit m = only_writes unit.kind ≡ true → register_in unit.kind pos_number m.units ≡ Some position.largest
+
+-- a file is attached to a unit, and its STOP_IOE is on; a unit that only writes has no room left
 pub record IsAtFileEnd (unit : UnitName) (m : MachineState) : Type 0 where
   pub kind : IsTrue (takes_files unit.kind)
   pub file : HasFile unit m
   pub stops : StopsForFile unit m
+  pub full : IsFull unit m
 
 -- no file is attached to a unit that can have one, and its STOP_IOE is on
 pub record IsWithoutFile (unit : UnitName) (m : MachineState) : Type 0 where
@@ -101,6 +107,11 @@ IsGotOf a got.End = IsThere a
 IsGotOf a (got.Tape tape) = IsThere a
 IsGotOf a got.NoFile = a ≡ None
 IsGotOf a other = Unit {0}
+
+-- a byte is not written for want of room past the bytes that a unit sees alone
+abbrev pub IsPastRoom : Want → Hosted → Type 0
+IsPastRoom (want.WriteByte place byte) (Gets got.End) = position.largest ≤ place
+IsPastRoom want made = Unit {0}
 
 -- an operation on the file of a drive says where the tape stands, or was none
 abbrev pub IsOfTape : Result Got TapeStop → Type 0

@@ -209,7 +209,7 @@ impl<U: Unit> Machine<U> {
     ghost use Rattle.nova_machine.specs.Seen.{attached_in};
     ghost use Rattle.nova_machine.specs.Comes.{AreTold, FileCause};
     ghost use Rattle.nova_machine.specs.Hosting.{IsHosted, HasRoom};
-    ghost use Rattle.nova_machine.specs.StopCauses.{IsMadeOf};
+    ghost use Rattle.nova_machine.specs.StopCauses.{IsMadeOf, IsPastRoom};
     ghost use Rattle.nova_machine.specs.Service.{done_for};
 
     /// Does what a unit wants of the machine.
@@ -254,6 +254,7 @@ impl<U: Unit> Machine<U> {
         ensures made { IsMadeOf want unit.kind (attachment_at (attached_in self.old) unit)
             (first_key (due_send self.old.time watch.old.sends) (due_key keys.now self.old.taken self.old.time))
             watch.old.expects result }
+        ensures room_left { IsPastRoom want result }
     {
         match want {
             Want::Nothing | Want::LinePut { line: _, byte: _ } => Hosted::Gets(Got::Done),

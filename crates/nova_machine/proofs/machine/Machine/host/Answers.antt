@@ -10,8 +10,8 @@ use Rattle.nova_machine.specs.Hosting.{IsHosted, HasRoom, hosted_of}
 use Rattle.expect_actions.specs.KeysFile.{due_key}
 use Rattle.expect_actions.specs.Sends.{due_send}
 use Rattle.nova_machine.specs.Wants.{first_key}
-use Rattle.nova_machine.specs.StopCauses.{IsMadeOf}
-use Rattle.nova_machine.proofs.ServiceCauses.{write-made}
+use Rattle.nova_machine.specs.StopCauses.{IsMadeOf, IsPastRoom}
+use Rattle.nova_machine.proofs.ServiceCauses.{write-made, write-past}
 use Rattle.nova_machine.proofs.Hosting.{read-hosted, read-room, write-room}
 use Rattle.nova_machine.proofs.machine.Machine.host.Goals as goal
 
@@ -76,3 +76,9 @@ returns-in-Tape-clause-made g c =
     let key = first_key (due_send c.args.self.now.time c.args.watch.now.sends) (due_key c.args.keys.now c.args.self.now.taken c.args.self.now.time) in
     let expects = c.args.watch.now.expects in
     subst (λ (w : Want). IsMadeOf w c.args.unit.kind a key expects c.move_tape.result) (sym c.in-Tape.is) (c.move_tape.ensures.made key expects)
+
+pub returns-in-WriteByte-clause-room_left : goal.returns-in-WriteByte-clause-room_left
+returns-in-WriteByte-clause-room_left g c =
+    subst (λ (o : Hosted). IsPastRoom c.args.want o) (sym c.made_of-in-WriteByte.ensures)
+    (subst (λ (w : Want). IsPastRoom w (hosted_of c.write_byte.result)) (sym c.in-WriteByte.is)
+    (write-past c.write_byte.result (attachment_at (attachments_of c.self-in-WriteByte.inside.attached.slots) c.args.unit) c.in-WriteByte.place c.in-WriteByte.byte c.write_byte.ensures.said))

@@ -102,7 +102,7 @@ returns-in-Gets-clause-cause g c =
       made_is = e.made;
     } in
     hosts-gets c.args.keys.now c.args.unit w c.in-Gets.got c.args.watch.now c.host.new.watch c.args.self.now c.ask-want.new.self c.host.new.self c.answer.new.self c.answer.result hosts
-    (c.answer.ensures.slots ∙ e.slots) c.answer.ensures.stop c.answer.ensures.machine
+    (c.answer.ensures.slots ∙ e.slots) c.ask-want.ensures.want e.units c.ask-want.ensures.hosted e.room_left c.answer.ensures.stop c.answer.ensures.machine
 
 pub returns-in-Wru-clause-watches : goal.returns-in-Wru-clause-watches
 returns-in-Wru-clause-watches g c =
