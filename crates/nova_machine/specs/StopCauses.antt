@@ -101,7 +101,7 @@ pub record HasTape (unit : UnitName) (m : MachineState) : Type 0 where
 
 -- ---- what is made of a want
 
--- a unit is told that it has no file exactly where none is attached, and of an end or of a tape only where one is
+-- a unit is told that it has no file only where none is attached, and of an end or of a tape only where one is
 abbrev pub IsGotOf : Option Attachment → Got → Type 0
 IsGotOf a got.End = IsThere a
 IsGotOf a (got.Tape tape) = IsThere a
