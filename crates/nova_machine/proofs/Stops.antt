@@ -289,9 +289,9 @@ pub unit-serving : (note : Option UnitNote) (s : Seen) → IsUnitStop (serving n
 unit-serving note s = walk-serving StopsForUnits services-stop note s
 
 -- what the interrupt comes to
-record EntersAt (m : MachineState) (t : Turned) : Type 0 where
-  cases : (t.stop ≡ None) ⊎ ((t.stop ≡ Some ChainLimit) × (is_interrupted m ≡ true) × ((interrupt_reference m).address ≡ None))
-  endless : is_interrupted m ≡ true → (interrupt_reference m).address ≡ None → (t.stop ≡ Some ChainLimit) × (t.machine ≡ behind_entry m)
+pub record EntersAt (m : MachineState) (t : Turned) : Type 0 where
+  pub cases : (t.stop ≡ None) ⊎ ((t.stop ≡ Some ChainLimit) × (is_interrupted m ≡ true) × ((interrupt_reference m).address ≡ None))
+  pub endless : is_interrupted m ≡ true → (interrupt_reference m).address ≡ None → (t.stop ≡ Some ChainLimit) × (t.machine ≡ behind_entry m)
 
 enters-jump : (m : MachineState) (a : Option ℕ) → (interrupt_reference m).address ≡ a → is_interrupted m ≡ true → EntersAt m (jump_to a (behind_entry m))
 enters-jump m None is comes = record { cases = inr (refl, comes, is); endless = λ _ _. (refl, refl) }
@@ -305,7 +305,7 @@ enters-if : (b : Bool) (m : MachineState) → is_interrupted m ≡ b → EntersA
 enters-if true m comes = enters-enter m comes
 enters-if false m comes = record { cases = inl refl; endless = λ h none. absurd (cc) }
 
-enters-interrupt : (m : MachineState) → EntersAt m (interrupt m)
+pub enters-interrupt : (m : MachineState) → EntersAt m (interrupt m)
 unfolding interrupt
 enters-interrupt m = enters-if (is_interrupted m) m refl
 

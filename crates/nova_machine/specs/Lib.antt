@@ -22,6 +22,7 @@ pub mod Comes
 pub mod Quiet
 pub mod Laws
 pub mod StopLaws
+pub mod StopCauses
 pub mod ServiceLaws
 pub mod Core
 pub mod SameRun

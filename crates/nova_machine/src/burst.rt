@@ -29,6 +29,7 @@ impl<U: Unit> Machine<U> {
     ghost use Rattle.nova_processor.specs.Burst.{IsBurst};
     ghost use Rattle.expect_actions.specs.Breaks.{has_break};
     ghost use Rattle.nova_machine.specs.Bursts.{Bursts, IsCalm, passed_by};
+    ghost use Rattle.nova_machine.specs.StopCauses.{BurstCause};
 
     /// Makes turns, as many at the most, while nothing but an instruction of the processor alone can come, or a look of
     /// the keyboard for which no key does. Where a word of input and output is next and begins a loop that waits for a
@@ -38,6 +39,9 @@ impl<U: Unit> Machine<U> {
         ensures told { Bursts watch.now keys.now most result.done result.end self.old self.new }
         ensures slots { self.new.slots ≡ self.old.slots }
         ensures later { self.old.time ≤ self.new.time }
+        ensures time { self.new.time ≡ self.old.time + result.done }
+        ensures taken { self.new.taken ≡ self.old.taken }
+        ensures cause { BurstCause result.end most result.done self.new }
     {
         let burst = self.work(most, watch);
         match burst.end {
@@ -65,6 +69,9 @@ impl<U: Unit> Machine<U> {
         ensures told { (keys : List (ℕ × ℕ)) → Bursts watch.now keys most result.done result.end self.old self.new }
         ensures slots { self.new.slots ≡ self.old.slots }
         ensures later { self.old.time ≤ self.new.time }
+        ensures time { self.new.time ≡ self.old.time + result.done }
+        ensures taken { self.new.taken ≡ self.old.taken }
+        ensures cause { BurstCause result.end most result.done self.new }
     {
         let budget = most.min(LAST_TIME - self.time).min(self.calm());
         let burst = self.step_to_break(budget, &watch.breaks);

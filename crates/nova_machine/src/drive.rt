@@ -13,6 +13,7 @@ ghost use Rattle.nova_machine.specs.Operated.{operated, failure_of, IsOnImage, I
 ghost use Rattle.expect_actions.specs.Expects.{ExpectTable};
 ghost use Rattle.nova_machine.specs.Notes.{unit_note, failure_of_stop};
 ghost use Rattle.nova_machine.specs.Hosting.{IsHosted, IsImageOf, HasRoom, IsTapeOrder, stop_in};
+ghost use Rattle.nova_machine.specs.StopCauses.{IsMadeOf, IsOfTape};
 ghost use Rattle.nova_machine.specs.Wants.{HasUnit};
 
 use crate::machine::{Machine, Stop};
@@ -56,6 +57,8 @@ impl<U: Unit> Machine<U> {
         ensures console { (count : ℕ) → StopCounts (stop_in result) count count }
         ensures opened { (F.state files.new).opened ≡ (F.state files.old).opened }
         ensures file_cause { FileCause (stop_in result) self.old.slots (F.state files.old) (F.state files.new) }
+        ensures made { (key : Option ℕ) (expects : ExpectTable) → IsMadeOf (wants.Tape order) unit.kind
+            (attachment_at (attached_in self.old) unit) key expects result }
     {
         operate_drive(
             &self.attached,
@@ -95,6 +98,8 @@ fn operate_drive<F: Files>(
     ensures console { (count : ℕ) → StopCounts (stop_in result) count count }
     ensures opened { (F.state files.new).opened ≡ (F.state files.old).opened }
     ensures file_cause { FileCause (stop_in result) attached.now.slots (F.state files.old) (F.state files.new) }
+    ensures made { (key : Option ℕ) (expects : ExpectTable) → IsMadeOf (wants.Tape order) unit.kind
+        (attachment_at (attachments_of attached.now.slots) unit) key expects result }
 {
     match attached.file_of(unit) {
         None => Hosted::Gets(Got::NoFile),
@@ -145,6 +150,7 @@ fn operate_file<F: Files>(
     ensures opened { (F.state files.new).opened ≡ (F.state files.old).opened }
     ensures bound { IsOnImage result }
     ensures call { IsTapeCall result }
+    ensures moved { IsOfTape result }
     ensures cause { StopCause result file.0 (F.state files.old) (F.state files.new) }
 {
     let mut tape = OneFile { files, file };

@@ -1,6 +1,7 @@
 ghost use Rattle.nova_machine.specs.Laws.{RunSplits, RunTakesTime};
 ghost use Rattle.nova_machine.specs.SameRun.{SameStateSameRun};
 ghost use Rattle.nova_machine.specs.ServiceLaws.{ServesWhileDue};
+ghost use Rattle.nova_machine.specs.StopCauses.{StopIoeHasItsName};
 ghost use Rattle.nova_machine.specs.StopLaws.{TurnStops};
 ghost use Rattle.nova_machine.specs.ValidLaws.{RunsStayValid};
 ghost use Rattle.nova_machine.specs.WordLaws.{WordsReadBack};
@@ -21,6 +22,11 @@ pub fn runs_take_time()
 /// The law that each stop of a turn comes exactly where its cause is given, and what stands after it.
 pub fn turns_stop()
     ensures { TurnStops }
+{}
+
+/// The law that the register by which a unit that can have a file stops a run is STOP_IOE.
+pub fn stop_ioe_has_its_name()
+    ensures { StopIoeHasItsName }
 {}
 
 /// The law that a turn serves while an event is due, the first one first, and that this ends: a service brings no event

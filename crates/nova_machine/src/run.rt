@@ -34,6 +34,7 @@ impl<U: Unit> Machine<U> {
     ghost use Rattle.nova_machine.specs.Comes.{Comes, AreTold, StopCounts, FileCause};
     ghost use Rattle.unit_files.specs.Open.{AllOpen};
     ghost use Rattle.nova_machine.specs.Run.{run};
+    ghost use Rattle.nova_machine.specs.StopCauses.{moment_of, Watches, RunCause};
 
     /// Makes turns until one stops, the count of the limit is reached, or time ends, and answers which. The instruction
     /// of a HALT counts; one that stopped as `ChainLimit` or `UnknownDevice` does not, and PC stays there.
@@ -54,6 +55,10 @@ impl<U: Unit> Machine<U> {
         ensures slots { self.new.slots ≡ self.old.slots }
         ensures opened { (F.state files.new).opened ≡ (F.state files.old).opened }
         ensures file_cause { FileCause (Some result) self.old.slots (F.state files.old) (F.state files.new) }
+        ensures watches { Watches (Some result) (moment_of watch.old self.old) (moment_of watch.new self.new) S.tells
+            (S.written out.old) (S.written out.new) }
+        ensures cause { RunCause limit.step limit.count result keys.now (moment_of watch.old self.old) watch.new
+            self.new }
     {
         let mut first = true;
         let mut left = limit.count;

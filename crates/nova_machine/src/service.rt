@@ -30,6 +30,7 @@ impl<U: Unit> Machine<U> {
     ghost use Rattle.nova_machine.specs.Seen.{seen, beside};
     ghost use Rattle.nova_machine.specs.Comes.{Comes, AreTold, FileCause};
     ghost use Rattle.nova_machine.specs.Service.{serving, service, asked, answered, want_at};
+    ghost use Rattle.nova_machine.specs.StopCauses.{moment_of, Watches, ServiceCause};
     ghost use Rattle.unit_files.specs.Open.{AllOpen};
     ghost use Rattle.event_queue.specs.EventList.{served};
 
@@ -51,6 +52,10 @@ impl<U: Unit> Machine<U> {
         ensures slots { self.new.slots ≡ self.old.slots }
         ensures opened { (F.state files.new).opened ≡ (F.state files.old).opened }
         ensures file_cause { FileCause result self.old.slots (F.state files.old) (F.state files.new) }
+        ensures watches { Watches result (moment_of watch.old self.old) (moment_of watch.new self.new) S.tells
+            (S.written out.old) (S.written out.new) }
+        ensures cause { ServiceCause result keys.now (moment_of watch.old self.old) watch.new self.new }
+        ensures breaks { watch.new.breaks ≡ watch.old.breaks }
     {
         'events: while let Some(unit) = self.take_due() {
             if let Some(stop) = self.serve_unit(unit, watch, keys, files, out) {
@@ -97,6 +102,10 @@ impl<U: Unit> Machine<U> {
         ensures slots { self.new.slots ≡ self.old.slots }
         ensures opened { (F.state files.new).opened ≡ (F.state files.old).opened }
         ensures file_cause { FileCause result self.old.slots (F.state files.old) (F.state files.new) }
+        ensures watches { Watches result (moment_of watch.old self.old) (moment_of watch.new self.new) S.tells
+            (S.written out.old) (S.written out.new) }
+        ensures cause { ServiceCause result keys.now (moment_of watch.old self.old) watch.new self.new }
+        ensures breaks { watch.new.breaks ≡ watch.old.breaks }
     {
         let want = self.ask(unit);
         match self.host(want, unit, watch, keys, files, out) {
@@ -200,6 +209,7 @@ impl<U: Unit> Machine<U> {
     ghost use Rattle.nova_machine.specs.Seen.{attached_in};
     ghost use Rattle.nova_machine.specs.Comes.{AreTold, FileCause};
     ghost use Rattle.nova_machine.specs.Hosting.{IsHosted, HasRoom};
+    ghost use Rattle.nova_machine.specs.StopCauses.{IsMadeOf, IsPastRoom};
     ghost use Rattle.nova_machine.specs.Service.{done_for};
 
     /// Does what a unit wants of the machine.
@@ -239,6 +249,12 @@ impl<U: Unit> Machine<U> {
         ensures opened { (F.state files.new).opened ≡ (F.state files.old).opened }
         ensures counts { StopCounts (stop_in result) (S.fault_count out.old) (S.fault_count out.new) }
         ensures file_cause { FileCause (stop_in result) self.old.slots (F.state files.old) (F.state files.new) }
+        ensures taken { self.new.taken ≡ taken_after self.old.taken
+            (typed_key (due_send self.old.time watch.old.sends) (due_key keys.now self.old.taken self.old.time)) want }
+        ensures made { IsMadeOf want unit.kind (attachment_at (attached_in self.old) unit)
+            (first_key (due_send self.old.time watch.old.sends) (due_key keys.now self.old.taken self.old.time))
+            watch.old.expects result }
+        ensures room_left { IsPastRoom want result }
     {
         match want {
             Want::Nothing | Want::LinePut { line: _, byte: _ } => Hosted::Gets(Got::Done),

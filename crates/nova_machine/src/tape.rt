@@ -10,6 +10,7 @@ ghost use Rattle.nova_machine.specs.Tapes.{writes_tape, block_put, block_got, ca
 ghost use Rattle.nova_machine.specs.Tapes.{failing_call, writing_failure, erasing_failure, block_written, mark_written};
 ghost use Rattle.nova_machine.specs.Tapes.{memory_read, memory_operated, item_written, image_operated};
 ghost use Rattle.nova_machine.specs.Operated.{operated, failure_of, stop_of, IsOnImage, CountsStop, IsTapeCall};
+ghost use Rattle.nova_machine.specs.StopCauses.{IsOfTape};
 
 use crate::word_bytes::{tape_bytes, tape_word};
 use host_files::{Bytes, FileCall};
@@ -52,6 +53,7 @@ pub(crate) fn operate<B: Bytes>(
     ensures behind { B.behind tape.new ≡ B.behind tape.old }
     ensures bound { IsOnImage result }
     ensures call { IsTapeCall result }
+    ensures moved { IsOfTape result }
     ensures counts { CountsStop (B.fault_count tape.old) (B.fault_count tape.new) result }
 {
     match order.command {
@@ -94,6 +96,7 @@ fn read<B: Bytes>(memory: &mut Memory, order: TapeOrder, tape: &mut B) -> Result
     ensures behind { B.behind tape.new ≡ B.behind tape.old }
     ensures bound { IsOnImage result }
     ensures call { IsTapeCall result }
+    ensures moved { IsOfTape result }
     ensures counts { CountsStop (B.fault_count tape.old) (B.fault_count tape.new) result }
 {
     let mut bytes = [0; MOST_BYTES];
@@ -149,6 +152,7 @@ fn pass<B: Bytes>(order: TapeOrder, forward: bool, tape: &mut B) -> Result<Got, 
     ensures behind { B.behind tape.new ≡ B.behind tape.old }
     ensures bound { IsOnImage result }
     ensures call { IsTapeCall result }
+    ensures moved { IsOfTape result }
     ensures counts { CountsStop (B.fault_count tape.old) (B.fault_count tape.new) result }
 {
     match space(tape, order.place, order.count, forward) {
@@ -172,6 +176,7 @@ fn write<B: Bytes>(memory: &Memory, order: TapeOrder, tape: &mut B) -> Result<Go
     ensures behind { B.behind tape.new ≡ B.behind tape.old }
     ensures bound { IsOnImage result }
     ensures call { IsTapeCall result }
+    ensures moved { IsOfTape result }
     ensures counts { CountsStop (B.fault_count tape.old) (B.fault_count tape.new) result }
 {
     let length = 2 * usize::from(order.count);
@@ -213,6 +218,7 @@ fn mark<B: Bytes>(order: TapeOrder, tape: &mut B) -> Result<Got, TapeStop>
     ensures behind { B.behind tape.new ≡ B.behind tape.old }
     ensures bound { IsOnImage result }
     ensures call { IsTapeCall result }
+    ensures moved { IsOfTape result }
     ensures counts { CountsStop (B.fault_count tape.old) (B.fault_count tape.new) result }
 {
     if !fits(order, 4) {
@@ -234,6 +240,7 @@ fn erase<B: Bytes>(order: TapeOrder, tape: &mut B) -> Result<Got, TapeStop>
     ensures behind { B.behind tape.new ≡ B.behind tape.old }
     ensures bound { IsOnImage result }
     ensures call { IsTapeCall result }
+    ensures moved { IsOfTape result }
     ensures counts { CountsStop (B.fault_count tape.old) (B.fault_count tape.new) result }
 {
     match erase_rest(tape, order.place) {

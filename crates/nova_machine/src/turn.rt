@@ -22,6 +22,8 @@ impl<U: Unit> Machine<U> {
     ghost use Rattle.nova_machine.specs.Parts.{stop_of, silent};
     ghost use Rattle.nova_machine.specs.Ends.{end_stop};
     ghost use Rattle.nova_machine.specs.Comes.{Comes, AreTold, StopCounts, FileCause};
+    ghost use Rattle.nova_machine.specs.StopCauses.{moment_of, Watches, AreCountedDown, TestCause, EntryCause};
+    ghost use Rattle.nova_machine.specs.StopCauses.{InstructionCause, AttendedCause, EarlyCause, TurnCause};
     ghost use Rattle.unit_files.specs.Open.{AllOpen};
     ghost use Rattle.nova_machine.specs.Quiet.{IsPlain};
     ghost use Rattle.nova_machine.specs.Machine.{on_processor};
@@ -61,6 +63,9 @@ impl<U: Unit> Machine<U> {
         ensures slots { self.new.slots ≡ self.old.slots }
         ensures opened { (F.state files.new).opened ≡ (F.state files.old).opened }
         ensures file_cause { FileCause (stop_of result) self.old.slots (F.state files.old) (F.state files.new) }
+        ensures watches { Watches (stop_of result) (moment_of watch.old self.old) (moment_of watch.new self.new) S.tells
+            (S.written out.old) (S.written out.new) }
+        ensures cause { TurnCause first (stop_of result) keys.now (moment_of watch.old self.old) watch.new self.new }
     {
         match self.prepare(first, watch, keys, files, out) {
             Some(stop) => Turn::Stopped(stop),
@@ -89,6 +94,9 @@ impl<U: Unit> Machine<U> {
         ensures slots { self.new.slots ≡ self.old.slots }
         ensures opened { (F.state files.new).opened ≡ (F.state files.old).opened }
         ensures file_cause { FileCause result self.old.slots (F.state files.old) (F.state files.new) }
+        ensures watches { Watches result (moment_of watch.old self.old) (moment_of watch.new self.new) S.tells
+            (S.written out.old) (S.written out.new) }
+        ensures cause { EarlyCause first result keys.now (moment_of watch.old self.old) watch.new self.new }
     {
         match self.come_to(watch, keys, files, out) {
             Some(stop) => Some(stop),
@@ -105,6 +113,9 @@ impl<U: Unit> Machine<U> {
             breaks_tested (seen (beside watch.old keys files) self.now) ≡ silent result (seen (beside watch.new keys files) self.now) }
         ensures other { IsOwn result }
         ensures unit { IfSome result HasUnit }
+        ensures rest { watch.new ≡ record watch.old { breaks = watch.new.breaks } }
+        ensures lowered { AreCountedDown watch.old.breaks.list watch.new.breaks.list }
+        ensures cause { TestCause result self.now.processor.cpu.pc watch.old.breaks watch.new.breaks }
     {
         watch.breaks.test(self.processor.cpu.pc).map(Stop::Break)
     }
@@ -128,6 +139,10 @@ impl<U: Unit> Machine<U> {
         ensures slots { self.new.slots ≡ self.old.slots }
         ensures opened { (F.state files.new).opened ≡ (F.state files.old).opened }
         ensures file_cause { FileCause result self.old.slots (F.state files.old) (F.state files.new) }
+        ensures watches { Watches result (moment_of watch.old self.old) (moment_of watch.new self.new) S.tells
+            (S.written out.old) (S.written out.new) }
+        ensures breaks { watch.new.breaks ≡ watch.old.breaks }
+        ensures cause { AttendedCause result keys.now (moment_of watch.old self.old) watch.new self.new }
     {
         if self.is_plain() {
             None
@@ -164,6 +179,10 @@ impl<U: Unit> Machine<U> {
         ensures slots { self.new.slots ≡ self.old.slots }
         ensures opened { (F.state files.new).opened ≡ (F.state files.old).opened }
         ensures file_cause { FileCause result self.old.slots (F.state files.old) (F.state files.new) }
+        ensures watches { Watches result (moment_of watch.old self.old) (moment_of watch.new self.new) S.tells
+            (S.written out.old) (S.written out.new) }
+        ensures breaks { watch.new.breaks ≡ watch.old.breaks }
+        ensures cause { AttendedCause result keys.now (moment_of watch.old self.old) watch.new self.new }
     {
         match self.serve(watch, keys, files, out) {
             Some(stop) => Some(stop),
@@ -181,6 +200,8 @@ impl<U: Unit> Machine<U> {
         ensures unit { IfSome result HasUnit }
         ensures events { self.new.events ≡ self.old.events }
         ensures time { self.new.time ≡ self.old.time }
+        ensures taken { self.new.taken ≡ self.old.taken }
+        ensures cause { EntryCause result self.new }
     {
         if self.is_interrupted() {
             self.enter()
@@ -214,6 +235,7 @@ impl<U: Unit> Machine<U> {
         ensures unit { IfSome result HasUnit }
         ensures events { self.new.events ≡ self.old.events }
         ensures time { self.new.time ≡ self.old.time }
+        ensures taken { self.new.taken ≡ self.old.taken }
     {
         self.ints.on = false;
         match self.processor.follow_interrupt(JMP_THROUGH_1) {
@@ -234,6 +256,8 @@ impl<U: Unit> Machine<U> {
         ensures answer { end_stop result ≡ (fetch self.old).stop }
         ensures slots { self.new.slots ≡ self.old.slots }
         ensures time { end_stop result ≡ None → self.new.time ≡ self.old.time + 1 }
+        ensures taken { self.new.taken ≡ self.old.taken }
+        ensures cause { InstructionCause (end_stop result) self.old.time self.new }
     {
         let word = self.processor.memory.read(self.processor.cpu.pc);
         self.execute(word)

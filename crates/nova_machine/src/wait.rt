@@ -1,5 +1,5 @@
 // Loops that wait for a flag of a unit, a skip and a JMP back to it: their rounds pass at once, up to the next event.
-ghost use Rattle.std.specs.Prelude.{ℕ, List, ◌≡◌, ◌≤◌, ◌||◌, true};
+ghost use Rattle.std.specs.Prelude.{ℕ, List, ◌≡◌, ◌+◌, ◌≤◌, ◌||◌, true};
 ghost use Rattle.expect_actions.specs.Breaks.{has_break};
 ghost use Rattle.nova_processor.specs.Instruction.{following};
 ghost use Rattle.nova_machine.specs.Waits.{IsTest};
@@ -25,6 +25,8 @@ impl<U: Unit> Machine<U> {
         ensures told { (keys : List (ℕ × ℕ)) → Bursts watch.now keys most result Transfer self.old self.new }
         ensures slots { self.new.slots ≡ self.old.slots }
         ensures later { self.old.time ≤ self.new.time }
+        ensures time { self.new.time ≡ self.old.time + result }
+        ensures taken { self.new.taken ≡ self.old.taken }
     {
         if self.meets_break(&watch.breaks) || !self.is_waiting() {
             return 0;

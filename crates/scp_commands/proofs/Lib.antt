@@ -2,6 +2,7 @@ pub mod ReplyLemmas
 pub mod RemainLemmas
 pub mod RunLemmas
 pub mod StartLemmas
+pub mod RunStopLemmas
 pub mod ListLemmas
 pub mod ShowLemmas
 pub mod TraceLemmas

@@ -18,6 +18,7 @@ pub mod Effect
 pub mod Nature
 pub mod Remains
 pub mod Refusals
+pub mod RunStops
 pub mod Doing
 pub mod Laws
 pub mod Valid

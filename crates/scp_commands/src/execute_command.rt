@@ -11,6 +11,7 @@ ghost use Rattle.scp_commands.specs.Effect.{effect};
 ghost use Rattle.scp_commands.specs.Nature.{nature, plain, Nothing};
 ghost use Rattle.scp_commands.specs.Remains.{AreLeft};
 ghost use Rattle.scp_commands.specs.Refusals.{IsUnrefused, IsMeasured};
+ghost use Rattle.scp_commands.specs.RunStops.{RunStops, IsNoStop, run_count, is_step};
 ghost use Rattle.scp_commands.specs.Doing.{Did, IsTold, Keeps, ConsoleCounts, MayWant, IsUndone, says_files, IsExitAnswer, RunCause, IsRefusal, AttachNote};
 
 use crate::do_command::do_script;
@@ -72,6 +73,8 @@ pub fn execute<U: Unit, F: Files, S: Sink>(
     ensures command { session.new.command ≡ session.old.command }
     ensures counts { ConsoleCounts result (S.fault_count out.old) (S.fault_count out.new) }
     ensures ran { RunCause result session.old.machine.slots (F.state files.old) (F.state files.new) }
+    ensures stopped { RunStops (is_step command.now session.old.limit) (run_count command.now session.old.limit) result
+        session.old session.new S.tells (S.written out.old) (S.written out.new) }
     ensures attach_note { AttachNote command.now result
         (record { command = session.old.command; time = session.old.machine.time }) session.old.notes session.new.notes
         (F.state files.old) (F.state files.new) }
@@ -120,6 +123,8 @@ fn obey<U: Unit, F: Files, S: Sink>(
     ensures command { session.new.command ≡ session.old.command }
     ensures counts { ConsoleCounts result (S.fault_count out.old) (S.fault_count out.new) }
     ensures ran { RunCause result session.old.machine.slots (F.state files.old) (F.state files.new) }
+    ensures stopped { RunStops (is_step command.now session.old.limit) (run_count command.now session.old.limit) result
+        session.old session.new S.tells (S.written out.old) (S.written out.new) }
     ensures attach_note { AttachNote command.now result
         (record { command = session.old.command; time = session.old.machine.time }) session.old.notes session.new.notes
         (F.state files.old) (F.state files.new) }
@@ -182,6 +187,7 @@ fn obey_untold<U: Unit, F: Files, S: Sink>(
     ensures command { session.new.command ≡ session.old.command }
     ensures counts { ConsoleCounts result (S.fault_count out.old) (S.fault_count out.new) }
     ensures ran { RunCause result session.old.machine.slots (F.state files.old) (F.state files.new) }
+    ensures no_stop { IsNoStop result }
     ensures attach_note { AttachNote command.now result
         (record { command = session.old.command; time = session.old.machine.time }) session.old.notes session.new.notes
         (F.state files.old) (F.state files.new) }
@@ -235,6 +241,7 @@ fn obey_plain<U: Unit, F: Files, S: Sink>(
     ensures command { session.new.command ≡ session.old.command }
     ensures counts { ConsoleCounts result (S.fault_count out.old) (S.fault_count out.new) }
     ensures ran { RunCause result session.old.machine.slots (F.state files.now) (F.state files.now) }
+    ensures no_stop { IsNoStop result }
     ensures attach_note { AttachNote command.now result
         (record { command = session.old.command; time = session.old.machine.time }) session.old.notes session.new.notes
         (F.state files.now) (F.state files.now) }

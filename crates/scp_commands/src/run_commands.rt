@@ -1,5 +1,5 @@
 // RUN, GO, CONT, STEP and RESET.
-ghost use Rattle.std.specs.Prelude.{◌≡◌, ◌≢◌, ◌≤◌, ◌++◌, ℕ, Bool, List, true, false, IsTrue};
+ghost use Rattle.std.specs.Prelude.{◌≡◌, ◌≢◌, ◌≤◌, ◌++◌, ℕ, Bool, List, true, false, IsTrue, min, nat_le};
 ghost use Rattle.host_files.specs.Lists.{NamedBytes};
 ghost use Rattle.unit_files.specs.Open.{AllOpen};
 ghost use Rattle.file_commands.specs.Notes.{notes_said};
@@ -11,6 +11,7 @@ ghost use Rattle.scp_commands.specs.Live.{live_in, standing};
 ghost use Rattle.scp_commands.specs.RunEffects.{address_fits, starting_at, reset_where, running, run_from};
 ghost use Rattle.scp_commands.specs.RunEffects.{stepped, step_of, run_failure, ran, reset_reply};
 ghost use Rattle.scp_commands.specs.Doing.{Does, IsRefused};
+ghost use Rattle.scp_commands.specs.RunStops.{RunStops};
 ghost use Rattle.scp_commands.specs.Doing.{IsPlain, IsExitAnswer, stop_notes, RunDone};
 
 use crate::counts::is_count;
@@ -44,6 +45,8 @@ pub fn run_from<U: Unit, F: Files, S: Sink>(
         (λ notes. run_from session.old.limit notes resets address (live_in session.old (F.state files.old).files))
         result session.old session.new (F.state files.old) (F.state files.new) F.tells S.tells (S.written out.old)
         (S.written out.new) (S.fault_count out.old) (S.fault_count out.new) }
+    ensures stopped { RunStops false session.old.limit result session.old session.new S.tells (S.written out.old)
+        (S.written out.new) }
 {
     if !address_fits(address) {
         return Err(CommandFault::OutOfRange);
@@ -105,6 +108,8 @@ pub fn run<U: Unit, F: Files, S: Sink>(
         (λ notes. running session.old.limit notes (live_in session.old (F.state files.old).files)) result
         session.old session.new (F.state files.old) (F.state files.new) F.tells S.tells (S.written out.old)
         (S.written out.new) (S.fault_count out.old) (S.fault_count out.new) }
+    ensures stopped { RunStops false session.old.limit result session.old session.new S.tells (S.written out.old)
+        (S.written out.new) }
 {
     let limit = RunLimit {
         count: session.limit,
@@ -129,6 +134,8 @@ pub fn step<U: Unit, F: Files, S: Sink>(
         (λ notes. step_of session.old.limit notes count (live_in session.old (F.state files.old).files)) result
         session.old session.new (F.state files.old) (F.state files.new) F.tells S.tells (S.written out.old)
         (S.written out.new) (S.fault_count out.old) (S.fault_count out.new) }
+    ensures stopped { RunStops (nat_le count session.old.limit) (min count session.old.limit) result session.old
+        session.new S.tells (S.written out.old) (S.written out.new) }
 {
     if is_count(count) {
         step_by(session, count, files, out)
@@ -151,6 +158,8 @@ fn step_by<U: Unit, F: Files, S: Sink>(
         (λ notes. stepped session.old.limit notes count (live_in session.old (F.state files.old).files)) result
         session.old session.new (F.state files.old) (F.state files.new) F.tells S.tells (S.written out.old)
         (S.written out.new) (S.fault_count out.old) (S.fault_count out.new) }
+    ensures stopped { RunStops (nat_le count session.old.limit) (min count session.old.limit) result session.old
+        session.new S.tells (S.written out.old) (S.written out.new) }
 {
     let limit = RunLimit {
         count: count.min(session.limit),
@@ -175,6 +184,8 @@ fn run_up_to<U: Unit, F: Files, S: Sink>(
         (run (run_failure notes) limit.step limit.count (live_in session.old (F.state files.old).files)))
         result session.old session.new (F.state files.old) (F.state files.new) F.tells S.tells (S.written out.old)
         (S.written out.new) (S.fault_count out.old) (S.fault_count out.new) }
+    ensures stopped { RunStops limit.step limit.count result session.old session.new S.tells (S.written out.old)
+        (S.written out.new) }
 {
     let stop = session
         .machine

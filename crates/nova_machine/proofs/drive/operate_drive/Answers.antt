@@ -5,6 +5,7 @@ use Rattle.unit_trait.specs.declared.calls.Got.{Got}
 use Rattle.nova_machine.specs.declared.tape.TapeStop.{TapeStop}
 use Rattle.nova_machine.specs.declared.tape.TapeStop.TheVariants.{Image, Call}
 use Rattle.nova_machine.proofs.Operating.{Done, may-write, on-file}
+use Rattle.nova_machine.proofs.ServiceCauses.{tape-made}
 use Rattle.nova_machine.proofs.drive.operate_drive.Goals as goal
 
 pub operate_file-requires-clause-open : goal.operate_file-requires-clause-open
@@ -92,3 +93,8 @@ returns-in-Err-Call-clause-said g c = λ told key expects.
     (on-file c.operate_file.result g.F.Files.tells c.args.attached.now.slots c.args.unit c.in-Some.field-0 (g.F.Files.state c.args.files.now).opened c.args.order
     (g.F.Files.state c.args.files.now).files (g.F.Files.state c.operate_file.new.files).files c.args.memory.now c.operate_file.new.memory
     c.requires.«open» c.in-Some.ensures.holds (sym c.is_refused.ensures ∙ c.if-is_refused.false) e.said e.memory e.files told)).said
+
+pub returns-in-Ok-clause-made : goal.returns-in-Ok-clause-made
+returns-in-Ok-clause-made g c = λ key expects.
+    let holds = c.in-Some.ensures.holds in
+    (tape-made c.in-Ok.got (attachment_at (attachments_of c.args.attached.now.slots) c.args.unit) (holds.held.attachment, holds.attachment) c.in-Ok.ensures.moved, refl)

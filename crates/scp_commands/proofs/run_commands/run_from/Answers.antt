@@ -1,16 +1,21 @@
-use Rattle.std.proofs.Common.{rules, ◌∙◌, List, Option, Err, refl, ap, sym, subst}
+use Rattle.std.proofs.Common.{◌≡◌, ℕ, false, rules, ◌∙◌, List, Option, Err, refl, ap, sym, subst}
 use Rattle.unit_files.specs.Attachments.{Held}
 use Rattle.unit_files.specs.Open.{AllOpen}
 use Rattle.file_commands.specs.declared.note.FaultNote.{FaultNote}
 use Rattle.file_commands.specs.OwnFiles.{AreOwn}
 use Rattle.file_commands.specs.Notes.{notes_said}
 use Rattle.file_commands.proofs.OwnFiles.{unused}
+use Rattle.expect_actions.specs.Watch.{WatchState}
+use Rattle.nova_machine.specs.Machine.{MachineState}
+use Rattle.nova_machine.specs.StopCauses.{moment_of}
 use Rattle.nova_machine.specs.Comes.{AreTold}
 use Rattle.scp_commands.specs.declared.fault.CommandFault.TheVariants.{OutOfRange}
 use Rattle.scp_commands.specs.Live.{CommandState, live_in}
 use Rattle.scp_commands.specs.Reply.{refused}
 use Rattle.scp_commands.specs.Doing.{RunCause}
 use Rattle.scp_commands.specs.RunEffects.{run_from}
+use Rattle.scp_commands.specs.RunStops.{RunStops}
+use Rattle.scp_commands.proofs.RunStopLemmas.{started-moment, started-stops}
 use Rattle.scp_commands.proofs.ReplyLemmas.{did-without, refused-said}
 use Rattle.scp_commands.proofs.StartLemmas.{started-slots, started-did, run_from-refused}
 use Rattle.scp_commands.proofs.run_commands.run_from.Goals as goal
@@ -73,3 +78,16 @@ returns-clause-done g c = record {
 
 pub returns-clause-refused : goal.returns-clause-refused
 returns-clause-refused g c = λ is. absurd (c.run.ensures.never is)
+
+pub returns-clause-stopped : goal.returns-clause-stopped
+returns-clause-stopped g c =
+    let s = c.args.session.now in
+    let began = c.start.new.session in
+    let machine_is = ap (λ (x : CommandState). x.machine) c.start.ensures in
+    let watch_is = ap (λ (x : CommandState). x.watch) c.start.ensures in
+    let keys_are = ap (λ (x : CommandState). x.keys) c.start.ensures in
+    let limit_is = ap (λ (x : CommandState). x.limit) c.start.ensures in
+    let moment : moment_of began.watch began.machine ≡ moment_of s.watch s.machine =
+    ap (λ (w : WatchState). moment_of w began.machine) watch_is ∙ ap (λ (m : MachineState). moment_of s.watch m) machine_is ∙ started-moment s.watch c.args.resets c.args.address s.machine in
+    started-stops c.run.result false s.limit s began c.run.new.session g.S.Sink.tells (g.S.Sink.written c.args.out.now) (g.S.Sink.written c.run.new.out) keys_are moment
+    (subst (λ (n : ℕ). RunStops false n c.run.result began c.run.new.session g.S.Sink.tells (g.S.Sink.written c.args.out.now) (g.S.Sink.written c.run.new.out)) limit_is c.run.ensures.stopped)

@@ -3,6 +3,9 @@ use Rattle.host_files.specs.Streams.{Puts}
 use Rattle.file_commands.specs.Notes.{notes_said}
 use Rattle.nova_machine.specs.declared.machine.Stop.{Stop}
 use Rattle.nova_machine.specs.Comes.{FileCause as StopCause}
+use Rattle.expect_actions.specs.Watch.{WatchState}
+use Rattle.nova_machine.specs.Machine.{MachineState}
+use Rattle.nova_machine.specs.StopCauses.{moment_of, Watches, RunCause}
 use Rattle.nova_machine.specs.Run.{run}
 use Rattle.nova_machine.specs.Seen.{seen, beside}
 use Rattle.scp_commands.specs.Live.{Live, CommandState, live_in}
@@ -10,6 +13,7 @@ use Rattle.scp_commands.specs.RunEffects.{run_failure, ran, stop_text}
 use Rattle.scp_commands.specs.Doing.{Did, Keeps}
 use Rattle.scp_commands.proofs.OwnFileLemmas.{quiet-own, stop-own}
 use Rattle.scp_commands.proofs.RunLemmas.{cut-did, run-did, erased-text, said-more, run-keeps, cut-keeps}
+use Rattle.scp_commands.proofs.RunStopLemmas.{run-stops}
 use Rattle.scp_commands.proofs.run_commands.run_up_to.Goals as goal
 
 pub returns-then-is_console_fault-clause-done : goal.returns-then-is_console_fault-clause-done
@@ -94,3 +98,23 @@ returns-clause-done g c = record {
   own = search rules;
   exit = search rules;
 }
+
+pub returns-clause-stopped : goal.returns-clause-stopped
+returns-clause-stopped g c =
+    let stop = c.run-stop.result in
+    let m = c.run-stop.new.self in
+    let new = c.note_stop.new.session in
+    let text = g.S.Sink.written in
+    let before = text c.args.out.now in
+    let mid = text c.run-stop.new.out in
+    let after = text c.put_stop-printed.new.out in
+    let machine_is : new.machine ≡ m = ap (λ (s : CommandState). s.machine) c.note_stop.ensures.rest in
+    let watch_is : new.watch ≡ c.run-stop.new.watch = ap (λ (s : CommandState). s.watch) c.note_stop.ensures.rest in
+    let shown : c.session-2.inside.machine ≡ new.machine = ap (λ (s : CommandState). s.machine) c.session-2.view_is in
+    rw (← c.session.view_is)
+    (run-stops c.put_stop-printed.result c.told_or_console.result c.args.limit.step c.args.limit.count stop _ new g.S.Sink.tells before mid after c.told_or_console.ensures
+    (subst (λ (x : MachineState). RunCause c.args.limit.step c.args.limit.count stop c.session.inside.keys (moment_of c.session.inside.watch c.session.inside.machine) new.watch x) (sym machine_is)
+    (subst (λ (x : WatchState). RunCause c.args.limit.step c.args.limit.count stop c.session.inside.keys (moment_of c.session.inside.watch c.session.inside.machine) x m) (sym watch_is) c.run-stop.ensures.cause))
+    (subst (λ (x : MachineState). Watches (Some stop) (moment_of c.session.inside.watch c.session.inside.machine) (moment_of new.watch x) g.S.Sink.tells before mid) (sym machine_is)
+    (subst (λ (x : WatchState). Watches (Some stop) (moment_of c.session.inside.watch c.session.inside.machine) (moment_of x m) g.S.Sink.tells before mid) (sym watch_is) c.run-stop.ensures.watches))
+    (λ t. subst (λ (x : MachineState). Puts mid (stop_text stop x) c.put_stop-printed.result after) shown (c.put_stop-printed.ensures.told t)))

@@ -1,7 +1,7 @@
 use Rattle.std.proofs.Common.{◌≡◌, sym, subst, IsTrue, List, Option, ap}
 use Rattle.unit_trait.specs.declared.calls.Want.{Want}
 use Rattle.unit_files.specs.Attachments.{Held, attachments_of, attachment_at}
-use Rattle.unit_files.specs.Acts.{read_act}
+use Rattle.unit_files.specs.Acts.{read_act, write_act}
 use Rattle.unit_files.specs.Answers.{said_of_byte, failure_of_byte}
 use Rattle.unit_files.specs.Shapes.{MayRead}
 use Rattle.nova_machine.specs.declared.service.Hosted.{Hosted}
@@ -10,6 +10,8 @@ use Rattle.nova_machine.specs.Hosting.{IsHosted, HasRoom, hosted_of}
 use Rattle.expect_actions.specs.KeysFile.{due_key}
 use Rattle.expect_actions.specs.Sends.{due_send}
 use Rattle.nova_machine.specs.Wants.{first_key}
+use Rattle.nova_machine.specs.StopCauses.{IsMadeOf, IsPastRoom}
+use Rattle.nova_machine.proofs.ServiceCauses.{write-made, write-past}
 use Rattle.nova_machine.proofs.Hosting.{read-hosted, read-room, write-room}
 use Rattle.nova_machine.proofs.machine.Machine.host.Goals as goal
 
@@ -53,3 +55,30 @@ returns-in-Tape-clause-said g c = λ told.
 
 pub returns-in-Tape-clause-counts : goal.returns-in-Tape-clause-counts
 returns-in-Tape-clause-counts g c = c.move_tape.ensures.console (g.S.Sink.fault_count c.args.out.now)
+
+pub returns-in-WriteByte-clause-made : goal.returns-in-WriteByte-clause-made
+returns-in-WriteByte-clause-made g c =
+    let slots = c.args.self.now.slots in
+    let same : c.self-in-WriteByte.inside.attached.slots ≡ slots = ap (λ (m : MachineState). m.slots) c.self-in-WriteByte.view_is in
+    let a = attachment_at (attachments_of slots) c.args.unit in
+    let key = first_key (due_send c.args.self.now.time c.args.watch.now.sends) (due_key c.args.keys.now c.args.self.now.taken c.args.self.now.time) in
+    let expects = c.args.watch.now.expects in
+    let answer = c.write_byte.result in
+    let place = c.in-WriteByte.place in
+    let S : List (Option Held) → Type 0 = λ x. said_of_byte answer ≡ write_act (failure_of_byte answer) (attachment_at (attachments_of x) c.args.unit) place in
+    subst (λ (o : Hosted). IsMadeOf c.args.want c.args.unit.kind a key expects o) (sym c.made_of-in-WriteByte.ensures)
+    (subst (λ (w : Want). IsMadeOf w c.args.unit.kind a key expects (hosted_of answer)) (sym c.in-WriteByte.is)
+    (write-made answer a place c.in-WriteByte.byte c.args.unit.kind key expects (subst S same c.write_byte.ensures.said)))
+
+pub returns-in-Tape-clause-made : goal.returns-in-Tape-clause-made
+returns-in-Tape-clause-made g c =
+    let a = attachment_at (attachments_of c.args.self.now.slots) c.args.unit in
+    let key = first_key (due_send c.args.self.now.time c.args.watch.now.sends) (due_key c.args.keys.now c.args.self.now.taken c.args.self.now.time) in
+    let expects = c.args.watch.now.expects in
+    subst (λ (w : Want). IsMadeOf w c.args.unit.kind a key expects c.move_tape.result) (sym c.in-Tape.is) (c.move_tape.ensures.made key expects)
+
+pub returns-in-WriteByte-clause-room_left : goal.returns-in-WriteByte-clause-room_left
+returns-in-WriteByte-clause-room_left g c =
+    subst (λ (o : Hosted). IsPastRoom c.args.want o) (sym c.made_of-in-WriteByte.ensures)
+    (subst (λ (w : Want). IsPastRoom w (hosted_of c.write_byte.result)) (sym c.in-WriteByte.is)
+    (write-past c.write_byte.result (attachment_at (attachments_of c.self-in-WriteByte.inside.attached.slots) c.args.unit) c.in-WriteByte.place c.in-WriteByte.byte c.write_byte.ensures.said))

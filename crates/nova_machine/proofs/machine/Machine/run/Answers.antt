@@ -1,4 +1,4 @@
-use Rattle.std.proofs.Common.{◌≡◌, ◌≢◌, ℕ, ◌-◌, ◌+◌, ◌<◌, ◌≤◌, suc, false, None, Some, Option, ap, sym, subst, ◌∙◌, arith, rules}
+use Rattle.std.proofs.Common.{◌≡◌, ◌≢◌, ℕ, ◌-◌, ◌+◌, ◌<◌, ◌≤◌, suc, false, None, Some, Option, inl, inr, ap, refl, sym, subst, ◌∙◌, arith, rules}
 use Rattle.nova_processor.specs.declared.burst.BurstEnd.TheVariants as burst_end
 use Rattle.nova_machine.specs.declared.machine.Stop.TheVariants.{Limit, ChainLimit}
 use Rattle.nova_machine.specs.Notes.{UnitNote, RunNote, at_time, unit_note, run_note}
@@ -6,8 +6,12 @@ use Rattle.nova_machine.specs.Seen.{seen, beside}
 use Rattle.nova_machine.specs.Comes.{AreTold, Comes}
 use Rattle.nova_machine.specs.Turn.{turn}
 use Rattle.nova_machine.specs.Run.{last_time, turns, run}
-use Rattle.nova_machine.proofs.Quiet.{told-same, quiet-then, cause-behind}
+use Rattle.nova_machine.proofs.Quiet.{told-same, quiet-same, quiet-then, cause-behind}
 use Rattle.nova_machine.proofs.Runs.{last-of, ended-of, expired-of, burst-of, chain-of, burst-goes, burst-ends, note-here, note-coming, note-own, not-now, still-later}
+use Rattle.nova_processor.specs.declared.burst.BurstEnd.{BurstEnd}
+use Rattle.nova_machine.specs.StopCauses.{moment_of, BurstCause}
+use Rattle.nova_machine.proofs.Causes.{watches-still, watches-then, watches-left}
+use Rattle.nova_machine.proofs.RunCauses.{run-stopped, run-expired, expired-no-match}
 use Rattle.nova_machine.proofs.machine.Machine.run.Goals as goal
 
 pub returns-then-self-eq-LAST_TIME-clause-told : goal.returns-then-self-eq-LAST_TIME-clause-told
@@ -88,6 +92,19 @@ turns-preserved g c =
       is_open = search rules;
       counts = c.in-Executed.ensures.counts ∙ c.turns.invariant.counts;
       quiet = quiet-then _ _ _ c.turns.invariant.quiet c.in-Executed.ensures.file_cause;
+      watches =
+          let text = g.S.Sink.written in
+          watches-left None None (moment_of c.args.watch.now c.args.self.now) (moment_of c.turn.new.watch c.turn.new.self) (moment_of c.turn.new.watch c.burst-burst.new.self) g.S.Sink.tells
+          (text c.args.out.now) (text c.turn.new.out) refl tt refl c.burst-burst.ensures.taken
+          (watches-then None (moment_of c.args.watch.now c.args.self.now) (moment_of c.turns.watch c.turns.self) (moment_of c.turn.new.watch c.turn.new.self) g.S.Sink.tells
+          (text c.args.out.now) (text c.turns.out) (text c.turn.new.out) c.turns.invariant.watches c.in-Executed.ensures.watches);
+      within =
+          let within = c.turns.invariant.within in
+          let all = within.rest in
+          let begun = within.later in
+          let few = c.burst-burst.ensures.few in
+          let grown = c.burst-burst.ensures.time in
+          record { rest = omega (arith, all, few, grown, time, one); later = omega (arith, begun, grown, time); began = λ _. omega (arith, begun, grown, time) };
     }
 
 pub returns-clause-told : goal.returns-clause-told
@@ -101,3 +118,72 @@ returns-clause-told g c = λ told.
     subst P (sym none) (c.turns.invariant.told told None (Some stop) s (g.S.Sink.written c.turns.out) tt
     (expired-of None c.args.limit.step c.turns.first c.turns.left s stop
     g.S.Sink.tells (g.S.Sink.written c.turns.out) (search rules) c.expired.ensures.other c.expired.ensures.stop))
+
+pub turns-init : goal.turns-init
+turns-init g c = record {
+  told = λ told note r s after still comes. comes;
+  slots = refl;
+  opened = refl;
+  is_open = c.requires.«open»;
+  counts = refl;
+  quiet = quiet-same (g.F.Files.state c.args.files.now);
+  watches = watches-still None (moment_of c.args.watch.now c.args.self.now) (moment_of c.args.watch.now c.args.self.now) g.S.Sink.tells (g.S.Sink.written c.args.out.now) tt refl refl;
+  within = record { rest = refl; later = omega arith; began = λ e. absurd (cc) };
+}
+
+pub returns-then-self-eq-LAST_TIME-clause-watches : goal.returns-then-self-eq-LAST_TIME-clause-watches
+returns-then-self-eq-LAST_TIME-clause-watches g c =
+    watches-left (Some Limit) None (moment_of c.args.watch.now c.args.self.now) (moment_of c.turns.watch c.turns.self) (moment_of c.turns.watch c.turns.self) g.S.Sink.tells
+    (g.S.Sink.written c.args.out.now) (g.S.Sink.written c.turns.out) refl tt refl refl c.turns.invariant.watches
+
+pub returns-then-self-eq-LAST_TIME-clause-cause : goal.returns-then-self-eq-LAST_TIME-clause-cause
+returns-then-self-eq-LAST_TIME-clause-cause g c =
+    let some : 0 < c.turns.left = search rules in
+    let late : c.turns.self.time ≡ last_time = search rules in
+    let all = c.turns.invariant.within.rest in
+    inr (late, omega (arith, all, some))
+
+pub returns-in-Stopped-clause-watches : goal.returns-in-Stopped-clause-watches
+returns-in-Stopped-clause-watches g c =
+    watches-then (Some c.in-Stopped.stop) (moment_of c.args.watch.now c.args.self.now) (moment_of c.turns.watch c.turns.self) (moment_of c.turn.new.watch c.turn.new.self) g.S.Sink.tells
+    (g.S.Sink.written c.args.out.now) (g.S.Sink.written c.turns.out) (g.S.Sink.written c.turn.new.out) c.turns.invariant.watches c.in-Stopped.ensures.watches
+
+pub returns-in-Stopped-clause-cause : goal.returns-in-Stopped-clause-cause
+returns-in-Stopped-clause-cause g c =
+    let some : 0 < c.turns.left = search rules in
+    let early : c.turns.self.time < last_time = search rules in
+    run-stopped c.in-Stopped.stop c.turns.first c.args.limit.step c.args.limit.count c.turns.left c.args.keys.now (moment_of c.args.watch.now c.args.self.now) (moment_of c.turns.watch c.turns.self)
+    c.turn.new.watch c.turn.new.self g.S.Sink.tells (g.S.Sink.written c.args.out.now) (g.S.Sink.written c.turns.out) c.turns.invariant.watches c.turns.invariant.within some early
+    c.in-Stopped.ensures.cause
+
+pub returns-in-ChainLimit-clause-watches : goal.returns-in-ChainLimit-clause-watches
+returns-in-ChainLimit-clause-watches g c =
+    let text = g.S.Sink.written in
+    watches-left (Some ChainLimit) None (moment_of c.args.watch.now c.args.self.now) (moment_of c.turn.new.watch c.turn.new.self) (moment_of c.turn.new.watch c.burst-burst.new.self) g.S.Sink.tells
+    (text c.args.out.now) (text c.turn.new.out) refl tt refl c.burst-burst.ensures.taken
+    (watches-then None (moment_of c.args.watch.now c.args.self.now) (moment_of c.turns.watch c.turns.self) (moment_of c.turn.new.watch c.turn.new.self) g.S.Sink.tells
+    (text c.args.out.now) (text c.turns.out) (text c.turn.new.out) c.turns.invariant.watches c.in-Executed.ensures.watches)
+
+pub returns-in-ChainLimit-clause-cause : goal.returns-in-ChainLimit-clause-cause
+returns-in-ChainLimit-clause-cause g c =
+    let one : c.turns.left ≡ suc (c.turns.left - 1) = search rules in
+    let ends : c.burst-burst.result.end ≡ burst_end.ChainLimit = search rules in
+    let time : c.turn.new.self.time ≡ c.turns.self.time + 1 = search rules in
+    let all = c.turns.invariant.within.rest in
+    let begun = c.turns.invariant.within.later in
+    let grown = c.burst-burst.ensures.time in
+    let cause : BurstCause burst_end.ChainLimit (c.turns.left - 1) c.burst-burst.result.done c.burst-burst.new.self =
+    subst (λ (e : BurstEnd). BurstCause e (c.turns.left - 1) c.burst-burst.result.done c.burst-burst.new.self) ends c.burst-burst.ensures.cause in
+    let within = cause.1 in
+    (inl cause.0, record { least = omega (arith, begun, grown, time); most = omega (arith, all, within, grown, time, one); last = cause.2 })
+
+pub returns-clause-watches : goal.returns-clause-watches
+returns-clause-watches g c =
+    watches-left (Some c.expired.result) None (moment_of c.args.watch.now c.args.self.now) (moment_of c.turns.watch c.turns.self) (moment_of c.turns.watch c.turns.self) g.S.Sink.tells
+    (g.S.Sink.written c.args.out.now) (g.S.Sink.written c.turns.out) refl (expired-no-match c.expired.result c.args.limit.step c.expired.ensures.stop) refl refl c.turns.invariant.watches
+
+pub returns-clause-cause : goal.returns-clause-cause
+returns-clause-cause g c =
+    let none : c.turns.left ≡ 0 = search rules in
+    run-expired c.args.limit.step c.turns.first c.args.limit.count c.turns.left c.expired.result c.args.keys.now (moment_of c.args.watch.now c.args.self.now) c.turns.watch c.turns.self
+    c.expired.ensures.stop none c.turns.invariant.within

@@ -1,4 +1,4 @@
-use Rattle.std.proofs.Common.{◌≡◌, ◌≤◌, ℕ, List, Option, IfSome}
+use Rattle.std.proofs.Common.{◌≡◌, ◌≤◌, ℕ, List, Option, None, IfSome}
 use Rattle.unit_files.specs.Open.{AllOpen}
 use Rattle.unit_files.specs.Causes.{IsQuiet}
 use Rattle.nova_machine.specs.declared.machine.Stop.{Stop}
@@ -6,6 +6,8 @@ use Rattle.nova_machine.specs.Notes.{RunNote}
 use Rattle.nova_machine.specs.Seen.{Seen, seen, beside}
 use Rattle.nova_machine.specs.Run.{run, turns}
 use Rattle.nova_machine.specs.Comes.{Comes, AreTold}
+use Rattle.nova_machine.specs.StopCauses.{moment_of, Watches}
+use Rattle.nova_machine.proofs.RunCauses.{IsWithin}
 use Rattle.nova_machine.proofs.machine.Machine.run.Given as goal
 
 -- what is left of the run comes to, with a call that may still fail, the whole run comes to
@@ -19,6 +21,8 @@ invariant-turns g l = record {
   is_open : AllOpen l.self.slots (g.F.Files.state l.files).opened;
   counts : g.S.Sink.fault_count l.out ≡ g.S.Sink.fault_count l.fn.out;
   quiet : IsQuiet (g.F.Files.state l.fn.files) (g.F.Files.state l.files);
+  watches : Watches None (moment_of l.fn.watch l.fn.self) (moment_of l.watch l.self) g.S.Sink.tells (g.S.Sink.written l.fn.out) (g.S.Sink.written l.out);
+  within : IsWithin l.first l.limit.count l.left l.fn.self.time l.self.time;
 }
 
 abbrev pub decreases-turns : goal.decreases-turns

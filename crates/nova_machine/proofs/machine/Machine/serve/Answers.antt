@@ -1,11 +1,15 @@
-use Rattle.std.proofs.Common.{◌≡◌, sym, ◌∙◌, None, Some, rules}
+use Rattle.std.proofs.Common.{◌≡◌, ap, refl, sym, subst, ◌∙◌, Option, None, Some, rules}
 use Rattle.event_queue.specs.EventList.{due}
 use Rattle.nova_machine.specs.Notes.{unit_note, failure_of_stop}
 use Rattle.nova_machine.specs.Seen.{seen, beside}
 use Rattle.nova_machine.specs.Comes.{AreTold}
 use Rattle.nova_machine.proofs.Serving.{stop-at, more-at, none-at, note-first, note-later}
 use Rattle.nova_machine.proofs.Parts.{counts-none}
-use Rattle.nova_machine.proofs.Quiet.{told-same, quiet-none, quiet-then, cause-behind}
+use Rattle.nova_machine.proofs.Quiet.{told-same, quiet-same, quiet-none, quiet-then, cause-behind}
+use Rattle.nova_machine.specs.declared.machine.Stop.{Stop}
+use Rattle.nova_machine.specs.Machine.{MachineState}
+use Rattle.nova_machine.specs.StopCauses.{moment_of, Watches}
+use Rattle.nova_machine.proofs.Causes.{watches-still, watches-goes, watches-left, service-then}
 use Rattle.nova_machine.proofs.machine.Machine.serve.Goals as goal
 
 pub returns-in-Some-serve_unit-clause-told : goal.returns-in-Some-serve_unit-clause-told
@@ -20,6 +24,19 @@ returns-in-Some-serve_unit-clause-told g c = λ told.
     c.events.invariant.told told (unit_note (Some stop)) (Some stop) last (g.S.Sink.written c.serve_unit.new.out) note.0
     (stop-at (unit_note (Some stop)) c.events.watch keys files c.events.self c.take_due.new.self c.in-Some.unit (failure_of_stop (Some stop)) stop last g.S.Sink.tells
     (g.S.Sink.written c.events.out) (g.S.Sink.written c.serve_unit.new.out) first c.take_due.ensures.taken note.1 (c.in-Some-serve_unit.ensures.told now))
+
+pub events-init : goal.events-init
+events-init g c = record {
+  told = λ told note r s after still comes. comes;
+  time = refl;
+  slots = refl;
+  opened = refl;
+  is_open = c.requires.«open»;
+  counts = refl;
+  quiet = quiet-same (g.F.Files.state c.args.files.now);
+  watches = watches-still None (moment_of c.args.watch.now c.args.self.now) (moment_of c.args.watch.now c.args.self.now) g.S.Sink.tells (g.S.Sink.written c.args.out.now) tt refl refl;
+  breaks = refl;
+}
 
 pub events-preserved : goal.events-preserved
 events-preserved g c =
@@ -42,6 +59,13 @@ events-preserved g c =
       is_open = search rules;
       counts = counts-none c.serve_unit.result _ _ goes c.serve_unit.ensures.counts ∙ c.events.invariant.counts;
       quiet = quiet-then _ _ _ c.events.invariant.quiet (quiet-none c.serve_unit.result _ _ _ goes c.serve_unit.ensures.file_cause);
+      watches =
+          let text = g.S.Sink.written in
+          let taken : c.take_due.new.self.taken ≡ c.events.self.taken = ap (λ (m : MachineState). m.taken) c.take_due.ensures.taken in
+          watches-goes None None _ (moment_of c.events.watch c.events.self) (moment_of c.events.watch c.take_due.new.self) _ g.S.Sink.tells (text c.args.out.now) (text c.events.out) (text c.serve_unit.new.out)
+          refl refl taken c.events.invariant.watches (subst (λ (o : Option Stop). Watches o (moment_of c.events.watch c.take_due.new.self) (moment_of c.serve_unit.new.watch c.serve_unit.new.self) g.S.Sink.tells
+          (text c.events.out) (text c.serve_unit.new.out)) goes c.serve_unit.ensures.watches);
+      breaks = c.serve_unit.ensures.breaks ∙ c.events.invariant.breaks;
     }
 
 pub returns-clause-told : goal.returns-clause-told
@@ -55,3 +79,33 @@ returns-clause-told g c = λ told.
 pub returns-in-Some-serve_unit-clause-file_cause : goal.returns-in-Some-serve_unit-clause-file_cause
 returns-in-Some-serve_unit-clause-file_cause g c =
     cause-behind (Some c.in-Some-serve_unit.stop) _ _ _ _ _ (search rules) c.events.invariant.quiet c.in-Some-serve_unit.ensures.file_cause
+
+pub returns-in-Some-serve_unit-clause-watches : goal.returns-in-Some-serve_unit-clause-watches
+returns-in-Some-serve_unit-clause-watches g c =
+    let text = g.S.Sink.written in
+    let taken : c.take_due.new.self.taken ≡ c.events.self.taken = ap (λ (m : MachineState). m.taken) c.take_due.ensures.taken in
+    watches-goes (Some c.in-Some-serve_unit.stop) None _ (moment_of c.events.watch c.events.self) (moment_of c.events.watch c.take_due.new.self) _ g.S.Sink.tells (text c.args.out.now) (text c.events.out)
+    (text c.serve_unit.new.out) refl refl taken c.events.invariant.watches c.in-Some-serve_unit.ensures.watches
+
+pub returns-in-Some-serve_unit-clause-cause : goal.returns-in-Some-serve_unit-clause-cause
+returns-in-Some-serve_unit-clause-cause g c =
+    let text = g.S.Sink.written in
+    let taken : c.take_due.new.self.taken ≡ c.events.self.taken = ap (λ (m : MachineState). m.taken) c.take_due.ensures.taken in
+    let before = moment_of c.args.watch.now c.args.self.now in
+    let mid = moment_of c.events.watch c.take_due.new.self in
+    service-then (Some c.in-Some-serve_unit.stop) c.args.keys.now before mid c.serve_unit.new.watch c.serve_unit.new.self g.S.Sink.tells (text c.args.out.now) (text c.events.out)
+    (watches-left None None before (moment_of c.events.watch c.events.self) mid g.S.Sink.tells (text c.args.out.now) (text c.events.out) refl tt refl taken c.events.invariant.watches)
+    c.in-Some-serve_unit.ensures.cause
+
+pub returns-in-Some-serve_unit-clause-breaks : goal.returns-in-Some-serve_unit-clause-breaks
+returns-in-Some-serve_unit-clause-breaks g c = c.in-Some-serve_unit.ensures.breaks ∙ c.events.invariant.breaks
+
+pub returns-clause-watches : goal.returns-clause-watches
+returns-clause-watches g c =
+    let text = g.S.Sink.written in
+    let taken : c.take_due.new.self.taken ≡ c.events.self.taken = ap (λ (m : MachineState). m.taken) c.take_due.ensures.taken in
+    watches-left None None (moment_of c.args.watch.now c.args.self.now) (moment_of c.events.watch c.events.self) (moment_of c.events.watch c.take_due.new.self) g.S.Sink.tells (text c.args.out.now) (text c.events.out)
+    refl tt refl taken c.events.invariant.watches
+
+pub returns-clause-breaks : goal.returns-clause-breaks
+returns-clause-breaks g c = c.events.invariant.breaks

@@ -1,4 +1,4 @@
-use Rattle.std.proofs.Common.{◌≡◌, ℕ, List, length, Option}
+use Rattle.std.proofs.Common.{◌≡◌, ℕ, List, length, Option, None}
 use Rattle.unit_files.specs.Open.{AllOpen}
 use Rattle.unit_files.specs.Causes.{IsQuiet}
 use Rattle.event_queue.specs.EventList.{dues}
@@ -7,6 +7,7 @@ use Rattle.nova_machine.specs.Notes.{UnitNote}
 use Rattle.nova_machine.specs.Seen.{Seen, seen, beside}
 use Rattle.nova_machine.specs.Comes.{Comes, AreTold}
 use Rattle.nova_machine.specs.Service.{serving}
+use Rattle.nova_machine.specs.StopCauses.{moment_of, Watches}
 use Rattle.nova_machine.proofs.Serving.{IsStillDue}
 use Rattle.nova_machine.proofs.machine.Machine.serve.Given as goal
 
@@ -22,6 +23,8 @@ invariant-events g l = record {
   is_open : AllOpen l.self.slots (g.F.Files.state l.files).opened;
   counts : g.S.Sink.fault_count l.out ≡ g.S.Sink.fault_count l.fn.out;
   quiet : IsQuiet (g.F.Files.state l.fn.files) (g.F.Files.state l.files);
+  watches : Watches None (moment_of l.fn.watch l.fn.self) (moment_of l.watch l.self) g.S.Sink.tells (g.S.Sink.written l.fn.out) (g.S.Sink.written l.out);
+  breaks : l.watch.breaks ≡ l.fn.watch.breaks;
 }
 
 abbrev pub decreases-events : goal.decreases-events

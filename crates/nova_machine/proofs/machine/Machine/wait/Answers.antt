@@ -5,6 +5,7 @@ use Rattle.nova_machine.specs.Bursts.{IsCalm, passed_by}
 use Rattle.nova_machine.specs.Waits.{IsWaiting}
 use Rattle.nova_machine.proofs.Bursts.{calm-less, passed-slots, passed-time}
 use Rattle.nova_machine.proofs.Waits.{AreUnbroken, waits-told}
+use Rattle.nova_machine.proofs.InstructionCauses.{passed-taken}
 use Rattle.nova_machine.proofs.machine.Machine.wait.Goals as goal
 
 pub returns-clause-told : goal.returns-clause-told
@@ -36,3 +37,17 @@ returns-clause-later g c =
     let is : c.pass_time.new.self ≡ passed_by count old = search rules in
     let time : c.pass_time.new.self.time ≡ old.time + count = ap (λ (m : MachineState). m.time) is ∙ passed-time count old in
     omega (arith, time)
+
+pub returns-clause-time : goal.returns-clause-time
+returns-clause-time g c =
+    let old = c.args.self.now in
+    let count = c.min-budget.result / 2 * 2 in
+    let is : c.pass_time.new.self ≡ passed_by count old = search rules in
+    ap (λ (m : MachineState). m.time) is ∙ passed-time count old
+
+pub returns-clause-taken : goal.returns-clause-taken
+returns-clause-taken g c =
+    let old = c.args.self.now in
+    let count = c.min-budget.result / 2 * 2 in
+    let is : c.pass_time.new.self ≡ passed_by count old = search rules in
+    ap (λ (m : MachineState). m.taken) is ∙ passed-taken count old

@@ -7,6 +7,7 @@ use Rattle.nova_processor.specs.Burst.{IsBurst}
 use Rattle.expect_actions.specs.Breaks.{has_break}
 use Rattle.nova_machine.specs.Bursts.{IsCalm, passed_by}
 use Rattle.nova_machine.proofs.Bursts.{burst-told, calm-less, passed-slots, passed-time}
+use Rattle.nova_machine.proofs.InstructionCauses.{passed-taken, any-burst-cause}
 use Rattle.nova_machine.proofs.machine.Machine.work.Goals as goal
 
 pub returns-clause-told : goal.returns-clause-told
@@ -37,3 +38,28 @@ returns-clause-later g c =
     let time : c.pass_time.new.self.time ≡ old.time + c.step_to_break-burst.result.done =
     ap (λ (m : MachineState). m.time) is ∙ passed-time c.step_to_break-burst.result.done (record old { processor = c.step_to_break-burst.new.self.processor }) in
     omega (arith, time)
+
+pub returns-clause-time : goal.returns-clause-time
+returns-clause-time g c =
+    let old = c.args.self.now in
+    let is : c.pass_time.new.self ≡ passed_by c.step_to_break-burst.result.done (record old { processor = c.step_to_break-burst.new.self.processor }) = search rules in
+    ap (λ (m : MachineState). m.time) is ∙ passed-time c.step_to_break-burst.result.done (record old { processor = c.step_to_break-burst.new.self.processor })
+
+pub returns-clause-taken : goal.returns-clause-taken
+returns-clause-taken g c =
+    let old = c.args.self.now in
+    let is : c.pass_time.new.self ≡ passed_by c.step_to_break-burst.result.done (record old { processor = c.step_to_break-burst.new.self.processor }) = search rules in
+    ap (λ (m : MachineState). m.taken) is ∙ passed-taken c.step_to_break-burst.result.done (record old { processor = c.step_to_break-burst.new.self.processor })
+
+pub returns-clause-cause : goal.returns-clause-cause
+returns-clause-cause g c =
+    let old = c.args.self.now in
+    let budget = c.min-budget.result in
+    let last : old.time + budget ≤ last_time = search rules in
+    let few : budget ≤ c.args.most = search rules in
+    let list : c.watch.inside.breaks.list ≡ c.args.watch.now.breaks.list = ap (λ (w : WatchState). w.breaks.list) c.watch.view_is in
+    let P : List Break → Type 0 =
+    λ breaks. IsBurst (λ address. has_break address breaks) old.processor budget c.step_to_break-burst.result.done c.step_to_break-burst.result.end c.step_to_break-burst.new.self.processor in
+    let burst : P c.args.watch.now.breaks.list = subst P list c.step_to_break-burst.ensures.told in
+    let is : c.pass_time.new.self ≡ passed_by c.step_to_break-burst.result.done (record old { processor = c.step_to_break-burst.new.self.processor }) = search rules in
+    any-burst-cause (λ address. has_break address c.args.watch.now.breaks.list) c.args.most budget c.step_to_break-burst.result.done c.step_to_break-burst.result.end old c.pass_time.new.self c.step_to_break-burst.new.self.processor few last burst is
