@@ -318,4 +318,11 @@ end-time burst_end.Spent period m = refl
 end-time burst_end.Transfer period m = refl
 end-time burst_end.AtStop period m = refl
 
+pub idled-taken : (end : BurstEnd) (period count : ℕ) (m : MachineState) → (idle_end end period (idled_by period count m)).taken ≡ m.taken
+unfolding idled_by looked_at
+idled-taken burst_end.ChainLimit period count m = refl
+idled-taken burst_end.Spent period count m = refl
+idled-taken burst_end.Transfer period count m = refl
+idled-taken burst_end.AtStop period count m = refl
+
 pub ruleset idles = idle-less

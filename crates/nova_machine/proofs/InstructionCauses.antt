@@ -1,5 +1,5 @@
 -- Why an instruction or an interrupt's entry stops, and that neither takes a key.
-use Rattle.std.proofs.Common.{◌≡◌, inl, inr, ℕ, ◌+◌, ◌<◌, ◌≤◌, ◌==◌, Bool, true, false, Option, Some, None, is_some, refl, ap, sym, subst, ◌∙◌, nat_lt, if◌then◌else◌, arith}
+use Rattle.std.proofs.Common.{◌-◌, ◌≡◌, inl, inr, ℕ, ◌+◌, ◌<◌, ◌≤◌, ◌==◌, Bool, true, false, Option, Some, None, is_some, refl, ap, sym, subst, ◌∙◌, nat_lt, if◌then◌else◌, arith}
 use Rattle.std.proofs.lemmas.Bool.Decides.{nat_tests}
 use Rattle.nova_word.specs.Bits.{bits}
 use Rattle.nova_memory.specs.Memory.{MemoryState, get}
@@ -25,6 +25,7 @@ use Rattle.nova_machine.specs.Turn.{with_memory, refer_to, refer, execute, fetch
 use Rattle.nova_machine.specs.Run.{last_time}
 use Rattle.nova_machine.specs.Bursts.{passed_by}
 use Rattle.nova_machine.specs.StopLaws.{fetched, IsTransfer, IsHalt, IsUnknown, behind_chain, behind_entry}
+use Rattle.nova_machine.specs.Looks.{idled_by, looked_at, idle_end}
 use Rattle.nova_machine.specs.StopCauses.{EntryCause, InstructionCause, BurstCause}
 use Rattle.nova_machine.proofs.Stops.{stops-fetch, enters-interrupt}
 use Rattle.nova_machine.proofs.Turns.{turns-fetch}
@@ -226,6 +227,37 @@ pub any-burst-cause : (stops : ℕ → Bool) (most budget done : ℕ) (end : Bur
     → IsBurst stops old.processor budget done end q → now ≡ passed_by done (record old { processor = q }) → BurstCause end most done now
 any-burst-cause stops most budget done burst_end.ChainLimit old now q few last burst is = burst-cause stops most budget done old now q few last burst is
 any-burst-cause stops most budget done end old now q few last burst is = tt
+
+-- the same where looks of the keyboard have passed too
+idle-cause : (stops : ℕ → Bool) (most budget done : ℕ) (old at now : MachineState) (q : ProcessorState) → budget ≤ most → old.time + budget ≤ last_time
+    → IsBurst stops old.processor budget done burst_end.ChainLimit q → at.time ≡ old.time + done → now ≡ record at { processor = q } → BurstCause burst_end.ChainLimit most done now
+idle-cause stops most budget done old at now q few last burst time is =
+    let (mid, within, reaches, passes, chain) = burst in
+    let c = chain-step mid q chain in
+    let left : now ≡ behind_chain (record at { processor = mid }) = is ∙ ap (λ (p : ProcessorState). record at { processor = p }) c.left in
+    let late : now.time ≡ old.time + done = ap (λ (m : MachineState). m.time) is ∙ time in (
+      record { before = record at { processor = mid }; chain = record { memory_reference = c.low; chain = c.chain }; left = left },
+      omega (arith, within, few),
+      omega (arith, within, last, late),
+    )
+
+idled-at : (period done : ℕ) (old : MachineState) (q : ProcessorState) → looked_at period (idled_by period done (record old { processor = q })) ≡ record (looked_at period (idled_by period done old)) { processor = q }
+unfolding looked_at idled_by
+idled-at period done old q = refl
+
+idled-late : (period done : ℕ) (old : MachineState) → (looked_at period (idled_by period done old)).time ≡ old.time + done
+unfolding looked_at idled_by
+idled-late period done old = refl
+
+pub any-idle-cause : (stops : ℕ → Bool) (most budget done period : ℕ) (end : BurstEnd) (old now : MachineState) (q : ProcessorState) → budget ≤ most → old.time + budget ≤ last_time
+    → IsBurst stops old.processor budget done end q → now ≡ idle_end end period (idled_by period done (record old { processor = q })) → BurstCause end most done now
+any-idle-cause stops most budget done period burst_end.ChainLimit old now q few last burst is =
+    idle-cause stops most budget done old (looked_at period (idled_by period done old)) now q few last burst (idled-late period done old) (is ∙ idled-at period done old q)
+any-idle-cause stops most budget done period end old now q few last burst is = tt
+
+pub cause-behind : (end : BurstEnd) (most done more : ℕ) (m : MachineState) → done ≤ most → BurstCause end (most - done) more m → BurstCause end most (done + more) m
+cause-behind burst_end.ChainLimit most done more m few cause = let before = cause.1 in (cause.0, omega (arith, before, few), cause.2)
+cause-behind end most done more m few cause = tt
 
 -- ---- no key is taken
 

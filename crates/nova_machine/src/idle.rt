@@ -37,6 +37,7 @@ struct Looks {
 
 impl<U: Unit> Machine<U> {
     ghost use Rattle.nova_machine.specs.Bursts.{Bursts};
+    ghost use Rattle.nova_machine.specs.StopCauses.{BurstCause};
 
     /// Makes turns, as many at the most, of instructions of the processor alone and of looks of the keyboard for which
     /// no key comes; none, where anything else can come.
@@ -45,6 +46,9 @@ impl<U: Unit> Machine<U> {
         ensures told { Bursts watch.now keys.now most result.done result.end self.old self.new }
         ensures slots { self.new.slots ≡ self.old.slots }
         ensures later { self.old.time ≤ self.new.time }
+        ensures time { self.new.time ≡ self.old.time + result.done }
+        ensures taken { self.new.taken ≡ self.old.taken }
+        ensures cause { BurstCause result.end most result.done self.new }
     {
         match self.looks() {
             None => Burst {
@@ -62,6 +66,9 @@ impl<U: Unit> Machine<U> {
         ensures told { Bursts watch.now keys.now most result.done result.end self.old self.new }
         ensures slots { self.new.slots ≡ self.old.slots }
         ensures later { self.old.time ≤ self.new.time }
+        ensures time { self.new.time ≡ self.old.time + result.done }
+        ensures taken { self.new.taken ≡ self.old.taken }
+        ensures cause { BurstCause result.end most result.done self.new }
     {
         let budget = self.idle_budget(most, looks, watch, keys);
         let burst = self.step_to_break(budget, &watch.breaks);

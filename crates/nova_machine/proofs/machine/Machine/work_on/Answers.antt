@@ -5,7 +5,8 @@ use Rattle.expect_actions.specs.Watch.{WatchState}
 use Rattle.nova_processor.specs.Burst.{IsBurst}
 use Rattle.nova_machine.specs.Machine.{MachineState}
 use Rattle.nova_machine.specs.Looks.{idled_by, idle_end}
-use Rattle.nova_machine.proofs.Idling.{idle-told, idled-slots, idled-time, end-slots, end-time}
+use Rattle.nova_machine.proofs.Idling.{idle-told, idled-slots, idled-time, idled-taken, end-slots, end-time}
+use Rattle.nova_machine.proofs.InstructionCauses.{any-idle-cause}
 use Rattle.nova_machine.proofs.machine.Machine.work_on.Goals as goal
 
 pub returns-clause-told : goal.returns-clause-told
@@ -46,3 +47,39 @@ returns-clause-later g c =
     ap (λ (m : MachineState). m.time) c.end_looks.ensures ∙ end-time end period c.pass_looks.new.self
     ∙ ap (λ (m : MachineState). m.time) passed ∙ idled-time period done (record old { processor = q }) in
     omega (arith, time)
+
+pub returns-clause-time : goal.returns-clause-time
+returns-clause-time g c =
+    let old = c.args.self.now in
+    let q = c.step_to_break-burst.new.self.processor in
+    let done = c.step_to_break-burst.result.done in
+    let end = c.step_to_break-burst.result.end in
+    let period = c.args.looks.period in
+    let passed : c.pass_looks.new.self ≡ idled_by period done (record old { processor = q }) = search rules in
+    ap (λ (m : MachineState). m.time) c.end_looks.ensures ∙ end-time end period c.pass_looks.new.self
+    ∙ ap (λ (m : MachineState). m.time) passed ∙ idled-time period done (record old { processor = q })
+
+pub returns-clause-taken : goal.returns-clause-taken
+returns-clause-taken g c =
+    let old = c.args.self.now in
+    let q = c.step_to_break-burst.new.self.processor in
+    let done = c.step_to_break-burst.result.done in
+    let end = c.step_to_break-burst.result.end in
+    let period = c.args.looks.period in
+    let passed : c.pass_looks.new.self ≡ idled_by period done (record old { processor = q }) = search rules in
+    ap (λ (m : MachineState). m.taken) (c.end_looks.ensures ∙ ap (idle_end end period) passed) ∙ idled-taken end period done (record old { processor = q })
+
+pub returns-clause-cause : goal.returns-clause-cause
+returns-clause-cause g c =
+    let old = c.args.self.now in
+    let q = c.step_to_break-burst.new.self.processor in
+    let done = c.step_to_break-burst.result.done in
+    let end = c.step_to_break-burst.result.end in
+    let period = c.args.looks.period in
+    let list : c.watch.inside.breaks.list ≡ c.args.watch.now.breaks.list = ap (λ (w : WatchState). w.breaks.list) c.watch.view_is in
+    let P : List Break → Type 0 = λ breaks. IsBurst (λ address. has_break address breaks) old.processor c.idle_budget-budget.result done end q in
+    let burst : P c.args.watch.now.breaks.list = subst P list c.step_to_break-burst.ensures.told in
+    let passed : c.pass_looks.new.self ≡ idled_by period done (record old { processor = q }) = search rules in
+    let is : c.end_looks.new.self ≡ idle_end end period (idled_by period done (record old { processor = q })) = c.end_looks.ensures ∙ ap (idle_end end period) passed in
+    any-idle-cause (λ address. has_break address c.args.watch.now.breaks.list) c.args.most c.idle_budget-budget.result done period end old c.end_looks.new.self q
+    c.idle_budget-budget.ensures.few c.idle_budget-budget.ensures.end burst is
