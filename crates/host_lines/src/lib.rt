@@ -1,5 +1,5 @@
-//! What terminal lines are to the layers above: ports to listen on and connections to them, with a version in memory for
-//! tests and for whoever runs a machine inside a program of their own.
+//! What terminal lines are to the layers above: ports to listen on and the connections to them, with a version in
+//! memory for tests and for whoever runs a machine inside a program of their own.
 #![tactic(auto)]
 
 mod calls;

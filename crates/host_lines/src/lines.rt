@@ -117,6 +117,6 @@ pub trait Lines {
     fn faults(&self) -> u64
         ensures { result ≡ (state self.now).faults };
 
-    /// Where traffic is told, a connection that stands was accepted and has a caller, and nobody is behind any other one.
+    /// Where traffic is told, a connection that stands was accepted and has a caller, and nobody is behind another one.
     ghost peers_stand: { IsTrue tells → (s : Self) → TellsPeers (state s).told (state s) };
 }

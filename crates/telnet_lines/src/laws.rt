@@ -12,8 +12,8 @@ pub fn keys_under_any_cutting()
     ensures { CutAnywhere }
 {}
 
-/// The law that on a connection the keys taken and waiting are those of all that was received, and that the bytes sent and
-/// waiting are the opening and all that was accepted, coded.
+/// The law that on a connection the keys taken and waiting are those of all that was received, and that the bytes sent
+/// and waiting are the opening and all that was accepted, coded.
 pub fn accounts_add_up()
     ensures { AccountsAddUp }
 {}

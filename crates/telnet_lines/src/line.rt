@@ -158,9 +158,9 @@ impl Line {
     ghost use Rattle.telnet_lines.specs.Poll.{accepted, received};
     ghost use Rattle.telnet_lines.specs.Joined.{Makes, Sends, Polls, KeepsOthers, KeepsParties};
 
-    /// Accepts a connection where none stands, receives where no key waits, takes a key, which it answers, and sends what
-    /// waits: at most one call of each kind, in this order, and none without a port. A fault of `receive` or `send` ends
-    /// the connection.
+    /// Accepts a connection where none stands, receives where no key waits, takes a key, which it answers, and sends
+    /// what waits: at most one call of each kind, in this order, and none without a port. A fault of `receive` or
+    /// `send` ends the connection.
     pub fn poll<L: Lines>(&mut self, lines: &mut L, now: u64) -> Option<u8>
         ensures told { IsTrue L.tells → Polls now result (L.state lines.old) self.old (L.state lines.new) self.new }
         ensures others { KeepsOthers (L.state lines.old) self.old (L.state lines.new) self.new }
