@@ -15,30 +15,6 @@ use Rattle.host_lines.specs.State.{LineState, parties, caller_of, with_one, with
 use Rattle.host_lines.specs.LineCalls.{IsFresh, IsUnused, received_after, Receives}
 use Rattle.host_lines.specs.MemLines.{is_listed, connects_in, stands_at, peer_at, ended, given_after}
 
-same_both_ways : (a b : ℕ) → (a == b) ≡ (b == a)
-same_both_ways a b = elim (eqb_tells a b) [
-  | inl e ↦ e.0 ∙ sym (eq-eqb b a (sym e.1))
-  | inr e ↦ e.0 ∙ sym (ne_eqb b a (λ is. e.1 (sym is)))
-]
-
--- a port that is added behind the others
-or_false : (b : Bool) → (b || false) ≡ (if b then true else false)
-or_false true = refl
-or_false false = refl
-
-or_into : (a b x : Bool) → (a || (if b then true else x)) ≡ (if b then true else a || x)
-or_into true true x = refl
-or_into true false x = refl
-or_into false true x = refl
-or_into false false x = refl
-
-listed_more : (ports : List ℕ) (port p : ℕ) → is_listed (ports ++ port ∷ []) p ≡ with_one port (is_listed ports) p
-listed_more [] port p = ap (λ b. b || false) (same_both_ways port p) ∙ or_false (p == port)
-listed_more (q ∷ ports) port p = ap (λ x. (q == p) || x) (listed_more ports port p) ∙ or_into (q == p) (p == port) (is_listed ports p)
-
-pub port_added : (ports : List ℕ) (port : ℕ) → is_listed (ports ++ port ∷ []) ≡ with_one port (is_listed ports)
-port_added ports port = fun_ext (λ p. listed_more ports port p)
-
 -- a port that is taken out, wherever it stands
 out_of_none : (b : Bool) → false ≡ (if b then false else false)
 out_of_none true = refl
