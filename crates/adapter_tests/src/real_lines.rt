@@ -66,6 +66,16 @@ fn goes_back<N: Net>(
     false
 }
 
+/// Whether the peer is accepted, and a byte goes each way.
+fn are_exchanged<N: Net>(lines: &mut RealLines<'_, N>, port: u16, peer: &mut TcpStream) -> bool {
+    match accepted(lines, port) {
+        Some(conn) => {
+            is_sent(peer, b'A') && comes(lines, conn, b'A') && goes_back(lines, conn, peer, b'B')
+        }
+        None => false,
+    }
+}
+
 #[test]
 fn bytes_come_through_and_go_back(rt: HostRuntime) -> Result<(), Fail> {
     let mut lines = RealLines::new(rt.alloc(), &rt);
@@ -73,12 +83,7 @@ fn bytes_come_through_and_go_back(rt: HostRuntime) -> Result<(), Fail> {
         return Err(Fail::from("no port is free"));
     };
     let mut peer = TcpStream::connect(&rt, SocketAddr::from((Ipv4Addr::LOCALHOST, port)))?;
-    let Some(conn) = accepted(&mut lines, port) else {
-        return Err(Fail::from("the caller"));
-    };
-    holds(&rt, is_sent(&mut peer, b'A'), "the peer");
-    holds(&rt, comes(&mut lines, conn, b'A'), "through");
-    holds(&rt, goes_back(&mut lines, conn, &mut peer, b'B'), "back");
-    holds(&rt, lines.faults() == 0, "no fault");
+    let so = are_exchanged(&mut lines, port, &mut peer);
+    holds(&rt, so && lines.faults() == 0, "a byte each way");
     Ok(())
 }

@@ -143,6 +143,94 @@ impl<'a, N: Net> RealLines<'a, N> {
     }
 }
 
+impl<'a, N: Net> RealLines<'a, N> {
+    ghost use Rattle.std.specs.Prelude.{◌≤◌, Ok};
+    ghost use Rattle.fault_counts.specs.Faults.{CountsFault};
+    ghost use Rattle.host_lines.specs.LineCalls.{accepted_after, received_after, received_count};
+    ghost use Rattle.host_adapters.specs.RealLines.{is_in};
+
+    /// Whether a call on the port at a place rests. It rests once less then.
+    fn port_rests(&mut self, place: usize) -> bool
+        requires { place < length self.old.ports }
+        ensures { self.new ≡ self.old }
+    {
+        let rests = self.ports[place].rests;
+        self.rest_port(place, rests.saturating_sub(1));
+        rests > 0
+    }
+
+    /// Whether a call on the connection at a place rests. It rests once less then.
+    fn connection_rests(&mut self, place: usize) -> bool
+        requires { place < length self.old.connections }
+        ensures { self.new ≡ self.old }
+    {
+        let rests = self.connections[place].rests;
+        self.rest_connection(place, rests.saturating_sub(1));
+        rests > 0
+    }
+
+    /// Accepts the next connection to the port at a place.
+    fn accept_at(&mut self, place: usize) -> Result<Option<ConnId>, LineFault>
+        requires { place < length self.old.ports }
+        ensures ports { self.new.ports ≡ self.old.ports }
+        ensures stands { is_in self.new.connections ≡ accepted_after result (is_in self.old.connections) }
+        ensures counts { CountsFault self.old.faults self.new.faults result }
+    {
+        if self.port_rests(place) {
+            return Ok(None);
+        }
+        match accept_from(&self.ports[place].listener) {
+            Answered::Waits => {
+                self.rest_port(place, RESTS);
+                Ok(None)
+            }
+            Answered::Failed => Err(self.count_fault()),
+            Answered::Done(stream) => match self.keep(stream) {
+                Some(conn) => Ok(Some(conn)),
+                None => Err(self.count_fault()),
+            },
+        }
+    }
+
+    /// Ends a connection that its caller has left.
+    fn hung_up(&mut self, conn: ConnId) -> Received
+        ensures bound { received_count (Ok result) ≡ 0 }
+        ensures ports { self.new.ports ≡ self.old.ports }
+        ensures stands { is_in self.new.connections ≡ received_after conn.0 (Ok result) (is_in self.old.connections) }
+        ensures faults { self.new.faults ≡ self.old.faults }
+    {
+        self.end(conn);
+        Received::HungUp
+    }
+
+    /// Receives on the connection at a place, which has that number.
+    fn receive_at(
+        &mut self,
+        place: usize,
+        conn: ConnId,
+        buf: &mut [u8],
+    ) -> Result<Received, LineFault>
+        requires { place < length self.old.connections }
+        ensures bound { received_count result ≤ length buf.new }
+        ensures ports { self.new.ports ≡ self.old.ports }
+        ensures stands { is_in self.new.connections ≡ received_after conn.0 result (is_in self.old.connections) }
+        ensures counts { CountsFault self.old.faults self.new.faults result }
+    {
+        if self.connection_rests(place) {
+            return Ok(Received::NoneYet);
+        }
+        match read_from(&self.connections[place].stream, buf) {
+            Answered::Waits => {
+                self.rest_connection(place, RESTS);
+                Ok(Received::NoneYet)
+            }
+            Answered::Failed => Err(self.count_fault()),
+            Answered::Done(0) if !buf.is_empty() => Ok(self.hung_up(conn)),
+            Answered::Done(count) => Ok(Received::Bytes(count)),
+        }
+    }
+}
+
 fn place_of_port(ports: &[OpenPort], port: u16) -> Option<usize>
     ensures { IfSome result (λ i. i < length ports.now) }
 {
@@ -189,48 +277,16 @@ impl<'a, N: Net> Lines for RealLines<'a, N> {
     }
 
     fn accept(&mut self, port: u16, _now: u64) -> Result<Option<ConnId>, LineFault> {
-        let Some(place) = place_of_port(self.ports.as_slice(), port) else {
-            return Ok(None);
-        };
-        let rests = self.ports[place].rests;
-        if rests > 0 {
-            self.rest_port(place, rests - 1);
-            return Ok(None);
-        }
-        match accept_from(&self.ports[place].listener) {
-            Answered::Waits => {
-                self.rest_port(place, RESTS);
-                Ok(None)
-            }
-            Answered::Failed => Err(self.count_fault()),
-            Answered::Done(stream) => match self.keep(stream) {
-                Some(conn) => Ok(Some(conn)),
-                None => Err(self.count_fault()),
-            },
+        match place_of_port(self.ports.as_slice(), port) {
+            Some(place) => self.accept_at(place),
+            None => Ok(None),
         }
     }
 
     fn receive(&mut self, conn: ConnId, buf: &mut [u8], _now: u64) -> Result<Received, LineFault> {
-        let Some(place) = place_of_connection(self.connections.as_slice(), conn) else {
-            self.end(conn);
-            return Ok(Received::HungUp);
-        };
-        let rests = self.connections[place].rests;
-        if rests > 0 {
-            self.rest_connection(place, rests - 1);
-            return Ok(Received::NoneYet);
-        }
-        match read_from(&self.connections[place].stream, buf) {
-            Answered::Waits => {
-                self.rest_connection(place, RESTS);
-                Ok(Received::NoneYet)
-            }
-            Answered::Failed => Err(self.count_fault()),
-            Answered::Done(0) if !buf.is_empty() => {
-                self.end(conn);
-                Ok(Received::HungUp)
-            }
-            Answered::Done(count) => Ok(Received::Bytes(count)),
+        match place_of_connection(self.connections.as_slice(), conn) {
+            Some(place) => self.receive_at(place, conn, buf),
+            None => Ok(self.hung_up(conn)),
         }
     }
 
