@@ -1,6 +1,6 @@
--- Numbers of ports and connections that stand: one that is taken out, and what keeps its number.
+-- Numbers of ports and connections that stand, once one was taken out.
 use mathlib.Core.Path.{fun_ext}
-use Rattle.std.proofs.Common.{◌≡◌, ◌∙◌, ap, sym, refl, arith, ℕ, zero, suc, ◌==◌, ◌||◌, ◌<◌, not, Bool, true, false, List, [], ◌∷◌, length, map, filter, get_or, slice_set, inl, inr, if◌then◌else◌}
+use Rattle.std.proofs.Common.{◌≡◌, ◌∙◌, ap, sym, refl, ℕ, ◌==◌, ◌||◌, not, Bool, true, false, List, [], ◌∷◌, map, filter, inl, inr, if◌then◌else◌}
 use Rattle.std.proofs.lemmas.Bool.Decides.{eqb_tells}
 use Rattle.std.proofs.lemmas.Bool.{ne_eqb, eqb-false, eqb-true}
 use Rattle.host_lines.specs.State.{without_one}
@@ -42,9 +42,3 @@ numbers_kept number n (x ∷ xs) =
       | true ↦ numbers_kept number n xs
       | false ↦ ap (λ (l : List ℕ). number x ∷ l) (numbers_kept number n xs)
     ]
-
--- where one is replaced by one of the same number, the numbers stay
-pub numbers_stay : {X : Type 0} (number : X → ℕ) (xs : List X) (i : ℕ) (d y : X) → i < length xs → number y ≡ number (get_or xs i d) → map number (slice_set xs i y) ≡ map number xs
-numbers_stay number [] i d y within same = refl
-numbers_stay number (x ∷ xs) zero d y within same = ap (λ (n : ℕ). n ∷ map number xs) same
-numbers_stay number (x ∷ xs) (suc i) d y within same = ap (λ (l : List ℕ). number x ∷ l) (numbers_stay number xs i d y (omega (arith, within)) same)
