@@ -1,11 +1,11 @@
 -- The step of a poll that sends: nothing where nobody is connected or nothing waits, else a piece, or its fault.
 use Rattle.std.proofs.Common.{◌≡◌, ◌∙◌, ap, sym, refl, subst, ℕ, zero, suc, ◌-◌, ◌==◌, Bool, false, true≢false, List, [], ◌∷◌, ◌++◌, length, take, drop, Option, Some, None, option_map, append-nil, inl, inr, if◌then◌else◌}
 use Rattle.std.proofs.lemmas.Bool.Decides.{eqb_tells}
-use Rattle.host_lines.specs.Traffic.{Peer, Answer, Quiet, Took, Failed, Ahead, replied, sending, sent_bytes, taken_answer, count_in}
+use Rattle.host_lines.specs.Traffic.{Peer, Answer, Quiet, Took, Failed, Ahead, replied, sending, sent_bytes, taken_answer}
 use Rattle.host_lines.specs.Told.{Told, Gives, IsFirst, record_in, ahead_of, Heard, Named, Unnamed, heard_more}
 use Rattle.host_lines.specs.State.{LineState, parties}
 use Rattle.telnet_lines.specs.Line.{LineOf, unconnected, renamed}
-use Rattle.telnet_lines.specs.Poll.{Met, met, Sending, sending_of, piece_of, after_send, sent_by, sent_on, sent}
+use Rattle.telnet_lines.specs.Poll.{Met, met, Sending, sending_of, piece_of, sent_by, sent_on, sent}
 use Rattle.telnet_lines.specs.Joined.{seen_line, seen_with, Sends}
 
 abbrev nil : List ℕ
@@ -69,18 +69,17 @@ sends_as s line conn whole answer ahead is some gives =
     ∙ sent_of_some (parties s conn) line.output (seen_with whole s line) some
     ∙ ap (sent_by (parties s conn) (seen_line s line)) gives
 
-count_is : (size n : ℕ) → count_in size (taken_answer size n) ≡ n
-count_is size n = elim (eqb_tells n size) as (λ x. count_in size (taken_answer size n) ≡ n) [
-  | inl e ↦ ap (λ (b : Bool). count_in size (if b then Quiet else Took n)) e.0 ∙ sym e.1
-  | inr e ↦ ap (λ (b : Bool). count_in size (if b then Quiet else Took n)) e.0
-]
-
-output_left : (line : LineOf Peer) (n : ℕ) → after_send line (taken_answer (length (piece_of line.output)) n) ≡ record line { output = drop n line.output }
-output_left line n =
+-- what was taken of a piece is what was sent, and what is left is the output without it
+taken_as : (peer : Peer) (line : LineOf Peer) (n : ℕ) (ahead : Ahead)
+    → sent_by peer line (replied (taken_answer (length (piece_of line.output)) n) ahead)
+    ≡ sending_of (sent_bytes peer (take n line.output)) (met (record line { output = drop n line.output }) ahead)
+taken_as peer line n ahead =
     let size = length (piece_of line.output) in
-    elim (eqb_tells n size) as (λ x. after_send line (taken_answer size n) ≡ record line { output = drop n line.output }) [
-      | inl e ↦ ap (λ (b : Bool). after_send line (if b then Quiet else Took n)) e.0 ∙ ap (λ (k : ℕ). record line { output = drop k line.output }) (sym e.1)
-      | inr e ↦ ap (λ (b : Bool). after_send line (if b then Quiet else Took n)) e.0
+    let without : ℕ → Sending = λ k. sending_of (sent_bytes peer (take k line.output)) (met (record line { output = drop k line.output }) ahead) in
+    let answered : Bool → Sending = λ b. sent_by peer line (replied (if b then Quiet else Took n) ahead) in
+    elim (eqb_tells n size) as (λ x. sent_by peer line (replied (taken_answer size n) ahead) ≡ without n) [
+      | inl e ↦ ap answered e.0 ∙ ap without (sym e.1)
+      | inr e ↦ ap answered e.0
     ]
 
 pub sends_some : (old new : LineState) (line : LineOf ℕ) (conn n : ℕ) → line.connection ≡ Some conn → (length line.output == 0) ≡ false
@@ -88,29 +87,27 @@ pub sends_some : (old new : LineState) (line : LineOf ℕ) (conn n : ℕ) → li
     → parties new ≡ parties old → new.sent ≡ heard_more old.sent (sent_bytes (parties old conn) (take n line.output))
     → Sends old line new (record line { output = drop n line.output })
 sends_some old new line conn n is some told peers sent_is =
-    let size = length (piece_of line.output) in
+    let answer = taken_answer (length (piece_of line.output)) n in
+    let rest = record line { output = drop n line.output } in
+    let comes = λ (whole : List Answer) (first : IsFirst (record_in new.told) whole).
+    sends_as old line conn whole answer (ahead_of new.told whole) is some (told.gives whole first)
+    ∙ taken_as (parties old conn) (seen_line old line) n (ahead_of new.told whole) in
     record {
       grows = told.grows;
       made = λ whole first.
-          ap (λ (x : Sending). x.met) (sends_as old line conn whole (taken_answer size n) (ahead_of new.told whole) is some (told.gives whole first))
-          ∙ ap (λ (l : LineOf Peer). met l (ahead_of new.told whole)) (output_left (seen_line old line) n)
-          ∙ ap (λ (p : ℕ → Peer). met (renamed p (record line { output = drop n line.output })) (ahead_of new.told whole)) (sym peers);
-      heard = λ whole first.
-          sent_is
-          ∙ ap (λ (k : ℕ). heard_more old.sent (sent_bytes (parties old conn) (take k line.output))) (sym (count_is size n))
-          ∙ sym (ap (λ (x : Sending). heard_more old.sent x.sent) (sends_as old line conn whole (taken_answer size n) (ahead_of new.told whole) is some (told.gives whole first)));
+          ap (λ (x : Sending). x.met) (comes whole first) ∙ ap (λ (p : ℕ → Peer). met (renamed p rest) (ahead_of new.told whole)) (sym peers);
+      heard = λ whole first. sent_is ∙ sym (ap (λ (x : Sending). heard_more old.sent x.sent) (comes whole first));
     }
 
 pub sends_failed : (old mid new : LineState) (line : LineOf ℕ) (conn : ℕ) → line.connection ≡ Some conn → (length line.output == 0) ≡ false
     → Gives old.told mid.told (sending (parties old conn) (length (piece_of line.output))) Failed
     → new.told ≡ mid.told → new.sent ≡ heard_more old.sent (sent_bytes (parties old conn) []) → Sends old line new (unconnected line.port)
-sends_failed old mid new line conn is some told same sent_is = record {
-  grows = subst (λ (t : Told). IsFirst (record_in old.told) (record_in t)) (sym same) told.grows;
-  made = λ whole first.
-      let at = sends_as old line conn whole Failed (ahead_of mid.told whole) is some (told.gives whole (subst (λ (t : Told). IsFirst (record_in t) whole) same first)) in
-      ap (λ (x : Sending). x.met) at
-      ∙ ap (λ (t : Told). met (unconnected line.port) (ahead_of t whole)) (sym same);
-  heard = λ whole first.
-      let at = sends_as old line conn whole Failed (ahead_of mid.told whole) is some (told.gives whole (subst (λ (t : Told). IsFirst (record_in t) whole) same first)) in
-      sent_is ∙ sym (ap (λ (x : Sending). heard_more old.sent x.sent) at);
-}
+sends_failed old mid new line conn is some told same sent_is =
+    let comes = λ (whole : List Answer) (first : IsFirst (record_in new.told) whole).
+    sends_as old line conn whole Failed (ahead_of mid.told whole) is some
+    (told.gives whole (subst (λ (t : Told). IsFirst (record_in t) whole) same first)) in
+    record {
+      grows = subst (λ (t : Told). IsFirst (record_in old.told) (record_in t)) (sym same) told.grows;
+      made = λ whole first. ap (λ (x : Sending). x.met) (comes whole first) ∙ ap (λ (t : Told). met (unconnected line.port) (ahead_of t whole)) (sym same);
+      heard = λ whole first. sent_is ∙ sym (ap (λ (x : Sending). heard_more old.sent x.sent) (comes whole first));
+    }

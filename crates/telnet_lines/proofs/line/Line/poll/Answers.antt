@@ -1,18 +1,27 @@
 use Rattle.std.proofs.Common.{◌≡◌, ◌∙◌, ap, sym, subst, ℕ, None, Option}
 use Rattle.telnet_lines.specs.Line.{LineOf, unconnected, first_key, key_taken}
 use Rattle.telnet_lines.specs.Joined.{Polls, Sends, KeepsOthers, KeepsParties}
-use Rattle.telnet_lines.proofs.Polling.{polls, keeps_both, keeps_with_key}
+use Rattle.telnet_lines.proofs.Polling.{Steps, polls, keeps_both, keeps_with_key}
 use Rattle.telnet_lines.proofs.Apart.{keeps_through, keeps_with_key as keeps_callers}
 use Rattle.telnet_lines.proofs.line.Line.poll.Goals as goal
 
 pub returns-clause-told : goal.returns-clause-told
 returns-clause-told g c = λ tells.
     let state = g.L.Lines.state in
-    let sends : Sends (state c.receive.new.lines) (key_taken c.receive.new.self) (state c.send.new.lines) c.send.new.self =
-    subst (λ (l : LineOf ℕ). Sends (state c.receive.new.lines) l (state c.send.new.lines) c.send.new.self) c.take_key-key.ensures.line (c.send.ensures.told tells) in
-    subst (λ (k : Option ℕ). Polls c.args.now k (state c.args.lines.now) c.args.self.now (state c.send.new.lines) c.send.new.self) (sym c.take_key-key.ensures.key)
-    (polls c.args.now (state c.args.lines.now) (state c.accept.new.lines) (state c.receive.new.lines) (state c.send.new.lines) c.args.self.now c.accept.new.self c.receive.new.self c.send.new.self
-    (c.accept.ensures.told tells) (c.receive.ensures.told tells) sends c.accept.ensures.sent c.receive.ensures.sent)
+    let s0 = state c.args.lines.now in
+    let s1 = state c.accept.new.lines in
+    let s2 = state c.receive.new.lines in
+    let s3 = state c.send.new.lines in
+    let taken : Sends s2 (key_taken c.receive.new.self) s3 c.send.new.self =
+    subst (λ (l : LineOf ℕ). Sends s2 l s3 c.send.new.self) c.take_key-key.ensures.line (c.send.ensures.told tells) in
+    let steps : Steps c.args.now s0 s1 s2 s3 c.args.self.now c.accept.new.self c.receive.new.self c.send.new.self = record {
+      accepts = c.accept.ensures.told tells;
+      receives = c.receive.ensures.told tells;
+      sends = taken;
+      unheard = c.receive.ensures.sent ∙ c.accept.ensures.sent;
+    } in
+    subst (λ (k : Option ℕ). Polls c.args.now k s0 c.args.self.now s3 c.send.new.self) (sym c.take_key-key.ensures.key)
+    (polls c.args.now s0 s1 s2 s3 c.args.self.now c.accept.new.self c.receive.new.self c.send.new.self steps)
 
 pub returns-clause-others : goal.returns-clause-others
 returns-clause-others g c =
