@@ -1,4 +1,4 @@
-//! Tests of the adapters over readers, writers and files of the system.
+//! Tests of the adapters over readers, writers, files of the system and sockets.
 #![tactic(auto)]
 
 #[cfg(test)]
@@ -11,5 +11,7 @@ mod paged_files;
 mod reader_source;
 #[cfg(test)]
 mod real_files;
+#[cfg(test)]
+mod real_lines;
 #[cfg(test)]
 mod writer_sink;

@@ -1,3 +1,4 @@
 pub mod Adapters
 pub mod RealFiles
+pub mod RealLines
 pub mod Placed
