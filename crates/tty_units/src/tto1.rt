@@ -3,8 +3,8 @@ ghost use Rattle.std.specs.Prelude.{◌≡◌};
 use crate::teleprinter::Teleprinter;
 use unit_trait::{After, Got, IoAnswer, IoOp, Kind, Pulse, Queue, RegFault, Unit, Want};
 
-/// The printer of the second teletype: TTO1, device 51 (How to Use the Nova Computers, "Teletype"). It prints on terminal
-/// line 0.
+/// The printer of the second teletype: TTO1, device 51 (How to Use the Nova Computers, "Teletype"). It prints on
+/// terminal line 0.
 ///
 /// | number | register | values | at first | reset to 0 | what it holds |
 /// |---|---|---|---|---|---|
