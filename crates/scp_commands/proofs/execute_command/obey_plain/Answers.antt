@@ -354,6 +354,7 @@ returns-in_default g c =
       unrefused = λ is. absurd (cc);
       measured = not-measured g.F.Files.tells c.args.command.now state state;
       ran = tt;
+      no_stop = tt;
       attach_note = no-note c.args.command.now (record { command = s.command; time = s.machine.time }) s.notes s.notes state state;
       refused = λ is. leaves (nature c.args.command.now).flushes s s refl refl;
       keeps = keeps-none s.command s.machine.time g.F.Files.tells (Err NotBuilt) s.notes s.notes state refl tt;
