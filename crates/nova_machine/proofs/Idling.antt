@@ -41,11 +41,11 @@ use Rattle.nova_machine.proofs.Looks.{looks-change-nothing}
 use Rattle.nova_machine.proofs.Bursts.{behind_step, agrees-step, IsUnbroken, turns-silent, AreAtBreaks, released-if, never, on-if, mask-if, calm-ints}
 
 -- what holds of a machine that may look: no interrupt comes, its keyboard is there and looks each so many instructions
-record Looks (period : ℕ) (m : MachineState) : Type 0 where
-  uninterrupted : is_interrupted m ≡ false
-  there : is_some (unit_at (code_of Tti) m.units) ≡ true
-  wish : wish_of m ≡ After period
-  turn_of : LooksOrNot keyboard period m.events
+pub record Looks (period : ℕ) (m : MachineState) : Type 0 where
+  pub uninterrupted : is_interrupted m ≡ false
+  pub there : is_some (unit_at (code_of Tti) m.units) ≡ true
+  pub wish : wish_of m ≡ After period
+  pub turn_of : LooksOrNot keyboard period m.events
 
 look-serving : (note : Option UnitNote) (period : ℕ) (s : Seen) → Looks period s.machine → key_at s ≡ None
     → due s.machine.events ≡ Some keyboard → dues (served s.machine.events) ≡ [] → activated keyboard period (served s.machine.events) ≡ looked period s.machine.events
@@ -76,7 +76,7 @@ look-attended note period s looks none = by looks.turn_of
         ∙ ap (λ (p : Part). then_part p (λ served. still served (interrupt served.machine))) (look-serving note period s looks none first alone same)
         ∙ ap (λ (t : Turned). silent t.stop (with_machine s t.machine)) (interrupt-none (looked_at period s.machine) looks.uninterrupted)
 
-look-turn : (note : Option UnitNote) (period : ℕ) (s : Seen) → Looks period s.machine → key_at s ≡ None → IsUnbroken s
+pub look-turn : (note : Option UnitNote) (period : ℕ) (s : Seen) → Looks period s.machine → key_at s ≡ None → IsUnbroken s
     → turn note false s ≡ still s (fetch (looked_at period s.machine))
 unfolding looked_at
 look-turn note period s looks none unbroken =
@@ -87,7 +87,7 @@ look-turn note period s looks none unbroken =
     ∙ ap (λ (p : Part). then_part p (λ x. breaks_tested_unless false x)) (look-attended note period s looks none)
     ∙ breaks-none at unbroken)
 
-look-next : (note : Option RunNote) (period : ℕ) (s : Seen) (q : ProcessorState) → Looks period s.machine → key_at s ≡ None → IsUnbroken s
+pub look-next : (note : Option RunNote) (period : ℕ) (s : Seen) (q : ProcessorState) → Looks period s.machine → key_at s ≡ None → IsUnbroken s
     → s.machine.time < last_time → step s.machine.processor ≡ steps q
     → next_turn note false s ≡ silent None (with_machine s (behind_step (looked_at period s.machine) q))
 unfolding looked_at
@@ -106,16 +106,16 @@ look-chain note period s q looks none unbroken early is =
 -- ---- so many of them
 
 -- the machine behind so many steps, and the looks before them
-pub idle_behind : ℕ → ℕ → MachineState → ProcessorState → MachineState
+unfoldable pub idle_behind : ℕ → ℕ → MachineState → ProcessorState → MachineState
 idle_behind period count m q = record (idled_by period count m) { processor = q }
 
-idle-none : (period : ℕ) (m : MachineState) (q : ProcessorState) → q ≡ m.processor → idle_behind period 0 m q ≡ m
+pub idle-none : (period : ℕ) (m : MachineState) (q : ProcessorState) → q ≡ m.processor → idle_behind period 0 m q ≡ m
 unfolding idle_behind idled_by idled
 idle-none period m q is =
     let time : m.time + 0 ≡ m.time = omega arith in
     ap (λ (p : ProcessorState). record m { processor = p; time = m.time + 0 }) is ∙ ap (λ (n : ℕ). record m { time = n }) time
 
-idle-more : (period count : ℕ) (m : MachineState) (mid q : ProcessorState) → behind_step (looked_at period (idle_behind period count m mid)) q ≡ idle_behind period (suc count) m q
+pub idle-more : (period count : ℕ) (m : MachineState) (mid q : ProcessorState) → behind_step (looked_at period (idle_behind period count m mid)) q ≡ idle_behind period (suc count) m q
 unfolding looked_at idle_behind idled_by idled behind_step
 idle-more period count m mid q =
     let time : m.time + count + 1 ≡ m.time + suc count = omega arith in
@@ -125,7 +125,7 @@ idle-more period count m mid q =
     ap (λ (n : ℕ). record m { processor = q; ints = released (if count == 0 then m.ints else released m.ints); time = n; events = events }) time
     ∙ ap (λ (i : Ints). record m { processor = q; ints = i; time = m.time + suc count; events = events }) ints
 
-idle-looks : (period count most : ℕ) (m : MachineState) (q : ProcessorState) (sends : List Send) (keys : List (ℕ × ℕ)) → IsIdle most period m sends keys → count < most
+pub idle-looks : (period count most : ℕ) (m : MachineState) (q : ProcessorState) (sends : List Send) (keys : List (ℕ × ℕ)) → IsIdle most period m sends keys → count < most
     → Looks period (idle_behind period count m q)
 unfolding idle_behind idled_by
 idle-looks period count most m q sends keys idle before = record {
@@ -141,18 +141,18 @@ no-key None None none nothing = refl
 no-key (Some b) typed none nothing = absurd (cc)
 no-key None (Some b) none nothing = absurd (cc)
 
-idle-keyless : (period count most : ℕ) (s : Seen) (q : ProcessorState) → IsIdle most period s.machine s.watch.sends s.keys → count < most
+pub idle-keyless : (period count most : ℕ) (s : Seen) (q : ProcessorState) → IsIdle most period s.machine s.watch.sends s.keys → count < most
     → key_at (with_machine s (idle_behind period count s.machine q)) ≡ None
 unfolding idle_behind idled_by
 idle-keyless period count most s q idle before =
     let none = idle.keyless count before in
     no-key _ _ none.0 none.1
 
-idle-early : (period count most : ℕ) (m : MachineState) (q : ProcessorState) → count < most → m.time + most ≤ last_time → (idle_behind period count m q).time < last_time
+pub idle-early : (period count most : ℕ) (m : MachineState) (q : ProcessorState) → count < most → m.time + most ≤ last_time → (idle_behind period count m q).time < last_time
 unfolding idle_behind idled_by
 idle-early period count most m q before end = omega (arith, before, end)
 
-idle-processor : (period count : ℕ) (m : MachineState) (q : ProcessorState) → (idle_behind period count m q).processor ≡ q
+pub idle-processor : (period count : ℕ) (m : MachineState) (q : ProcessorState) → (idle_behind period count m q).processor ≡ q
 unfolding idle_behind
 idle-processor period count m q = refl
 
@@ -182,11 +182,11 @@ idle-turns period stops note one (suc count) most left s q at_breaks idle within
 
 -- ---- what the calls come to
 
-idle-is : (period count : ℕ) (m : MachineState) (q : ProcessorState) → idled_by period count (record m { processor = q }) ≡ idle_behind period count m q
+pub idle-is : (period count : ℕ) (m : MachineState) (q : ProcessorState) → idled_by period count (record m { processor = q }) ≡ idle_behind period count m q
 unfolding idle_behind idled_by
 idle-is period count m q = refl
 
-idle-erased : (most period : ℕ) (m : MachineState) (sends : List Send) (keys : List (ℕ × ℕ)) → IsIdle most period m sends keys → IsIdle most period (erased m) sends keys
+pub idle-erased : (most period : ℕ) (m : MachineState) (sends : List Send) (keys : List (ℕ × ℕ)) → IsIdle most period m sends keys → IsIdle most period (erased m) sends keys
 idle-erased most period m sends keys idle = record {
   looking = record {
     quiet = idle.looking.quiet;
@@ -200,7 +200,7 @@ idle-erased most period m sends keys idle = record {
   keyless = idle.keyless;
 }
 
-erased-idle : (period count : ℕ) (m : MachineState) (q : ProcessorState) → idle_behind period count (erased m) q ≡ erased (idle_behind period count m q)
+pub erased-idle : (period count : ℕ) (m : MachineState) (q : ProcessorState) → idle_behind period count (erased m) q ≡ erased (idle_behind period count m q)
 unfolding idle_behind idled_by
 erased-idle period count m q = refl
 
@@ -324,5 +324,9 @@ idled-taken burst_end.ChainLimit period count m = refl
 idled-taken burst_end.Spent period count m = refl
 idled-taken burst_end.Transfer period count m = refl
 idled-taken burst_end.AtStop period count m = refl
+
+pub passed-keys : (period count : ℕ) (m : MachineState) → (idled_by period count m).taken ≡ m.taken
+unfolding idled_by
+passed-keys period count m = refl
 
 pub ruleset idles = idle-less

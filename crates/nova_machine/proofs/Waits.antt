@@ -25,7 +25,7 @@ use Rattle.nova_machine.specs.Turn.{refer, execute, fetch}
 use Rattle.nova_machine.specs.Run.{last_time, next_turn, turns}
 use Rattle.nova_machine.specs.Quiet.{IsPlain}
 use Rattle.nova_machine.specs.Bursts.{passed_by, IsCalm, Bursts}
-use Rattle.nova_machine.specs.Waits.{IsTest, IsUntaken, IsJump, IsWaiting}
+use Rattle.nova_machine.specs.Waits.{IsTest, IsUntaken, IsJump, IsWaiting, AreUnbroken}
 use Rattle.nova_processor.specs.declared.burst.BurstEnd.{BurstEnd}
 use Rattle.nova_machine.proofs.Runs.{burst-goes}
 use Rattle.nova_machine.proofs.Opened.{next-early}
@@ -89,7 +89,7 @@ execute-is w m t u =
     ∙ ap (λ (b : Bool). if b then transfer w m else goes_on (executed (arithmetic w) m)) to
     ∙ transfer-is w m t u
 
-skip-is : (m : MachineState) → IsWaiting m → fetch m ≡ goes_on (behind_step m (past m.processor))
+pub skip-is : (m : MachineState) → IsWaiting m → fetch m ≡ goes_on (behind_step m (past m.processor))
 unfolding fetch
 skip-is m waiting = execute-is (get m.processor.memory m.processor.cpu.pc) m waiting.test waiting.untaken ∙ ap (λ (x : MachineState). goes_on x) (executed-is past m)
 
@@ -113,7 +113,7 @@ jump-step w to p is =
     else if bits 3 4 w == 2 then store_and_skip at ((get p.memory at + 1) % 2 ^ 16) p else store_and_skip at ((get p.memory at + (2 ^ 16 - 1)) % 2 ^ 16) p)) second
     ∙ ap (λ (n : ℕ). steps (record p { cpu = record p.cpu { pc = n } })) is.target
 
-back-is : (p : ProcessorState) → IsJump (get p.memory (following p.cpu.pc)) (following p.cpu.pc) p.cpu.pc p.cpu.accumulators → step (past p) ≡ steps p
+pub back-is : (p : ProcessorState) → IsJump (get p.memory (following p.cpu.pc)) (following p.cpu.pc) p.cpu.pc p.cpu.accumulators → step (past p) ≡ steps p
 unfolding step past advanced
 back-is p is = jump-step (get p.memory (following p.cpu.pc)) p.cpu.pc (past p) is
 
@@ -132,15 +132,10 @@ skip-next : (note : Option RunNote) (s : Seen) → IsPlain s.machine → IsUnbro
 skip-next note s plain none early waiting =
     next-early note false s early ∙ plain-turn (at_time s.machine.time note) s plain none ∙ ap (λ (t : Turned). still s t) (skip-is s.machine waiting)
 
--- no break is at the two instructions of the loop
-pub record AreUnbroken (watch : WatchState) (m : MachineState) : Type 0 where
-  pub test : has_break m.processor.cpu.pc watch.breaks.list ≡ false
-  pub back : has_break (following m.processor.cpu.pc) watch.breaks.list ≡ false
-
 at-unbroken : (count : ℕ) (s : Seen) (q : ProcessorState) → has_break q.cpu.pc s.watch.breaks.list ≡ false → IsUnbroken (with_machine s (behind count s.machine q))
 at-unbroken count s q none = ap (λ (p : ProcessorState). has_break p.cpu.pc s.watch.breaks.list) (behind-processor count s.machine q) ∙ none
 
-past-at : (watch : WatchState) (p : ProcessorState) → has_break (following p.cpu.pc) watch.breaks.list ≡ false → has_break (past p).cpu.pc watch.breaks.list ≡ false
+pub past-at : (watch : WatchState) (p : ProcessorState) → has_break (following p.cpu.pc) watch.breaks.list ≡ false → has_break (past p).cpu.pc watch.breaks.list ≡ false
 unfolding past advanced
 past-at watch p none = none
 

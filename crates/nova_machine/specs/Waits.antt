@@ -7,6 +7,8 @@ use Rattle.nova_memory.specs.Address.{indexed}
 use Rattle.unit_list.specs.Bus.{unit_at}
 use Rattle.nova_processor.specs.Instruction.{following}
 use Rattle.nova_processor.specs.InputOutput.{flag_skips}
+use Rattle.expect_actions.specs.Breaks.{has_break}
+use Rattle.expect_actions.specs.Watch.{WatchState}
 use Rattle.nova_machine.specs.Machine.{MachineState}
 use Rattle.nova_machine.specs.Transfer.{flags_in}
 
@@ -33,3 +35,8 @@ pub record IsWaiting (m : MachineState) : Type 0 where
   pub test : IsTest (get m.processor.memory m.processor.cpu.pc)
   pub untaken : IsUntaken (bits 10 15 (get m.processor.memory m.processor.cpu.pc)) (bits 8 9 (get m.processor.memory m.processor.cpu.pc)) m
   pub back : IsJump (get m.processor.memory (following m.processor.cpu.pc)) (following m.processor.cpu.pc) m.processor.cpu.pc m.processor.cpu.accumulators
+
+-- no break is at the two instructions of the loop
+pub record AreUnbroken (watch : WatchState) (m : MachineState) : Type 0 where
+  pub test : has_break m.processor.cpu.pc watch.breaks.list ≡ false
+  pub back : has_break (following m.processor.cpu.pc) watch.breaks.list ≡ false

@@ -54,7 +54,7 @@ impl<U: Unit> Machine<U> {
                 }
             }
             BurstEnd::Transfer => {
-                let waited = self.wait(most - burst.done, watch);
+                let waited = self.wait(most - burst.done, watch, keys);
                 Burst {
                     done: burst.done + waited,
                     end: BurstEnd::Transfer,

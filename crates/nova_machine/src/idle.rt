@@ -28,11 +28,11 @@ const KEYBOARD: UnitName = UnitName {
 
 /// How the keyboard looks for keys.
 #[derive(Clone, Copy)]
-struct Looks {
+pub(crate) struct Looks {
     /// A look asks for the next one after so many instructions.
-    period: u32,
+    pub(crate) period: u32,
     /// No other event is due within so many.
-    others: u32,
+    pub(crate) others: u32,
 }
 
 impl<U: Unit> Machine<U> {
@@ -79,7 +79,7 @@ impl<U: Unit> Machine<U> {
 
     /// For how many instructions, as many at the most, nothing can come but such looks.
     #[tactic(auto, using(crate::proofs::Idling::idles))]
-    fn idle_budget(&self, most: u64, looks: Looks, watch: &Watch, keys: &Keys) -> u64
+    pub(crate) fn idle_budget(&self, most: u64, looks: Looks, watch: &Watch, keys: &Keys) -> u64
         requires next { IsLooking looks.others looks.period self.now }
         ensures few { result ≤ most }
         ensures end { self.now.time + result ≤ last_time }
@@ -93,7 +93,7 @@ impl<U: Unit> Machine<U> {
     }
 
     /// How the keyboard looks for keys, where no interrupt can come and its look is the next event.
-    fn looks(&mut self) -> Option<Looks>
+    pub(crate) fn looks(&mut self) -> Option<Looks>
         ensures next { IfSome result (λ l. IsLooking l.others l.period self.old) }
         ensures same { self.new ≡ self.old }
     {
@@ -136,7 +136,7 @@ impl<U: Unit> Machine<U> {
 
     /// Lets so many instructions pass, and the looks before them.
     #[tactic(auto, using(crate::proofs::Listed::listings), unfolding(crate::specs::Looks::idled_by))]
-    fn pass_looks(&mut self, count: u32, period: u32)
+    pub(crate) fn pass_looks(&mut self, count: u32, period: u32)
         requires others { AreOthersLater count self.old.events }
         requires period { 1 ≤ period }
         requires time { self.old.time + count ≤ last_time }

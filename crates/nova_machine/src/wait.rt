@@ -2,12 +2,14 @@
 ghost use Rattle.std.specs.Prelude.{ℕ, List, ◌≡◌, ◌+◌, ◌≤◌, ◌||◌, true};
 ghost use Rattle.expect_actions.specs.Breaks.{has_break};
 ghost use Rattle.nova_processor.specs.Instruction.{following};
-ghost use Rattle.nova_machine.specs.Waits.{IsTest};
+ghost use Rattle.nova_machine.specs.Waits.{IsTest, AreUnbroken};
+ghost use Rattle.nova_machine.specs.Looks.{IsLooking};
 ghost use Rattle.nova_processor.specs.declared.burst.BurstEnd.TheVariants.{Transfer};
 
+use crate::idle::Looks;
 use crate::machine::Machine;
 use crate::run::LAST_TIME;
-use expect_actions::{Breaks, Watch};
+use expect_actions::{Breaks, Keys, Watch};
 use nova_memory::indexed;
 use nova_processor::{Cpu, flag_skips};
 use unit_list::flags_at;
@@ -20,9 +22,9 @@ impl<U: Unit> Machine<U> {
 
     /// Where the machine is at a loop that waits for a flag, lets its rounds pass, up to the next event, and answers
     /// how many instructions that were, as many as that at the most. All but the time is as it was then.
-    pub(crate) fn wait(&mut self, most: u64, watch: &Watch) -> u64
+    pub(crate) fn wait(&mut self, most: u64, watch: &Watch, keys: &Keys) -> u64
         ensures few { result ≤ most }
-        ensures told { (keys : List (ℕ × ℕ)) → Bursts watch.now keys most result Transfer self.old self.new }
+        ensures told { Bursts watch.now keys.now most result Transfer self.old self.new }
         ensures slots { self.new.slots ≡ self.old.slots }
         ensures later { self.old.time ≤ self.new.time }
         ensures time { self.new.time ≡ self.old.time + result }
@@ -31,9 +33,43 @@ impl<U: Unit> Machine<U> {
         if self.meets_break(&watch.breaks) || !self.is_waiting() {
             return 0;
         }
+        match self.looks() {
+            None => self.pass_rounds(most, watch),
+            Some(looks) => self.pass_rounds_and_looks(most, looks, watch, keys),
+        }
+    }
+
+    /// Lets rounds of such a loop pass, as long as no event comes.
+    fn pass_rounds(&mut self, most: u64, watch: &Watch) -> u64
+        requires unbroken { AreUnbroken watch.now self.old }
+        requires waiting { IsWaiting self.old }
+        ensures few { result ≤ most }
+        ensures told { (keys : List (ℕ × ℕ)) → Bursts watch.now keys most result Transfer self.old self.new }
+        ensures slots { self.new.slots ≡ self.old.slots }
+        ensures later { self.old.time ≤ self.new.time }
+        ensures time { self.new.time ≡ self.old.time + result }
+        ensures taken { self.new.taken ≡ self.old.taken }
+    {
         let budget = most.min(LAST_TIME - self.time).min(self.calm());
         let rounds = budget / 2;
         self.pass_time((rounds * 2) as u32);
+        rounds * 2
+    }
+
+    /// Lets rounds of such a loop pass, and looks of the keyboard for which no key comes.
+    fn pass_rounds_and_looks(&mut self, most: u64, looks: Looks, watch: &Watch, keys: &Keys) -> u64
+        requires unbroken { AreUnbroken watch.now self.old }
+        requires waiting { IsWaiting self.old }
+        requires next { IsLooking looks.others looks.period self.old }
+        ensures few { result ≤ most }
+        ensures told { Bursts watch.now keys.now most result Transfer self.old self.new }
+        ensures slots { self.new.slots ≡ self.old.slots }
+        ensures later { self.old.time ≤ self.new.time }
+        ensures time { self.new.time ≡ self.old.time + result }
+        ensures taken { self.new.taken ≡ self.old.taken }
+    {
+        let rounds = self.idle_budget(most, looks, watch, keys) / 2;
+        self.pass_looks((rounds * 2) as u32, looks.period);
         rounds * 2
     }
 

@@ -14,7 +14,7 @@ pub returns-in-Transfer-clause-told : goal.returns-in-Transfer-clause-told
 returns-in-Transfer-clause-told g c =
     let other : c.work-burst.result.end ≢ burst_end.ChainLimit = search rules in
     burst-then c.args.watch.now c.args.keys.now c.args.most c.work-burst.result.done c.wait-waited.result c.work-burst.result.end burst_end.Transfer c.args.self.now c.work-burst.new.self
-    c.wait-waited.new.self other (c.work-burst.ensures.told c.args.keys.now) (c.wait-waited.ensures.told c.args.keys.now)
+    c.wait-waited.new.self other (c.work-burst.ensures.told c.args.keys.now) c.wait-waited.ensures.told
 
 pub returns-in-Spent-clause-cause : goal.returns-in-Spent-clause-cause
 returns-in-Spent-clause-cause g c =

@@ -1,53 +1,8 @@
-use Rattle.std.proofs.Common.{◌≡◌, ◌+◌, ◌*◌, ◌/◌, ◌≤◌, ap, ◌∙◌, arith, rules}
-use Rattle.nova_machine.specs.Machine.{MachineState}
-use Rattle.nova_machine.specs.Run.{last_time}
-use Rattle.nova_machine.specs.Bursts.{IsCalm, passed_by}
-use Rattle.nova_machine.specs.Waits.{IsWaiting}
-use Rattle.nova_machine.proofs.Bursts.{calm-less, passed-slots, passed-time}
-use Rattle.nova_machine.proofs.Waits.{AreUnbroken, waits-told}
-use Rattle.nova_machine.proofs.InstructionCauses.{passed-taken}
+use Rattle.std.proofs.Common.{rules}
 use Rattle.nova_machine.proofs.machine.Machine.wait.Goals as goal
 
-pub returns-clause-told : goal.returns-clause-told
-returns-clause-told g c = λ keys.
-    let old = c.args.self.now in
-    let budget = c.min-budget.result in
-    let rounds = budget / 2 in
-    let within : budget ≤ c.calm.result = search rules in
-    let calm : IsCalm budget old = calm-less budget c.calm.result old within c.calm.ensures.calm in
-    let last : old.time + budget ≤ last_time = search rules in
-    let few : budget ≤ c.args.most = search rules in
-    let unbroken : AreUnbroken c.args.watch.now old = record { test = search rules; back = search rules } in
-    let waiting : IsWaiting old = search rules in
-    let half : rounds * 2 ≤ budget = omega arith in
-    let is : c.pass_time.new.self ≡ passed_by (rounds * 2) old = search rules in
-    waits-told c.args.watch.now keys c.args.most rounds budget old c.pass_time.new.self unbroken waiting calm last few half is
+pub pass_rounds-requires-clause-unbroken : goal.pass_rounds-requires-clause-unbroken
+pass_rounds-requires-clause-unbroken g c = record { test = search rules; back = search rules }
 
-pub returns-clause-slots : goal.returns-clause-slots
-returns-clause-slots g c =
-    let old = c.args.self.now in
-    let count = c.min-budget.result / 2 * 2 in
-    let is : c.pass_time.new.self ≡ passed_by count old = search rules in
-    ap (λ (m : MachineState). m.slots) is ∙ passed-slots count old
-
-pub returns-clause-later : goal.returns-clause-later
-returns-clause-later g c =
-    let old = c.args.self.now in
-    let count = c.min-budget.result / 2 * 2 in
-    let is : c.pass_time.new.self ≡ passed_by count old = search rules in
-    let time : c.pass_time.new.self.time ≡ old.time + count = ap (λ (m : MachineState). m.time) is ∙ passed-time count old in
-    omega (arith, time)
-
-pub returns-clause-time : goal.returns-clause-time
-returns-clause-time g c =
-    let old = c.args.self.now in
-    let count = c.min-budget.result / 2 * 2 in
-    let is : c.pass_time.new.self ≡ passed_by count old = search rules in
-    ap (λ (m : MachineState). m.time) is ∙ passed-time count old
-
-pub returns-clause-taken : goal.returns-clause-taken
-returns-clause-taken g c =
-    let old = c.args.self.now in
-    let count = c.min-budget.result / 2 * 2 in
-    let is : c.pass_time.new.self ≡ passed_by count old = search rules in
-    ap (λ (m : MachineState). m.taken) is ∙ passed-taken count old
+pub pass_rounds_and_looks-requires-clause-unbroken : goal.pass_rounds_and_looks-requires-clause-unbroken
+pass_rounds_and_looks-requires-clause-unbroken g c = record { test = search rules; back = search rules }
