@@ -1,13 +1,13 @@
 -- A memory reference, by whether its word is indirect.
-use Rattle.std.proofs.Common.{◌≡◌, ◌≢◌, ℕ, ◌<◌, ◌==◌, Bool, true, false, Option, Some, None, nat_lt, refl, ap, sym, ◌∙◌, arith, if◌then◌else◌}
+use Rattle.std.proofs.Common.{◌≡◌, ◌≢◌, ℕ, ◌+◌, ◌*◌, ◌%◌, ◌<◌, ◌==◌, Bool, true, false, List, slice_index, Option, Some, None, nat_lt, refl, ap, sym, ◌∙◌, arith, if◌then◌else◌}
 use Rattle.std.proofs.lemmas.Bool.Decides.{nat_tests}
 use Rattle.nova_word.specs.Bits.{bits}
 use Rattle.nova_memory.specs.Memory.{MemoryState}
-use Rattle.nova_memory.specs.Address.{Reference, indexed, chain, address}
+use Rattle.nova_memory.specs.Address.{Reference, displaced, indexed, chain, address}
 use Rattle.nova_processor.specs.declared.burst.Step.TheVariants.{ChainLimit}
 use Rattle.nova_processor.specs.Processor.{ProcessorState}
-use Rattle.nova_processor.specs.Instruction.{memory_reference, arithmetic}
-use Rattle.nova_processor.specs.Burst.{Stepped, steps, references, refers_to, refers, passes, step_of}
+use Rattle.nova_processor.specs.Instruction.{without_accumulator, load, store, memory_reference, arithmetic}
+use Rattle.nova_processor.specs.Burst.{Stepped, steps, refers_to, refers, passes, step_of}
 
 -- the reference of a word, with what its chain comes to
 reached : ℕ → ProcessorState → Reference → Stepped
@@ -46,6 +46,13 @@ step-direct w p low other =
     step-refers w p low ∙ refers-if w p
     ∙ ap (λ (b : Bool). reached w p (if b then chain 16 p.memory (indexed w p.cpu.pc p.cpu.accumulators) else at-once w p)) (no-one (bits 5 5 w) other)
 
+-- a memory reference of that kind and function at its effective address
+abbrev pub references : ℕ → ℕ → ℕ → ProcessorState → ProcessorState
+references kind function address p =
+    if kind == 0 then without_accumulator function address p
+    else if kind == 1 then load function address p
+    else store function address p
+
 references-are : (w a : ℕ) (p : ProcessorState) → references (bits 0 2 w) (bits 3 4 w) a p ≡ memory_reference w a p
 unfolding memory_reference
 references-are w a p = refl
@@ -71,3 +78,15 @@ refers-through w at a p after low one is ends stored =
     ∙ ap (λ (r : Reference). refers_to w r.address (record p { memory = r.memory })) place
     ∙ ap (λ (o : Option ℕ). refers_to w o (record p { memory = (chain 16 p.memory at).memory })) (sym ends)
     ∙ ap (λ (m : MemoryState). refers_to w (Some a) (record p { memory = m })) (sym stored)
+
+-- the address by that index and that displacement
+by-fields : ℕ → ℕ → ℕ → List ℕ → ℕ
+by-fields index d pc acs = if index == 0 then d else if index == 1 then displaced pc d else displaced (slice_index acs index) d
+
+-- the address of a word is that of its index and its displacement alone
+pub indexed-by : (w index pc : ℕ) (acs : List ℕ) → index ≡ bits 6 7 w → indexed (index * 256 + w % 256) pc acs ≡ indexed w pc acs
+unfolding indexed by-fields
+indexed-by w index pc acs is =
+    let place : bits 6 7 (index * 256 + w % 256) ≡ bits 6 7 w = omega (arith, is) in
+    let displacement : bits 8 15 (index * 256 + w % 256) ≡ bits 8 15 w = omega arith in
+    ap (λ (i : ℕ). by-fields i (bits 8 15 (index * 256 + w % 256)) pc acs) place ∙ ap (λ (d : ℕ). by-fields (bits 6 7 w) d pc acs) displacement

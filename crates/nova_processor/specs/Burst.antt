@@ -8,15 +8,8 @@ use Rattle.nova_processor.specs.declared.burst.Step.TheVariants.{Executed, Trans
 use Rattle.nova_processor.specs.declared.burst.BurstEnd.{BurstEnd}
 use Rattle.nova_processor.specs.declared.burst.BurstEnd.TheVariants as ended
 use Rattle.nova_processor.specs.Processor.{ProcessorState}
-use Rattle.nova_processor.specs.Instruction.{without_accumulator, load, store, memory_reference, arithmetic}
+use Rattle.nova_processor.specs.Instruction.{memory_reference, arithmetic}
 use Rattle.nova_processor.specs.InputOutput.{multiply_divide}
-
--- a memory reference of that kind and function at its effective address
-abbrev pub references : ℕ → ℕ → ℕ → ProcessorState → ProcessorState
-references kind function address p =
-    if kind == 0 then without_accumulator function address p
-    else if kind == 1 then load function address p
-    else store function address p
 
 -- the processor after a step, and what the step came to
 pub record Stepped : Type 0 where

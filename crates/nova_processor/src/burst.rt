@@ -1,13 +1,12 @@
-// Instructions on the processor alone, one behind another: the table of the instruction set.
+// Instructions on the processor alone, one behind another.
 ghost use Rattle.std.specs.Prelude.{◌≡◌};
 ghost use Rattle.nova_processor.specs.Burst.{IsBurst};
 
 use crate::arithmetic::compute;
 use crate::cpu::Cpu;
-use crate::input_output::pass_word;
-use crate::memory_reference::refer;
 use crate::processor::Processor;
 use crate::stops::Stops;
+use crate::table::{direct, indirect};
 
 /// What a step of the processor came to. It is small, since each instruction answers one.
 #[derive(Clone, Copy, Debug, PartialEq, Eq)]
@@ -44,8 +43,8 @@ impl Processor {
     /// at a stop. It knows no unit, no time and no interrupt, and takes no memory.
     ///
     /// Registers stand apart for so long, so that the host holds PC and Carry in registers of its own, and are written
-    /// back on the way out. Where bit 0 of a word is 1, it is an arithmetic or logical instruction, and else bits 0 to
-    /// 4 choose one (How to Use the Nova Computers, "Instruction Formats").
+    /// back on the way out. Where bit 0 of a word is 1, it is an arithmetic or logical instruction, and else bit 5 says
+    /// whether a memory reference is indirect (How to Use the Nova Computers, "Instruction Formats").
     #[inline(never)]
     pub fn burst<S: Stops>(&mut self, budget: u64, stops: &S) -> Burst
         ensures { IsBurst (S.stops stops.now) self.old budget result.done result.end self.new }
@@ -71,26 +70,10 @@ impl Processor {
             let word = words.read(pc);
             let end = if word.0 >= 0o100000 {
                 compute(&mut acs, &mut carry, &mut pc, word)
+            } else if (word.0 >> 10) % 2 == 1 {
+                indirect(&mut acs, &mut carry, &mut pc, words, word)
             } else {
-                match word.0 >> 11 {
-                    // JMP, JSR, ISZ and DSZ
-                    0 => refer(&mut acs, &mut pc, words, word, 0, 0),
-                    1 => refer(&mut acs, &mut pc, words, word, 0, 1),
-                    2 => refer(&mut acs, &mut pc, words, word, 0, 2),
-                    3 => refer(&mut acs, &mut pc, words, word, 0, 3),
-                    // LDA to each accumulator
-                    4 => refer(&mut acs, &mut pc, words, word, 1, 0),
-                    5 => refer(&mut acs, &mut pc, words, word, 1, 1),
-                    6 => refer(&mut acs, &mut pc, words, word, 1, 2),
-                    7 => refer(&mut acs, &mut pc, words, word, 1, 3),
-                    // STA from each accumulator
-                    8 => refer(&mut acs, &mut pc, words, word, 2, 0),
-                    9 => refer(&mut acs, &mut pc, words, word, 2, 1),
-                    10 => refer(&mut acs, &mut pc, words, word, 2, 2),
-                    11 => refer(&mut acs, &mut pc, words, word, 2, 3),
-                    // input and output
-                    _ => pass_word(&mut acs, &mut carry, &mut pc, word),
-                }
+                direct(&mut acs, &mut carry, &mut pc, words, word)
             };
             match end {
                 Step::Executed => (),

@@ -9,6 +9,7 @@ pub mod input_output;
 mod memory_reference;
 pub mod processor;
 pub mod stops;
+mod table;
 
 pub use burst::{Burst, BurstEnd, Step};
 pub use cpu::Cpu;

@@ -1,11 +1,10 @@
 // The memory references, one function for each definition of one. Registers are lent one by one, so that each can stand
-// in a register of the host.
+// in a register of the host. The hints are `inline`, since a table whose arms are always inlined is called.
 ghost use Rattle.std.specs.Prelude.{◌≡◌, ◌<◌, ◌%◌, ◌^◌, Bool};
 ghost use Rattle.nova_word.specs.Bits.{bits};
 ghost use Rattle.nova_processor.specs.Processor.{joined};
 ghost use Rattle.nova_processor.specs.Instruction.{jump, jump_to_subroutine, store_and_skip, load, store};
-ghost use Rattle.nova_processor.specs.Instruction.{without_accumulator};
-ghost use Rattle.nova_processor.specs.Burst.{references};
+ghost use Rattle.nova_processor.specs.Instruction.{without_accumulator, memory_reference};
 ghost use Rattle.nova_processor.specs.Steps.{Steps};
 
 use crate::burst::Step;
@@ -14,7 +13,7 @@ use crate::processor::Processor;
 use nova_memory::{ChainLimit, Words, indexed};
 use nova_word::{Addr, Word};
 
-#[inline(always)]
+#[inline]
 #[tactic(auto, unfolding(crate::specs::Instruction::jump))]
 fn jump(acs: &[Word; 4], pc: &mut Addr, memory: &Words, address: Addr)
     ensures { (carry : Bool) → joined acs.now carry pc.new memory.now ≡ jump address (joined acs.now carry pc.old memory.now) }
@@ -22,7 +21,7 @@ fn jump(acs: &[Word; 4], pc: &mut Addr, memory: &Words, address: Addr)
     *pc = address;
 }
 
-#[inline(always)]
+#[inline]
 #[tactic(auto, unfolding(crate::specs::Instruction::jump_to_subroutine))]
 fn jump_to_subroutine(acs: &mut [Word; 4], pc: &mut Addr, memory: &Words, address: Addr)
     ensures { (carry : Bool) →
@@ -32,7 +31,7 @@ fn jump_to_subroutine(acs: &mut [Word; 4], pc: &mut Addr, memory: &Words, addres
     *pc = address;
 }
 
-#[inline(always)]
+#[inline]
 #[tactic(auto, unfolding(crate::specs::Instruction::store_and_skip, crate::specs::Instruction::advanced))]
 fn store_and_skip(acs: &[Word; 4], pc: &mut Addr, memory: &mut Words, address: Addr, word: Word)
     ensures { (carry : Bool) →
@@ -42,7 +41,7 @@ fn store_and_skip(acs: &[Word; 4], pc: &mut Addr, memory: &mut Words, address: A
     advance(pc, word.0 == 0);
 }
 
-#[inline(always)]
+#[inline]
 #[tactic(auto, unfolding(crate::specs::Instruction::load, crate::specs::Instruction::advanced))]
 fn load(acs: &mut [Word; 4], pc: &mut Addr, memory: &Words, accumulator: usize, address: Addr)
     requires { accumulator < 4 }
@@ -53,7 +52,7 @@ fn load(acs: &mut [Word; 4], pc: &mut Addr, memory: &Words, accumulator: usize, 
     advance(pc, false);
 }
 
-#[inline(always)]
+#[inline]
 #[tactic(auto, unfolding(crate::specs::Instruction::store, crate::specs::Instruction::advanced))]
 fn store(acs: &[Word; 4], pc: &mut Addr, memory: &mut Words, accumulator: usize, address: Addr)
     requires { accumulator < 4 }
@@ -64,7 +63,7 @@ fn store(acs: &[Word; 4], pc: &mut Addr, memory: &mut Words, accumulator: usize,
     advance(pc, false);
 }
 
-#[inline(always)]
+#[inline]
 #[tactic(auto, unfolding(crate::specs::Instruction::without_accumulator))]
 fn without_accumulator(
     acs: &mut [Word; 4],
@@ -90,19 +89,21 @@ fn without_accumulator(
     }
 }
 
-/// Executes a memory reference of that kind and function at its effective address.
-#[inline(always)]
+/// Executes a memory reference, whose bits 0 to 2 are its kind and bits 3 and 4 its function, at its effective address.
+#[inline]
 fn refer_to(
     acs: &mut [Word; 4],
     pc: &mut Addr,
     memory: &mut Words,
+    _word: Word,
     kind: u16,
     function: u16,
     address: Addr,
 )
-    requires { function < 4 }
+    requires kind { kind ≡ bits 0 2 _word }
+    requires function { function ≡ bits 3 4 _word }
     ensures { (carry : Bool) →
-        joined acs.new carry pc.new memory.new ≡ references kind function address (joined acs.old carry pc.old memory.old) }
+        joined acs.new carry pc.new memory.new ≡ memory_reference _word address (joined acs.old carry pc.old memory.old) }
 {
     match kind {
         0 => without_accumulator(acs, pc, memory, function, address),
@@ -111,9 +112,35 @@ fn refer_to(
     }
 }
 
-/// Executes a memory reference, whose bits 0 to 2 are its kind and bits 3 and 4 its function.
-#[inline(always)]
+/// Executes a direct memory reference, whose bits 0 to 2 are its kind, bits 3 and 4 its function and bits 6 and 7 its
+/// index. Where these are constants, the host chooses by none of them.
+#[inline]
 pub(crate) fn refer(
+    acs: &mut [Word; 4],
+    pc: &mut Addr,
+    memory: &mut Words,
+    word: Word,
+    kind: u16,
+    function: u16,
+    index: u16,
+) -> Step
+    requires reference { word < 0o60000 }
+    requires kind { kind ≡ bits 0 2 word }
+    requires function { function ≡ bits 3 4 word }
+    requires direct { bits 5 5 word ≡ 0 }
+    requires index { index ≡ bits 6 7 word }
+    ensures { (carry : Bool) →
+        Steps word (joined acs.old carry pc.old memory.old) result (joined acs.new carry pc.new memory.new) }
+{
+    // The index and the displacement alone, since these are all that an address is made of.
+    let at = indexed(Word(index * 256 + word.0 % 256), *pc, acs);
+    refer_to(acs, pc, memory, word, kind, function, at);
+    Step::Executed
+}
+
+/// Executes an indirect memory reference, whose bits 0 to 2 are its kind and bits 3 and 4 its function.
+#[inline(always)]
+pub(crate) fn refer_indirect(
     acs: &mut [Word; 4],
     pc: &mut Addr,
     memory: &mut Words,
@@ -124,21 +151,17 @@ pub(crate) fn refer(
     requires reference { word < 0o60000 }
     requires kind { kind ≡ bits 0 2 word }
     requires function { function ≡ bits 3 4 word }
+    requires indirect { bits 5 5 word ≡ 1 }
     ensures { (carry : Bool) →
         Steps word (joined acs.old carry pc.old memory.old) result (joined acs.new carry pc.new memory.new) }
 {
     let at = indexed(word, *pc, acs);
-    if (word.0 >> 10) % 2 == 1 {
-        match memory.chain(at) {
-            Err(ChainLimit) => Step::ChainLimit,
-            Ok(address) => {
-                refer_to(acs, pc, memory, kind, function, address);
-                Step::Executed
-            }
+    match memory.chain(at) {
+        Err(ChainLimit) => Step::ChainLimit,
+        Ok(address) => {
+            refer_to(acs, pc, memory, word, kind, function, address);
+            Step::Executed
         }
-    } else {
-        refer_to(acs, pc, memory, kind, function, at);
-        Step::Executed
     }
 }
 
@@ -156,6 +179,7 @@ impl Processor {
             &mut cpu.accumulators,
             &mut cpu.pc,
             words,
+            Word(word),
             word >> 13,
             (word >> 11) % 4,
             address,
