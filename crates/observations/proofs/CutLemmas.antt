@@ -139,6 +139,30 @@ all-sent (Reads count at ∷ more) ended takes gives p r =
     (cases_lt gives count)
 all-sent (Sends bytes ∷ more) ended takes gives p r = ap (λ (sent : List (ℕ × ℕ)). bytes ++ sent) (all-sent more ended takes gives p r)
 
+-- a console that takes more, where none of its bytes was refused: the same is sent
+pub sent-more-room : {S : Type 0} (made : List (Observation S)) (ended : Ended S) (takes more gives : ℕ) → takes ≤ more
+    → (cut takes gives made ended).status ≢ 102 → sent_until more gives made ≡ sent_until takes gives made
+sent-more-room [] ended takes more gives h s = refl
+sent-more-room (Prints text at ∷ rest) ended takes more gives h s =
+    ⊎_elim
+    (λ (short : takes < length text). absurd (s (ap (λ o. o.status) (cut-refused text at rest ended takes gives short))))
+    (λ (fits : length text ≤ takes).
+    let now = ap (λ o. o.status) (cut-printed text at rest ended takes gives fits) in
+    sent-printed text at rest more gives (omega (arith, h, fits))
+    ∙ sent-more-room rest ended (takes - length text) (more - length text) gives (omega (arith, h)) (λ e. s (now ∙ e))
+    ∙ sym (sent-printed text at rest takes gives fits))
+    (cases_lt takes (length text))
+sent-more-room (Reads count at ∷ rest) ended takes more gives h s =
+    ⊎_elim
+    (λ (short : gives < count). sent-failed count at rest more gives short ∙ sym (sent-failed count at rest takes gives short))
+    (λ (fits : count ≤ gives).
+    let now = ap (λ o. o.status) (cut-read count at rest ended takes gives fits) in
+    sent-read count at rest more gives fits
+    ∙ sent-more-room rest ended takes more (gives - count) h (λ e. s (now ∙ e))
+    ∙ sym (sent-read count at rest takes gives fits))
+    (cases_lt gives count)
+sent-more-room (Sends bytes ∷ rest) ended takes more gives h s = ap (λ (sent : List (ℕ × ℕ)). bytes ++ sent) (sent-more-room rest ended takes more gives h s)
+
 pub whole : {S : Type 0} (made : List (Observation S)) (ended : Ended S) (takes gives : ℕ)
     → (cut takes gives made ended).status ≢ 102 → (cut takes gives made ended).status ≢ 106 → IsWhole made ended takes gives
 whole made ended takes gives p r =
@@ -322,6 +346,30 @@ cut-more (Reads count at ∷ rest) more ended other takes gives fine refused =
     ∙ sym now)
     (cases_lt gives count)
 cut-more (Sends bytes ∷ rest) more ended other takes gives fine refused = cut-more rest more ended other takes gives fine refused
+
+-- nor is anything behind it sent
+pub sent-more : {S : Type 0} (made more : List (Observation S)) (ended : Ended S) (takes gives : ℕ) → ended.status ≢ 102
+    → (cut takes gives made ended).status ≡ 102 → sent_until takes gives (made ++ more) ≡ sent_until takes gives made
+sent-more [] more ended takes gives fine refused = absurd (fine refused)
+sent-more (Prints text at ∷ rest) more ended takes gives fine refused =
+    ⊎_elim
+    (λ (short : takes < length text). sent-refused text at (rest ++ more) takes gives short ∙ sym (sent-refused text at rest takes gives short))
+    (λ (fits : length text ≤ takes).
+    let now = ap (λ o. o.status) (cut-printed text at rest ended takes gives fits) in
+    sent-printed text at (rest ++ more) takes gives fits
+    ∙ sent-more rest more ended (takes - length text) gives fine (sym now ∙ refused)
+    ∙ sym (sent-printed text at rest takes gives fits))
+    (cases_lt takes (length text))
+sent-more (Reads count at ∷ rest) more ended takes gives fine refused =
+    ⊎_elim
+    (λ (short : gives < count). sent-failed count at (rest ++ more) takes gives short ∙ sym (sent-failed count at rest takes gives short))
+    (λ (fits : count ≤ gives).
+    let now = ap (λ o. o.status) (cut-read count at rest ended takes gives fits) in
+    sent-read count at (rest ++ more) takes gives fits
+    ∙ sent-more rest more ended takes (gives - count) fine (sym now ∙ refused)
+    ∙ sym (sent-read count at rest takes gives fits))
+    (cases_lt gives count)
+sent-more (Sends bytes ∷ rest) more ended takes gives fine refused = ap (λ (sent : List (ℕ × ℕ)). bytes ++ sent) (sent-more rest more ended takes gives fine refused)
 
 -- a refused byte in an earlier part
 pub breaks-before : {S : Type 0} (made more : List (Observation S)) (taken : List ℕ) (at : S) → BreaksOff made taken at → BreaksOff (made ++ more) taken at
