@@ -2,9 +2,9 @@
 use Rattle.std.proofs.Common.{ℕ, ◌≡◌, ◌≢◌, ◌+◌, ◌-◌, ◌<◌, ◌≤◌, nat_le, Bool, false, true, inl, inr, if◌then◌else◌, List, [], ◌∷◌, ◌++◌, length, take, drop, refl, ap, sym, ◌∙◌, append_assoc, append-nil, add_assoc, zero-add, add-zero, arith, length-append, length-take-le, ⊎_elim}
 use Rattle.std.proofs.lemmas.Bool.{cases_lt}
 use Rattle.std.proofs.lemmas.List.{take-append-drop}
-use Rattle.observations.specs.Observations.{Observation, Prints, Reads, Ended, text_of, reads_of, map_made, map_ended, StandsAt}
-use Rattle.observations.specs.Cut.{Outcome, ends, behind, cut, map_outcome, BreaksOff}
-use Rattle.observations.specs.Laws.{IsWhole}
+use Rattle.observations.specs.Observations.{Observation, Prints, Reads, Sends, Ended, text_of, reads_of, sent_of, map_made, map_ended, StandsAt}
+use Rattle.observations.specs.Cut.{Outcome, ends, behind, cut, sent_until, map_outcome, BreaksOff}
+use Rattle.observations.specs.Laws.{IsWhole, EndsBehind}
 
 yes-le : (m n : ℕ) → m ≤ n → nat_le m n ≡ true
 yes-le m n h = grind arith
@@ -53,6 +53,7 @@ more-room (Reads count at ∷ rest) ended takes more gives h s =
     let s' = λ (e : (cut takes (gives - count) rest ended).status ≡ 102). s (ap (λ o. o.status) now ∙ e) in
     later ∙ ap (behind [] count) (more-room rest ended takes more (gives - count) h s') ∙ sym now)
     (cases_lt gives count)
+more-room (Sends bytes ∷ rest) ended takes more gives h s = more-room rest ended takes more gives h s
 
 pub first-part : {S : Type 0} (made : List (Observation S)) (ended : Ended S) (takes gives : ℕ) → (rest : List ℕ) × (text_of made ≡ (cut takes gives made ended).console ++ rest)
 first-part [] ended takes gives = ([], refl)
@@ -77,6 +78,7 @@ first-part (Reads count at ∷ more) ended takes gives =
     let part = first-part more ended takes (gives - count) in
     (part.0, part.1 ∙ ap (λ o. o.console ++ part.0) (sym (cut-read count at more ended takes gives fits))))
     (cases_lt gives count)
+first-part (Sends bytes ∷ more) ended takes gives = first-part more ended takes gives
 
 pub no-faults : {S : Type 0} (made : List (Observation S)) (ended : Ended S) (takes gives : ℕ)
     → (cut takes gives made ended).status ≢ 102 → (cut takes gives made ended).status ≢ 106
@@ -98,12 +100,80 @@ no-faults (Reads count at ∷ more) ended takes gives p r =
     let inner = no-faults more ended takes (gives - count) (λ e. p (ap (λ o. o.status) now ∙ e)) (λ e. r (ap (λ o. o.status) now ∙ e)) in
     now ∙ ap (behind [] count) inner)
     (cases_lt gives count)
+no-faults (Sends bytes ∷ more) ended takes gives p r = no-faults more ended takes gives p r
+
+-- what is sent behind a text that is taken whole, and behind reads that are let through
+sent-printed : {S : Type 0} (text : List ℕ) (at : S) (more : List (Observation S)) (takes gives : ℕ) → length text ≤ takes
+    → sent_until takes gives (Prints text at ∷ more) ≡ sent_until (takes - length text) gives more
+sent-printed text at more takes gives h = rw (yes-le (length text) takes h) refl
+
+sent-read : {S : Type 0} (count : ℕ) (at : S) (more : List (Observation S)) (takes gives : ℕ) → count ≤ gives
+    → sent_until takes gives (Reads count at ∷ more) ≡ sent_until takes (gives - count) more
+sent-read count at more takes gives h = rw (yes-le count gives h) refl
+
+-- nothing, where a byte of the text is refused or one of the reads fails
+sent-refused : {S : Type 0} (text : List ℕ) (at : S) (more : List (Observation S)) (takes gives : ℕ) → takes < length text
+    → sent_until takes gives (Prints text at ∷ more) ≡ []
+sent-refused text at more takes gives h = rw (no-le (length text) takes h) refl
+
+sent-failed : {S : Type 0} (count : ℕ) (at : S) (more : List (Observation S)) (takes gives : ℕ) → gives < count
+    → sent_until takes gives (Reads count at ∷ more) ≡ []
+sent-failed count at more takes gives h = rw (no-le count gives h) refl
+
+pub all-sent : {S : Type 0} (made : List (Observation S)) (ended : Ended S) (takes gives : ℕ)
+    → (cut takes gives made ended).status ≢ 102 → (cut takes gives made ended).status ≢ 106 → sent_until takes gives made ≡ sent_of made
+all-sent [] ended takes gives p r = refl
+all-sent (Prints text at ∷ more) ended takes gives p r =
+    ⊎_elim
+    (λ (short : takes < length text). absurd (p (ap (λ o. o.status) (cut-refused text at more ended takes gives short))))
+    (λ (fits : length text ≤ takes).
+    let now = ap (λ o. o.status) (cut-printed text at more ended takes gives fits) in
+    sent-printed text at more takes gives fits ∙ all-sent more ended (takes - length text) gives (λ e. p (now ∙ e)) (λ e. r (now ∙ e)))
+    (cases_lt takes (length text))
+all-sent (Reads count at ∷ more) ended takes gives p r =
+    ⊎_elim
+    (λ (short : gives < count). absurd (r (ap (λ o. o.status) (cut-failed count at more ended takes gives short))))
+    (λ (fits : count ≤ gives).
+    let now = ap (λ o. o.status) (cut-read count at more ended takes gives fits) in
+    sent-read count at more takes gives fits ∙ all-sent more ended takes (gives - count) (λ e. p (now ∙ e)) (λ e. r (now ∙ e)))
+    (cases_lt gives count)
+all-sent (Sends bytes ∷ more) ended takes gives p r = ap (λ (sent : List (ℕ × ℕ)). bytes ++ sent) (all-sent more ended takes gives p r)
+
+-- a console that takes more, where none of its bytes was refused: the same is sent
+pub sent-more-room : {S : Type 0} (made : List (Observation S)) (ended : Ended S) (takes more gives : ℕ) → takes ≤ more
+    → (cut takes gives made ended).status ≢ 102 → sent_until more gives made ≡ sent_until takes gives made
+sent-more-room [] ended takes more gives h s = refl
+sent-more-room (Prints text at ∷ rest) ended takes more gives h s =
+    ⊎_elim
+    (λ (short : takes < length text). absurd (s (ap (λ o. o.status) (cut-refused text at rest ended takes gives short))))
+    (λ (fits : length text ≤ takes).
+    let now = ap (λ o. o.status) (cut-printed text at rest ended takes gives fits) in
+    sent-printed text at rest more gives (omega (arith, h, fits))
+    ∙ sent-more-room rest ended (takes - length text) (more - length text) gives (omega (arith, h)) (λ e. s (now ∙ e))
+    ∙ sym (sent-printed text at rest takes gives fits))
+    (cases_lt takes (length text))
+sent-more-room (Reads count at ∷ rest) ended takes more gives h s =
+    ⊎_elim
+    (λ (short : gives < count). sent-failed count at rest more gives short ∙ sym (sent-failed count at rest takes gives short))
+    (λ (fits : count ≤ gives).
+    let now = ap (λ o. o.status) (cut-read count at rest ended takes gives fits) in
+    sent-read count at rest more gives fits
+    ∙ sent-more-room rest ended takes more (gives - count) h (λ e. s (now ∙ e))
+    ∙ sym (sent-read count at rest takes gives fits))
+    (cases_lt gives count)
+sent-more-room (Sends bytes ∷ rest) ended takes more gives h s = ap (λ (sent : List (ℕ × ℕ)). bytes ++ sent) (sent-more-room rest ended takes more gives h s)
 
 pub whole : {S : Type 0} (made : List (Observation S)) (ended : Ended S) (takes gives : ℕ)
     → (cut takes gives made ended).status ≢ 102 → (cut takes gives made ended).status ≢ 106 → IsWhole made ended takes gives
 whole made ended takes gives p r =
     let all = no-faults made ended takes gives p r in
-    record { status = ap (λ o. o.status) all; console = ap (λ o. o.console) all; reads = ap (λ o. o.reads) all; state = ap (λ o. o.state) all }
+    record {
+      status = ap (λ o. o.status) all;
+      console = ap (λ o. o.console) all;
+      reads = ap (λ o. o.reads) all;
+      state = ap (λ o. o.state) all;
+      sent = all-sent made ended takes gives p r;
+    }
 
 -- the outcomes of two parts, one behind the other, are one
 behind-behind : {S : Type 0} (first second : List ℕ) (m n : ℕ) (o : Outcome S) → behind first m (behind second n o) ≡ behind (first ++ second) (m + n) o
@@ -133,6 +203,65 @@ cut-after (Reads count at ∷ done) more ended takes gives =
     ∙ ap (λ n. behind [] count (cut (length (text_of done) + takes) n (done ++ more) ended)) rest
     ∙ ap (behind [] count) (cut-after done more ended takes gives)
     ∙ behind-behind [] (text_of done) count (reads_of done) (cut takes gives more ended)
+cut-after (Sends bytes ∷ done) more ended takes gives = cut-after done more ended takes gives
+
+-- what is sent behind observations that were let through
+pub sent-after : {S : Type 0} (done more : List (Observation S)) (takes gives : ℕ)
+    → sent_until (length (text_of done) + takes) (reads_of done + gives) (done ++ more) ≡ sent_of done ++ sent_until takes gives more
+sent-after [] more takes gives = ap (λ n. sent_until n (0 + gives) more) (zero-add takes) ∙ ap (λ n. sent_until takes n more) (zero-add gives)
+sent-after (Prints text at ∷ done) more takes gives =
+    let size = length-append text (text_of done) in
+    let fits : length text ≤ length (text ++ text_of done) + takes = omega (arith, size) in
+    let rest : length (text ++ text_of done) + takes - length text ≡ length (text_of done) + takes = omega (arith, size) in
+    sent-printed text at (done ++ more) (length (text ++ text_of done) + takes) (reads_of done + gives) fits
+    ∙ ap (λ n. sent_until n (reads_of done + gives) (done ++ more)) rest
+    ∙ sent-after done more takes gives
+sent-after (Reads count at ∷ done) more takes gives =
+    let fits : count ≤ count + reads_of done + gives = omega arith in
+    let rest : count + reads_of done + gives - count ≡ reads_of done + gives = omega arith in
+    sent-read count at (done ++ more) (length (text_of done) + takes) (count + reads_of done + gives) fits
+    ∙ ap (λ n. sent_until (length (text_of done) + takes) n (done ++ more)) rest
+    ∙ sent-after done more takes gives
+sent-after (Sends bytes ∷ done) more takes gives =
+    ap (λ (sent : List (ℕ × ℕ)). bytes ++ sent) (sent-after done more takes gives)
+    ∙ sym (append_assoc bytes (sent_of done) (sent_until takes gives more))
+
+-- where a byte of a text is refused behind those, and where a read fails
+pub ends-refused : {S : Type 0} (done more : List (Observation S)) (text : List ℕ) (at : S) (ended : Ended S) (n gives : ℕ) → n < length text
+    → EndsBehind done (done ++ Prints text at ∷ more) ended (length (text_of done) + n) (reads_of done + gives)
+    (ends 102 (text_of done ++ take n text) (reads_of done) at)
+ends-refused done more text at ended n gives short = record {
+  outcome =
+      cut-after done (Prints text at ∷ more) ended n gives
+      ∙ ap (behind (text_of done) (reads_of done)) (cut-refused text at more ended n gives short)
+      ∙ ap (λ r. ends 102 (text_of done ++ take n text) r at) (add-zero (reads_of done));
+  sent =
+      sent-after done (Prints text at ∷ more) n gives
+      ∙ ap (λ (sent : List (ℕ × ℕ)). sent_of done ++ sent) (sent-refused text at more n gives short)
+      ∙ append-nil (sent_of done);
+}
+
+pub ends-failed : {S : Type 0} (done more : List (Observation S)) (count : ℕ) (at : S) (ended : Ended S) (takes n : ℕ) → n < count
+    → EndsBehind done (done ++ Reads count at ∷ more) ended (length (text_of done) + takes) (reads_of done + n)
+    (ends 106 (text_of done) (reads_of done + n) at)
+ends-failed done more count at ended takes n short = record {
+  outcome =
+      cut-after done (Reads count at ∷ more) ended takes n
+      ∙ ap (behind (text_of done) (reads_of done)) (cut-failed count at more ended takes n short)
+      ∙ ap (λ t. ends 106 t (reads_of done + n) at) (append-nil (text_of done));
+  sent =
+      sent-after done (Reads count at ∷ more) takes n
+      ∙ ap (λ (sent : List (ℕ × ℕ)). sent_of done ++ sent) (sent-failed count at more takes n short)
+      ∙ append-nil (sent_of done);
+}
+
+-- all that is sent where all observations were let through
+pub sent-whole : {S : Type 0} (done : List (Observation S)) (gives : ℕ) → sent_until (length (text_of done)) (reads_of done + gives) done ≡ sent_of done
+sent-whole done gives =
+    ap (λ m. sent_until m (reads_of done + gives) done) (sym (add-zero (length (text_of done))))
+    ∙ ap (λ made. sent_until (length (text_of done) + 0) (reads_of done + gives) made) (sym (append-nil done))
+    ∙ sent-after done [] 0 gives
+    ∙ append-nil (sent_of done)
 
 -- a byte of a text is refused, behind observations that were let through
 pub cut-refused-after : {S : Type 0} (done : List (Observation S)) (text : List ℕ) (at : S) (more : List (Observation S)) (ended : Ended S) (n gives : ℕ) → n < length text
@@ -185,6 +314,14 @@ cut-map f (Reads count at ∷ more) ended takes gives =
     ∙ ap (behind [] count) (cut-map f more ended takes (gives - count))
     ∙ ap (map_outcome f) (sym (cut-read count at more ended takes gives fits)))
     (cases_lt gives count)
+cut-map f (Sends bytes ∷ more) ended takes gives = cut-map f more ended takes gives
+
+-- nor does what is sent
+pub sent-map : {S T : Type 0} (f : S → T) (made : List (Observation S)) (takes gives : ℕ) → sent_until takes gives (map_made f made) ≡ sent_until takes gives made
+sent-map f [] takes gives = refl
+sent-map f (Prints text at ∷ more) takes gives = ap (λ (sent : List (ℕ × ℕ)). if nat_le (length text) takes then sent else []) (sent-map f more (takes - length text) gives)
+sent-map f (Reads count at ∷ more) takes gives = ap (λ (sent : List (ℕ × ℕ)). if nat_le count gives then sent else []) (sent-map f more takes (gives - count))
+sent-map f (Sends bytes ∷ more) takes gives = ap (λ (sent : List (ℕ × ℕ)). bytes ++ sent) (sent-map f more takes gives)
 
 -- where a byte was refused, nothing behind it counts
 cut-more : {S : Type 0} (made more : List (Observation S)) (ended other : Ended S) (takes gives : ℕ) → ended.status ≢ 102
@@ -208,6 +345,31 @@ cut-more (Reads count at ∷ rest) more ended other takes gives fine refused =
     ∙ ap (behind [] count) (cut-more rest more ended other takes (gives - count) fine (sym (ap (λ o. o.status) now) ∙ refused))
     ∙ sym now)
     (cases_lt gives count)
+cut-more (Sends bytes ∷ rest) more ended other takes gives fine refused = cut-more rest more ended other takes gives fine refused
+
+-- nor is anything behind it sent
+pub sent-more : {S : Type 0} (made more : List (Observation S)) (ended : Ended S) (takes gives : ℕ) → ended.status ≢ 102
+    → (cut takes gives made ended).status ≡ 102 → sent_until takes gives (made ++ more) ≡ sent_until takes gives made
+sent-more [] more ended takes gives fine refused = absurd (fine refused)
+sent-more (Prints text at ∷ rest) more ended takes gives fine refused =
+    ⊎_elim
+    (λ (short : takes < length text). sent-refused text at (rest ++ more) takes gives short ∙ sym (sent-refused text at rest takes gives short))
+    (λ (fits : length text ≤ takes).
+    let now = ap (λ o. o.status) (cut-printed text at rest ended takes gives fits) in
+    sent-printed text at (rest ++ more) takes gives fits
+    ∙ sent-more rest more ended (takes - length text) gives fine (sym now ∙ refused)
+    ∙ sym (sent-printed text at rest takes gives fits))
+    (cases_lt takes (length text))
+sent-more (Reads count at ∷ rest) more ended takes gives fine refused =
+    ⊎_elim
+    (λ (short : gives < count). sent-failed count at (rest ++ more) takes gives short ∙ sym (sent-failed count at rest takes gives short))
+    (λ (fits : count ≤ gives).
+    let now = ap (λ o. o.status) (cut-read count at rest ended takes gives fits) in
+    sent-read count at (rest ++ more) takes gives fits
+    ∙ sent-more rest more ended takes (gives - count) fine (sym now ∙ refused)
+    ∙ sym (sent-read count at rest takes gives fits))
+    (cases_lt gives count)
+sent-more (Sends bytes ∷ rest) more ended takes gives fine refused = ap (λ (sent : List (ℕ × ℕ)). bytes ++ sent) (sent-more rest more ended takes gives fine refused)
 
 -- a refused byte in an earlier part
 pub breaks-before : {S : Type 0} (made more : List (Observation S)) (taken : List ℕ) (at : S) → BreaksOff made taken at → BreaksOff (made ++ more) taken at
@@ -268,6 +430,7 @@ cut-reads (Reads count at ∷ more) ended takes gives =
     let inner = cut-reads more ended takes (gives - count) in
     omega (arith, e, inner))
     (cases_lt gives count)
+cut-reads (Sends bytes ∷ more) ended takes gives = cut-reads more ended takes gives
 
 -- a refused byte, with another state in each place. The way back needs each state to have one at least.
 pub breaks-map : {S T : Type 0} (f : S → T) (made : List (Observation S)) (taken : List ℕ) (at : S) → BreaksOff made taken at → BreaksOff (map_made f made) taken (f at)
@@ -307,3 +470,4 @@ cut-state P (Reads count at ∷ more) ended takes gives each last =
     by-reads : (b : Bool) → P (cut takes (gives - count) more ended).state → P (if b then behind [] count (cut takes (gives - count) more ended) else ends 106 [] gives at).state
     by-reads true later = later
     by-reads false later = each at (inl refl)
+cut-state P (Sends bytes ∷ more) ended takes gives each last = cut-state P more ended takes gives each last

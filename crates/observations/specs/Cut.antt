@@ -3,7 +3,7 @@
 use Rattle.std.specs.Prelude.{◌≡◌, ℕ, ◌+◌, ◌-◌, List, [], ◌∷◌, ◌++◌, length, take, nat_le, if◌then◌else◌}
 use Rattle.observations.specs.declared.exit_status.ExitStatus.TheVariants.{Console, Input}
 use Rattle.observations.specs.Status.{number_of}
-use Rattle.observations.specs.Observations.{Observation, Prints, Reads, Ended, Trace}
+use Rattle.observations.specs.Observations.{Observation, Prints, Reads, Sends, Ended, Trace}
 
 -- the status, what the console has, how many reads were made, and the state that is left
 pub record Outcome (S : Type 0) : Type 0 where
@@ -34,6 +34,16 @@ cut takes gives (Prints text at ∷ more) ended =
 cut takes gives (Reads count at ∷ more) ended =
     if nat_le count gives then behind [] count (cut takes (gives - count) more ended)
     else ends (number_of Input) [] gives at
+cut takes gives (Sends bytes ∷ more) ended = cut takes gives more ended
+
+-- What is sent up to that end, to all callers, in order. Nothing is sent behind a text of which a byte is refused, nor
+-- behind reads of which one fails.
+abbrev pub sent_until : {S : Type 0} → ℕ → ℕ → List (Observation S) → List (ℕ × ℕ)
+sent_until takes gives [] = []
+sent_until takes gives (Prints text at ∷ more) =
+    if nat_le (length text) takes then sent_until (takes - length text) gives more else []
+sent_until takes gives (Reads count at ∷ more) = if nat_le count gives then sent_until takes (gives - count) more else []
+sent_until takes gives (Sends bytes ∷ more) = bytes ++ sent_until takes gives more
 
 abbrev pub cut_trace : {S : Type 0} → ℕ → ℕ → Trace S → Outcome S
 cut_trace takes gives t = cut takes gives t.made t.ended
