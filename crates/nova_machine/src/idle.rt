@@ -6,7 +6,8 @@ ghost use Rattle.unit_trait.specs.declared.kind.Kind.TheVariants.{Tti};
 ghost use Rattle.unit_trait.specs.declared.calls.Queue.TheVariants.{After};
 ghost use Rattle.unit_trait.specs.declared.calls.Got.TheVariants.{NoKey};
 ghost use Rattle.unit_trait.specs.Calls.{Answered};
-ghost use Rattle.unit_list.specs.Bus.{row_at, unit_at};
+ghost use Rattle.unit_list.specs.Bus.{row_at, unit_at, kinds_of};
+ghost use Rattle.unit_list.specs.Places.{places_in};
 ghost use Rattle.event_queue.specs.EventList.{Sound};
 ghost use Rattle.event_queue.specs.Idle.{AreOthersLater};
 ghost use Rattle.nova_interrupts.specs.Requests.{requested};
@@ -17,7 +18,7 @@ use crate::machine::Machine;
 use crate::run::LAST_TIME;
 use expect_actions::{Keys, Watch};
 use nova_processor::{Burst, BurstEnd};
-use unit_list::got_at;
+use unit_list::{Places, got_at};
 use unit_trait::{Got, Kind, Queue, Unit, UnitName};
 
 /// The console's keyboard.
@@ -116,7 +117,7 @@ impl<U: Unit> Machine<U> {
         ensures some { IfSome result (λ period. 1 ≤ period) }
         ensures same { self.new ≡ self.old }
     {
-        period_of(self.units.as_mut_slice())
+        period_of(&self.places, self.units.as_mut_slice())
     }
 
     /// A time before which no key comes.
@@ -187,13 +188,14 @@ fn is_keyboard(unit: Option<UnitName>) -> bool
 
 /// After how many instructions the keyboard looks again, where no key comes: it says so, and stays as it was.
 #[tactic(auto, using(crate::proofs::Looks::answers))]
-fn period_of<U: Unit>(units: &mut [U]) -> Option<u32>
+fn period_of<U: Unit>(places: &Places, units: &mut [U]) -> Option<u32>
+    requires { places.now ≡ places_in (kinds_of (map U.unit_state units.old)) }
     ensures wish { IfSome result (λ period. (row_at (code_of Tti) (Answered 0 NoKey) (map U.unit_state units.old)).queue
         ≡ After period) }
     ensures some { IfSome result (λ period. 1 ≤ period) }
     ensures same { map U.unit_state units.new ≡ map U.unit_state units.old }
 {
-    let after = got_at(units, KEYBOARD, Got::NoKey);
+    let after = got_at(places, units, KEYBOARD, Got::NoKey);
     match after.queue {
         Queue::After(period) => Some(period),
         Queue::Keep | Queue::Cancel => None,

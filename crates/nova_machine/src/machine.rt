@@ -15,7 +15,7 @@ use nova_word::{Addr, Word};
 use std::alloc::{AllocError, Global};
 use std::marker::Model;
 use unit_files::{Attached, UnitFault};
-use unit_list::{all_fit, reset_all};
+use unit_list::{Places, all_fit, reset_all};
 use unit_trait::{CpuReg, RegFault, Unit, UnitName};
 
 /// Why a run ended.
@@ -81,6 +81,8 @@ pub struct Machine<U: Unit> {
     pub(crate) time: u64,
     /// In bus order.
     pub(crate) units: Vec<U>,
+    /// Where the unit with each code stands among them.
+    pub(crate) places: Places,
     pub(crate) events: Events,
     /// Where it is true, no interrupt can come.
     pub(crate) quiet: bool,
@@ -91,8 +93,9 @@ pub struct Machine<U: Unit> {
 }
 
 impl<U: Unit> Model for Machine<U> {
-    ghost use Rattle.std.specs.Prelude.{◌≤◌, map};
+    ghost use Rattle.std.specs.Prelude.{◌≡◌, ◌≤◌, map};
     ghost use Rattle.unit_list.specs.Bus.{AllFit, kinds_of};
+    ghost use Rattle.unit_list.specs.Places.{places_in};
     ghost use Rattle.nova_machine.specs.Core.{AreListed};
     ghost use Rattle.nova_machine.specs.Machine.{MachineState};
     ghost use Rattle.nova_machine.specs.Quiet.{IsQuiet};
@@ -114,7 +117,8 @@ impl<U: Unit> Model for Machine<U> {
     } };
 
     ghost invariant = { λ m. (m.time ≤ last_time) × IsQuiet m.quiet m.ints (map U.unit_state m.units.items)
-        × AllFit (map U.unit_state m.units.items) × AreListed (kinds_of (map U.unit_state m.units.items)) m.events };
+        × AllFit (map U.unit_state m.units.items) × AreListed (kinds_of (map U.unit_state m.units.items)) m.events
+        × (m.places ≡ places_in (kinds_of (map U.unit_state m.units.items))) };
 }
 
 impl<U: Unit> Machine<U> {
@@ -134,6 +138,7 @@ impl<U: Unit> Machine<U> {
         ensures around { IfOk result (λ m. (opened : List Opened) → Around m.slots opened opened) }
     {
         all_fit(units.as_slice());
+        let places = Places::new(units.as_slice());
         let mut machine = Machine {
             processor: Processor::new(alloc)?,
             ints: Ints::new(),
@@ -141,6 +146,7 @@ impl<U: Unit> Machine<U> {
             stop_dev: false,
             time: 0,
             units,
+            places,
             events: Events::new(alloc)?,
             quiet: false,
             taken: 0,
@@ -257,6 +263,7 @@ fn restart<U: Unit>(units: &mut [U], events: &mut Events)
     ensures none { due events.new ≡ None }
     ensures fits { AllFit (map U.unit_state units.old) → AllFit (map U.unit_state units.new) }
     ensures listed { AreListed (kinds_of (map U.unit_state units.new)) events.new }
+    ensures kinds { kinds_of (map U.unit_state units.new) ≡ kinds_of (map U.unit_state units.old) }
 {
     events.clear();
     reset_all(units, events);

@@ -7,6 +7,7 @@ ghost use Rattle.unit_trait.specs.Calls.{Due, Answered};
 ghost use Rattle.unit_trait.specs.Row.{IsLater, IsAgain};
 ghost use Rattle.event_queue.specs.EventList.{due, dues, wished, IsApart};
 ghost use Rattle.unit_list.specs.Bus.{AllFit, TakesAnswerIn, IsBelowEnd, row_at, after_at, kinds_of};
+ghost use Rattle.unit_list.specs.Places.{places_in};
 ghost use Rattle.unit_trait.specs.declared.calls.Got.{Got};
 ghost use Rattle.expect_actions.specs.KeysFile.{due_key};
 ghost use Rattle.expect_actions.specs.Sends.{due_send};
@@ -22,7 +23,7 @@ use crate::machine::{Machine, Stop};
 use expect_actions::{Keys, Watch};
 use host_files::{Failed, Files, Sink, put_all};
 use unit_files::ByteAnswer;
-use unit_list::{due_at, got_at};
+use unit_list::{Places, due_at, got_at};
 use unit_trait::{After, Got, Queue, Unit, UnitName, UnitStop, Want};
 
 impl<U: Unit> Machine<U> {
@@ -136,7 +137,7 @@ impl<U: Unit> Machine<U> {
         ensures time { self.new.time ≡ self.old.time }
     {
         self.quiet = false;
-        wanted(self.units.as_mut_slice(), unit)
+        wanted(&self.places, self.units.as_mut_slice(), unit)
     }
 
     /// Gives a unit the machine's answer.
@@ -171,7 +172,7 @@ impl<U: Unit> Machine<U> {
         ensures kinds { kinds_of self.new.units ≡ kinds_of self.old.units }
     {
         self.quiet = false;
-        got_at(self.units.as_mut_slice(), unit, got)
+        got_at(&self.places, self.units.as_mut_slice(), unit, got)
     }
 
     /// A device's wish, for one of its units, goes to the event queue.
@@ -337,7 +338,8 @@ fn print<S: Sink>(byte: u8, watch: &mut Watch, out: &mut S) -> Hosted
 
 /// What a unit wants whose event is due. It is one that the machine can do for it, with an answer that the unit may
 /// get.
-fn wanted<U: Unit>(units: &mut [U], unit: UnitName) -> Want
+fn wanted<U: Unit>(places: &Places, units: &mut [U], unit: UnitName) -> Want
+    requires places { places.now ≡ places_in (kinds_of (map U.unit_state units.old)) }
     requires number { unit.unit < units_of unit.kind }
     requires fits { AllFit (map U.unit_state units.old) }
     ensures want { result ≡ (row_at (code_of unit.kind) (Due unit.unit) (map U.unit_state units.old)).want }
@@ -348,7 +350,7 @@ fn wanted<U: Unit>(units: &mut [U], unit: UnitName) -> Want
     ensures hosted { CanBeHosted result unit.kind }
     ensures room { (got : Got) → IsBelowEnd result got → TakesAnswerIn unit.kind got (map U.unit_state units.new) }
 {
-    due_at(units, unit)
+    due_at(places, units, unit)
 }
 
 /// What the answer of a call on a byte of its file means for a unit.

@@ -136,7 +136,7 @@ impl<U: Unit> Machine<U> {
         ensures events { self.new.events ≡ self.old.events }
         ensures time { self.new.time ≡ self.old.time }
     {
-        match flags_at(self.units.as_slice(), code) {
+        match flags_at(&self.places, self.units.as_slice(), code) {
             None => false,
             Some(flags) => {
                 self.processor.test((word >> 6) & 3, flags.busy, flags.done);
@@ -181,7 +181,14 @@ impl<U: Unit> Machine<U> {
         ensures kinds { kinds_of self.new.units ≡ kinds_of self.old.units }
     {
         self.quiet = !self.ints.on;
-        io_at(self.units.as_mut_slice(), code, op, pulse, sent)
+        io_at(
+            &self.places,
+            self.units.as_mut_slice(),
+            code,
+            op,
+            pulse,
+            sent,
+        )
     }
 
     /// Goes on behind a word that is no skip, with the word that an input answers.

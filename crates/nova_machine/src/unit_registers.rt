@@ -12,14 +12,14 @@ impl<U: Unit> Machine<U> {
     pub fn has_unit(&self, kind: Kind) -> bool
         ensures { result ≡ is_some (unit_at (code_of kind) self.now.units) }
     {
-        has_unit(self.units.as_slice(), code_of(kind))
+        has_unit(&self.places, self.units.as_slice(), code_of(kind))
     }
 
     /// What a register of a unit holds, by its number from 0; none where there is no such unit or register.
     pub fn unit_reg(&self, kind: Kind, i: u8) -> Option<u32>
         ensures { result ≡ register_in kind i self.now.units }
     {
-        reg_at(self.units.as_slice(), kind, i)
+        reg_at(&self.places, self.units.as_slice(), kind, i)
     }
 
     /// Sets a register of a unit, by its number from 0. A value outside its limits is refused, and so is every value
@@ -30,6 +30,6 @@ impl<U: Unit> Machine<U> {
         ensures refused { OnErr result (self.new ≡ self.old) }
     {
         self.quiet = false;
-        set_reg_at(self.units.as_mut_slice(), kind, i, value)
+        set_reg_at(&self.places, self.units.as_mut_slice(), kind, i, value)
     }
 }

@@ -104,7 +104,7 @@ impl<U: Unit> Machine<U> {
     fn is_untaken(&self, word: u16) -> bool
         ensures { result ≡ true → IsUntaken (bits 10 15 word) (bits 8 9 word) self.now }
     {
-        match flags_at(self.units.as_slice(), (word % 64) as u8) {
+        match flags_at(&self.places, self.units.as_slice(), (word % 64) as u8) {
             None => false,
             Some(flags) => !flag_skips((word >> 6) % 4, flags.busy, flags.done),
         }

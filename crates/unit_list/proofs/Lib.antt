@@ -4,3 +4,4 @@ pub mod Ranges
 pub mod Resets
 pub mod Room
 pub mod Standing
+pub mod Table

@@ -1,7 +1,6 @@
 -- One unit after another is reset.
 use Rattle.std.proofs.Common.{◌≡◌, ℕ, ◌+◌, ◌<◌, zero, suc, List, [], ◌∷◌, ◌++◌, length, map, take, drop, get_or, slice_set, None, add-one, refl, ap, ◌∙◌, arith}
 use Rattle.unit_trait.specs.declared.kind.Kind.{Kind}
-use Rattle.unit_trait.specs.declared.kind.Kind.TheVariants.{Dsk, Mta, Lpt, Ptr, Ptp, Clk, Tti, Tto, Tti1, Tto1, Qty}
 use Rattle.unit_trait.specs.declared.kind.UnitName.{UnitName}
 use Rattle.unit_trait.specs.declared.calls.Queue.{Queue}
 use Rattle.unit_trait.specs.declared.calls.Queue.TheVariants.{Keep, Cancel, After}

@@ -1,5 +1,5 @@
 -- Things that are units, in a list: the place of the first one with a code, and what a change of it comes to.
-use Rattle.std.proofs.Common.{◌≡◌, ◌≢◌, ℕ, ◌+◌, ◌<◌, zero, suc, List, [], ◌∷◌, length, map, take, get_or, slice_set, Some, None, add-one, refl, subst, sym, ap, ◌∙◌, arith}
+use Rattle.std.proofs.Common.{◌≡◌, ◌≢◌, ℕ, zero, suc, List, [], ◌∷◌, map, get_or, slice_set, Some, None, refl, sym, ap, ◌∙◌, arith}
 use Rattle.std.proofs.lemmas.Bool.Decides.{nat_tests}
 use Rattle.unit_trait.specs.declared.kind.Kind.{Kind}
 use Rattle.unit_trait.specs.Kinds.{code_of}
@@ -14,7 +14,7 @@ first-other : (code : ℕ) (u : UnitState) (us : List UnitState) → unit_at cod
 first-other code u us none = λ same. grind (arith, nat_tests)
 
 -- behind one with another code, the rest alone counts
-behind-other : (code : ℕ) (u : UnitState) (us : List UnitState) → code_of u.kind ≢ code → unit_at code (u ∷ us) ≡ unit_at code us
+pub behind-other : (code : ℕ) (u : UnitState) (us : List UnitState) → code_of u.kind ≢ code → unit_at code (u ∷ us) ≡ unit_at code us
 behind-other code u us other = grind (arith, nat_tests)
 
 first-found : (code : ℕ) (u : UnitState) (us : List UnitState) → code_of u.kind ≡ code → unit_at code (u ∷ us) ≡ Some u
@@ -25,30 +25,6 @@ first-changed code change u us here = grind (arith, nat_tests)
 
 behind-changed : (code : ℕ) (change : UnitState → UnitState) (u : UnitState) (us : List UnitState) → code_of u.kind ≢ code → changed_at code change (u ∷ us) ≡ u ∷ changed_at code change us
 behind-changed code change u us other = grind (arith, nat_tests)
-
-none-suc : {A : Type 0} (f : A → UnitState) (xs : List A) (code i : ℕ) (x : A) → unit_at code (map f (take i xs)) ≡ None → i < length xs → x ≡ get_or xs i x
-    → code_of (f x).kind ≢ code → unit_at code (map f (take (suc i) xs)) ≡ None
-none-suc f [] code i x none within at other = absurd (omega arith)
-none-suc f (a ∷ xs) code zero x none within at other =
-    behind-other code (f a) [] (subst (λ y. code_of (f y).kind ≢ code) at other)
-none-suc f (a ∷ xs) code (suc i) x none within at other =
-    let off = first-other code (f a) (map f (take i xs)) none in
-    behind-other code (f a) (map f (take (suc i) xs)) off
-    ∙ none-suc f xs code i x (sym (behind-other code (f a) (map f (take i xs)) off) ∙ none) (omega arith) at other
-
--- none is found among the first units, nor is the next one it
-pub none-more : {A : Type 0} (f : A → UnitState) (xs : List A) (code i : ℕ) (x : A) → unit_at code (map f (take i xs)) ≡ None → i < length xs → x ≡ get_or xs i x
-    → code_of (f x).kind ≢ code → unit_at code (map f (take (i + 1) xs)) ≡ None
-none-more f xs code i x none within at other = rw add-one (none-suc f xs code i x none within at other)
-
--- none is found among the first units, and the next one is it
-pub stands : {A : Type 0} (f : A → UnitState) (xs : List A) (code i : ℕ) (x : A) → unit_at code (map f (take i xs)) ≡ None → i < length xs → x ≡ get_or xs i x
-    → code_of (f x).kind ≡ code → StandsAt code (map f xs) i
-stands f [] code i x none within at here = absurd (omega arith)
-stands f (a ∷ xs) code zero x none within at here = subst (λ y. code_of (f y).kind ≡ code) at here
-stands f (a ∷ xs) code (suc i) x none within at here =
-    let off = first-other code (f a) (map f (take i xs)) none in
-    (off, stands f xs code i x (sym (behind-other code (f a) (map f (take i xs)) off) ∙ none) (omega arith) at here)
 
 -- the one that stands there is the one that is found
 pub found : {A : Type 0} (f : A → UnitState) (xs : List A) (code i : ℕ) (x : A) → StandsAt code (map f xs) i → x ≡ get_or xs i x → unit_at code (map f xs) ≡ Some (f x)

@@ -3,8 +3,9 @@ ghost use Rattle.unit_trait.specs.Calls.{Io};
 ghost use Rattle.unit_trait.specs.Kinds.{units_of};
 ghost use Rattle.unit_trait.specs.Row.{row, moved, Fits, IsLater};
 ghost use Rattle.unit_list.specs.Bus.{unit_at, row_at, after_at, flags_of, kinds_of, AllFit};
+ghost use Rattle.unit_list.specs.Places.{places_in};
 
-use crate::places::place;
+use crate::places::Places;
 use unit_trait::{BUSY, DONE, IoAnswer, IoOp, Kind, Pulse, Unit};
 
 /// The flags of a device: whether it is at work, and whether it has done its work.
@@ -24,18 +25,20 @@ pub struct BusAnswer {
 }
 
 /// Whether a unit has that code.
-pub fn has_unit<U: Unit>(units: &[U], code: u8) -> bool
+pub fn has_unit<U: Unit>(places: &Places, units: &[U], code: u8) -> bool
+    requires { places.now ≡ places_in (kinds_of (map U.unit_state units.now)) }
     ensures { result ≡ is_some (unit_at code (map U.unit_state units.now)) }
 {
-    place(units, code).is_some()
+    places.of(units, code).is_some()
 }
 
 /// The flags of the device with that code; none where no unit has it.
 #[tactic(auto, using(crate::proofs::Standing::standing))]
-pub fn flags_at<U: Unit>(units: &[U], code: u8) -> Option<Flags>
+pub fn flags_at<U: Unit>(places: &Places, units: &[U], code: u8) -> Option<Flags>
+    requires { places.now ≡ places_in (kinds_of (map U.unit_state units.now)) }
     ensures { result ≡ option_map flags_of (unit_at code (map U.unit_state units.now)) }
 {
-    match place(units, code) {
+    match places.of(units, code) {
         Some(place) => Some(flags_of(&units[place])),
         None => None,
     }
@@ -54,12 +57,14 @@ fn flags_of<U: Unit>(unit: &U) -> Flags
 /// exactly where no unit has the code, and then nothing has changed.
 #[tactic(auto, using(crate::proofs::Standing::standing))]
 pub fn io_at<U: Unit>(
+    places: &Places,
     units: &mut [U],
     code: u8,
     op: IoOp,
     pulse: Pulse,
     word: u16,
 ) -> Option<BusAnswer>
+    requires { places.now ≡ places_in (kinds_of (map U.unit_state units.old)) }
     ensures kind { option_map (λ a. a.kind) result
         ≡ option_map (λ u. u.kind) (unit_at code (map U.unit_state units.old)) }
     ensures word { IfSome result (λ a. a.answer.word
@@ -75,7 +80,7 @@ pub fn io_at<U: Unit>(
     ensures fits { AllFit (map U.unit_state units.old) → AllFit (map U.unit_state units.new) }
     ensures kinds { kinds_of (map U.unit_state units.new) ≡ kinds_of (map U.unit_state units.old) }
 {
-    match place(units, code) {
+    match places.of(units, code) {
         Some(place) => Some(io_of(&mut units[place], op, pulse, word)),
         None => None,
     }

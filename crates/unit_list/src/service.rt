@@ -3,21 +3,23 @@ ghost use Rattle.unit_trait.specs.Calls.{Due, Answered};
 ghost use Rattle.unit_trait.specs.Kinds.{code_of, units_of};
 ghost use Rattle.unit_trait.specs.Row.{IsAgain};
 ghost use Rattle.unit_list.specs.Bus.{row_at, after_at, kinds_of, AllFit, TakesAnswerIn};
+ghost use Rattle.unit_list.specs.Places.{places_in};
 
-use crate::places::place_of_kind;
+use crate::places::Places;
 use unit_trait::{After, Got, Queue, Unit, UnitName, UnitStop, Want};
 
 /// The event of a unit is due: what it wants of the machine. Nothing where no unit has its kind.
 #[tactic(auto, using(crate::proofs::Standing::standing))]
-pub fn due_at<U: Unit>(units: &mut [U], unit: UnitName) -> Want
-    requires { unit.unit < units_of unit.kind }
+pub fn due_at<U: Unit>(places: &Places, units: &mut [U], unit: UnitName) -> Want
+    requires places { places.now ≡ places_in (kinds_of (map U.unit_state units.old)) }
+    requires number { unit.unit < units_of unit.kind }
     ensures want { result ≡ (row_at (code_of unit.kind) (Due unit.unit) (map U.unit_state units.old)).want }
     ensures units { map U.unit_state units.new
         ≡ after_at (code_of unit.kind) (Due unit.unit) (map U.unit_state units.old) }
     ensures fits { AllFit (map U.unit_state units.old) → AllFit (map U.unit_state units.new) }
     ensures kinds { kinds_of (map U.unit_state units.new) ≡ kinds_of (map U.unit_state units.old) }
 {
-    match place_of_kind(units, unit.kind) {
+    match places.of_kind(units, unit.kind) {
         Some(place) => units[place].due(unit.unit),
         None => Want::Nothing,
     }
@@ -27,7 +29,8 @@ pub fn due_at<U: Unit>(units: &mut [U], unit: UnitName) -> Want
 /// none that leaves a tape behind the largest place. Its device wishes for nothing, and does not stop, where no unit
 /// has its kind.
 #[tactic(auto, using(crate::proofs::Standing::standing))]
-pub fn got_at<U: Unit>(units: &mut [U], unit: UnitName, got: Got) -> After
+pub fn got_at<U: Unit>(places: &Places, units: &mut [U], unit: UnitName, got: Got) -> After
+    requires places { places.now ≡ places_in (kinds_of (map U.unit_state units.old)) }
     requires number { unit.unit < units_of unit.kind }
     requires room { TakesAnswerIn unit.kind got (map U.unit_state units.old) }
     ensures queue { result.queue
@@ -40,7 +43,7 @@ pub fn got_at<U: Unit>(units: &mut [U], unit: UnitName, got: Got) -> After
     ensures fits { AllFit (map U.unit_state units.old) → AllFit (map U.unit_state units.new) }
     ensures kinds { kinds_of (map U.unit_state units.new) ≡ kinds_of (map U.unit_state units.old) }
 {
-    match place_of_kind(units, unit.kind) {
+    match places.of_kind(units, unit.kind) {
         Some(place) => units[place].got(unit.unit, got),
         None => After {
             queue: Queue::Keep,

@@ -6,8 +6,8 @@ use keys::Keys;
 use std::alloc::{AllocError, Global};
 use std::test::Fail;
 use unit_list::{
-    all_fit, calls_reach_one_unit, due_at, flags_at, got_at, has_unit, io_at, reg_at, reset_all,
-    set_reg_at,
+    Places, all_fit, calls_reach_one_unit, due_at, flags_at, got_at, has_unit, io_at, reg_at,
+    reset_all, set_reg_at,
 };
 use unit_trait::{Got, IoOp, Kind, Pulse, Queue, UnitName, UnitStop, Want, units_of};
 
@@ -33,16 +33,17 @@ fn keyboards() -> [Keys; 2] {
 
 /// Whether the registers of a unit hold these values, and it has no fifth one.
 fn hold(units: &[Keys], kind: Kind, values: [u32; 4]) -> bool {
-    reg_at(units, kind, 0) == Some(values[0])
-        && reg_at(units, kind, 1) == Some(values[1])
-        && reg_at(units, kind, 2) == Some(values[2])
-        && reg_at(units, kind, 3) == Some(values[3])
-        && reg_at(units, kind, 4).is_none()
+    let places = Places::new(units);
+    reg_at(&places, units, kind, 0) == Some(values[0])
+        && reg_at(&places, units, kind, 1) == Some(values[1])
+        && reg_at(&places, units, kind, 2) == Some(values[2])
+        && reg_at(&places, units, kind, 3) == Some(values[3])
+        && reg_at(&places, units, kind, 4).is_none()
 }
 
 /// Whether the unit with that code has these flags.
 fn has_flags(units: &[Keys], code: u8, busy: bool, done: bool) -> bool {
-    match flags_at(units, code) {
+    match flags_at(&Places::new(units), units, code) {
         Some(flags) => flags.busy == busy && flags.done == done,
         None => false,
     }
@@ -50,12 +51,14 @@ fn has_flags(units: &[Keys], code: u8, busy: bool, done: bool) -> bool {
 
 /// Whether a unit is found by that code, exactly where one is there.
 fn is_found(units: &[Keys], code: u8, there: bool) -> bool {
-    has_unit(units, code) == there && flags_at(units, code).is_some() == there
+    let places = Places::new(units);
+    has_unit(&places, units, code) == there && flags_at(&places, units, code).is_some() == there
 }
 
 /// Whether a DIA with that pulse to that code is answered by that kind with that word.
 fn answers(units: &mut [Keys], code: u8, pulse: Pulse, kind: Kind, word: u16) -> bool {
-    match io_at(units, code, IoOp::Dia, pulse, 0) {
+    let places = Places::new(units);
+    match io_at(&places, units, code, IoOp::Dia, pulse, 0) {
         Some(said) => said.kind == kind && said.answer.word == word,
         None => false,
     }
@@ -66,7 +69,8 @@ fn are_asked_by_code(units: &mut [Keys]) -> bool {
     let first = answers(units, 0o10, Pulse::Start, Kind::Tti, 0o101);
     let flags = has_flags(units, 0o10, true, false) && has_flags(units, 0o50, false, true);
     let second = answers(units, 0o50, Pulse::None, Kind::Tti1, 0o102);
-    let none = io_at(units, 0o14, IoOp::Dia, Pulse::Clear, 0).is_none();
+    let places = Places::new(units);
+    let none = io_at(&places, units, 0o14, IoOp::Dia, Pulse::Clear, 0).is_none();
     first && flags && second && none && has_flags(units, 0o10, true, false)
 }
 
@@ -83,14 +87,34 @@ fn a_word_goes_to_the_device_with_its_code(rt: HostRuntime) {
     assert!(rt; set && found && are_asked_by_code(&mut units));
 }
 
+/// Whether a table that is made once finds the same unit behind calls of it and of another.
+fn is_kept(units: &mut [Keys]) -> bool {
+    let places = Places::new(units);
+    let started = io_at(&places, units, 0o50, IoOp::Nio, Pulse::Start, 0).is_some();
+    let set = set_reg_at(&places, units, Kind::Tti, 3, 0o103).is_ok();
+    let read = reg_at(&places, units, Kind::Tti, 3) == Some(0o103);
+    let busy = match flags_at(&places, units, 0o50) {
+        Some(flags) => flags.busy,
+        None => false,
+    };
+    started && set && read && busy && !has_unit(&places, units, 0o11)
+}
+
+#[test]
+fn a_table_of_places_is_made_once(rt: HostRuntime) {
+    assert!(rt; is_kept(&mut keyboards()));
+}
+
 fn wants(units: &mut [Keys], unit: UnitName, wanted: Want) -> bool {
-    unit.unit < units_of(unit.kind) && due_at(units, unit) == wanted
+    let places = Places::new(units);
+    unit.unit < units_of(unit.kind) && due_at(&places, units, unit) == wanted
 }
 
 /// Whether a key is handed to the keyboard that its name says, which asks for its event again.
 fn takes_key(units: &mut [Keys]) -> bool {
-    let after = got_at(units, CONSOLE, Got::Key(0o301));
-    let none = got_at(units, CLOCK, Got::Done);
+    let places = Places::new(units);
+    let after = got_at(&places, units, CONSOLE, Got::Key(0o301));
+    let none = got_at(&places, units, CLOCK, Got::Done);
     after.queue == Queue::After(100) && after.stop == UnitStop::Go && none.queue == Queue::Keep
 }
 
@@ -120,7 +144,8 @@ const VALUES: [(Kind, u8, u32, bool); 8] = [
 
 /// Whether the value is taken exactly where it should be.
 fn is_set(units: &mut [Keys], row: &(Kind, u8, u32, bool)) -> bool {
-    match set_reg_at(units, row.0, row.1, row.2) {
+    let places = Places::new(units);
+    match set_reg_at(&places, units, row.0, row.1, row.2) {
         Ok(()) => row.3,
         Err(_) => !row.3,
     }
@@ -135,7 +160,7 @@ fn a_register_is_set_within_its_limits(rt: HostRuntime) {
     all_fit(&units);
     let held = hold(&units, Kind::Tti, [0, 0, 1, 0o377])
         && hold(&units, Kind::Tti1, [1, 0, 65535, 0])
-        && reg_at(&units, Kind::Clk, 0).is_none();
+        && reg_at(&Places::new(&units), &units, Kind::Clk, 0).is_none();
     assert!(rt; held);
 }
 
