@@ -1,0 +1,20 @@
+//! State files: a saved session as bytes, written, and read with the one fault of bytes that are none.
+#![tactic(auto)]
+
+mod cursor;
+pub mod fault;
+mod file_fields;
+mod kinds;
+mod machine_fields;
+mod reading;
+pub mod saved;
+mod watch_fields;
+mod writing;
+
+pub use fault::StateFault;
+pub use reading::read_state;
+pub use saved::{
+    Saved, SavedBreak, SavedCpu, SavedEvent, SavedExpect, SavedFile, SavedSend, SavedUnit,
+};
+pub use std::alloc::AllocError as OutOfMemory;
+pub use writing::write_state;
