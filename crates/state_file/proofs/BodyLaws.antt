@@ -90,7 +90,7 @@ head_bad at fault tail e other =
     differs true read fault e not_read = absurd (not_read e)
     differs false read fault e not_read = (refl, cc)
 
-head_is : IsReaderOf head_at (λ (bytes : List ℕ). bytes) IsHead
+pub head_is : IsReaderOf head_at (λ (bytes : List ℕ). bytes) IsHead
 head_is = record { takes = head_takes; again = head_again; more = head_more; bad = λ at fault tail fits e other. head_bad at fault tail e other }
 
 -- ---- the version
@@ -101,7 +101,7 @@ IsThis n = n ≡ this_version
 abbrev is_this : ℕ → Bool
 is_this n = n == this_version
 
-version_is : IsReaderOf version_at (number_text w16) IsThis
+pub version_is : IsReaderOf version_at (number_text w16) IsThis
 unfolding version_at
 version_is =
     retold version_at (number_text w16) (number_text w16) (λ n. Below (2 ^ 16) n × (is_this n ≡ true)) IsThis

@@ -9,3 +9,5 @@ pub mod FileLaws
 pub mod WatchLaws
 pub mod BodyLaws
 pub mod SealLaws
+pub mod LooseLaws
+pub mod FitLaws

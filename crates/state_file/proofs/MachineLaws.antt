@@ -40,7 +40,7 @@ small_time n h = grind arith
 small_key_count : (n : ℕ) → is_key_count n ≡ true → n < 2 ^ 64
 small_key_count n h = grind arith
 
-regroup : (a b c d e f g h i j k : List ℕ) → a ++ (b ++ (c ++ (d ++ (e ++ (f ++ (g ++ (h ++ (i ++ (j ++ k)))))))))
+pub regroup : (a b c d e f g h i j k : List ℕ) → a ++ (b ++ (c ++ (d ++ (e ++ (f ++ (g ++ (h ++ (i ++ (j ++ k)))))))))
     ≡ (a ++ (b ++ (c ++ d))) ++ ((e ++ (f ++ (g ++ (h ++ i)))) ++ (j ++ k))
 regroup a b c d e f g h i j k = simp append_assoc
 
@@ -128,7 +128,7 @@ cpu_is =
 register_is : (kind : Kind) (i : ℕ) → IsReaderOf (register_value_at kind i) register_text (CanHold kind i)
 register_is kind i = test_is w32 (2 ^ 32) (holds_value kind i) u32_is
 
-few_registers : (kind : Kind) → register_count kind < 2 ^ 8
+pub few_registers : (kind : Kind) → register_count kind < 2 ^ 8
 unfolding register_count
 few_registers Dsk = omega arith
 few_registers Mta = omega arith

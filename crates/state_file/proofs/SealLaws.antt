@@ -32,7 +32,7 @@ nothing_left s y at e =
     let g = first_chosen (eqb (length at.rest) 0) (Ok s) (BadField at.place) y e in
     (nil_from_length at.rest (eqb-true (length at.rest) 0 g.0), cc)
 
-reading_found : (bytes : List ℕ) (s : State) → IsBytes bytes → reading bytes ≡ Ok s → Valid s × (bytes ≡ text s)
+pub reading_found : (bytes : List ℕ) (s : State) → IsBytes bytes → reading bytes ≡ Ok s → Valid s × (bytes ≡ text s)
 unfolding reading text
 reading_found bytes s fits e =
     let p = value_parts (body_at (first_place bytes)) (sealed bytes) s e in

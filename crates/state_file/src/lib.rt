@@ -5,6 +5,7 @@ mod cursor;
 pub mod fault;
 mod file_fields;
 mod kinds;
+pub mod laws;
 mod machine_fields;
 mod reading;
 pub mod saved;
@@ -12,6 +13,7 @@ mod watch_fields;
 mod writing;
 
 pub use fault::StateFault;
+pub use laws::{state_texts_are_one_to_one, valid_states_are_read};
 pub use reading::read_state;
 pub use saved::{
     Saved, SavedBreak, SavedCpu, SavedEvent, SavedExpect, SavedFile, SavedSend, SavedUnit,
