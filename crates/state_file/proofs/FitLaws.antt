@@ -1,14 +1,17 @@
 -- What is valid fits.
-use Rattle.std.proofs.Common.{◌≡◌, ℕ, ◌^◌, ◌<◌, ◌≤◌, true, List, [], ◌∷◌, length, arith}
-use Rattle.std.specs.Prelude.{nat_le, ◌&&◌}
+use Rattle.std.proofs.Common.{◌≡◌, ℕ, ◌^◌, ◌<◌, ◌≤◌, true, List, [], ◌∷◌, length, Result, Ok, Err, arith}
+use Rattle.std.specs.Prelude.{nat_le, ◌&&◌, IfOk}
 use Rattle.std.specs.List.{AllByRecursion}
 use Rattle.std.proofs.lemmas.Grind.{common_steps}
-use Rattle.state_file.specs.declared.saved.SavedEvent.{SavedEvent}
-use Rattle.state_file.specs.Parts.{UnitPart, FilePart, BreakPart, ExpectPart, State}
+use Rattle.state_file.specs.declared.saved.Saved.{Saved}
+use Rattle.state_file.specs.declared.fault.StateFault.{StateFault}
+use Rattle.state_file.specs.Parts.{UnitPart, FilePart, BreakPart, ExpectPart, State, state_in}
+use Rattle.state_file.specs.Readers.{Gives}
 use Rattle.state_file.specs.Ranges.{kind_at, standard_kinds, register_count, most_events, FilePlace, is_name_length, most_breaks, longest_actions, most_expects, longest_text, is_text_length, most_sends}
 use Rattle.state_file.specs.Valid.{Follow, IsUnit, IsFile, IsBreak, IsExpect, Valid, UnitsFit, FilesFit, BreaksFit, ExpectsFit, Fits}
-use Rattle.state_file.specs.Reading.{next_number, behind_file, behind_break}
+use Rattle.state_file.specs.Reading.{next_number, behind_file, behind_break, reading}
 use Rattle.state_file.specs.Laws.{TextsAreRead}
+use Rattle.state_file.proofs.ReaderLaws.{IsBytes}
 use Rattle.state_file.proofs.MachineLaws.{few_registers}
 use Rattle.state_file.proofs.SealLaws.{reading_found, reading_again}
 
@@ -77,6 +80,10 @@ valid_fits s valid = record {
     sends = few_sends (length s.watch.sends) valid.watch.few_sends;
   };
 }
+
+pub has_text : (bytes : List ℕ) (result : Result Saved StateFault) → IsBytes bytes → Gives state_in result (reading bytes) → IfOk result (λ s. Fits (state_in s))
+has_text bytes (Ok s) fits e = valid_fits (state_in s) (reading_found bytes (state_in s) fits e).0
+has_text bytes (Err fault) fits h = tt
 
 pub texts-are-read : TextsAreRead
 texts-are-read = record { fits = valid_fits; read = reading_again; only = reading_found }

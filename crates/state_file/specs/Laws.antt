@@ -75,9 +75,10 @@ pub record HasWidths (s : State) : Type 0 where
 abbrev pub OneToOne : Type 0
 OneToOne = (a b : State) → Fits a → HasWidths a → Fits b → HasWidths b → text a ≡ text b → a ≡ b
 
--- What is valid has a text, which is read as that and nothing else; and bytes are read as what is valid and has them as its
--- text, or not at all.
+-- What is valid has a text, which is read as that and nothing else; and bytes are read as what is valid and has them as
+-- its text, or not at all.
 pub record TextsAreRead : Type 0 where
   pub fits : (s : State) → Valid s → Fits s
   pub read : (s : State) → Valid s → reading (text s) ≡ Ok s
-  pub only : (bytes : List ℕ) (s : State) → ((i : ℕ) → get_or bytes i 0 < 2 ^ 8) → reading bytes ≡ Ok s → Valid s × (bytes ≡ text s)
+  pub only : (bytes : List ℕ) (s : State) → ((i : ℕ) → get_or bytes i 0 < 2 ^ 8) → reading bytes ≡ Ok s
+      → Valid s × (bytes ≡ text s)

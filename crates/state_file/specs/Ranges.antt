@@ -1,5 +1,5 @@
--- What each field of a state file can hold. A unit is named by its position in bus order, from 0; of the eleven kinds the
--- first ten are those of a standard machine.
+-- What each field of a state file can hold. A unit is named by its position in bus order, from 0; of the eleven kinds
+-- the first ten are those of a standard machine.
 use Rattle.std.specs.Prelude.{ℕ, ◌+◌, ◌%◌, ◌^◌, ◌==◌, ◌&&◌, ◌||◌, Bool, true, false, not, nat_le, nat_lt, List, length, Option, Some, None, option_map, slice_get}
 use Rattle.std.specs.List.{list_any}
 use Rattle.unit_trait.specs.declared.kind.Kind.{Kind}
@@ -54,7 +54,8 @@ within_limits value (Some limits) = nat_le limits.0 value && nat_le value limits
 
 -- whether register number i of a kind can hold a value
 unfoldable pub holds_value : Kind → ℕ → ℕ → Bool
-holds_value kind i value = within_limits value (option_map (λ (r : Register). (r.least, r.largest)) (register_at kind i))
+holds_value kind i value =
+    within_limits value (option_map (λ (r : Register). (r.least, r.largest)) (register_at kind i))
 
 -- how many events wait at most: one for each unit that there can be
 abbrev pub most_events : ℕ

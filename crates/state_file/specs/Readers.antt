@@ -17,7 +17,8 @@ abbrev pub Reader : Type 0 → Type 0
 Reader A = At → Result (A × At) StateFault
 
 -- goes on with what was read, unless there was a fault
-abbrev pub followed : {A B : Type 0} → Result (A × At) StateFault → (A → At → Result B StateFault) → Result B StateFault
+abbrev pub followed : {A B : Type 0} → Result (A × At) StateFault → (A → At → Result B StateFault)
+    → Result B StateFault
 followed (Ok x) f = f x.0 x.1
 followed (Err fault) f = Err fault
 
@@ -59,7 +60,8 @@ chain each next zero s = gives []
 chain each next (suc n) s = each s >>= (λ x. chain each next n (next s x) >>= (λ xs. gives (x ∷ xs)))
 
 -- as many as the number before them says
-abbrev pub listed : {A S : Type 0} → Width → (ℕ → Bool) → (S → Reader A) → (S → A → S) → S → Reader (List A)
+abbrev pub listed : {A S : Type 0} → Width → (ℕ → Bool) → (S → Reader A) → (S → A → S) → S
+    → Reader (List A)
 listed w ok each next s = tested ok (number w) >>= (λ count. chain each next count s)
 
 -- as many bytes as the number before them says
@@ -81,7 +83,8 @@ Fails OutOfMemory read = Unit {0}
 Fails fault read = read ≡ Err fault
 
 -- what it returned, seen by view, and where it left off are what reading gives
-abbrev pub Reads : {X Y : Type 0} → (X → Y) → Result X StateFault → At → Result (Y × At) StateFault → Type 0
+abbrev pub Reads : {X Y : Type 0} → (X → Y) → Result X StateFault → At → Result (Y × At) StateFault
+    → Type 0
 Reads view (Ok x) at read = read ≡ Ok (view x, at)
 Reads view (Err fault) at read = Fails fault read
 

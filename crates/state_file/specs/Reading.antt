@@ -1,5 +1,5 @@
--- What bytes say as a state file: its fields from left to right, each with what it can hold. The first fault is meant. The
--- digest is compared behind the last field, and a byte behind the end is looked for only where it is right.
+-- What bytes say as a state file: its fields from left to right, each with what it can hold. The first fault is meant.
+-- The digest is compared behind the last field, and a byte behind the end is looked for only where it is right.
 use Rattle.std.specs.Prelude.{ℕ, ◌+◌, ◌*◌, ◌&&◌, ◌==◌, Bool, nat_le, List, [], ◌∷◌, ◌++◌, length, take, Result, Ok, Err, if◌then◌else◌}
 use Rattle.std.specs.Str.{bytes_eq, is_utf8}
 use Rattle.std.specs.Int.{w8, w16, w32, w64}

@@ -30,12 +30,14 @@ listed_text w text xs = number_text w (length xs) ++ flat_map text xs
 
 -- the size of memory, the accumulators, Carry and PC
 abbrev pub accumulators_text : SavedCpu → List ℕ
-accumulators_text c = number_text w8 c.size_k ++ (flat_map word_text c.acs ++ (number_text w8 c.carry ++ number_text w16 c.pc))
+accumulators_text c =
+    number_text w8 c.size_k ++ (flat_map word_text c.acs ++ (number_text w8 c.carry ++ number_text w16 c.pc))
 
 -- interrupts and switches
 abbrev pub switches_text : SavedCpu → List ℕ
 switches_text c =
-    number_text w8 c.on ++ (number_text w8 c.hold ++ (number_text w16 c.mask ++ (number_text w16 c.sr ++ number_text w8 c.stop_dev)))
+    number_text w8 c.on ++ (number_text w8 c.hold ++ (number_text w16 c.mask
+    ++ (number_text w16 c.sr ++ number_text w8 c.stop_dev)))
 
 -- how far time and timed keys are
 abbrev pub times_text : SavedCpu → List ℕ
@@ -52,7 +54,8 @@ event_text e = number_text w8 e.position ++ (number_text w8 e.unit ++ number_tex
 
 unfoldable pub machine_text : MachinePart → List ℕ
 machine_text m =
-    cpu_text m.cpu ++ (flat_map word_text m.words ++ (listed_text w8 unit_text m.units ++ listed_text w16 event_text m.agenda))
+    cpu_text m.cpu ++ (flat_map word_text m.words
+    ++ (listed_text w8 unit_text m.units ++ listed_text w16 event_text m.agenda))
 
 -- ---- the attached files
 

@@ -2,7 +2,7 @@ ghost use Rattle.std.specs.Prelude.{◌≡◌, ◌≤◌, IfOk, Ok, length, map}
 ghost use Rattle.state_file.specs.Fields.{machine_in, watch_in};
 ghost use Rattle.state_file.specs.Parts.{State, file_in, state_in};
 ghost use Rattle.state_file.specs.Text.{text};
-ghost use Rattle.state_file.specs.Valid.{Valid};
+ghost use Rattle.state_file.specs.Valid.{Valid, Fits};
 ghost use Rattle.state_file.specs.Readers.{Reads, Gives};
 ghost use Rattle.state_file.specs.Reading.{begins, head_at, version_at, body_at, sealed, reading};
 
@@ -115,6 +115,8 @@ pub fn read_state(alloc: Global, bytes: &[u8]) -> Result<Saved, StateFault>
     ensures found { IfOk result (λ s. Valid (state_in s) × (bytes.now ≡ text (state_in s))) }
     // The text of what is valid is read, unless memory runs out.
     ensures only { (s : State) → Valid s → bytes.now ≡ text s → Gives state_in result (Ok s) }
+    // What is read can be written again.
+    ensures fits { IfOk result (λ s. Fits (state_in s)) }
     // Other bytes have their one fault.
     ensures exact { Gives state_in result (reading bytes.now) }
 {
