@@ -1,7 +1,7 @@
 -- The readers of what each state file begins with, and of all its fields.
-use Rattle.std.proofs.Common.{◌≡◌, ◌≢◌, ℕ, suc, ◌+◌, ◌^◌, ◌<◌, ◌≤◌, Bool, true, false, cond, eqb, List, [], ◌∷◌, ◌++◌, length, take, Result, Ok, Err, refl, sym, ap, ◌∙◌, append_assoc, arith, eq-eqb}
+use Rattle.std.proofs.Common.{◌≡◌, ◌≢◌, ℕ, ◌+◌, ◌^◌, Bool, true, false, cond, eqb, List, [], ◌∷◌, ◌++◌, length, take, Result, Ok, Err, refl, sym, ap, ◌∙◌, append_assoc, arith, eq-eqb}
 use Rattle.std.specs.Prelude.{◌&&◌, ◌==◌}
-use Rattle.std.specs.Int.{w8, w16}
+use Rattle.std.specs.Int.{w16}
 use Rattle.std.specs.Str.{bytes_eq}
 use Rattle.std.proofs.Math.Seq.{take-nil}
 use Rattle.std.proofs.lemmas.Bool.{eqb-true}
@@ -9,14 +9,14 @@ use Rattle.std.proofs.lemmas.List.{take_at, take_all, length-append}
 use Rattle.std.proofs.lemmas.Slice.Eq.{bytes_eq-Decides}
 use Rattle.state_file.specs.declared.fault.StateFault.{StateFault}
 use Rattle.state_file.specs.declared.fault.StateFault.TheVariants.{Truncated, NotState, Version}
-use Rattle.state_file.specs.Parts.{FilePart, MachinePart, WatchPart, State}
-use Rattle.state_file.specs.Text.{number_text, listed_text, file_text, machine_text, watch_text, head, this_version, body}
-use Rattle.state_file.specs.Valid.{IsMachine, AreFiles, IsWatch, Valid}
-use Rattle.state_file.specs.Readers.{At, at_of, ◌>>=◌, gives, counted, number, tested_or}
-use Rattle.state_file.specs.Reading.{begins, head_if, head_at, version_at, machine_at, files_at, watch_at, body_at}
+use Rattle.state_file.specs.Parts.{FilePart, MachinePart, State}
+use Rattle.state_file.specs.Text.{number_text, head, this_version, body}
+use Rattle.state_file.specs.Valid.{IsWatch, Valid}
+use Rattle.state_file.specs.Readers.{At, at_of, counted, number}
+use Rattle.state_file.specs.Reading.{begins, head_at, version_at, body_at}
 use Rattle.state_file.proofs.Results.{first_chosen}
-use Rattle.state_file.proofs.ReaderLaws.{IsBytes, IsReaderOf, Took, longer, counted_takes, counted_again, counted_bad, bound_is, made_is, retold, tested_or_is}
-use Rattle.state_file.proofs.Widths.{Below, Tested, u16_is}
+use Rattle.state_file.proofs.ReaderLaws.{IsBytes, IsReaderOf, Took, longer, counted_takes, counted_again, counted_bad, field_is, last_is, recast, retold, tested_or_is}
+use Rattle.state_file.proofs.Widths.{Below, u16_is}
 use Rattle.state_file.proofs.MachineLaws.{machine_is}
 use Rattle.state_file.proofs.FileLaws.{files_is}
 use Rattle.state_file.proofs.WatchLaws.{watch_is}
@@ -118,29 +118,15 @@ record MadeState (machine : MachinePart) (files : List FilePart) (port : ℕ) (y
 pub body_is : IsReaderOf body_at body Valid
 unfolding body_at body
 body_is =
-    retold body_at (λ (y : State). (λ (bytes : List ℕ). bytes) head ++ ((number_text w16) this_version ++ (machine_text y.machine ++ ((listed_text w8 file_text) y.files ++ ((number_text w16) y.port ++ (watch_text y.watch)))))) body
-    (λ (y : State). IsHead head × (IsThis this_version × (IsMachine y.machine × (AreFiles y.files × ((Below (2 ^ 16)) y.port × (MadeState y.machine y.files y.port y)))))) Valid
-    (bound_is head_at (λ start. (version_at >>= (λ version. (machine_at >>= (λ machine. (files_at >>= (λ files. ((number w16) >>= (λ port. (watch_at >>= (λ watch. gives (record { machine = machine; files = files; port = port; watch = watch }))))))))))))
-    (λ (y : State). head) (λ (bytes : List ℕ). bytes) IsHead (λ start y. (number_text w16) this_version ++ (machine_text y.machine ++ ((listed_text w8 file_text) y.files ++ ((number_text w16) y.port ++ (watch_text y.watch)))))
-    (λ start y. IsThis this_version × (IsMachine y.machine × (AreFiles y.files × ((Below (2 ^ 16)) y.port × (MadeState y.machine y.files y.port y)))))
-    head_is
-    (λ start h0. (bound_is version_at (λ version. (machine_at >>= (λ machine. (files_at >>= (λ files. ((number w16) >>= (λ port. (watch_at >>= (λ watch. gives (record { machine = machine; files = files; port = port; watch = watch }))))))))))
-    (λ (y : State). this_version) (number_text w16) IsThis (λ version y. machine_text y.machine ++ ((listed_text w8 file_text) y.files ++ ((number_text w16) y.port ++ (watch_text y.watch))))
-    (λ version y. IsMachine y.machine × (AreFiles y.files × ((Below (2 ^ 16)) y.port × (MadeState y.machine y.files y.port y))))
-    version_is
-    (λ version h1. (bound_is machine_at (λ machine. (files_at >>= (λ files. ((number w16) >>= (λ port. (watch_at >>= (λ watch. gives (record { machine = machine; files = files; port = port; watch = watch }))))))))
-    (λ (y : State). y.machine) machine_text IsMachine (λ machine y. (listed_text w8 file_text) y.files ++ ((number_text w16) y.port ++ (watch_text y.watch)))
-    (λ machine y. AreFiles y.files × ((Below (2 ^ 16)) y.port × (MadeState machine y.files y.port y)))
-    machine_is
-    (λ machine h2. (bound_is files_at (λ files. ((number w16) >>= (λ port. (watch_at >>= (λ watch. gives (record { machine = machine; files = files; port = port; watch = watch }))))))
-    (λ (y : State). y.files) (listed_text w8 file_text) AreFiles (λ files y. (number_text w16) y.port ++ (watch_text y.watch))
-    (λ files y. (Below (2 ^ 16)) y.port × (MadeState machine files y.port y))
-    files_is
-    (λ files h3. (bound_is (number w16) (λ port. (watch_at >>= (λ watch. gives (record { machine = machine; files = files; port = port; watch = watch }))))
-    (λ (y : State). y.port) (number_text w16) (Below (2 ^ 16)) (λ port y. watch_text y.watch)
-    (λ port y. MadeState machine files port y)
-    u16_is
-    (λ port h4. (made_is watch_at (λ watch. record { machine = machine; files = files; port = port; watch = watch }) (λ (y : State). y.watch) watch_text IsWatch (MadeState machine files port) watch_is (λ x has. (refl, record { last = has; is = refl })) (λ y has. (has.last, sym has.is))))
+    recast
+    (field_is (λ (y : State). head) head_is (λ start ok.
+    (field_is (λ (y : State). this_version) version_is (λ version ok.
+    (field_is (λ (y : State). y.machine) machine_is (λ machine ok.
+    (field_is (λ (y : State). y.files) files_is (λ files ok.
+    (field_is (λ (y : State). y.port) u16_is (λ port ok.
+    (last_is (λ watch. record { machine = machine; files = files; port = port; watch = watch }) (λ y. y.watch) (MadeState machine files port) watch_is
+    (λ x has. (refl, record { last = has; is = refl }))
+    (λ y has. (has.last, sym has.is))))
     (λ port y ok has. ap (λ (x : State). x.port) has.is)))
     (λ files y ok has. ap (λ (x : State). x.files) has.1.is)))
     (λ machine y ok has. ap (λ (x : State). x.machine) has.1.1.is)))

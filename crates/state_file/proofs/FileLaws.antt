@@ -1,21 +1,19 @@
 -- The readers of the attached files, each with the text of what it reads.
-use Rattle.std.proofs.Common.{◌≡◌, ℕ, ◌+◌, ◌*◌, ◌%◌, ◌^◌, ◌<◌, ◌≤◌, Bool, true, false, eqb, List, [], ◌∷◌, ◌++◌, length, refl, sym, ap, append_assoc, arith, eq-eqb}
-use Rattle.std.specs.Prelude.{nat_le, nat_lt, ◌&&◌, ◌||◌, ◌==◌, not}
-use Rattle.std.specs.List.{flat_map, AllByRecursion}
-use Rattle.std.specs.Int.{w8, w16, w32, w64}
-use Rattle.std.proofs.lemmas.Bool.{eqb-true, and_parts, ltb-true, leb-true}
+use Rattle.std.proofs.Common.{◌≡◌, ℕ, ◌^◌, ◌<◌, ◌≤◌, true, List, refl, sym, ap, arith}
+use Rattle.std.specs.Prelude.{nat_le, nat_lt, ◌||◌, ◌==◌, not}
+use Rattle.std.specs.Int.{w8, w16, w64}
+use Rattle.std.proofs.lemmas.Bool.{and_parts, leb-true}
 use Rattle.std.specs.Str.{is_utf8}
 use Rattle.unit_trait.specs.declared.kind.Kind.{Kind}
 use Rattle.unit_trait.specs.declared.kind.Kind.TheVariants.{Dsk, Mta, Lpt, Ptr, Ptp, Clk, Tti, Tto, Tti1, Tto1, Qty}
-use Rattle.unit_trait.specs.Kinds.{units_of}
 use Rattle.state_file.specs.Parts.{FilePart}
 use Rattle.state_file.specs.Ranges.{is_flag, kind_at, FilePlace, takes_file_at, is_next_unit, only_writes, is_read_only_of, is_name_length, longest_file_of, is_file_length, any_count}
-use Rattle.state_file.specs.Text.{number_text, sized_text, listed_text, file_text}
-use Rattle.state_file.specs.Valid.{Follow, IsFile, AreFiles}
-use Rattle.state_file.specs.Readers.{◌>>=◌, gives, counted, number, tested}
+use Rattle.state_file.specs.Text.{sized_text, listed_text, file_text}
+use Rattle.state_file.specs.Valid.{IsFile, AreFiles}
+use Rattle.state_file.specs.Readers.{number, tested}
 use Rattle.state_file.specs.Reading.{name_at, file_at, place_of, behind_file, files_at}
-use Rattle.state_file.proofs.ReaderLaws.{IsReaderOf, bound_is, made_is, retold}
-use Rattle.state_file.proofs.Widths.{Below, Passes, Tested, u8_is, u16_is, u64_is, range_is, test_is}
+use Rattle.state_file.proofs.ReaderLaws.{IsReaderOf, field_is, last_is, recast, retold}
+use Rattle.state_file.proofs.Widths.{Passes, Tested, u8_is, u16_is, u64_is, range_is, test_is}
 use Rattle.state_file.proofs.Lists.{AreListed, listed_is, AreSized, sized_is, AreExactly, exactly_is}
 use Rattle.state_file.proofs.MachineLaws.{small_unit}
 
@@ -55,36 +53,22 @@ small_length kind n h = below n (longest_file_of kind) (leb-true n (longest_file
     below : (n m : ℕ) → n ≤ m → m ≤ 67108864 → n < 2 ^ 64
     below n m le short = omega (arith, le, short)
 
-record MadeFile (least : FilePlace) (position : ℕ) (unit : ℕ) (read_only : ℕ) (name : List ℕ) (size : ℕ) (y : FilePart) : Type 0 where
-  last : (AreExactly 32) y.digest
+record MadeFile (least : FilePlace) (position unit read_only : ℕ) (name : List ℕ) (size : ℕ) (y : FilePart) : Type 0 where
+  last : AreExactly 32 y.digest
   is : y ≡ record { position = position; unit = unit; read_only = read_only; name = name; size = size; digest = y.digest }
 
 pub file_is : (least : FilePlace) → IsReaderOf (file_at least) file_text (IsFile least)
 unfolding file_at
 file_is least =
-    retold (file_at least) (λ (y : FilePart). (number_text w8) y.position ++ ((number_text w8) y.unit ++ ((number_text w8) y.read_only ++ ((sized_text w16) y.name ++ ((number_text w64) y.size ++ ((λ (bytes : List ℕ). bytes) y.digest)))))) file_text
-    (λ (y : FilePart). (Tested (2 ^ 8) (takes_file_at least)) y.position × ((Passes (is_next_unit least y.position)) y.unit × ((Passes (is_read_only_of (kind_at y.position))) y.read_only × ((AreSized (Passes is_name_length) is_utf8) y.name × ((Passes (is_file_length (kind_at y.position))) y.size × (MadeFile least y.position y.unit y.read_only y.name y.size y)))))) (IsFile least)
-    (bound_is (tested (takes_file_at least) (number w8)) (λ position. ((tested (is_next_unit least position) (number w8)) >>= (λ unit. ((tested (is_read_only_of (kind_at position)) (number w8)) >>= (λ read_only. (name_at >>= (λ name. ((tested (is_file_length (kind_at position)) (number w64)) >>= (λ size. ((counted 32) >>= (λ digest. gives (record { position = position; unit = unit; read_only = read_only; name = name; size = size; digest = digest }))))))))))))
-    (λ (y : FilePart). y.position) (number_text w8) (Tested (2 ^ 8) (takes_file_at least)) (λ position y. (number_text w8) y.unit ++ ((number_text w8) y.read_only ++ ((sized_text w16) y.name ++ ((number_text w64) y.size ++ ((λ (bytes : List ℕ). bytes) y.digest)))))
-    (λ position y. (Passes (is_next_unit least position)) y.unit × ((Passes (is_read_only_of (kind_at position))) y.read_only × ((AreSized (Passes is_name_length) is_utf8) y.name × ((Passes (is_file_length (kind_at position))) y.size × (MadeFile least position y.unit y.read_only y.name y.size y)))))
-    (test_is w8 (2 ^ 8) (takes_file_at least) u8_is)
-    (λ position h0. (bound_is (tested (is_next_unit least position) (number w8)) (λ unit. ((tested (is_read_only_of (kind_at position)) (number w8)) >>= (λ read_only. (name_at >>= (λ name. ((tested (is_file_length (kind_at position)) (number w64)) >>= (λ size. ((counted 32) >>= (λ digest. gives (record { position = position; unit = unit; read_only = read_only; name = name; size = size; digest = digest }))))))))))
-    (λ (y : FilePart). y.unit) (number_text w8) (Passes (is_next_unit least position)) (λ unit y. (number_text w8) y.read_only ++ ((sized_text w16) y.name ++ ((number_text w64) y.size ++ ((λ (bytes : List ℕ). bytes) y.digest))))
-    (λ unit y. (Passes (is_read_only_of (kind_at position))) y.read_only × ((AreSized (Passes is_name_length) is_utf8) y.name × ((Passes (is_file_length (kind_at position))) y.size × (MadeFile least position unit y.read_only y.name y.size y))))
-    (range_is w8 (2 ^ 8) (is_next_unit least position) u8_is (small_file_unit least position))
-    (λ unit h1. (bound_is (tested (is_read_only_of (kind_at position)) (number w8)) (λ read_only. (name_at >>= (λ name. ((tested (is_file_length (kind_at position)) (number w64)) >>= (λ size. ((counted 32) >>= (λ digest. gives (record { position = position; unit = unit; read_only = read_only; name = name; size = size; digest = digest }))))))))
-    (λ (y : FilePart). y.read_only) (number_text w8) (Passes (is_read_only_of (kind_at position))) (λ read_only y. (sized_text w16) y.name ++ ((number_text w64) y.size ++ ((λ (bytes : List ℕ). bytes) y.digest)))
-    (λ read_only y. (AreSized (Passes is_name_length) is_utf8) y.name × ((Passes (is_file_length (kind_at position))) y.size × (MadeFile least position unit read_only y.name y.size y)))
-    (range_is w8 (2 ^ 8) (is_read_only_of (kind_at position)) u8_is (small_read_only (kind_at position)))
-    (λ read_only h2. (bound_is name_at (λ name. ((tested (is_file_length (kind_at position)) (number w64)) >>= (λ size. ((counted 32) >>= (λ digest. gives (record { position = position; unit = unit; read_only = read_only; name = name; size = size; digest = digest }))))))
-    (λ (y : FilePart). y.name) (sized_text w16) (AreSized (Passes is_name_length) is_utf8) (λ name y. (number_text w64) y.size ++ ((λ (bytes : List ℕ). bytes) y.digest))
-    (λ name y. (Passes (is_file_length (kind_at position))) y.size × (MadeFile least position unit read_only name y.size y))
-    name_is
-    (λ name h3. (bound_is (tested (is_file_length (kind_at position)) (number w64)) (λ size. ((counted 32) >>= (λ digest. gives (record { position = position; unit = unit; read_only = read_only; name = name; size = size; digest = digest }))))
-    (λ (y : FilePart). y.size) (number_text w64) (Passes (is_file_length (kind_at position))) (λ size y. (λ (bytes : List ℕ). bytes) y.digest)
-    (λ size y. MadeFile least position unit read_only name size y)
-    (range_is w64 (2 ^ 64) (is_file_length (kind_at position)) u64_is (small_length (kind_at position)))
-    (λ size h4. (made_is (counted 32) (λ digest. record { position = position; unit = unit; read_only = read_only; name = name; size = size; digest = digest }) (λ (y : FilePart). y.digest) (λ (bytes : List ℕ). bytes) (AreExactly 32) (MadeFile least position unit read_only name size) (exactly_is 32) (λ x has. (refl, record { last = has; is = refl })) (λ y has. (has.last, sym has.is))))
+    recast
+    (field_is (λ (y : FilePart). y.position) (test_is w8 (2 ^ 8) (takes_file_at least) u8_is) (λ position ok.
+    (field_is (λ (y : FilePart). y.unit) (range_is w8 (2 ^ 8) (is_next_unit least position) u8_is (small_file_unit least position)) (λ unit ok.
+    (field_is (λ (y : FilePart). y.read_only) (range_is w8 (2 ^ 8) (is_read_only_of (kind_at position)) u8_is (small_read_only (kind_at position))) (λ read_only ok.
+    (field_is (λ (y : FilePart). y.name) name_is (λ name ok.
+    (field_is (λ (y : FilePart). y.size) (range_is w64 (2 ^ 64) (is_file_length (kind_at position)) u64_is (small_length (kind_at position))) (λ size ok.
+    (last_is (λ digest. record { position = position; unit = unit; read_only = read_only; name = name; size = size; digest = digest }) (λ y. y.digest) (MadeFile least position unit read_only name size) (exactly_is 32)
+    (λ x has. (refl, record { last = has; is = refl }))
+    (λ y has. (has.last, sym has.is))))
     (λ size y ok has. ap (λ (x : FilePart). x.size) has.is)))
     (λ name y ok has. ap (λ (x : FilePart). x.name) has.1.is)))
     (λ read_only y ok has. ap (λ (x : FilePart). x.read_only) has.1.1.is)))

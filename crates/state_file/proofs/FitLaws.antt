@@ -1,8 +1,7 @@
 -- What is valid fits.
-use Rattle.std.proofs.Common.{◌≡◌, ℕ, ◌^◌, ◌<◌, ◌≤◌, true, List, [], ◌∷◌, length, Result, Ok, Err, arith}
-use Rattle.std.specs.Prelude.{nat_le, ◌&&◌, IfOk}
+use Rattle.std.proofs.Common.{◌≡◌, ℕ, ◌^◌, ◌<◌, true, List, [], ◌∷◌, length, Result, Ok, Err, arith}
+use Rattle.std.specs.Prelude.{nat_le, IfOk}
 use Rattle.std.specs.List.{AllByRecursion}
-use Rattle.std.proofs.lemmas.Grind.{common_steps}
 use Rattle.state_file.specs.declared.saved.Saved.{Saved}
 use Rattle.state_file.specs.declared.fault.StateFault.{StateFault}
 use Rattle.state_file.specs.Parts.{UnitPart, FilePart, BreakPart, ExpectPart, State, state_in}

@@ -1,10 +1,10 @@
--- The readers of the machine, each with the text of what it reads.
-use Rattle.std.proofs.Common.{◌≡◌, ℕ, ◌+◌, ◌*◌, ◌%◌, ◌^◌, ◌<◌, ◌≤◌, Bool, true, false, eqb, List, [], ◌∷◌, ◌++◌, length, refl, sym, ap, append_assoc, arith, eq-eqb}
-use Rattle.std.specs.Prelude.{nat_le, nat_lt, ◌&&◌, ◌||◌, ◌==◌, not}
-use Rattle.std.specs.List.{flat_map, AllByRecursion}
+-- The readers of the machine, each with the text of what it reads. Those of a record go field by field: each field has its
+-- own law, behind it come the other fields, and the record gives it back.
+use Rattle.std.proofs.Common.{◌≡◌, ℕ, ◌*◌, ◌^◌, ◌<◌, ◌≤◌, Bool, true, List, [], ◌++◌, length, refl, sym, ap, append_assoc, arith, eq-eqb}
+use Rattle.std.specs.Prelude.{nat_le, nat_lt, ◌&&◌, ◌==◌}
+use Rattle.std.specs.List.{flat_map}
 use Rattle.std.specs.Int.{w8, w16, w32, w64}
-use Rattle.std.proofs.lemmas.Bool.{eqb-true, and_parts, ltb-true, leb-true}
-use Rattle.std.proofs.lemmas.Grind.{common_steps}
+use Rattle.std.proofs.lemmas.Bool.{eqb-true, and_parts, ltb-true}
 use Rattle.unit_trait.specs.declared.kind.Kind.{Kind}
 use Rattle.unit_trait.specs.declared.kind.Kind.TheVariants.{Dsk, Mta, Lpt, Ptr, Ptp, Clk, Tti, Tto, Tti1, Tto1, Qty}
 use Rattle.unit_trait.specs.Kinds.{units_of}
@@ -12,11 +12,11 @@ use Rattle.state_file.specs.declared.saved.SavedCpu.{SavedCpu}
 use Rattle.state_file.specs.declared.saved.SavedEvent.{SavedEvent}
 use Rattle.state_file.specs.Parts.{UnitPart, MachinePart}
 use Rattle.state_file.specs.Ranges.{is_flag, is_size, is_address, is_time, is_key_count, kind_at, standard_kinds, is_position, register_count, holds_value, most_events, is_free, can_wait, comes_last}
-use Rattle.state_file.specs.Text.{number_text, word_text, register_text, listed_text, accumulators_text, switches_text, times_text, cpu_text, unit_text, event_text, machine_text}
+use Rattle.state_file.specs.Text.{number_text, word_text, register_text, listed_text, cpu_text, unit_text, event_text, machine_text}
 use Rattle.state_file.specs.Valid.{Follow, IsCpu, CanHold, IsUnit, IsEvent, IsMachine}
-use Rattle.state_file.specs.Readers.{◌>>=◌, gives, number, tested, chain, listed, alike, unbound}
+use Rattle.state_file.specs.Readers.{number, tested}
 use Rattle.state_file.specs.Reading.{words_at, cpu_at, register_value_at, next_number, registers_at, unit_at, units_at, event_at, with_event, agenda_at, machine_at}
-use Rattle.state_file.proofs.ReaderLaws.{IsReaderOf, bound_is, made_is, retold}
+use Rattle.state_file.proofs.ReaderLaws.{IsReaderOf, field_is, last_is, recast, retold}
 use Rattle.state_file.proofs.Widths.{Below, Passes, Tested, u8_is, u16_is, u32_is, u64_is, range_is, test_is}
 use Rattle.state_file.proofs.Lists.{AreMany, many_is, AreListed, listed_is}
 
@@ -44,56 +44,27 @@ pub regroup : (a b c d e f g h i j k : List ℕ) → a ++ (b ++ (c ++ (d ++ (e +
     ≡ (a ++ (b ++ (c ++ d))) ++ ((e ++ (f ++ (g ++ (h ++ i)))) ++ (j ++ k))
 regroup a b c d e f g h i j k = simp append_assoc
 
-record MadeCpu (size_k : ℕ) (acs : List ℕ) (carry : ℕ) (pc : ℕ) (on : ℕ) (hold : ℕ) (mask : ℕ) (sr : ℕ) (stop_dev : ℕ) (time : ℕ) (y : SavedCpu) : Type 0 where
-  last : (Passes is_key_count) y.keys_taken
+record MadeCpu (size_k : ℕ) (acs : List ℕ) (carry pc on hold mask sr stop_dev time : ℕ) (y : SavedCpu) : Type 0 where
+  last : Passes is_key_count y.keys_taken
   is : y ≡ record { size_k = size_k; acs = acs; carry = carry; pc = pc; on = on; hold = hold; mask = mask; sr = sr; stop_dev = stop_dev; time = time; keys_taken = y.keys_taken }
 
 pub cpu_is : IsReaderOf cpu_at cpu_text IsCpu
 unfolding cpu_at
 cpu_is =
-    retold cpu_at (λ (y : SavedCpu). (number_text w8) y.size_k ++ ((flat_map word_text) y.acs ++ ((number_text w8) y.carry ++ ((number_text w16) y.pc ++ ((number_text w8) y.on ++ ((number_text w8) y.hold ++ ((number_text w16) y.mask ++ ((number_text w16) y.sr ++ ((number_text w8) y.stop_dev ++ ((number_text w64) y.time ++ ((number_text w64) y.keys_taken))))))))))) cpu_text
-    (λ (y : SavedCpu). (Passes is_size) y.size_k × ((AreMany (Below (2 ^ 16)) 4) y.acs × ((Passes is_flag) y.carry × ((Passes is_address) y.pc × ((Passes is_flag) y.on × ((Passes is_flag) y.hold × ((Below (2 ^ 16)) y.mask × ((Below (2 ^ 16)) y.sr × ((Passes is_flag) y.stop_dev × ((Passes is_time) y.time × (MadeCpu y.size_k y.acs y.carry y.pc y.on y.hold y.mask y.sr y.stop_dev y.time y))))))))))) IsCpu
-    (bound_is (tested is_size (number w8)) (λ size_k. ((words_at 4) >>= (λ acs. ((tested is_flag (number w8)) >>= (λ carry. ((tested is_address (number w16)) >>= (λ pc. ((tested is_flag (number w8)) >>= (λ on. ((tested is_flag (number w8)) >>= (λ hold. ((number w16) >>= (λ mask. ((number w16) >>= (λ sr. ((tested is_flag (number w8)) >>= (λ stop_dev. ((tested is_time (number w64)) >>= (λ time. ((tested is_key_count (number w64)) >>= (λ keys_taken. gives (record { size_k = size_k; acs = acs; carry = carry; pc = pc; on = on; hold = hold; mask = mask; sr = sr; stop_dev = stop_dev; time = time; keys_taken = keys_taken }))))))))))))))))))))))
-    (λ (y : SavedCpu). y.size_k) (number_text w8) (Passes is_size) (λ size_k y. (flat_map word_text) y.acs ++ ((number_text w8) y.carry ++ ((number_text w16) y.pc ++ ((number_text w8) y.on ++ ((number_text w8) y.hold ++ ((number_text w16) y.mask ++ ((number_text w16) y.sr ++ ((number_text w8) y.stop_dev ++ ((number_text w64) y.time ++ ((number_text w64) y.keys_taken))))))))))
-    (λ size_k y. (AreMany (Below (2 ^ 16)) 4) y.acs × ((Passes is_flag) y.carry × ((Passes is_address) y.pc × ((Passes is_flag) y.on × ((Passes is_flag) y.hold × ((Below (2 ^ 16)) y.mask × ((Below (2 ^ 16)) y.sr × ((Passes is_flag) y.stop_dev × ((Passes is_time) y.time × (MadeCpu size_k y.acs y.carry y.pc y.on y.hold y.mask y.sr y.stop_dev y.time y))))))))))
-    (range_is w8 (2 ^ 8) is_size u8_is small_size)
-    (λ size_k h0. (bound_is (words_at 4) (λ acs. ((tested is_flag (number w8)) >>= (λ carry. ((tested is_address (number w16)) >>= (λ pc. ((tested is_flag (number w8)) >>= (λ on. ((tested is_flag (number w8)) >>= (λ hold. ((number w16) >>= (λ mask. ((number w16) >>= (λ sr. ((tested is_flag (number w8)) >>= (λ stop_dev. ((tested is_time (number w64)) >>= (λ time. ((tested is_key_count (number w64)) >>= (λ keys_taken. gives (record { size_k = size_k; acs = acs; carry = carry; pc = pc; on = on; hold = hold; mask = mask; sr = sr; stop_dev = stop_dev; time = time; keys_taken = keys_taken }))))))))))))))))))))
-    (λ (y : SavedCpu). y.acs) (flat_map word_text) (AreMany (Below (2 ^ 16)) 4) (λ acs y. (number_text w8) y.carry ++ ((number_text w16) y.pc ++ ((number_text w8) y.on ++ ((number_text w8) y.hold ++ ((number_text w16) y.mask ++ ((number_text w16) y.sr ++ ((number_text w8) y.stop_dev ++ ((number_text w64) y.time ++ ((number_text w64) y.keys_taken)))))))))
-    (λ acs y. (Passes is_flag) y.carry × ((Passes is_address) y.pc × ((Passes is_flag) y.on × ((Passes is_flag) y.hold × ((Below (2 ^ 16)) y.mask × ((Below (2 ^ 16)) y.sr × ((Passes is_flag) y.stop_dev × ((Passes is_time) y.time × (MadeCpu size_k acs y.carry y.pc y.on y.hold y.mask y.sr y.stop_dev y.time y)))))))))
-    (words_is 4)
-    (λ acs h1. (bound_is (tested is_flag (number w8)) (λ carry. ((tested is_address (number w16)) >>= (λ pc. ((tested is_flag (number w8)) >>= (λ on. ((tested is_flag (number w8)) >>= (λ hold. ((number w16) >>= (λ mask. ((number w16) >>= (λ sr. ((tested is_flag (number w8)) >>= (λ stop_dev. ((tested is_time (number w64)) >>= (λ time. ((tested is_key_count (number w64)) >>= (λ keys_taken. gives (record { size_k = size_k; acs = acs; carry = carry; pc = pc; on = on; hold = hold; mask = mask; sr = sr; stop_dev = stop_dev; time = time; keys_taken = keys_taken }))))))))))))))))))
-    (λ (y : SavedCpu). y.carry) (number_text w8) (Passes is_flag) (λ carry y. (number_text w16) y.pc ++ ((number_text w8) y.on ++ ((number_text w8) y.hold ++ ((number_text w16) y.mask ++ ((number_text w16) y.sr ++ ((number_text w8) y.stop_dev ++ ((number_text w64) y.time ++ ((number_text w64) y.keys_taken))))))))
-    (λ carry y. (Passes is_address) y.pc × ((Passes is_flag) y.on × ((Passes is_flag) y.hold × ((Below (2 ^ 16)) y.mask × ((Below (2 ^ 16)) y.sr × ((Passes is_flag) y.stop_dev × ((Passes is_time) y.time × (MadeCpu size_k acs carry y.pc y.on y.hold y.mask y.sr y.stop_dev y.time y))))))))
-    (range_is w8 (2 ^ 8) is_flag u8_is small_flag)
-    (λ carry h2. (bound_is (tested is_address (number w16)) (λ pc. ((tested is_flag (number w8)) >>= (λ on. ((tested is_flag (number w8)) >>= (λ hold. ((number w16) >>= (λ mask. ((number w16) >>= (λ sr. ((tested is_flag (number w8)) >>= (λ stop_dev. ((tested is_time (number w64)) >>= (λ time. ((tested is_key_count (number w64)) >>= (λ keys_taken. gives (record { size_k = size_k; acs = acs; carry = carry; pc = pc; on = on; hold = hold; mask = mask; sr = sr; stop_dev = stop_dev; time = time; keys_taken = keys_taken }))))))))))))))))
-    (λ (y : SavedCpu). y.pc) (number_text w16) (Passes is_address) (λ pc y. (number_text w8) y.on ++ ((number_text w8) y.hold ++ ((number_text w16) y.mask ++ ((number_text w16) y.sr ++ ((number_text w8) y.stop_dev ++ ((number_text w64) y.time ++ ((number_text w64) y.keys_taken)))))))
-    (λ pc y. (Passes is_flag) y.on × ((Passes is_flag) y.hold × ((Below (2 ^ 16)) y.mask × ((Below (2 ^ 16)) y.sr × ((Passes is_flag) y.stop_dev × ((Passes is_time) y.time × (MadeCpu size_k acs carry pc y.on y.hold y.mask y.sr y.stop_dev y.time y)))))))
-    (range_is w16 (2 ^ 16) is_address u16_is small_address)
-    (λ pc h3. (bound_is (tested is_flag (number w8)) (λ on. ((tested is_flag (number w8)) >>= (λ hold. ((number w16) >>= (λ mask. ((number w16) >>= (λ sr. ((tested is_flag (number w8)) >>= (λ stop_dev. ((tested is_time (number w64)) >>= (λ time. ((tested is_key_count (number w64)) >>= (λ keys_taken. gives (record { size_k = size_k; acs = acs; carry = carry; pc = pc; on = on; hold = hold; mask = mask; sr = sr; stop_dev = stop_dev; time = time; keys_taken = keys_taken }))))))))))))))
-    (λ (y : SavedCpu). y.on) (number_text w8) (Passes is_flag) (λ on y. (number_text w8) y.hold ++ ((number_text w16) y.mask ++ ((number_text w16) y.sr ++ ((number_text w8) y.stop_dev ++ ((number_text w64) y.time ++ ((number_text w64) y.keys_taken))))))
-    (λ on y. (Passes is_flag) y.hold × ((Below (2 ^ 16)) y.mask × ((Below (2 ^ 16)) y.sr × ((Passes is_flag) y.stop_dev × ((Passes is_time) y.time × (MadeCpu size_k acs carry pc on y.hold y.mask y.sr y.stop_dev y.time y))))))
-    (range_is w8 (2 ^ 8) is_flag u8_is small_flag)
-    (λ on h4. (bound_is (tested is_flag (number w8)) (λ hold. ((number w16) >>= (λ mask. ((number w16) >>= (λ sr. ((tested is_flag (number w8)) >>= (λ stop_dev. ((tested is_time (number w64)) >>= (λ time. ((tested is_key_count (number w64)) >>= (λ keys_taken. gives (record { size_k = size_k; acs = acs; carry = carry; pc = pc; on = on; hold = hold; mask = mask; sr = sr; stop_dev = stop_dev; time = time; keys_taken = keys_taken }))))))))))))
-    (λ (y : SavedCpu). y.hold) (number_text w8) (Passes is_flag) (λ hold y. (number_text w16) y.mask ++ ((number_text w16) y.sr ++ ((number_text w8) y.stop_dev ++ ((number_text w64) y.time ++ ((number_text w64) y.keys_taken)))))
-    (λ hold y. (Below (2 ^ 16)) y.mask × ((Below (2 ^ 16)) y.sr × ((Passes is_flag) y.stop_dev × ((Passes is_time) y.time × (MadeCpu size_k acs carry pc on hold y.mask y.sr y.stop_dev y.time y)))))
-    (range_is w8 (2 ^ 8) is_flag u8_is small_flag)
-    (λ hold h5. (bound_is (number w16) (λ mask. ((number w16) >>= (λ sr. ((tested is_flag (number w8)) >>= (λ stop_dev. ((tested is_time (number w64)) >>= (λ time. ((tested is_key_count (number w64)) >>= (λ keys_taken. gives (record { size_k = size_k; acs = acs; carry = carry; pc = pc; on = on; hold = hold; mask = mask; sr = sr; stop_dev = stop_dev; time = time; keys_taken = keys_taken }))))))))))
-    (λ (y : SavedCpu). y.mask) (number_text w16) (Below (2 ^ 16)) (λ mask y. (number_text w16) y.sr ++ ((number_text w8) y.stop_dev ++ ((number_text w64) y.time ++ ((number_text w64) y.keys_taken))))
-    (λ mask y. (Below (2 ^ 16)) y.sr × ((Passes is_flag) y.stop_dev × ((Passes is_time) y.time × (MadeCpu size_k acs carry pc on hold mask y.sr y.stop_dev y.time y))))
-    u16_is
-    (λ mask h6. (bound_is (number w16) (λ sr. ((tested is_flag (number w8)) >>= (λ stop_dev. ((tested is_time (number w64)) >>= (λ time. ((tested is_key_count (number w64)) >>= (λ keys_taken. gives (record { size_k = size_k; acs = acs; carry = carry; pc = pc; on = on; hold = hold; mask = mask; sr = sr; stop_dev = stop_dev; time = time; keys_taken = keys_taken }))))))))
-    (λ (y : SavedCpu). y.sr) (number_text w16) (Below (2 ^ 16)) (λ sr y. (number_text w8) y.stop_dev ++ ((number_text w64) y.time ++ ((number_text w64) y.keys_taken)))
-    (λ sr y. (Passes is_flag) y.stop_dev × ((Passes is_time) y.time × (MadeCpu size_k acs carry pc on hold mask sr y.stop_dev y.time y)))
-    u16_is
-    (λ sr h7. (bound_is (tested is_flag (number w8)) (λ stop_dev. ((tested is_time (number w64)) >>= (λ time. ((tested is_key_count (number w64)) >>= (λ keys_taken. gives (record { size_k = size_k; acs = acs; carry = carry; pc = pc; on = on; hold = hold; mask = mask; sr = sr; stop_dev = stop_dev; time = time; keys_taken = keys_taken }))))))
-    (λ (y : SavedCpu). y.stop_dev) (number_text w8) (Passes is_flag) (λ stop_dev y. (number_text w64) y.time ++ ((number_text w64) y.keys_taken))
-    (λ stop_dev y. (Passes is_time) y.time × (MadeCpu size_k acs carry pc on hold mask sr stop_dev y.time y))
-    (range_is w8 (2 ^ 8) is_flag u8_is small_flag)
-    (λ stop_dev h8. (bound_is (tested is_time (number w64)) (λ time. ((tested is_key_count (number w64)) >>= (λ keys_taken. gives (record { size_k = size_k; acs = acs; carry = carry; pc = pc; on = on; hold = hold; mask = mask; sr = sr; stop_dev = stop_dev; time = time; keys_taken = keys_taken }))))
-    (λ (y : SavedCpu). y.time) (number_text w64) (Passes is_time) (λ time y. (number_text w64) y.keys_taken)
-    (λ time y. MadeCpu size_k acs carry pc on hold mask sr stop_dev time y)
-    (range_is w64 (2 ^ 64) is_time u64_is small_time)
-    (λ time h9. (made_is (tested is_key_count (number w64)) (λ keys_taken. record { size_k = size_k; acs = acs; carry = carry; pc = pc; on = on; hold = hold; mask = mask; sr = sr; stop_dev = stop_dev; time = time; keys_taken = keys_taken }) (λ (y : SavedCpu). y.keys_taken) (number_text w64) (Passes is_key_count) (MadeCpu size_k acs carry pc on hold mask sr stop_dev time) (range_is w64 (2 ^ 64) is_key_count u64_is small_key_count) (λ x has. (refl, record { last = has; is = refl })) (λ y has. (has.last, sym has.is))))
+    recast
+    (field_is (λ (y : SavedCpu). y.size_k) (range_is w8 (2 ^ 8) is_size u8_is small_size) (λ size_k ok.
+    (field_is (λ (y : SavedCpu). y.acs) (words_is 4) (λ acs ok.
+    (field_is (λ (y : SavedCpu). y.carry) (range_is w8 (2 ^ 8) is_flag u8_is small_flag) (λ carry ok.
+    (field_is (λ (y : SavedCpu). y.pc) (range_is w16 (2 ^ 16) is_address u16_is small_address) (λ pc ok.
+    (field_is (λ (y : SavedCpu). y.on) (range_is w8 (2 ^ 8) is_flag u8_is small_flag) (λ on ok.
+    (field_is (λ (y : SavedCpu). y.hold) (range_is w8 (2 ^ 8) is_flag u8_is small_flag) (λ hold ok.
+    (field_is (λ (y : SavedCpu). y.mask) u16_is (λ mask ok.
+    (field_is (λ (y : SavedCpu). y.sr) u16_is (λ sr ok.
+    (field_is (λ (y : SavedCpu). y.stop_dev) (range_is w8 (2 ^ 8) is_flag u8_is small_flag) (λ stop_dev ok.
+    (field_is (λ (y : SavedCpu). y.time) (range_is w64 (2 ^ 64) is_time u64_is small_time) (λ time ok.
+    (last_is (λ keys_taken. record { size_k = size_k; acs = acs; carry = carry; pc = pc; on = on; hold = hold; mask = mask; sr = sr; stop_dev = stop_dev; time = time; keys_taken = keys_taken }) (λ y. y.keys_taken) (MadeCpu size_k acs carry pc on hold mask sr stop_dev time) (range_is w64 (2 ^ 64) is_key_count u64_is small_key_count)
+    (λ x has. (refl, record { last = has; is = refl }))
+    (λ y has. (has.last, sym has.is))))
     (λ time y ok has. ap (λ (x : SavedCpu). x.time) has.is)))
     (λ stop_dev y ok has. ap (λ (x : SavedCpu). x.stop_dev) has.1.is)))
     (λ sr y ok has. ap (λ (x : SavedCpu). x.sr) has.1.1.is)))
@@ -162,19 +133,17 @@ registers_is kind =
     below n m e lt = omega (arith, e, lt)
 
 record MadeUnit (expected : ℕ) (position : ℕ) (y : UnitPart) : Type 0 where
-  last : (AreRegisters (kind_at position)) y.registers
+  last : AreRegisters (kind_at position) y.registers
   is : y ≡ record { position = position; registers = y.registers }
 
 pub unit_is : (expected : ℕ) → IsReaderOf (unit_at expected) unit_text (IsUnit expected)
 unfolding unit_at
 unit_is expected =
-    retold (unit_at expected) (λ (y : UnitPart). (number_text w8) y.position ++ ((listed_text w8 register_text) y.registers)) unit_text
-    (λ (y : UnitPart). (Tested (2 ^ 8) (λ n. n == expected)) y.position × (MadeUnit expected y.position y)) (IsUnit expected)
-    (bound_is (tested (λ n. n == expected) (number w8)) (λ position. ((registers_at (kind_at position)) >>= (λ registers. gives (record { position = position; registers = registers }))))
-    (λ (y : UnitPart). y.position) (number_text w8) (Tested (2 ^ 8) (λ n. n == expected)) (λ position y. (listed_text w8 register_text) y.registers)
-    (λ position y. MadeUnit expected position y)
-    (test_is w8 (2 ^ 8) (λ n. n == expected) u8_is)
-    (λ position h0. (made_is (registers_at (kind_at position)) (λ registers. record { position = position; registers = registers }) (λ (y : UnitPart). y.registers) (listed_text w8 register_text) (AreRegisters (kind_at position)) (MadeUnit expected position) (registers_is (kind_at position)) (λ x has. (refl, record { last = has; is = refl })) (λ y has. (has.last, sym has.is))))
+    recast
+    (field_is (λ (y : UnitPart). y.position) (test_is w8 (2 ^ 8) (λ n. n == expected) u8_is) (λ position ok.
+    (last_is (λ registers. record { position = position; registers = registers }) (λ y. y.registers) (MadeUnit expected position) (registers_is (kind_at position))
+    (λ x has. (refl, record { last = has; is = refl }))
+    (λ y has. (has.last, sym has.is))))
     (λ position y ok has. ap (λ (x : UnitPart). x.position) has.is))
     (λ y has. (
       refl,
@@ -224,24 +193,19 @@ small_unit kind unit other h = below unit (units_of kind) (ltb-true unit (units_
 small_event_unit : (events : List SavedEvent) (position unit : ℕ) → can_wait events position unit ≡ true → unit < 2 ^ 8
 small_event_unit events position unit h = small_unit (kind_at position) unit (is_free events position unit) h
 
-record MadeEvent (events : List SavedEvent) (position : ℕ) (unit : ℕ) (y : SavedEvent) : Type 0 where
-  last : (Tested (2 ^ 32) (comes_last events)) y.remaining
+record MadeEvent (events : List SavedEvent) (position unit : ℕ) (y : SavedEvent) : Type 0 where
+  last : Tested (2 ^ 32) (comes_last events) y.remaining
   is : y ≡ record { position = position; unit = unit; remaining = y.remaining }
 
 pub event_is : (events : List SavedEvent) → IsReaderOf (event_at events) event_text (IsEvent events)
 unfolding event_at
 event_is events =
-    retold (event_at events) (λ (y : SavedEvent). (number_text w8) y.position ++ ((number_text w8) y.unit ++ ((number_text w32) y.remaining))) event_text
-    (λ (y : SavedEvent). (Passes is_position) y.position × ((Passes (can_wait events y.position)) y.unit × (MadeEvent events y.position y.unit y))) (IsEvent events)
-    (bound_is (tested is_position (number w8)) (λ position. ((tested (can_wait events position) (number w8)) >>= (λ unit. ((tested (comes_last events) (number w32)) >>= (λ remaining. gives (record { position = position; unit = unit; remaining = remaining }))))))
-    (λ (y : SavedEvent). y.position) (number_text w8) (Passes is_position) (λ position y. (number_text w8) y.unit ++ ((number_text w32) y.remaining))
-    (λ position y. (Passes (can_wait events position)) y.unit × (MadeEvent events position y.unit y))
-    (range_is w8 (2 ^ 8) is_position u8_is small_position)
-    (λ position h0. (bound_is (tested (can_wait events position) (number w8)) (λ unit. ((tested (comes_last events) (number w32)) >>= (λ remaining. gives (record { position = position; unit = unit; remaining = remaining }))))
-    (λ (y : SavedEvent). y.unit) (number_text w8) (Passes (can_wait events position)) (λ unit y. (number_text w32) y.remaining)
-    (λ unit y. MadeEvent events position unit y)
-    (range_is w8 (2 ^ 8) (can_wait events position) u8_is (small_event_unit events position))
-    (λ unit h1. (made_is (tested (comes_last events) (number w32)) (λ remaining. record { position = position; unit = unit; remaining = remaining }) (λ (y : SavedEvent). y.remaining) (number_text w32) (Tested (2 ^ 32) (comes_last events)) (MadeEvent events position unit) (test_is w32 (2 ^ 32) (comes_last events) u32_is) (λ x has. (refl, record { last = has; is = refl })) (λ y has. (has.last, sym has.is))))
+    recast
+    (field_is (λ (y : SavedEvent). y.position) (range_is w8 (2 ^ 8) is_position u8_is small_position) (λ position ok.
+    (field_is (λ (y : SavedEvent). y.unit) (range_is w8 (2 ^ 8) (can_wait events position) u8_is (small_event_unit events position)) (λ unit ok.
+    (last_is (λ remaining. record { position = position; unit = unit; remaining = remaining }) (λ y. y.remaining) (MadeEvent events position unit) (test_is w32 (2 ^ 32) (comes_last events) u32_is)
+    (λ x has. (refl, record { last = has; is = refl }))
+    (λ y has. (has.last, sym has.is))))
     (λ unit y ok has. ap (λ (x : SavedEvent). x.unit) has.is)))
     (λ position y ok has. ap (λ (x : SavedEvent). x.position) has.1.is))
     (λ y has. (
@@ -280,21 +244,13 @@ record MadeMachine (cpu : SavedCpu) (words : List ℕ) (units : List UnitPart) (
 pub machine_is : IsReaderOf machine_at machine_text IsMachine
 unfolding machine_at machine_text
 machine_is =
-    retold machine_at (λ (y : MachinePart). cpu_text y.cpu ++ ((flat_map word_text) y.words ++ ((listed_text w8 unit_text) y.units ++ ((listed_text w16 event_text) y.agenda)))) machine_text
-    (λ (y : MachinePart). IsCpu y.cpu × ((AreMany (Below (2 ^ 16)) (1024 * y.cpu.size_k)) y.words × (AreUnits y.units × (MadeMachine y.cpu y.words y.units y)))) IsMachine
-    (bound_is cpu_at (λ cpu. ((words_at (1024 * cpu.size_k)) >>= (λ words. (units_at >>= (λ units. (agenda_at >>= (λ agenda. gives (record { cpu = cpu; words = words; units = units; agenda = agenda }))))))))
-    (λ (y : MachinePart). y.cpu) cpu_text IsCpu (λ cpu y. (flat_map word_text) y.words ++ ((listed_text w8 unit_text) y.units ++ ((listed_text w16 event_text) y.agenda)))
-    (λ cpu y. (AreMany (Below (2 ^ 16)) (1024 * cpu.size_k)) y.words × (AreUnits y.units × (MadeMachine cpu y.words y.units y)))
-    cpu_is
-    (λ cpu h0. (bound_is (words_at (1024 * cpu.size_k)) (λ words. (units_at >>= (λ units. (agenda_at >>= (λ agenda. gives (record { cpu = cpu; words = words; units = units; agenda = agenda }))))))
-    (λ (y : MachinePart). y.words) (flat_map word_text) (AreMany (Below (2 ^ 16)) (1024 * cpu.size_k)) (λ words y. (listed_text w8 unit_text) y.units ++ ((listed_text w16 event_text) y.agenda))
-    (λ words y. AreUnits y.units × (MadeMachine cpu words y.units y))
-    (words_is (1024 * cpu.size_k))
-    (λ words h1. (bound_is units_at (λ units. (agenda_at >>= (λ agenda. gives (record { cpu = cpu; words = words; units = units; agenda = agenda }))))
-    (λ (y : MachinePart). y.units) (listed_text w8 unit_text) AreUnits (λ units y. (listed_text w16 event_text) y.agenda)
-    (λ units y. MadeMachine cpu words units y)
-    units_is
-    (λ units h2. (made_is agenda_at (λ agenda. record { cpu = cpu; words = words; units = units; agenda = agenda }) (λ (y : MachinePart). y.agenda) (listed_text w16 event_text) IsAgenda (MadeMachine cpu words units) agenda_is (λ x has. (refl, record { last = has; is = refl })) (λ y has. (has.last, sym has.is))))
+    recast
+    (field_is (λ (y : MachinePart). y.cpu) cpu_is (λ cpu ok.
+    (field_is (λ (y : MachinePart). y.words) (words_is (1024 * cpu.size_k)) (λ words ok.
+    (field_is (λ (y : MachinePart). y.units) units_is (λ units ok.
+    (last_is (λ agenda. record { cpu = cpu; words = words; units = units; agenda = agenda }) (λ y. y.agenda) (MadeMachine cpu words units) agenda_is
+    (λ x has. (refl, record { last = has; is = refl }))
+    (λ y has. (has.last, sym has.is))))
     (λ units y ok has. ap (λ (x : MachinePart). x.units) has.is)))
     (λ words y ok has. ap (λ (x : MachinePart). x.words) has.1.is)))
     (λ cpu y ok has. ap (λ (x : MachinePart). x.cpu) has.1.1.is))

@@ -1,5 +1,5 @@
 -- What is asked of each reader, and that it goes through the ways in which readers are made.
-use Rattle.std.proofs.Common.{◌≡◌, ◌≢◌, ℕ, zero, suc, ◌+◌, ◌<◌, ◌≤◌, Bool, true, false, ltb, List, [], ◌∷◌, ◌++◌, length, get_or, take, drop, Result, Ok, Err, refl, sym, ap, subst, ◌∙◌, append_assoc, arith, inl, inr}
+use Rattle.std.proofs.Common.{◌≡◌, ◌≢◌, ℕ, ◌+◌, ◌<◌, ◌≤◌, Bool, true, false, ltb, List, [], ◌++◌, length, get_or, take, drop, Result, Ok, Err, refl, sym, ap, subst, ◌∙◌, append_assoc, arith, inl, inr}
 use Rattle.std.proofs.lemmas.Bool.{cases_lt, ltb-false, le-ltb}
 use Rattle.std.proofs.lemmas.List.{take_at, drop_at, take-append-drop, take-append-le, drop-append-le, length-append, length-take, length-take-le, get_or-drop, get_or-take, get_or_past}
 use Rattle.state_file.specs.declared.fault.StateFault.{StateFault}
@@ -149,6 +149,12 @@ bound_is {A} {C} reader f part t H u W law others part_is =
     (λ x y h w. subst (λ (z : A). (t x ++ u x y ≡ t z ++ u z y) × (H z × W z y)) (sym (part_is x y h w)) (refl, (h, w)))
     (λ y has. (part y, has.0, has.1, refl))
 
+-- a field of a record, which the record gives back, and the fields behind it
+pub field_is : {A C : Type 0} {reader : Reader A} {f : A → Reader C} {t : A → List ℕ} {H : A → Type 0} {u : C → List ℕ} {W : A → C → Type 0} (part : C → A)
+    → IsReaderOf reader t H → ((x : A) → H x → IsReaderOf (f x) u (W x)) → ((x : A) (y : C) → H x → W x y → part y ≡ x)
+    → IsReaderOf (reader >>= f) (λ y. t (part y) ++ u y) (λ y. H (part y) × W (part y) y)
+field_is {reader} {f} {t} {H} {u} {W} part law others part_is = bound_is reader f part t H (λ x y. u y) W law others part_is
+
 -- what reads nothing answers one value, which has no text
 pub gives_is : {A : Type 0} (x : A) (t : A → List ℕ) (H : A → Type 0) → t x ≡ [] → H x → ((y : A) → H y → y ≡ x) → IsReaderOf (gives x) t H
 gives_is {A} x t H none has only = record {
@@ -189,6 +195,12 @@ made_is {A} {C} reader make part t H G law there back = record {
   ];
 }
 
+-- the last one
+pub last_is : {A C : Type 0} {reader : Reader A} {t : A → List ℕ} {H : A → Type 0} (make : A → C) (part : C → A) (G : C → Type 0)
+    → IsReaderOf reader t H → ((x : A) → H x → (part (make x) ≡ x) × G (make x)) → ((y : C) → G y → H (part y) × (make (part y) ≡ y))
+    → IsReaderOf (reader >>= (λ x. gives (make x))) (λ y. t (part y)) G
+last_is {reader} {t} {H} make part G law there back = made_is reader make part t H G law there back
+
 -- the same text and the same conditions, in other words
 pub retold : {A : Type 0} (reader : Reader A) (t u : A → List ℕ) (H G : A → Type 0) → IsReaderOf reader t H → ((x : A) → H x → (t x ≡ u x) × G x) → ((x : A) → G x → H x)
     → IsReaderOf reader u G
@@ -200,6 +212,10 @@ retold reader t u H G law to from = record {
   more = law.more;
   bad = law.bad;
 }
+
+pub recast : {A : Type 0} {reader : Reader A} {t u : A → List ℕ} {H G : A → Type 0} → IsReaderOf reader t H → ((x : A) → H x → (t x ≡ u x) × G x) → ((x : A) → G x → H x)
+    → IsReaderOf reader u G
+recast {reader} {t} {u} {H} {G} law to from = retold reader t u H G law to from
 
 -- ---- a test
 

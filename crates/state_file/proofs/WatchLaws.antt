@@ -1,18 +1,16 @@
 -- The readers of what a run watches, each with the text of what it reads.
-use Rattle.std.proofs.Common.{◌≡◌, ℕ, ◌+◌, ◌*◌, ◌%◌, ◌^◌, ◌<◌, ◌≤◌, Bool, true, false, eqb, List, [], ◌∷◌, ◌++◌, length, refl, sym, ap, append_assoc, arith, eq-eqb}
-use Rattle.std.specs.Prelude.{nat_le, nat_lt, ◌&&◌, ◌||◌, ◌==◌, not}
-use Rattle.std.specs.List.{flat_map, AllByRecursion}
+use Rattle.std.proofs.Common.{◌≡◌, ℕ, ◌^◌, ◌<◌, Bool, true, List, refl, sym, ap, arith}
+use Rattle.std.specs.Prelude.{nat_le, ◌&&◌}
 use Rattle.std.specs.Int.{w8, w16, w32, w64}
-use Rattle.std.proofs.lemmas.Bool.{eqb-true, and_parts, ltb-true, leb-true}
 use Rattle.state_file.specs.declared.saved.SavedSend.{SavedSend}
 use Rattle.state_file.specs.Parts.{BreakPart, ExpectPart, WatchPart}
 use Rattle.state_file.specs.Ranges.{is_address, most_breaks, longest_actions, most_expects, longest_text, is_text_length, is_expect_count, most_sends, last_send, has_no_line_feed, any_bytes}
-use Rattle.state_file.specs.Text.{number_text, sized_text, listed_text, break_text, expect_text, send_text, watch_text}
+use Rattle.state_file.specs.Text.{sized_text, listed_text, break_text, expect_text, send_text, watch_text}
 use Rattle.state_file.specs.Valid.{AreActions, IsBreak, IsExpect, IsSend, IsWatch}
-use Rattle.state_file.specs.Readers.{◌>>=◌, gives, number, tested, alike, unbound}
+use Rattle.state_file.specs.Readers.{number, tested, alike, unbound}
 use Rattle.state_file.specs.Reading.{actions_at, break_at, behind_break, breaks_at, text_at, expect_at, expects_at, tail_at, send_at, behind_send, sends_at, watch_at}
-use Rattle.state_file.proofs.ReaderLaws.{IsReaderOf, bound_is, made_is, retold}
-use Rattle.state_file.proofs.Widths.{Below, Passes, Tested, u8_is, u16_is, u32_is, u64_is, range_is, test_is}
+use Rattle.state_file.proofs.ReaderLaws.{IsReaderOf, field_is, last_is, recast, retold}
+use Rattle.state_file.proofs.Widths.{Below, Passes, u8_is, u16_is, u32_is, u64_is, range_is, test_is}
 use Rattle.state_file.proofs.Lists.{Always, each_there, each_back, AreListed, listed_is, AreSized, sized_is}
 
 -- ---- breaks
@@ -34,24 +32,19 @@ actions_is =
 small_break : (least n : ℕ) → (nat_le least n && is_address n) ≡ true → n < 2 ^ 16
 small_break least n h = grind arith
 
-record MadeBreak (least : ℕ) (address : ℕ) (count : ℕ) (y : BreakPart) : Type 0 where
+record MadeBreak (least : ℕ) (address count : ℕ) (y : BreakPart) : Type 0 where
   last : AreActions y.actions
   is : y ≡ record { address = address; count = count; actions = y.actions }
 
 pub break_is : (least : ℕ) → IsReaderOf (break_at least) break_text (IsBreak least)
 unfolding break_at
 break_is least =
-    retold (break_at least) (λ (y : BreakPart). (number_text w16) y.address ++ ((number_text w32) y.count ++ ((sized_text w16) y.actions))) break_text
-    (λ (y : BreakPart). (Passes (λ a. nat_le least a && is_address a)) y.address × ((Below (2 ^ 32)) y.count × (MadeBreak least y.address y.count y))) (IsBreak least)
-    (bound_is (tested (λ a. nat_le least a && is_address a) (number w16)) (λ address. ((number w32) >>= (λ count. (actions_at >>= (λ actions. gives (record { address = address; count = count; actions = actions }))))))
-    (λ (y : BreakPart). y.address) (number_text w16) (Passes (λ a. nat_le least a && is_address a)) (λ address y. (number_text w32) y.count ++ ((sized_text w16) y.actions))
-    (λ address y. (Below (2 ^ 32)) y.count × (MadeBreak least address y.count y))
-    (range_is w16 (2 ^ 16) (λ a. nat_le least a && is_address a) u16_is (small_break least))
-    (λ address h0. (bound_is (number w32) (λ count. (actions_at >>= (λ actions. gives (record { address = address; count = count; actions = actions }))))
-    (λ (y : BreakPart). y.count) (number_text w32) (Below (2 ^ 32)) (λ count y. (sized_text w16) y.actions)
-    (λ count y. MadeBreak least address count y)
-    u32_is
-    (λ count h1. (made_is actions_at (λ actions. record { address = address; count = count; actions = actions }) (λ (y : BreakPart). y.actions) (sized_text w16) AreActions (MadeBreak least address count) actions_is (λ x has. (refl, record { last = has; is = refl })) (λ y has. (has.last, sym has.is))))
+    recast
+    (field_is (λ (y : BreakPart). y.address) (range_is w16 (2 ^ 16) (λ a. nat_le least a && is_address a) u16_is (small_break least)) (λ address ok.
+    (field_is (λ (y : BreakPart). y.count) u32_is (λ count ok.
+    (last_is (λ actions. record { address = address; count = count; actions = actions }) (λ y. y.actions) (MadeBreak least address count) actions_is
+    (λ x has. (refl, record { last = has; is = refl }))
+    (λ y has. (has.last, sym has.is))))
     (λ count y ok has. ap (λ (x : BreakPart). x.count) has.is)))
     (λ address y ok has. ap (λ (x : BreakPart). x.address) has.1.is))
     (λ y has. (
@@ -93,17 +86,12 @@ record MadeExpect (count : ℕ) (text : List ℕ) (y : ExpectPart) : Type 0 wher
 pub expect_is : IsReaderOf expect_at expect_text IsExpect
 unfolding expect_at
 expect_is =
-    retold expect_at (λ (y : ExpectPart). (number_text w32) y.count ++ ((sized_text w8) y.text ++ ((sized_text w16) y.actions))) expect_text
-    (λ (y : ExpectPart). (Tested (2 ^ 32) is_expect_count) y.count × ((AreSized (Passes is_text_length) any_bytes) y.text × (MadeExpect y.count y.text y))) IsExpect
-    (bound_is (tested is_expect_count (number w32)) (λ count. (text_at >>= (λ text. (actions_at >>= (λ actions. gives (record { count = count; text = text; actions = actions }))))))
-    (λ (y : ExpectPart). y.count) (number_text w32) (Tested (2 ^ 32) is_expect_count) (λ count y. (sized_text w8) y.text ++ ((sized_text w16) y.actions))
-    (λ count y. (AreSized (Passes is_text_length) any_bytes) y.text × (MadeExpect count y.text y))
-    (test_is w32 (2 ^ 32) is_expect_count u32_is)
-    (λ count h0. (bound_is text_at (λ text. (actions_at >>= (λ actions. gives (record { count = count; text = text; actions = actions }))))
-    (λ (y : ExpectPart). y.text) (sized_text w8) (AreSized (Passes is_text_length) any_bytes) (λ text y. (sized_text w16) y.actions)
-    (λ text y. MadeExpect count text y)
-    text_is
-    (λ text h1. (made_is actions_at (λ actions. record { count = count; text = text; actions = actions }) (λ (y : ExpectPart). y.actions) (sized_text w16) AreActions (MadeExpect count text) actions_is (λ x has. (refl, record { last = has; is = refl })) (λ y has. (has.last, sym has.is))))
+    recast
+    (field_is (λ (y : ExpectPart). y.count) (test_is w32 (2 ^ 32) is_expect_count u32_is) (λ count ok.
+    (field_is (λ (y : ExpectPart). y.text) text_is (λ text ok.
+    (last_is (λ actions. record { count = count; text = text; actions = actions }) (λ y. y.actions) (MadeExpect count text) actions_is
+    (λ x has. (refl, record { last = has; is = refl }))
+    (λ y has. (has.last, sym has.is))))
     (λ text y ok has. ap (λ (x : ExpectPart). x.text) has.is)))
     (λ count y ok has. ap (λ (x : ExpectPart). x.count) has.1.is))
     (λ y has. (
@@ -150,19 +138,17 @@ small_send : (least n : ℕ) → (nat_le least n && nat_le n last_send) ≡ true
 small_send least n h = grind arith
 
 record MadeSend (least : ℕ) (time : ℕ) (y : SavedSend) : Type 0 where
-  last : (Below (2 ^ 8)) y.byte
+  last : Below (2 ^ 8) y.byte
   is : y ≡ record { time = time; byte = y.byte }
 
 pub send_is : (least : ℕ) → IsReaderOf (send_at least) send_text (IsSend least)
 unfolding send_at
 send_is least =
-    retold (send_at least) (λ (y : SavedSend). (number_text w64) y.time ++ ((number_text w8) y.byte)) send_text
-    (λ (y : SavedSend). (Passes (λ t. nat_le least t && nat_le t last_send)) y.time × (MadeSend least y.time y)) (IsSend least)
-    (bound_is (tested (λ t. nat_le least t && nat_le t last_send) (number w64)) (λ time. ((number w8) >>= (λ byte. gives (record { time = time; byte = byte }))))
-    (λ (y : SavedSend). y.time) (number_text w64) (Passes (λ t. nat_le least t && nat_le t last_send)) (λ time y. (number_text w8) y.byte)
-    (λ time y. MadeSend least time y)
-    (range_is w64 (2 ^ 64) (λ t. nat_le least t && nat_le t last_send) u64_is (small_send least))
-    (λ time h0. (made_is (number w8) (λ byte. record { time = time; byte = byte }) (λ (y : SavedSend). y.byte) (number_text w8) (Below (2 ^ 8)) (MadeSend least time) u8_is (λ x has. (refl, record { last = has; is = refl })) (λ y has. (has.last, sym has.is))))
+    recast
+    (field_is (λ (y : SavedSend). y.time) (range_is w64 (2 ^ 64) (λ t. nat_le least t && nat_le t last_send) u64_is (small_send least)) (λ time ok.
+    (last_is (λ byte. record { time = time; byte = byte }) (λ y. y.byte) (MadeSend least time) u8_is
+    (λ x has. (refl, record { last = has; is = refl }))
+    (λ y has. (has.last, sym has.is))))
     (λ time y ok has. ap (λ (x : SavedSend). x.time) has.is))
     (λ y has. (
       refl,
@@ -195,21 +181,13 @@ record MadeWatch (breaks : List BreakPart) (expects : List ExpectPart) (tail : L
 pub watch_is : IsReaderOf watch_at watch_text IsWatch
 unfolding watch_at watch_text
 watch_is =
-    retold watch_at (λ (y : WatchPart). (listed_text w16 break_text) y.breaks ++ ((listed_text w8 expect_text) y.expects ++ ((sized_text w8) y.tail ++ ((listed_text w16 send_text) y.sends)))) watch_text
-    (λ (y : WatchPart). AreBreaks y.breaks × (AreExpects y.expects × (IsTail y.tail × (MadeWatch y.breaks y.expects y.tail y)))) IsWatch
-    (bound_is breaks_at (λ breaks. (expects_at >>= (λ expects. (tail_at >>= (λ tail. (sends_at >>= (λ sends. gives (record { breaks = breaks; expects = expects; tail = tail; sends = sends }))))))))
-    (λ (y : WatchPart). y.breaks) (listed_text w16 break_text) AreBreaks (λ breaks y. (listed_text w8 expect_text) y.expects ++ ((sized_text w8) y.tail ++ ((listed_text w16 send_text) y.sends)))
-    (λ breaks y. AreExpects y.expects × (IsTail y.tail × (MadeWatch breaks y.expects y.tail y)))
-    breaks_is
-    (λ breaks h0. (bound_is expects_at (λ expects. (tail_at >>= (λ tail. (sends_at >>= (λ sends. gives (record { breaks = breaks; expects = expects; tail = tail; sends = sends }))))))
-    (λ (y : WatchPart). y.expects) (listed_text w8 expect_text) AreExpects (λ expects y. (sized_text w8) y.tail ++ ((listed_text w16 send_text) y.sends))
-    (λ expects y. IsTail y.tail × (MadeWatch breaks expects y.tail y))
-    expects_is
-    (λ expects h1. (bound_is tail_at (λ tail. (sends_at >>= (λ sends. gives (record { breaks = breaks; expects = expects; tail = tail; sends = sends }))))
-    (λ (y : WatchPart). y.tail) (sized_text w8) IsTail (λ tail y. (listed_text w16 send_text) y.sends)
-    (λ tail y. MadeWatch breaks expects tail y)
-    tail_is
-    (λ tail h2. (made_is sends_at (λ sends. record { breaks = breaks; expects = expects; tail = tail; sends = sends }) (λ (y : WatchPart). y.sends) (listed_text w16 send_text) AreSends (MadeWatch breaks expects tail) sends_is (λ x has. (refl, record { last = has; is = refl })) (λ y has. (has.last, sym has.is))))
+    recast
+    (field_is (λ (y : WatchPart). y.breaks) breaks_is (λ breaks ok.
+    (field_is (λ (y : WatchPart). y.expects) expects_is (λ expects ok.
+    (field_is (λ (y : WatchPart). y.tail) tail_is (λ tail ok.
+    (last_is (λ sends. record { breaks = breaks; expects = expects; tail = tail; sends = sends }) (λ y. y.sends) (MadeWatch breaks expects tail) sends_is
+    (λ x has. (refl, record { last = has; is = refl }))
+    (λ y has. (has.last, sym has.is))))
     (λ tail y ok has. ap (λ (x : WatchPart). x.tail) has.is)))
     (λ expects y ok has. ap (λ (x : WatchPart). x.expects) has.1.is)))
     (λ breaks y ok has. ap (λ (x : WatchPart). x.breaks) has.1.1.is))

@@ -1,5 +1,5 @@
 -- What holds of state texts, in a reader's words.
-use Rattle.std.specs.Prelude.{◌≡◌, ℕ, ◌^◌, ◌<◌, List, length, Result, Ok, get_or}
+use Rattle.std.specs.Prelude.{◌≡◌, ℕ, ◌^◌, ◌<◌, List, length, Ok, get_or}
 use Rattle.std.specs.List.{AllByRecursion}
 use Rattle.state_file.specs.declared.saved.SavedCpu.{SavedCpu}
 use Rattle.state_file.specs.declared.saved.SavedEvent.{SavedEvent}

@@ -1,6 +1,6 @@
 -- The bytes of a state file: its fields one behind the other, each number with its high byte first, and at the end the
 -- SHA-256 of all bytes before. A list stands behind the number of its elements.
-use Rattle.std.specs.Prelude.{ℕ, List, [], ◌++◌, length, codes}
+use Rattle.std.specs.Prelude.{ℕ, List, ◌++◌, length, codes}
 use Rattle.std.specs.List.{flat_map}
 use Rattle.std.specs.Int.{Width, w8, w16, w32, w64, to_be_bytes}
 use Rattle.sha2.specs.Sha256.{sha256}

@@ -1,4 +1,4 @@
-use Rattle.std.proofs.Common.{◌≡◌, ap, subst, ◌∙◌, arith}
+use Rattle.std.proofs.Common.{ap, subst, ◌∙◌, arith}
 use Rattle.state_file.specs.Parts.{state_in}
 use Rattle.state_file.specs.Readers.{Gives}
 use Rattle.state_file.specs.Reading.{reading}

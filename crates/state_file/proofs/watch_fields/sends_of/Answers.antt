@@ -1,4 +1,3 @@
-use Rattle.std.proofs.Common.{◌≡◌, ◌++◌, ◌∷◌, []}
 use Rattle.std.proofs.lemmas.Result.{err_from_is_err_and}
 use Rattle.state_file.specs.Readers.{chain}
 use Rattle.state_file.specs.Reading.{send_at, behind_send}
