@@ -13,6 +13,7 @@ use Rattle.state_file.specs.Laws.{TextsAreRead}
 use Rattle.state_file.proofs.ReaderLaws.{IsBytes}
 use Rattle.state_file.proofs.MachineLaws.{few_registers}
 use Rattle.state_file.proofs.SealLaws.{reading_found, reading_again}
+use Rattle.state_file.proofs.EndLaws.{cut_short, bytes_behind_it}
 
 below : (n m : ℕ) → n ≡ m → m < 2 ^ 8 → n < 2 ^ 8
 below n m e lt = omega (arith, e, lt)
@@ -85,4 +86,4 @@ has_text bytes (Ok s) fits e = valid_fits (state_in s) (reading_found bytes (sta
 has_text bytes (Err fault) fits h = tt
 
 pub texts-are-read : TextsAreRead
-texts-are-read = record { fits = valid_fits; read = reading_again; only = reading_found }
+texts-are-read = record { fits = valid_fits; read = reading_again; only = reading_found; cut = cut_short; behind = bytes_behind_it }

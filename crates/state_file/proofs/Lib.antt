@@ -11,3 +11,4 @@ pub mod BodyLaws
 pub mod SealLaws
 pub mod LooseLaws
 pub mod FitLaws
+pub mod EndLaws
