@@ -1,0 +1,14 @@
+pub mod NameLemmas
+pub mod Results
+pub mod ReaderLaws
+pub mod Widths
+pub mod Lists
+pub mod Loops
+pub mod MachineLaws
+pub mod FileLaws
+pub mod WatchLaws
+pub mod BodyLaws
+pub mod SealLaws
+pub mod LooseLaws
+pub mod FitLaws
+pub mod EndLaws

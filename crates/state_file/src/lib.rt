@@ -1,0 +1,22 @@
+//! State files: a saved session as bytes, written, and read with the one fault of bytes that are none.
+#![tactic(auto)]
+
+mod cursor;
+pub mod fault;
+mod file_fields;
+mod kinds;
+pub mod laws;
+mod machine_fields;
+mod reading;
+pub mod saved;
+mod watch_fields;
+mod writing;
+
+pub use fault::StateFault;
+pub use laws::{state_texts_are_one_to_one, valid_states_are_read};
+pub use reading::read_state;
+pub use saved::{
+    Saved, SavedBreak, SavedCpu, SavedEvent, SavedExpect, SavedFile, SavedSend, SavedUnit,
+};
+pub use std::alloc::AllocError as OutOfMemory;
+pub use writing::write_state;

@@ -1,0 +1,11 @@
+//! Tests of state files.
+#![tactic(auto)]
+
+#[cfg(test)]
+mod ends;
+#[cfg(test)]
+mod faults;
+#[cfg(test)]
+mod texts;
+#[cfg(test)]
+mod whole;
