@@ -13,6 +13,8 @@ use Rattle.nova_interrupts.specs.Requests.{requested}
 use Rattle.nova_processor.specs.declared.burst.BurstEnd.{BurstEnd}
 use Rattle.nova_processor.specs.declared.burst.BurstEnd.TheVariants as burst_end
 use Rattle.nova_processor.specs.declared.burst.Step.TheVariants as step_end
+use Rattle.host_lines.specs.Traffic.{Answer}
+use Rattle.host_lines.specs.State.{LineState}
 use Rattle.nova_machine.specs.declared.machine.Stop.TheVariants.{ChainLimit}
 use Rattle.nova_processor.specs.Processor.{ProcessorState}
 use Rattle.nova_machine.specs.Machine.{MachineState}
@@ -243,26 +245,26 @@ pub erased-behind : (count : ℕ) (m : MachineState) (q : ProcessorState) → be
 unfolding behind passed_by
 erased-behind count m q = refl
 
-went : (stops : ℕ → Bool) (watch : WatchState) (note : Option RunNote) (one : Bool) (keys : List (ℕ × ℕ)) (files : List NamedBytes) (most done budget : ℕ) (old new : MachineState) (q : ProcessorState)
+went : (stops : ℕ → Bool) (watch : WatchState) (note : Option RunNote) (one : Bool) (keys : List (ℕ × ℕ)) (files : List NamedBytes) (lines : LineState) (whole : List Answer) (most done budget : ℕ) (old new : MachineState) (q : ProcessorState)
     → AreAtBreaks stops watch → IsCalm budget old → old.time + budget ≤ last_time → budget ≤ most → done ≤ budget
     → Reaches stops done old.processor q → new ≡ passed_by done (record old { processor = q })
-    → turns note one false most (seen (beside watch keys files) old) ≡ turns note one false (most - done) (seen (beside watch keys files) new)
-went stops watch note one keys files most done budget old new q at_breaks calm end few within reaches is =
+    → turns note one false most (seen (beside watch keys files lines) whole old) ≡ turns note one false (most - done) (seen (beside watch keys files lines) whole new)
+went stops watch note one keys files lines whole most done budget old new q at_breaks calm end few within reaches is =
     let all : most ≡ done + (most - done) = omega (arith, few, within) in
-    let s = seen (beside watch keys files) old in
+    let s = seen (beside watch keys files lines) whole old in
     ap (λ (n : ℕ). turns note one false n s) all
     ∙ burst-turns stops note one done budget (most - done) s q at_breaks (calm-erased budget old calm) within end reaches
     ∙ ap (λ (x : MachineState). turns note one false (most - done) (with_machine s x)) (erased-behind done old q)
-    ∙ ap (λ (x : MachineState). turns note one false (most - done) (seen (beside watch keys files) x)) (sym (is ∙ behind-is done old q))
+    ∙ ap (λ (x : MachineState). turns note one false (most - done) (seen (beside watch keys files lines) whole x)) (sym (is ∙ behind-is done old q))
 
-ended : (stops : ℕ → Bool) (watch : WatchState) (note : Option RunNote) (one : Bool) (keys : List (ℕ × ℕ)) (files : List NamedBytes) (most done budget : ℕ) (old new : MachineState) (mid q : ProcessorState)
+ended : (stops : ℕ → Bool) (watch : WatchState) (note : Option RunNote) (one : Bool) (keys : List (ℕ × ℕ)) (files : List NamedBytes) (lines : LineState) (whole : List Answer) (most done budget : ℕ) (old new : MachineState) (mid q : ProcessorState)
     → AreAtBreaks stops watch → IsCalm budget old → old.time + budget ≤ last_time → budget ≤ most → done < budget
     → Reaches stops done old.processor mid → stops mid.cpu.pc ≡ false → step mid ≡ record { processor = q; end = step_end.ChainLimit } → new ≡ passed_by done (record old { processor = q })
-    → turns note one false most (seen (beside watch keys files) old) ≡ silent (Some ChainLimit) (seen (beside watch keys files) new)
-ended stops watch note one keys files most done budget old new mid q at_breaks calm end few within reaches passes chain is =
+    → turns note one false most (seen (beside watch keys files lines) whole old) ≡ silent (Some ChainLimit) (seen (beside watch keys files lines) whole new)
+ended stops watch note one keys files lines whole most done budget old new mid q at_breaks calm end few within reaches passes chain is =
     let left = most - done - 1 in
     let all : most ≡ done + suc left = omega (arith, few, within) in
-    let s = seen (beside watch keys files) old in
+    let s = seen (beside watch keys files lines) whole old in
     let m = s.machine in
     let quiet = calm-erased budget old calm in
     let at = with_machine s (behind done m mid) in
@@ -274,19 +276,19 @@ ended stops watch note one keys files most done budget old new mid q at_breaks c
     ∙ turns-stop note one false left at ChainLimit (ap (λ (p : Part). p.stop) next)
     ∙ next
     ∙ ap (λ (x : MachineState). silent (Some ChainLimit) (with_machine s x)) (behind-with done m mid q ∙ erased-behind done old q)
-    ∙ ap (λ (x : MachineState). silent (Some ChainLimit) (seen (beside watch keys files) x)) (sym (is ∙ behind-is done old q))
+    ∙ ap (λ (x : MachineState). silent (Some ChainLimit) (seen (beside watch keys files lines) whole x)) (sym (is ∙ behind-is done old q))
 
 pub burst-told : (stops : ℕ → Bool) (watch : WatchState) (keys : List (ℕ × ℕ)) (most done budget : ℕ) (end : BurstEnd) (old new : MachineState) (q : ProcessorState) → AreAtBreaks stops watch → IsCalm budget old
     → old.time + budget ≤ last_time → budget ≤ most → IsBurst stops old.processor budget done end q → new ≡ passed_by done (record old { processor = q }) → Bursts watch keys most done end old new
 burst-told stops watch keys most done budget burst_end.Spent old new q at_breaks calm last few burst is =
-    λ note one files. let all = burst.0 in went stops watch note one keys files most done budget old new q at_breaks calm last few (omega (arith, all)) burst.1 is
+    λ note one files lines whole. let all = burst.0 in went stops watch note one keys files lines whole most done budget old new q at_breaks calm last few (omega (arith, all)) burst.1 is
 burst-told stops watch keys most done budget burst_end.Transfer old new q at_breaks calm last few burst is =
-    λ note one files. let some = burst.0 in went stops watch note one keys files most done budget old new q at_breaks calm last few (omega (arith, some)) burst.1 is
+    λ note one files lines whole. let some = burst.0 in went stops watch note one keys files lines whole most done budget old new q at_breaks calm last few (omega (arith, some)) burst.1 is
 burst-told stops watch keys most done budget burst_end.AtStop old new q at_breaks calm last few burst is =
-    λ note one files. let some = burst.0 in went stops watch note one keys files most done budget old new q at_breaks calm last few (omega (arith, some)) burst.1 is
+    λ note one files lines whole. let some = burst.0 in went stops watch note one keys files lines whole most done budget old new q at_breaks calm last few (omega (arith, some)) burst.1 is
 burst-told stops watch keys most done budget burst_end.ChainLimit old new q at_breaks calm last few burst is =
-    λ note one files. let (mid, within, reaches, passes, chain) = burst in
-    ended stops watch note one keys files most done budget old new mid q at_breaks calm last few within reaches passes chain is
+    λ note one files lines whole. let (mid, within, reaches, passes, chain) = burst in
+    ended stops watch note one keys files lines whole most done budget old new mid q at_breaks calm last few within reaches passes chain is
 
 -- a calm that is longer
 pub calm-less : (less more : ℕ) (m : MachineState) → less ≤ more → IsCalm more m → IsCalm less m

@@ -8,6 +8,8 @@ use Rattle.nova_processor.specs.Burst.{step}
 use Rattle.expect_actions.specs.Breaks.{has_break}
 use Rattle.expect_actions.specs.Watch.{WatchState}
 use Rattle.expect_actions.specs.Sends.{Send}
+use Rattle.host_lines.specs.Traffic.{Answer}
+use Rattle.host_lines.specs.State.{LineState}
 use Rattle.nova_machine.specs.Machine.{MachineState}
 use Rattle.nova_machine.specs.Notes.{RunNote, at_time}
 use Rattle.nova_machine.specs.Seen.{Seen, seen, beside, erased, with_machine}
@@ -107,11 +109,11 @@ behind-same period count m = refl
 pub idle-waits : (period : ℕ) (watch : WatchState) (keys : List (ℕ × ℕ)) (most rounds budget : ℕ) (old new : MachineState) → AreUnbroken watch old → IsWaiting old
     → IsIdle budget period old watch.sends keys → old.time + budget ≤ last_time → budget ≤ most → rounds * 2 ≤ budget
     → new ≡ idled_by period (rounds * 2) old → Bursts watch keys most (rounds * 2) burst_end.Transfer old new
-idle-waits period watch keys most rounds budget old new unbroken waiting idle end few within is = λ note one files.
+idle-waits period watch keys most rounds budget old new unbroken waiting idle end few within is = λ note one files lines whole.
     let all : most ≡ rounds * 2 + (most - rounds * 2) = omega (arith, few, within) in
-    let s = seen (beside watch keys files) old in
+    let s = seen (beside watch keys files lines) whole old in
     ap (λ (n : ℕ). turns note one false n s) all
     ∙ idle-rounds period note one rounds budget (most - rounds * 2) s (record { test = unbroken.test; back = unbroken.back }) (waiting-erased old waiting)
     (idle-erased budget period old watch.sends keys idle) within end
     ∙ ap (λ (x : MachineState). turns note one false (most - rounds * 2) (with_machine s x)) (erased-idle period (rounds * 2) old old.processor)
-    ∙ ap (λ (x : MachineState). turns note one false (most - rounds * 2) (seen (beside watch keys files) x)) (behind-same period (rounds * 2) old ∙ sym is)
+    ∙ ap (λ (x : MachineState). turns note one false (most - rounds * 2) (seen (beside watch keys files lines) whole x)) (behind-same period (rounds * 2) old ∙ sym is)

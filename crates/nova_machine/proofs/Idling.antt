@@ -22,6 +22,8 @@ use Rattle.nova_processor.specs.Burst.{Stepped, steps, step, Reaches, IsBurst}
 use Rattle.expect_actions.specs.Breaks.{has_break}
 use Rattle.expect_actions.specs.Watch.{WatchState}
 use Rattle.expect_actions.specs.Sends.{Send, due_send}
+use Rattle.host_lines.specs.Traffic.{Answer}
+use Rattle.host_lines.specs.State.{LineState}
 use Rattle.nova_machine.specs.declared.machine.Stop.TheVariants.{ChainLimit}
 use Rattle.nova_machine.specs.Machine.{MachineState}
 use Rattle.nova_machine.specs.Notes.{UnitNote, RunNote, at_time, at_unit}
@@ -204,17 +206,17 @@ pub erased-idle : (period count : ℕ) (m : MachineState) (q : ProcessorState) �
 unfolding idle_behind idled_by
 erased-idle period count m q = refl
 
-went : (period : ℕ) (stops : ℕ → Bool) (watch : WatchState) (note : Option RunNote) (one : Bool) (keys : List (ℕ × ℕ)) (files : List NamedBytes) (most done budget : ℕ) (old new : MachineState) (q : ProcessorState)
+went : (period : ℕ) (stops : ℕ → Bool) (watch : WatchState) (note : Option RunNote) (one : Bool) (keys : List (ℕ × ℕ)) (files : List NamedBytes) (lines : LineState) (whole : List Answer) (most done budget : ℕ) (old new : MachineState) (q : ProcessorState)
     → AreAtBreaks stops watch → IsIdle budget period old watch.sends keys → old.time + budget ≤ last_time → budget ≤ most → done ≤ budget
     → Reaches stops done old.processor q → new ≡ idled_by period done (record old { processor = q })
-    → turns note one false most (seen (beside watch keys files) old) ≡ turns note one false (most - done) (seen (beside watch keys files) new)
-went period stops watch note one keys files most done budget old new q at_breaks idle end few within reaches is =
+    → turns note one false most (seen (beside watch keys files lines) whole old) ≡ turns note one false (most - done) (seen (beside watch keys files lines) whole new)
+went period stops watch note one keys files lines whole most done budget old new q at_breaks idle end few within reaches is =
     let all : most ≡ done + (most - done) = omega (arith, few, within) in
-    let s = seen (beside watch keys files) old in
+    let s = seen (beside watch keys files lines) whole old in
     ap (λ (n : ℕ). turns note one false n s) all
     ∙ idle-turns period stops note one done budget (most - done) s q at_breaks (idle-erased budget period old watch.sends keys idle) within end reaches
     ∙ ap (λ (x : MachineState). turns note one false (most - done) (with_machine s x)) (erased-idle period done old q)
-    ∙ ap (λ (x : MachineState). turns note one false (most - done) (seen (beside watch keys files) x)) (sym (is ∙ idle-is period done old q))
+    ∙ ap (λ (x : MachineState). turns note one false (most - done) (seen (beside watch keys files lines) whole x)) (sym (is ∙ idle-is period done old q))
 
 looked-with : (period count : ℕ) (m : MachineState) (mid q : ProcessorState) → record (looked_at period (idle_behind period count m mid)) { processor = q } ≡ looked_at period (idle_behind period count m q)
 unfolding looked_at idle_behind
@@ -227,15 +229,15 @@ looked-erased period count m q = refl
 looked-is : (period : ℕ) (x y : MachineState) → x ≡ y → looked_at period x ≡ looked_at period y
 looked-is period x y is = ap (looked_at period) is
 
-ended : (period : ℕ) (stops : ℕ → Bool) (watch : WatchState) (note : Option RunNote) (one : Bool) (keys : List (ℕ × ℕ)) (files : List NamedBytes) (most done budget : ℕ) (old new : MachineState) (mid q : ProcessorState)
+ended : (period : ℕ) (stops : ℕ → Bool) (watch : WatchState) (note : Option RunNote) (one : Bool) (keys : List (ℕ × ℕ)) (files : List NamedBytes) (lines : LineState) (whole : List Answer) (most done budget : ℕ) (old new : MachineState) (mid q : ProcessorState)
     → AreAtBreaks stops watch → IsIdle budget period old watch.sends keys → old.time + budget ≤ last_time → budget ≤ most → done < budget
     → Reaches stops done old.processor mid → stops mid.cpu.pc ≡ false → step mid ≡ record { processor = q; end = step_end.ChainLimit }
     → new ≡ looked_at period (idled_by period done (record old { processor = q }))
-    → turns note one false most (seen (beside watch keys files) old) ≡ silent (Some ChainLimit) (seen (beside watch keys files) new)
-ended period stops watch note one keys files most done budget old new mid q at_breaks idle end few within reaches passes chain is =
+    → turns note one false most (seen (beside watch keys files lines) whole old) ≡ silent (Some ChainLimit) (seen (beside watch keys files lines) whole new)
+ended period stops watch note one keys files lines whole most done budget old new mid q at_breaks idle end few within reaches passes chain is =
     let left = most - done - 1 in
     let all : most ≡ done + suc left = omega (arith, few, within) in
-    let s = seen (beside watch keys files) old in
+    let s = seen (beside watch keys files lines) whole old in
     let m = s.machine in
     let quiet = idle-erased budget period old watch.sends keys idle in
     let at = with_machine s (idle_behind period done m mid) in
@@ -246,20 +248,20 @@ ended period stops watch note one keys files most done budget old new mid q at_b
     ∙ turns-stop note one false left at ChainLimit (ap (λ (p : Part). p.stop) next)
     ∙ next
     ∙ ap (λ (x : MachineState). silent (Some ChainLimit) (with_machine s x)) (looked-with period done m mid q ∙ looked-erased period done old q)
-    ∙ ap (λ (x : MachineState). silent (Some ChainLimit) (seen (beside watch keys files) x)) (sym (is ∙ looked-is period _ _ (idle-is period done old q)))
+    ∙ ap (λ (x : MachineState). silent (Some ChainLimit) (seen (beside watch keys files lines) whole x)) (sym (is ∙ looked-is period _ _ (idle-is period done old q)))
 
 pub idle-told : (period : ℕ) (stops : ℕ → Bool) (watch : WatchState) (keys : List (ℕ × ℕ)) (most done budget : ℕ) (end : BurstEnd) (old new : MachineState) (q : ProcessorState) → AreAtBreaks stops watch
     → IsIdle budget period old watch.sends keys → old.time + budget ≤ last_time → budget ≤ most → IsBurst stops old.processor budget done end q
     → new ≡ idle_end end period (idled_by period done (record old { processor = q })) → Bursts watch keys most done end old new
 idle-told period stops watch keys most done budget burst_end.Spent old new q at_breaks idle last few burst is =
-    λ note one files. let all = burst.0 in went period stops watch note one keys files most done budget old new q at_breaks idle last few (omega (arith, all)) burst.1 is
+    λ note one files lines whole. let all = burst.0 in went period stops watch note one keys files lines whole most done budget old new q at_breaks idle last few (omega (arith, all)) burst.1 is
 idle-told period stops watch keys most done budget burst_end.Transfer old new q at_breaks idle last few burst is =
-    λ note one files. let some = burst.0 in went period stops watch note one keys files most done budget old new q at_breaks idle last few (omega (arith, some)) burst.1 is
+    λ note one files lines whole. let some = burst.0 in went period stops watch note one keys files lines whole most done budget old new q at_breaks idle last few (omega (arith, some)) burst.1 is
 idle-told period stops watch keys most done budget burst_end.AtStop old new q at_breaks idle last few burst is =
-    λ note one files. let some = burst.0 in went period stops watch note one keys files most done budget old new q at_breaks idle last few (omega (arith, some)) burst.1 is
+    λ note one files lines whole. let some = burst.0 in went period stops watch note one keys files lines whole most done budget old new q at_breaks idle last few (omega (arith, some)) burst.1 is
 idle-told period stops watch keys most done budget burst_end.ChainLimit old new q at_breaks idle last few burst is =
-    λ note one files. let (mid, within, reaches, passes, chain) = burst in
-    ended period stops watch note one keys files most done budget old new mid q at_breaks idle last few within reaches passes chain is
+    λ note one files lines whole. let (mid, within, reaches, passes, chain) = burst in
+    ended period stops watch note one keys files lines whole most done budget old new mid q at_breaks idle last few within reaches passes chain is
 
 pub idled-slots : (period count : ℕ) (m : MachineState) → (idled_by period count m).slots ≡ m.slots
 unfolding idled_by

@@ -1,5 +1,7 @@
 -- A turn in which nothing comes before the instruction.
 use Rattle.std.proofs.Common.{◌≡◌, ℕ, Bool, false, List, Option, None, option_map, refl, ap, sym, subst, ◌∙◌, append-nil, if◌then◌else◌}
+use Rattle.host_lines.specs.Traffic.{Answer}
+use Rattle.host_lines.specs.State.{LineState}
 use Rattle.nova_machine.specs.Machine.{MachineState}
 use Rattle.host_files.specs.Lists.{NamedBytes}
 use Rattle.nova_machine.specs.Notes.{UnitNote}
@@ -8,7 +10,8 @@ use Rattle.nova_machine.specs.Parts.{Part, silent, then_part}
 use Rattle.nova_machine.specs.Turned.{Turned, goes_on, still}
 use Rattle.nova_machine.specs.Turn.{is_interrupted, enter, interrupt, breaks_tested, breaks_tested_unless, attended, prepared}
 use Rattle.nova_machine.specs.Quiet.{IsPlain}
-use Rattle.nova_machine.specs.Comes.{IsWhole}
+use Rattle.nova_machine.specs.Comes.{Output, IsWhole}
+use Rattle.nova_machine.proofs.Hearing.{heard-nothing}
 use Rattle.nova_machine.proofs.Serving.{serving-none}
 use Rattle.expect_actions.specs.Watch.{WatchState}
 use Rattle.expect_actions.specs.declared.breaks.Break.{Break as BreakAt}
@@ -44,9 +47,9 @@ plain-prepared note s plain none =
     (turn-opened note false s).prepares ∙ ap (λ (p : Part). then_part p (λ at. breaks_tested_unless false at)) (plain-attended note s plain)
     ∙ breaks-none s none
 
-pub plain-whole : (note : Option UnitNote) (watch : WatchState) (keys : List (ℕ × ℕ)) (files : List NamedBytes) (m : MachineState) (tells : Bool) (b : List ℕ) → IsPlain m
-    → IsWhole (attended note (seen (beside watch keys files) m)) None (seen (beside watch keys files) m) tells b b
-plain-whole note watch keys files m tells b plain =
-    let s = seen (beside watch keys files) m in
+pub plain-whole : (note : Option UnitNote) (watch : WatchState) (keys : List (ℕ × ℕ)) (files : List NamedBytes) (lines : LineState) (whole : List Answer) (m : MachineState) (tells : Bool) (b : Output) → IsPlain m
+    → IsWhole (attended note (seen (beside watch keys files lines) whole m)) None (seen (beside watch keys files lines) whole m) tells b b
+plain-whole note watch keys files lines whole m tells b plain =
+    let s = seen (beside watch keys files lines) whole m in
     let P : Part → Type 0 = λ p. IsWhole p None s tells b b in
-    subst P (sym (plain-attended note s (plain-erased m plain))) (record { stop_is = refl; after_is = refl; written = λ _. sym (append-nil b) })
+    subst P (sym (plain-attended note s (plain-erased m plain))) (record { stop_is = refl; after_is = refl; written = λ _. sym (append-nil b.console); heard = sym (heard-nothing b.heard) })

@@ -1,6 +1,8 @@
 -- Turns, one further, and what is left of a run.
 use Rattle.std.proofs.Common.{◌≡◌, ◌≢◌, ℕ, zero, suc, ◌-◌, ◌<◌, ◌≤◌, ◌==◌, Bool, true, false, List, refl, ap, sym, subst, ◌∙◌, arith, Some, None, Option, IfSome, if◌then◌else◌}
 use Rattle.std.proofs.lemmas.Bool.Decides.{nat_tests}
+use Rattle.host_lines.specs.Traffic.{Answer}
+use Rattle.host_lines.specs.State.{LineState}
 use Rattle.nova_machine.specs.declared.machine.Stop.{Stop}
 use Rattle.nova_machine.specs.declared.machine.Stop.TheVariants.{Limit, ChainLimit, FileFault}
 use Rattle.nova_processor.specs.declared.burst.BurstEnd.{BurstEnd}
@@ -14,13 +16,13 @@ use Rattle.nova_machine.specs.Turn.{turn}
 use Rattle.nova_machine.specs.Run.{next_turn, turns, expired, last_time}
 use Rattle.nova_machine.specs.Bursts.{Bursts}
 use Rattle.host_files.specs.Lists.{NamedBytes}
-use Rattle.nova_machine.specs.Comes.{Comes, IsOwn}
+use Rattle.nova_machine.specs.Comes.{Output, Comes, IsOwn}
 use Rattle.nova_machine.proofs.Parts.{silent-comes, comes-then, comes-stopped}
 use Rattle.nova_machine.proofs.Opened.{turns-none, turns-some, turns-stop, next-early, next-late}
 
 -- what the calls of a run come to, from the state where so many turns are left
 
-pub last-of : (note : Option RunNote) (step first : Bool) (left : ℕ) (s : Seen) (stop : Stop) (last : Seen) (tells : Bool) (b a : List ℕ) → s.machine.time < last_time → 0 < left
+pub last-of : (note : Option RunNote) (step first : Bool) (left : ℕ) (s : Seen) (stop : Stop) (last : Seen) (tells : Bool) (b a : Output) → s.machine.time < last_time → 0 < left
     → Comes (turn (at_time s.machine.time note) first s) (Some stop) last tells b a → Comes (turns note step first left s) (Some stop) last tells b a
 last-of note step first zero s stop last tells b a early some h = absurd (omega (arith, some))
 last-of note step first (suc left) s stop last tells b a early some h =
@@ -29,7 +31,7 @@ last-of note step first (suc left) s stop last tells b a early some h =
     subst P (sym (turns-some note step first left s))
     (subst Q (sym (next-early note first s early)) (comes-stopped (turn (at_time s.machine.time note) first s) (λ next. turns note step false left next) stop last tells b a h))
 
-pub turn-of : (note : Option RunNote) (step first second : Bool) (left count : ℕ) (s next : Seen) (r : Option Stop) (last : Seen) (tells : Bool) (b c a : List ℕ)
+pub turn-of : (note : Option RunNote) (step first second : Bool) (left count : ℕ) (s next : Seen) (r : Option Stop) (last : Seen) (tells : Bool) (b c a : Output)
     → s.machine.time < last_time → second ≡ false → left ≡ suc count
     → Comes (turn (at_time s.machine.time note) first s) None next tells b c → Comes (turns note step second count next) r last tells c a → Comes (turns note step first left s) r last tells b a
 turn-of note step first second left count s next r last tells b c a early later is one rest =
@@ -42,7 +44,7 @@ turn-of note step first second left count s next r last tells b c a early later 
     (subst Q (sym (next-early note first s early)) (comes-then (turn (at_time s.machine.time note) first s) (λ n. turns note step false count n) next r last tells b c a one (subst R later rest)))
 
 -- time has ended
-pub ended-of : (note : Option RunNote) (step first : Bool) (left : ℕ) (s : Seen) (tells : Bool) (b : List ℕ) → 0 < left → s.machine.time ≡ last_time
+pub ended-of : (note : Option RunNote) (step first : Bool) (left : ℕ) (s : Seen) (tells : Bool) (b : Output) → 0 < left → s.machine.time ≡ last_time
     → Comes (turns note step first left s) (Some Limit) s tells b b
 ended-of note step first zero s tells b some late = absurd (omega (arith, some))
 ended-of note step first (suc left) s tells b some late =
@@ -52,7 +54,7 @@ ended-of note step first (suc left) s tells b some late =
     (silent-comes (Some Limit) (Some Limit) s s tells b tt refl refl)
 
 -- the count is reached
-pub expired-of : (note : Option RunNote) (step first : Bool) (left : ℕ) (s : Seen) (stop : Stop) (tells : Bool) (b : List ℕ) → left ≡ 0 → IsOwn (Some stop) → stop ≡ expired step
+pub expired-of : (note : Option RunNote) (step first : Bool) (left : ℕ) (s : Seen) (stop : Stop) (tells : Bool) (b : Output) → left ≡ 0 → IsOwn (Some stop) → stop ≡ expired step
     → Comes (turns note step first left s) (Some stop) s tells b b
 expired-of note step first left s stop tells b none other is =
     let P : Part → Type 0 = λ x. Comes x (Some stop) s tells b b in
@@ -60,7 +62,7 @@ expired-of note step first left s stop tells b none other is =
     subst P (sym all) (silent-comes (Some (expired step)) (Some stop) s s tells b other (ap Some is) refl)
 
 -- a turn, and then others that came to the next ones
-pub burst-of : (note : Option RunNote) (one first : Bool) (left most rest : ℕ) (s mid next : Seen) (r : Option Stop) (last : Seen) (tells : Bool) (b c a : List ℕ)
+pub burst-of : (note : Option RunNote) (one first : Bool) (left most rest : ℕ) (s mid next : Seen) (r : Option Stop) (last : Seen) (tells : Bool) (b c a : Output)
     → s.machine.time < last_time → left ≡ suc most → Comes (turn (at_time s.machine.time note) first s) None mid tells b c
     → turns note one false most mid ≡ turns note one false rest next → Comes (turns note one false rest next) r last tells c a → Comes (turns note one first left s) r last tells b a
 burst-of note one first left most rest s mid next r last tells b c a early is turned same more =
@@ -68,7 +70,7 @@ burst-of note one first left most rest s mid next r last tells b c a early is tu
     turn-of note one first false left most s mid r last tells b c a early refl is turned (subst P (sym same) more)
 
 -- a turn, and then others up to a chain without an end
-pub chain-of : (note : Option RunNote) (one first : Bool) (left most : ℕ) (s mid next : Seen) (tells : Bool) (b c : List ℕ)
+pub chain-of : (note : Option RunNote) (one first : Bool) (left most : ℕ) (s mid next : Seen) (tells : Bool) (b c : Output)
     → s.machine.time < last_time → left ≡ suc most → Comes (turn (at_time s.machine.time note) first s) None mid tells b c
     → turns note one false most mid ≡ silent (Some ChainLimit) next → Comes (turns note one first left s) (Some ChainLimit) next tells b c
 chain-of note one first left most s mid next tells b c early is turned same =
@@ -77,21 +79,21 @@ chain-of note one first left most s mid next tells b c early is turned same =
     (subst P (sym same) (silent-comes (Some ChainLimit) (Some ChainLimit) next next tells c tt refl refl))
 
 -- a burst that no chain has ended
-pub burst-goes : (watch : WatchState) (note : Option RunNote) (most done : ℕ) (end : BurstEnd) (old new : MachineState) (one : Bool) (keys : List (ℕ × ℕ)) (files : List NamedBytes)
+pub burst-goes : (watch : WatchState) (note : Option RunNote) (most done : ℕ) (end : BurstEnd) (old new : MachineState) (one : Bool) (keys : List (ℕ × ℕ)) (files : List NamedBytes) (lines : LineState) (whole : List Answer)
     → end ≢ burst_end.ChainLimit → Bursts watch keys most done end old new
-    → turns note one false most (seen (beside watch keys files) old) ≡ turns note one false (most - done) (seen (beside watch keys files) new)
-burst-goes watch note most done burst_end.Spent old new one keys files other told = told note one files
-burst-goes watch note most done burst_end.Transfer old new one keys files other told = told note one files
-burst-goes watch note most done burst_end.AtStop old new one keys files other told = told note one files
-burst-goes watch note most done burst_end.ChainLimit old new one keys files other told = absurd (other refl)
+    → turns note one false most (seen (beside watch keys files lines) whole old) ≡ turns note one false (most - done) (seen (beside watch keys files lines) whole new)
+burst-goes watch note most done burst_end.Spent old new one keys files lines whole other told = told note one files lines whole
+burst-goes watch note most done burst_end.Transfer old new one keys files lines whole other told = told note one files lines whole
+burst-goes watch note most done burst_end.AtStop old new one keys files lines whole other told = told note one files lines whole
+burst-goes watch note most done burst_end.ChainLimit old new one keys files lines whole other told = absurd (other refl)
 
-pub burst-ends : (watch : WatchState) (note : Option RunNote) (most done : ℕ) (end : BurstEnd) (old new : MachineState) (one : Bool) (keys : List (ℕ × ℕ)) (files : List NamedBytes)
+pub burst-ends : (watch : WatchState) (note : Option RunNote) (most done : ℕ) (end : BurstEnd) (old new : MachineState) (one : Bool) (keys : List (ℕ × ℕ)) (files : List NamedBytes) (lines : LineState) (whole : List Answer)
     → end ≡ burst_end.ChainLimit → Bursts watch keys most done end old new
-    → turns note one false most (seen (beside watch keys files) old) ≡ silent (Some ChainLimit) (seen (beside watch keys files) new)
-burst-ends watch note most done burst_end.ChainLimit old new one keys files is told = told note one files
-burst-ends watch note most done burst_end.Spent old new one keys files is told = absurd (cc)
-burst-ends watch note most done burst_end.Transfer old new one keys files is told = absurd (cc)
-burst-ends watch note most done burst_end.AtStop old new one keys files is told = absurd (cc)
+    → turns note one false most (seen (beside watch keys files lines) whole old) ≡ silent (Some ChainLimit) (seen (beside watch keys files lines) whole new)
+burst-ends watch note most done burst_end.ChainLimit old new one keys files lines whole is told = told note one files lines whole
+burst-ends watch note most done burst_end.Spent old new one keys files lines whole is told = absurd (cc)
+burst-ends watch note most done burst_end.Transfer old new one keys files lines whole is told = absurd (cc)
+burst-ends watch note most done burst_end.AtStop old new one keys files lines whole is told = absurd (cc)
 
 -- ---- the note of a run
 

@@ -1,16 +1,16 @@
 -- Runs and turns from the same state do the same.
 use Rattle.std.proofs.Common.{ℕ, true, List, Option, Some, None, refl, sym, subst, ◌∙◌}
-use Rattle.observations.specs.Observations.{text_of}
+use Rattle.observations.specs.Observations.{text_of, sent_of}
 use Rattle.nova_machine.specs.declared.machine.Stop.{Stop}
 use Rattle.nova_machine.specs.declared.machine.Stop.TheVariants as stop
 use Rattle.nova_machine.specs.Seen.{Seen}
 use Rattle.nova_machine.specs.Parts.{Part}
 use Rattle.nova_machine.specs.Turn.{turn}
 use Rattle.nova_machine.specs.Run.{run}
-use Rattle.nova_machine.specs.Comes.{IsOwn, IsWhole, Comes}
+use Rattle.nova_machine.specs.Comes.{Output, IsOwn, IsWhole, Comes}
 use Rattle.nova_machine.specs.SameRun.{SameOf, SameStateSameRun}
 
-is-whole : (p : Part) (st : Option Stop) (s : Seen) (before after : List ℕ) → IsOwn st → Comes p st s true before after → IsWhole p st s true before after
+is-whole : (p : Part) (st : Option Stop) (s : Seen) (before after : Output) → IsOwn st → Comes p st s true before after → IsWhole p st s true before after
 is-whole p None s before after own c = c
 is-whole p (Some stop.Halt) s before after own c = c
 is-whole p (Some stop.ChainLimit) s before after own c = c
@@ -37,6 +37,9 @@ same-of does s t st other x y before after front behind same one two c d =
       added = text_of (does s).made;
       one = a.written refl;
       two = b.written refl;
+      sent = sent_of (does s).made;
+      one_heard = a.heard;
+      two_heard = b.heard;
     }
 
 pub same-state-same-run : SameStateSameRun

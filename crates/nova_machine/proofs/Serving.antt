@@ -2,6 +2,12 @@
 use Rattle.std.specs.List.{list_any}
 use Rattle.std.proofs.lemmas.Bool.Decides.{nat_tests}
 use Rattle.host_files.specs.Lists.{NamedBytes}
+use Rattle.host_lines.specs.declared.lines.Sent.{Sent}
+use Rattle.host_lines.specs.Traffic.{Peer, Answer, Ahead}
+use Rattle.host_lines.specs.Told.{ahead_of, heard_more}
+use Rattle.host_lines.specs.State.{LineState}
+use Rattle.telnet_lines.specs.Line.{LineOf}
+use Rattle.telnet_lines.specs.Joined.{seen_line}
 use Rattle.unit_trait.specs.Kinds.{same_unit}
 use Rattle.event_queue.specs.EventList.{IsApart}
 use Rattle.unit_files.specs.Attachments.{Attachment, Held, attachments_of, attachment_at}
@@ -11,7 +17,7 @@ use Rattle.expect_actions.specs.Sends.{due_send}
 use Rattle.expect_actions.specs.Watch.{WatchState}
 use Rattle.nova_machine.specs.Notes.{UnitNote, at_unit, unit_note, failure_of_stop}
 use Rattle.std.proofs.Common.{map, ◌||◌, IfSome, Result, Ok, Err, ◌≡◌, ℕ, ◌==◌, Bool, true, false, IsTrue, List, [], ◌∷◌, ◌++◌, refl, ap, sym, ◌∙◌, subst, inl, arith, Option, Some, None, if◌then◌else◌}
-use Rattle.observations.specs.Observations.{Observation, text_of}
+use Rattle.observations.specs.Observations.{Observation, text_of, sent_of}
 use Rattle.unit_trait.specs.declared.calls.Got.TheVariants as got
 use Rattle.unit_files.specs.declared.faults.UnitFault.{UnitFault}
 use Rattle.unit_files.specs.Answers.{failure_in}
@@ -21,7 +27,7 @@ use Rattle.nova_machine.specs.declared.service.Hosted.TheVariants as hosted
 use Rattle.nova_machine.specs.Hosting.{IsHosted, stop_in, bytes_printed, watch_behind, IsImageOf}
 use Rattle.nova_machine.specs.Comes.{IsOwn}
 use Rattle.nova_machine.specs.Wants.{unanswered}
-use Rattle.observations.proofs.CutLemmas.{breaks-here}
+use Rattle.observations.proofs.CutLemmas.{breaks-here, here-sent}
 use Rattle.unit_trait.specs.declared.kind.UnitName.{UnitName}
 use Rattle.unit_trait.specs.declared.calls.Want.{Want}
 use Rattle.unit_trait.specs.declared.calls.Want.TheVariants as want
@@ -33,10 +39,13 @@ use Rattle.nova_machine.specs.declared.machine.Stop.TheVariants.{ConsoleFault, F
 use Rattle.nova_machine.specs.Machine.{MachineState}
 use Rattle.nova_machine.specs.Seen.{Seen, seen, beside, erased, unnumbered, attached_in}
 use Rattle.nova_machine.specs.Parts.{Part, silent, behind_made, then_part}
-use Rattle.nova_machine.specs.Turned.{still}
+use Rattle.nova_machine.specs.Turned.{Turned, still}
 use Rattle.nova_machine.specs.Wants.{answer_to, files_after, watch_after, first_key, typed_key, own_stop, bytes_of, prints, IsConsole}
-use Rattle.nova_machine.specs.Service.{want_at, done_for, asked, answered, first_stop, stopping, replied, service, taken, services, serving}
-use Rattle.nova_machine.specs.Comes.{Comes, IsBrokenOff}
+use Rattle.nova_machine.specs.Service.{want_at, done_for, asked, answered, first_stop, stopping, replied, own_service, behind_line, line_service, service_by, lined_at, service, taken, services, serving}
+use Rattle.nova_machine.specs.Comes.{Output, Comes, IsBrokenOff}
+use Rattle.nova_machine.specs.LineChanges.{heard_with}
+use Rattle.nova_machine.specs.OnLines.{Lined, lined, sends}
+use Rattle.nova_machine.proofs.Hearing.{heard-nothing, heard-sends}
 use Rattle.nova_machine.proofs.Parts.{silent-comes, comes-behind, comes-then, comes-stopped}
 use Rattle.nova_machine.specs.Tapes.{NoAnswer, FileFails, ImageIsBad}
 use Rattle.nova_memory.specs.Memory.{MemoryState}
@@ -58,14 +67,14 @@ abbrev pub without_due : MachineState → MachineState
 without_due m = record m { events = served m.events }
 
 -- nothing is due
-pub none-at : (note : Option UnitNote) (watch : WatchState) (keys : List (ℕ × ℕ)) (files : List NamedBytes) (m at : MachineState) (tells : Bool) (b : List ℕ) → due m.events ≡ None
-    → at ≡ without_due m → Comes (serving note (seen (beside watch keys files) m)) None (seen (beside watch keys files) at) tells b b
-none-at note watch keys files m at tells b none is =
-    let s = seen (beside watch keys files) m in
-    let P : Part → Type 0 = λ x. Comes x None (seen (beside watch keys files) at) tells b b in
+pub none-at : (note : Option UnitNote) (watch : WatchState) (keys : List (ℕ × ℕ)) (files : List NamedBytes) (lines : LineState) (whole : List Answer) (m at : MachineState) (tells : Bool) (b : Output) → due m.events ≡ None
+    → at ≡ without_due m → Comes (serving note (seen (beside watch keys files lines) whole m)) None (seen (beside watch keys files lines) whole at) tells b b
+none-at note watch keys files lines whole m at tells b none is =
+    let s = seen (beside watch keys files lines) whole m in
+    let P : Part → Type 0 = λ x. Comes x None (seen (beside watch keys files lines) whole at) tells b b in
     let stays : without_due m ≡ m = ap (λ (es : List Event). record m { events = es }) (served-none m.events none) in
     subst P (sym (serving-none note s none))
-    (silent-comes None None s (seen (beside watch keys files) at) tells b tt refl (ap (λ (x : MachineState). seen (beside watch keys files) x) (is ∙ stays)))
+    (silent-comes None None s (seen (beside watch keys files lines) whole at) tells b tt refl (ap (λ (x : MachineState). seen (beside watch keys files lines) whole x) (is ∙ stays)))
   where
     served-none : (es : List Event) → due es ≡ None → served es ≡ es
     served-none [] h = refl
@@ -76,15 +85,15 @@ none-at note watch keys files m at tells b none is =
         by-test false h = refl
 
 -- the first service goes on, and so do the others
-pub more-at : (note : Option UnitNote) (watch : WatchState) (keys : List (ℕ × ℕ)) (files : List NamedBytes) (m at : MachineState) (next : Seen) (u : UnitName) (ended r : Option Stop) (last : Seen)
-    (tells : Bool) (b c a : List ℕ) → due m.events ≡ Some u → at ≡ without_due m → at_unit u note ≡ None
-    → ended ≡ None → Comes (service None u (seen (beside watch keys files) at)) ended next tells b c → dues next.machine.events ≡ dues at.events
-    → Comes (serving note next) r last tells c a → Comes (serving note (seen (beside watch keys files) m)) r last tells b a
-more-at note watch keys files m at next u ended r last tells b c a first is apart goes one same rest =
-    let s = seen (beside watch keys files) m in
+pub more-at : (note : Option UnitNote) (watch : WatchState) (keys : List (ℕ × ℕ)) (files : List NamedBytes) (lines : LineState) (whole : List Answer) (m at : MachineState) (next : Seen) (u : UnitName) (ended r : Option Stop) (last : Seen)
+    (tells : Bool) (b c a : Output) → due m.events ≡ Some u → at ≡ without_due m → at_unit u note ≡ None
+    → ended ≡ None → Comes (service None u (seen (beside watch keys files lines) whole at)) ended next tells b c → dues next.machine.events ≡ dues at.events
+    → Comes (serving note next) r last tells c a → Comes (serving note (seen (beside watch keys files lines) whole m)) r last tells b a
+more-at note watch keys files lines whole m at next u ended r last tells b c a first is apart goes one same rest =
+    let s = seen (beside watch keys files lines) whole m in
     let P : Part → Type 0 = λ x. Comes x r last tells b a in
-    let O : Option Stop → Type 0 = λ o. Comes (service None u (seen (beside watch keys files) at)) o next tells b c in
-    let Q : MachineState → Type 0 = λ x. Comes (service None u (seen (beside watch keys files) x)) None next tells b c in
+    let O : Option Stop → Type 0 = λ o. Comes (service None u (seen (beside watch keys files lines) whole at)) o next tells b c in
+    let Q : MachineState → Type 0 = λ x. Comes (service None u (seen (beside watch keys files lines) whole x)) None next tells b c in
     let F : Option Failure → Type 0 = λ f. Comes (service f u (taken s)) None next tells b c in
     let R : List UnitName → Type 0 = λ us. Comes (services note us next) r last tells c a in
     let T : Part → Type 0 = λ x. Comes x r last tells c a in
@@ -95,13 +104,13 @@ more-at note watch keys files m at next u ended r last tells b c a first is apar
     (subst R now (subst T (serving-is note next) rest)))
 
 -- the first service stops
-pub stop-at : (note : Option UnitNote) (watch : WatchState) (keys : List (ℕ × ℕ)) (files : List NamedBytes) (m at : MachineState) (u : UnitName) (fault : Option Failure) (stop : Stop) (last : Seen)
-    (tells : Bool) (b a : List ℕ) → due m.events ≡ Some u → at ≡ without_due m → at_unit u note ≡ fault
-    → Comes (service fault u (seen (beside watch keys files) at)) (Some stop) last tells b a → Comes (serving note (seen (beside watch keys files) m)) (Some stop) last tells b a
-stop-at note watch keys files m at u fault stop last tells b a first is meets one =
-    let s = seen (beside watch keys files) m in
+pub stop-at : (note : Option UnitNote) (watch : WatchState) (keys : List (ℕ × ℕ)) (files : List NamedBytes) (lines : LineState) (whole : List Answer) (m at : MachineState) (u : UnitName) (fault : Option Failure) (stop : Stop) (last : Seen)
+    (tells : Bool) (b a : Output) → due m.events ≡ Some u → at ≡ without_due m → at_unit u note ≡ fault
+    → Comes (service fault u (seen (beside watch keys files lines) whole at)) (Some stop) last tells b a → Comes (serving note (seen (beside watch keys files lines) whole m)) (Some stop) last tells b a
+stop-at note watch keys files lines whole m at u fault stop last tells b a first is meets one =
+    let s = seen (beside watch keys files lines) whole m in
     let P : Part → Type 0 = λ x. Comes x (Some stop) last tells b a in
-    let Q : MachineState → Type 0 = λ x. Comes (service fault u (seen (beside watch keys files) x)) (Some stop) last tells b a in
+    let Q : MachineState → Type 0 = λ x. Comes (service fault u (seen (beside watch keys files lines) whole x)) (Some stop) last tells b a in
     let F : Option Failure → Type 0 = λ f. Comes (service f u (taken s)) (Some stop) last tells b a in
     subst P (sym (serving-some note s u first))
     (comes-stopped (service (at_unit u note) u (taken s)) (λ n. services note (dues (served m.events)) n) stop last tells b a (subst F (sym meets) (subst Q is one)))
@@ -158,26 +167,30 @@ note-later (Some n) u m us first same apart still =
 
 -- ---- one service
 
+prints-sent : (w : Want) (s : Seen) → sent_of (prints w s) ≡ []
+prints-sent (want.Console byte) s = refl
+prints-sent w s = refl
+
 prints-text : (w : Want) (s : Seen) → text_of (prints w s) ≡ bytes_of w
 prints-text (want.Console byte) s = refl
 prints-text w s = refl
 
 -- the byte that was sent and the key that is typed which are due, and the key that comes
-abbrev pub sent_of : WatchState → MachineState → Option ℕ
-sent_of watch m = due_send m.time watch.sends
+abbrev pub send_of : WatchState → MachineState → Option ℕ
+send_of watch m = due_send m.time watch.sends
 
 abbrev pub typed_of : List (ℕ × ℕ) → MachineState → Option ℕ
 typed_of keys m = due_key keys m.taken m.time
 
 abbrev pub asks_of : WatchState → List (ℕ × ℕ) → MachineState → Option ℕ
-asks_of watch keys m = first_key (sent_of watch m) (typed_of keys m)
+asks_of watch keys m = first_key (send_of watch m) (typed_of keys m)
 
 abbrev pub attachment_in : MachineState → UnitName → Option Attachment
 attachment_in m u = attachment_at (attached_in m) u
 
 -- a unit was asked, and what it wants was done
 abbrev pub done_by : Option Failure → Want → UnitName → WatchState → List (ℕ × ℕ) → List NamedBytes → MachineState → MachineState
-done_by fault w u watch keys files m = done_for fault (typed_key (sent_of watch m) (typed_of keys m)) (attachment_in m u) files w m
+done_by fault w u watch keys files m = done_for fault (typed_key (send_of watch m) (typed_of keys m)) (attachment_in m u) files w m
 
 -- the files once that was done
 abbrev pub files_by : Option Failure → Want → UnitName → List NamedBytes → MachineState → List NamedBytes
@@ -189,17 +202,17 @@ erased-attached [] = refl
 erased-attached (None ∷ slots) = ap (λ (l : List (Option Attachment)). None ∷ l) (erased-attached slots)
 erased-attached (Some h ∷ slots) = ap (λ (l : List (Option Attachment)). Some h.attachment ∷ l) (erased-attached slots)
 
-service-is : (fault : Option Failure) (u : UnitName) (watch : WatchState) (keys : List (ℕ × ℕ)) (files : List NamedBytes) (m : MachineState) → service fault u (seen (beside watch keys files) m)
-    ≡ behind_made (prints (want_at u m) (seen (beside watch keys files) (asked u m)))
+service-is : (fault : Option Failure) (u : UnitName) (watch : WatchState) (keys : List (ℕ × ℕ)) (files : List NamedBytes) (lines : LineState) (whole : List Answer) (m : MachineState) → own_service fault u (seen (beside watch keys files lines) whole m)
+    ≡ behind_made (prints (want_at u m) (seen (beside watch keys files lines) whole (asked u m)))
     (replied u (own_stop (asks_of watch keys m) watch.expects (want_at u m)) (answer_to fault (attachment_in m u) files (asks_of watch keys m) (want_at u m))
-    (seen (beside (watch_after m.time (want_at u m) watch) keys (files_by fault (want_at u m) u files m)) (done_by fault (want_at u m) u watch keys files (asked u m))))
-unfolding service Rattle.nova_machine.specs.Service.hosted asked
-service-is fault u watch keys files m =
+    (seen (beside (watch_after m.time (want_at u m) watch) keys (files_by fault (want_at u m) u files m) lines) whole (done_by fault (want_at u m) u watch keys files (asked u m))))
+unfolding own_service Rattle.nova_machine.specs.Service.hosted asked
+service-is fault u watch keys files lines whole m =
     let same : attachment_at (attached_in (erased m)) u ≡ attachment_in m u = ap (λ (l : List (Option Attachment)). attachment_at l u) (erased-attached m.slots) in
     let w = want_at u m in
-    ap (λ (a : Option Attachment). behind_made (prints w (seen (beside watch keys files) (asked u m)))
+    ap (λ (a : Option Attachment). behind_made (prints w (seen (beside watch keys files lines) whole (asked u m)))
     (replied u (own_stop (asks_of watch keys m) watch.expects w) (answer_to fault a files (asks_of watch keys m) w)
-    (seen (beside (watch_after m.time w watch) keys (files_after fault a m.processor.memory files w)) (done_for fault (typed_key (sent_of watch m) (typed_of keys m)) a files w (asked u m))))) same
+    (seen (beside (watch_after m.time w watch) keys (files_after fault a m.processor.memory files w) lines) whole (done_for fault (typed_key (send_of watch m) (typed_of keys m)) a files w (asked u m))))) same
 
 -- a unit was asked, and this was made of what it wants
 pub record Hosts (u : UnitName) (watch watch' : WatchState) (keys : List (ℕ × ℕ)) (files files' : List NamedBytes) (n h : MachineState) (w : Want) (o : Hosted) : Type 0 where
@@ -228,74 +241,75 @@ hosts-at u watch watch' keys files files' m n h w o asks wants made =
     at-asked u watch watch' keys files files' m h o (subst Q wants (subst P asks made))
 
 -- what is printed before the answer
-printed-text : (w : Want) (s : Seen) (tells : Bool) (b a : List ℕ) → (IsTrue tells → a ≡ b ++ bytes_of w) → IsTrue tells → a ≡ b ++ text_of (prints w s)
-printed-text w s tells b a printed told = printed told ∙ ap (λ (l : List ℕ). b ++ l) (sym (prints-text w s))
+printed-text : (w : Want) (s : Seen) (tells : Bool) (b a : Output) → (IsTrue tells → a.console ≡ b.console ++ bytes_of w) → IsTrue tells → a.console ≡ b.console ++ text_of (prints w s)
+printed-text w s tells b a printed told = printed told ∙ ap (λ (l : List ℕ). b.console ++ l) (sym (prints-text w s))
 
 own-failure : (r : Option Stop) → IsOwn r → failure_of_stop r ≡ None
 own-failure (Some (FileFault f)) own = absurd own
 own-failure r own = refl
 
 -- a machine's numbers of files are none of the unit's answer
-answered-erased : (u : UnitName) (g : Got) (watch : WatchState) (keys : List (ℕ × ℕ)) (files : List NamedBytes) (stop : Option Stop) (h : MachineState)
-    → still (seen (beside watch keys files) h) (stopping stop (answered u g (erased h))) ≡ silent (first_stop stop (answered u g h).stop) (seen (beside watch keys files) (answered u g h).machine)
+answered-erased : (u : UnitName) (g : Got) (watch : WatchState) (keys : List (ℕ × ℕ)) (files : List NamedBytes) (lines : LineState) (whole : List Answer) (stop : Option Stop) (h : MachineState)
+    → still (seen (beside watch keys files lines) whole h) (stopping stop (answered u g (erased h))) ≡ silent (first_stop stop (answered u g h).stop) (seen (beside watch keys files lines) whole (answered u g h).machine)
 unfolding answered
-answered-erased u g watch keys files stop h = refl
+answered-erased u g watch keys files lines whole stop h = refl
 
 -- a unit got this answer, and the machine has this stop for itself
-comes-answered : (u : UnitName) (watch watch' : WatchState) (keys : List (ℕ × ℕ)) (files files' : List NamedBytes) (m h last : MachineState) (g : Got) (stop r : Option Stop) (tells : Bool) (b a : List ℕ)
+comes-answered : (u : UnitName) (watch watch' : WatchState) (keys : List (ℕ × ℕ)) (files files' : List NamedBytes) (lines : LineState) (whole : List Answer) (m h last : MachineState) (g : Got) (stop r : Option Stop) (tells : Bool) (b a : Output)
     → h ≡ done_by None (want_at u m) u watch keys files (asked u m) → answer_to None (attachment_in m u) files (asks_of watch keys m) (want_at u m) ≡ Ok g
     → own_stop (asks_of watch keys m) watch.expects (want_at u m) ≡ stop → watch' ≡ watch_after m.time (want_at u m) watch → files' ≡ files_by None (want_at u m) u files m
-    → (IsTrue tells → a ≡ b ++ bytes_of (want_at u m)) → IsOwn r → r ≡ first_stop stop (answered u g h).stop → last ≡ (answered u g h).machine
-    → Comes (service None u (seen (beside watch keys files) m)) r (seen (beside watch' keys files') last) tells b a
-comes-answered u watch watch' keys files files' m h last g stop r tells b a machine said key watched changed printed own stops is =
+    → (IsTrue tells → a.console ≡ b.console ++ bytes_of (want_at u m)) → a.heard ≡ b.heard → IsOwn r → r ≡ first_stop stop (answered u g h).stop → last ≡ (answered u g h).machine
+    → Comes (own_service None u (seen (beside watch keys files lines) whole m)) r (seen (beside watch' keys files' lines) whole last) tells b a
+comes-answered u watch watch' keys files files' lines whole m h last g stop r tells b a machine said key watched changed printed heard own stops is =
     let w = want_at u m in
-    let made = prints w (seen (beside watch keys files) (asked u m)) in
-    let P : Part → Type 0 = λ x. Comes x r (seen (beside watch' keys files') last) tells b a in
+    let made = prints w (seen (beside watch keys files lines) whole (asked u m)) in
+    let P : Part → Type 0 = λ x. Comes x r (seen (beside watch' keys files' lines) whole last) tells b a in
     let now : replied u (own_stop (asks_of watch keys m) watch.expects w) (answer_to None (attachment_in m u) files (asks_of watch keys m) w)
-    (seen (beside (watch_after m.time w watch) keys (files_by None w u files m)) (done_by None w u watch keys files (asked u m)))
-    ≡ silent (first_stop stop (answered u g h).stop) (seen (beside watch' keys files') (answered u g h).machine) =
-    ap (λ (x : Result Got NoAnswer). replied u (own_stop (asks_of watch keys m) watch.expects w) x (seen (beside (watch_after m.time w watch) keys (files_by None w u files m)) (done_by None w u watch keys files (asked u m)))) said
-    ∙ ap (λ (x : Option Stop). replied u x (Ok g) (seen (beside (watch_after m.time w watch) keys (files_by None w u files m)) (done_by None w u watch keys files (asked u m)))) key
-    ∙ ap (λ (x : WatchState). replied u stop (Ok g) (seen (beside x keys (files_by None w u files m)) (done_by None w u watch keys files (asked u m)))) (sym watched)
-    ∙ ap (λ (x : List NamedBytes). replied u stop (Ok g) (seen (beside watch' keys x) (done_by None w u watch keys files (asked u m)))) (sym changed)
-    ∙ ap (λ (x : MachineState). replied u stop (Ok g) (seen (beside watch' keys files') x)) (sym machine)
-    ∙ answered-erased u g watch' keys files' stop h in
-    subst P (sym (service-is None u watch keys files m ∙ ap (behind_made made) now))
-    (comes-behind made (silent (first_stop stop (answered u g h).stop) (seen (beside watch' keys files') (answered u g h).machine)) r (seen (beside watch' keys files') last) tells b a a
-    (printed-text w (seen (beside watch keys files) (asked u m)) tells b a printed)
-    (silent-comes (first_stop stop (answered u g h).stop) r (seen (beside watch' keys files') (answered u g h).machine) (seen (beside watch' keys files') last) tells a own stops
-    (ap (λ (x : MachineState). seen (beside watch' keys files') x) is)))
+    (seen (beside (watch_after m.time w watch) keys (files_by None w u files m) lines) whole (done_by None w u watch keys files (asked u m)))
+    ≡ silent (first_stop stop (answered u g h).stop) (seen (beside watch' keys files' lines) whole (answered u g h).machine) =
+    ap (λ (x : Result Got NoAnswer). replied u (own_stop (asks_of watch keys m) watch.expects w) x (seen (beside (watch_after m.time w watch) keys (files_by None w u files m) lines) whole (done_by None w u watch keys files (asked u m)))) said
+    ∙ ap (λ (x : Option Stop). replied u x (Ok g) (seen (beside (watch_after m.time w watch) keys (files_by None w u files m) lines) whole (done_by None w u watch keys files (asked u m)))) key
+    ∙ ap (λ (x : WatchState). replied u stop (Ok g) (seen (beside x keys (files_by None w u files m) lines) whole (done_by None w u watch keys files (asked u m)))) (sym watched)
+    ∙ ap (λ (x : List NamedBytes). replied u stop (Ok g) (seen (beside watch' keys x lines) whole (done_by None w u watch keys files (asked u m)))) (sym changed)
+    ∙ ap (λ (x : MachineState). replied u stop (Ok g) (seen (beside watch' keys files' lines) whole x)) (sym machine)
+    ∙ answered-erased u g watch' keys files' lines whole stop h in
+    subst P (sym (service-is None u watch keys files lines whole m ∙ ap (behind_made made) now))
+    (comes-behind made (silent (first_stop stop (answered u g h).stop) (seen (beside watch' keys files' lines) whole (answered u g h).machine)) r (seen (beside watch' keys files' lines) whole last) tells b a a
+    (printed-text w (seen (beside watch keys files lines) whole (asked u m)) tells b a printed)
+    (heard ∙ sym (ap (heard_with b.heard) (prints-sent w (seen (beside watch keys files lines) whole (asked u m))) ∙ heard-nothing b.heard))
+    (silent-comes (first_stop stop (answered u g h).stop) r (seen (beside watch' keys files' lines) whole (answered u g h).machine) (seen (beside watch' keys files' lines) whole last) tells a own stops
+    (ap (λ (x : MachineState). seen (beside watch' keys files' lines) whole x) is)))
 
-want-text : (w w' : Want) (tells : Bool) (b a : List ℕ) → w ≡ w' → (IsTrue tells → a ≡ b ++ bytes_of w) → IsTrue tells → a ≡ b ++ bytes_of w'
-want-text w w' tells b a same printed told = printed told ∙ ap (λ (x : Want). b ++ bytes_of x) same
+want-text : (w w' : Want) (tells : Bool) (b a : Output) → w ≡ w' → (IsTrue tells → a.console ≡ b.console ++ bytes_of w) → IsTrue tells → a.console ≡ b.console ++ bytes_of w'
+want-text w w' tells b a same printed told = printed told ∙ ap (λ (x : Want). b.console ++ bytes_of x) same
 
 -- the unit got its answer
-pub comes-gets : (u : UnitName) (watch watch' : WatchState) (keys : List (ℕ × ℕ)) (files files' : List NamedBytes) (m n h last : MachineState) (w : Want) (g : Got) (r : Option Stop) (tells : Bool) (b a : List ℕ)
-    → n ≡ asked u m → w ≡ want_at u m → Hosts u watch watch' keys files files' n h w (Gets g) → (IsTrue tells → a ≡ b ++ bytes_printed w (Gets g)) → IsOwn r
-    → r ≡ (answered u g h).stop → last ≡ (answered u g h).machine → Comes (service (failure_of_stop r) u (seen (beside watch keys files) m)) r (seen (beside watch' keys files') last) tells b a
-comes-gets u watch watch' keys files files' m n h last w g r tells b a asks wants made printed own stops is =
+pub comes-gets : (u : UnitName) (watch watch' : WatchState) (keys : List (ℕ × ℕ)) (files files' : List NamedBytes) (lines : LineState) (whole : List Answer) (m n h last : MachineState) (w : Want) (g : Got) (r : Option Stop) (tells : Bool) (b a : Output)
+    → n ≡ asked u m → w ≡ want_at u m → Hosts u watch watch' keys files files' n h w (Gets g) → (IsTrue tells → a.console ≡ b.console ++ bytes_printed w (Gets g)) → a.heard ≡ b.heard → IsOwn r
+    → r ≡ (answered u g h).stop → last ≡ (answered u g h).machine → Comes (own_service (failure_of_stop r) u (seen (beside watch keys files lines) whole m)) r (seen (beside watch' keys files' lines) whole last) tells b a
+comes-gets u watch watch' keys files files' lines whole m n h last w g r tells b a asks wants made printed heard own stops is =
     let at = hosts-at u watch watch' keys files files' m n h w (Gets g) asks wants made in
-    let F : Option Failure → Type 0 = λ f. Comes (service f u (seen (beside watch keys files) m)) r (seen (beside watch' keys files') last) tells b a in
+    let F : Option Failure → Type 0 = λ f. Comes (own_service f u (seen (beside watch keys files lines) whole m)) r (seen (beside watch' keys files' lines) whole last) tells b a in
     subst F (sym (own-failure r own))
-    (comes-answered u watch watch' keys files files' m h last g None r tells b a at.machine at.said.0 at.said.1 at.watched at.changed (want-text w (want_at u m) tells b a wants printed) own stops is)
+    (comes-answered u watch watch' keys files files' lines whole m h last g None r tells b a at.machine at.said.0 at.said.1 at.watched at.changed (want-text w (want_at u m) tells b a wants printed) heard own stops is)
 
 -- the key that stops a run was taken
-pub comes-wru : (u : UnitName) (watch watch' : WatchState) (keys : List (ℕ × ℕ)) (files files' : List NamedBytes) (m n h last : MachineState) (w : Want) (tells : Bool) (b a : List ℕ)
-    → n ≡ asked u m → w ≡ want_at u m → Hosts u watch watch' keys files files' n h w hosted.Wru → (IsTrue tells → a ≡ b ++ bytes_printed w hosted.Wru)
-    → last ≡ (answered u got.NoKey h).machine → Comes (service None u (seen (beside watch keys files) m)) (Some Wru) (seen (beside watch' keys files') last) tells b a
-comes-wru u watch watch' keys files files' m n h last w tells b a asks wants made printed is =
+pub comes-wru : (u : UnitName) (watch watch' : WatchState) (keys : List (ℕ × ℕ)) (files files' : List NamedBytes) (lines : LineState) (whole : List Answer) (m n h last : MachineState) (w : Want) (tells : Bool) (b a : Output)
+    → n ≡ asked u m → w ≡ want_at u m → Hosts u watch watch' keys files files' n h w hosted.Wru → (IsTrue tells → a.console ≡ b.console ++ bytes_printed w hosted.Wru) → a.heard ≡ b.heard
+    → last ≡ (answered u got.NoKey h).machine → Comes (own_service None u (seen (beside watch keys files lines) whole m)) (Some Wru) (seen (beside watch' keys files' lines) whole last) tells b a
+comes-wru u watch watch' keys files files' lines whole m n h last w tells b a asks wants made printed heard is =
     let at = hosts-at u watch watch' keys files files' m n h w hosted.Wru asks wants made in
-    comes-answered u watch watch' keys files files' m h last got.NoKey (Some Wru) (Some Wru) tells b a at.machine at.said.0 at.said.1 at.watched at.changed
-    (want-text w (want_at u m) tells b a wants printed) tt refl is
+    comes-answered u watch watch' keys files files' lines whole m h last got.NoKey (Some Wru) (Some Wru) tells b a at.machine at.said.0 at.said.1 at.watched at.changed
+    (want-text w (want_at u m) tells b a wants printed) heard tt refl is
 
 -- the byte was printed that ends a text which is waited for
-pub comes-matched : (u : UnitName) (watch watch' : WatchState) (keys : List (ℕ × ℕ)) (files files' : List NamedBytes) (m n h last : MachineState) (w : Want) (k : ℕ) (tells : Bool) (b a : List ℕ)
-    → n ≡ asked u m → w ≡ want_at u m → Hosts u watch watch' keys files files' n h w (hosted.Matched k) → (IsTrue tells → a ≡ b ++ bytes_printed w (hosted.Matched k))
-    → last ≡ (answered u got.Done h).machine → Comes (service None u (seen (beside watch keys files) m)) (Some (Expect k)) (seen (beside watch' keys files') last) tells b a
-comes-matched u watch watch' keys files files' m n h last w k tells b a asks wants made printed is =
+pub comes-matched : (u : UnitName) (watch watch' : WatchState) (keys : List (ℕ × ℕ)) (files files' : List NamedBytes) (lines : LineState) (whole : List Answer) (m n h last : MachineState) (w : Want) (k : ℕ) (tells : Bool) (b a : Output)
+    → n ≡ asked u m → w ≡ want_at u m → Hosts u watch watch' keys files files' n h w (hosted.Matched k) → (IsTrue tells → a.console ≡ b.console ++ bytes_printed w (hosted.Matched k)) → a.heard ≡ b.heard
+    → last ≡ (answered u got.Done h).machine → Comes (own_service None u (seen (beside watch keys files lines) whole m)) (Some (Expect k)) (seen (beside watch' keys files' lines) whole last) tells b a
+comes-matched u watch watch' keys files files' lines whole m n h last w k tells b a asks wants made printed heard is =
     let at = hosts-at u watch watch' keys files files' m n h w (hosted.Matched k) asks wants made in
-    comes-answered u watch watch' keys files files' m h last got.Done (Some (Expect k)) (Some (Expect k)) tells b a at.machine at.said.0 at.said.1 at.watched at.changed
-    (want-text w (want_at u m) tells b a wants printed) tt refl is
+    comes-answered u watch watch' keys files files' lines whole m h last got.Done (Some (Expect k)) (Some (Expect k)) tells b a at.machine at.said.0 at.said.1 at.watched at.changed
+    (want-text w (want_at u m) tells b a wants printed) heard tt refl is
 
 -- a want that gets no answer leaves the watch tables
 same-watch : (fault : Option Failure) (a : Option Attachment) (files : List NamedBytes) (key : Option ℕ) (w : Want) (why : NoAnswer) (time : ℕ) (watch : WatchState)
@@ -311,65 +325,72 @@ silent-want fault a files key (want.Console byte) why s is = absurd (cc)
 silent-want fault a files key w why s is = refl
 
 -- a call on the unit's file failed
-pub comes-failed : (u : UnitName) (watch watch' : WatchState) (keys : List (ℕ × ℕ)) (files files' : List NamedBytes) (m n h : MachineState) (w : Want) (f : UnitFault) (tells : Bool) (b a : List ℕ)
-    → n ≡ asked u m → w ≡ want_at u m → Hosts u watch watch' keys files files' n h w (Stops (FileFault f)) → (IsTrue tells → a ≡ b ++ []) → f.unit ≡ u
-    → Comes (service (Some (failure_in f)) u (seen (beside watch keys files) m)) (Some (FileFault f)) (seen (beside watch' keys files') h) tells b a
-comes-failed u watch watch' keys files files' m n h w f tells b a asks wants made printed own =
+pub comes-failed : (u : UnitName) (watch watch' : WatchState) (keys : List (ℕ × ℕ)) (files files' : List NamedBytes) (lines : LineState) (whole : List Answer) (m n h : MachineState) (w : Want) (f : UnitFault) (tells : Bool) (b a : Output)
+    → n ≡ asked u m → w ≡ want_at u m → Hosts u watch watch' keys files files' n h w (Stops (FileFault f)) → (IsTrue tells → a.console ≡ b.console ++ []) → a.heard ≡ b.heard → f.unit ≡ u
+    → Comes (own_service (Some (failure_in f)) u (seen (beside watch keys files lines) whole m)) (Some (FileFault f)) (seen (beside watch' keys files' lines) whole h) tells b a
+comes-failed u watch watch' keys files files' lines whole m n h w f tells b a asks wants made printed heard own =
     let at = hosts-at u watch watch' keys files files' m n h w (Stops (FileFault f)) asks wants made in
     let fault = Some (failure_in f) in
     let v = want_at u m in
-    let s = seen (beside (watch_after m.time v watch) keys (files_by fault v u files m)) (done_by fault v u watch keys files (asked u m)) in
+    let s = seen (beside (watch_after m.time v watch) keys (files_by fault v u files m) lines) whole (done_by fault v u watch keys files (asked u m)) in
     let stays = same-watch fault (attachment_in m u) files (asks_of watch keys m) v (FileFails (failure_in f)) m.time watch at.said in
-    let none = silent-want fault (attachment_in m u) files (asks_of watch keys m) v (FileFails (failure_in f)) (seen (beside watch keys files) (asked u m)) at.said in
-    let P : Part → Type 0 = λ x. Comes x (Some (FileFault f)) (seen (beside watch' keys files') h) tells b a in
-    let now : service fault u (seen (beside watch keys files) m) ≡ silent (Some (unanswered u (FileFails (failure_in f)))) s =
-    service-is fault u watch keys files m
-    ∙ ap (λ (x : Result Got NoAnswer). behind_made (prints v (seen (beside watch keys files) (asked u m))) (replied u (own_stop (asks_of watch keys m) watch.expects v) x s)) at.said
+    let none = silent-want fault (attachment_in m u) files (asks_of watch keys m) v (FileFails (failure_in f)) (seen (beside watch keys files lines) whole (asked u m)) at.said in
+    let P : Part → Type 0 = λ x. Comes x (Some (FileFault f)) (seen (beside watch' keys files' lines) whole h) tells b a in
+    let now : own_service fault u (seen (beside watch keys files lines) whole m) ≡ silent (Some (unanswered u (FileFails (failure_in f)))) s =
+    service-is fault u watch keys files lines whole m
+    ∙ ap (λ (x : Result Got NoAnswer). behind_made (prints v (seen (beside watch keys files lines) whole (asked u m))) (replied u (own_stop (asks_of watch keys m) watch.expects v) x s)) at.said
     ∙ ap (λ (l : List (Observation Seen)). behind_made l (silent (Some (unanswered u (FileFails (failure_in f)))) s)) none in
     subst P (sym now)
     (record {
       stop_is = ap (λ (x : UnitName). Some (FileFault (record { unit = x; file = None; call = f.call; done = f.done }))) own;
       after_is =
-          ap (λ (x : MachineState). seen (beside watch' keys files') x) at.machine
-          ∙ ap (λ (x : List NamedBytes). seen (beside watch' keys x) (done_by fault v u watch keys files (asked u m))) at.changed
-          ∙ ap (λ (x : WatchState). seen (beside x keys (files_by fault v u files m)) (done_by fault v u watch keys files (asked u m))) (at.watched ∙ sym stays);
+          ap (λ (x : MachineState). seen (beside watch' keys files' lines) whole x) at.machine
+          ∙ ap (λ (x : List NamedBytes). seen (beside watch' keys x lines) whole (done_by fault v u watch keys files (asked u m))) at.changed
+          ∙ ap (λ (x : WatchState). seen (beside x keys (files_by fault v u files m) lines) whole (done_by fault v u watch keys files (asked u m))) (at.watched ∙ sym stays);
       written = printed;
+      heard = heard ∙ sym (heard-nothing b.heard);
     })
 
 -- the image of the unit's tape is bad
-pub comes-bad : (u : UnitName) (watch watch' : WatchState) (keys : List (ℕ × ℕ)) (files files' : List NamedBytes) (m n h : MachineState) (w : Want) (x : UnitName) (place : ℕ) (tells : Bool) (b a : List ℕ)
-    → n ≡ asked u m → w ≡ want_at u m → Hosts u watch watch' keys files files' n h w (Stops (BadImage x place)) → (IsTrue tells → a ≡ b ++ []) → x ≡ u
-    → Comes (service None u (seen (beside watch keys files) m)) (Some (BadImage x place)) (seen (beside watch' keys files') h) tells b a
-comes-bad u watch watch' keys files files' m n h w x place tells b a asks wants made printed own =
+pub comes-bad : (u : UnitName) (watch watch' : WatchState) (keys : List (ℕ × ℕ)) (files files' : List NamedBytes) (lines : LineState) (whole : List Answer) (m n h : MachineState) (w : Want) (x : UnitName) (place : ℕ) (tells : Bool) (b a : Output)
+    → n ≡ asked u m → w ≡ want_at u m → Hosts u watch watch' keys files files' n h w (Stops (BadImage x place)) → (IsTrue tells → a.console ≡ b.console ++ []) → a.heard ≡ b.heard → x ≡ u
+    → Comes (own_service None u (seen (beside watch keys files lines) whole m)) (Some (BadImage x place)) (seen (beside watch' keys files' lines) whole h) tells b a
+comes-bad u watch watch' keys files files' lines whole m n h w x place tells b a asks wants made printed heard own =
     let at = hosts-at u watch watch' keys files files' m n h w (Stops (BadImage x place)) asks wants made in
     let v = want_at u m in
-    let s = seen (beside (watch_after m.time v watch) keys (files_by None v u files m)) (done_by None v u watch keys files (asked u m)) in
+    let s = seen (beside (watch_after m.time v watch) keys (files_by None v u files m) lines) whole (done_by None v u watch keys files (asked u m)) in
     let stays = same-watch None (attachment_in m u) files (asks_of watch keys m) v (ImageIsBad place) m.time watch at.said in
-    let none = silent-want None (attachment_in m u) files (asks_of watch keys m) v (ImageIsBad place) (seen (beside watch keys files) (asked u m)) at.said in
-    let P : Part → Type 0 = λ p. Comes p (Some (BadImage x place)) (seen (beside watch' keys files') h) tells b a in
-    let now : service None u (seen (beside watch keys files) m) ≡ silent (Some (BadImage u place)) s =
-    service-is None u watch keys files m
-    ∙ ap (λ (r : Result Got NoAnswer). behind_made (prints v (seen (beside watch keys files) (asked u m))) (replied u (own_stop (asks_of watch keys m) watch.expects v) r s)) at.said
+    let none = silent-want None (attachment_in m u) files (asks_of watch keys m) v (ImageIsBad place) (seen (beside watch keys files lines) whole (asked u m)) at.said in
+    let P : Part → Type 0 = λ p. Comes p (Some (BadImage x place)) (seen (beside watch' keys files' lines) whole h) tells b a in
+    let now : own_service None u (seen (beside watch keys files lines) whole m) ≡ silent (Some (BadImage u place)) s =
+    service-is None u watch keys files lines whole m
+    ∙ ap (λ (r : Result Got NoAnswer). behind_made (prints v (seen (beside watch keys files lines) whole (asked u m))) (replied u (own_stop (asks_of watch keys m) watch.expects v) r s)) at.said
     ∙ ap (λ (l : List (Observation Seen)). behind_made l (silent (Some (BadImage u place)) s)) none in
     subst P (sym now)
     (record {
       stop_is = ap (λ (y : UnitName). Some (BadImage y place)) own;
       after_is =
-          ap (λ (y : MachineState). seen (beside watch' keys files') y) at.machine
-          ∙ ap (λ (y : List NamedBytes). seen (beside watch' keys y) (done_by None v u watch keys files (asked u m))) at.changed
-          ∙ ap (λ (y : WatchState). seen (beside y keys (files_by None v u files m)) (done_by None v u watch keys files (asked u m))) (at.watched ∙ sym stays);
+          ap (λ (y : MachineState). seen (beside watch' keys files' lines) whole y) at.machine
+          ∙ ap (λ (y : List NamedBytes). seen (beside watch' keys y lines) whole (done_by None v u watch keys files (asked u m))) at.changed
+          ∙ ap (λ (y : WatchState). seen (beside y keys (files_by None v u files m) lines) whole (done_by None v u watch keys files (asked u m))) (at.watched ∙ sym stays);
       written = printed;
+      heard = heard ∙ sym (heard-nothing b.heard);
     })
 
-broken-console : (w : Want) (s : Seen) (p : Part) (tells : Bool) (b a : List ℕ) → IsConsole w → (IsTrue tells → a ≡ b ++ []) → IsBrokenOff (behind_made (prints w s) p) s tells b a
-broken-console (want.Console byte) s p tells b a console same = record {
+broken-console : (w : Want) (s : Seen) (p : Part) (tells : Bool) (b a : Output) → IsConsole w → (IsTrue tells → a.console ≡ b.console ++ []) → a.heard ≡ b.heard → IsBrokenOff (behind_made (prints w s) p) s tells b a
+broken-console (want.Console byte) s p tells b a console same heard = record {
   stands = inl refl;
-  told = λ told. record { taken = []; written = same told; breaks = breaks-here (byte ∷ []) s p.made 0 (omega arith) };
+  told = λ told. record {
+      taken = [];
+      written = same told;
+      breaks = breaks-here (byte ∷ []) s p.made 0 (omega arith);
+      heard = heard ∙ sym (ap (heard_with b.heard) (here-sent (byte ∷ []) s p.made 0 (omega arith)) ∙ heard-nothing b.heard);
+  };
 }
-broken-console w s p tells b a console same = absurd console
+broken-console w s p tells b a console same heard = absurd console
 
 console-done : (w : Want) (u : UnitName) (watch : WatchState) (keys : List (ℕ × ℕ)) (files : List NamedBytes) (m : MachineState) → IsConsole w → done_by None w u watch keys files m ≡ m
-console-done (want.Console byte) u watch keys files m console = by-key (typed_key (sent_of watch m) (typed_of keys m))
+console-done (want.Console byte) u watch keys files m console = by-key (typed_key (send_of watch m) (typed_of keys m))
   where
     by-key : (key : Option ℕ) → done_for None key (attachment_in m u) files (want.Console byte) m ≡ m
     by-key None = refl
@@ -381,28 +402,78 @@ console-files (want.Console byte) a memory files console = refl
 console-files w a memory files console = absurd console
 
 -- the console refused the byte that a unit was to print
-pub comes-broken : (u : UnitName) (watch watch' : WatchState) (keys : List (ℕ × ℕ)) (files files' : List NamedBytes) (m n h : MachineState) (w : Want) (tells : Bool) (b a : List ℕ)
-    → n ≡ asked u m → w ≡ want_at u m → Hosts u watch watch' keys files files' n h w (Stops ConsoleFault) → (IsTrue tells → a ≡ b ++ [])
-    → Comes (service None u (seen (beside watch keys files) m)) (Some ConsoleFault) (seen (beside watch' keys files') h) tells b a
-comes-broken u watch watch' keys files files' m n h w tells b a asks wants made same =
+pub comes-broken : (u : UnitName) (watch watch' : WatchState) (keys : List (ℕ × ℕ)) (files files' : List NamedBytes) (lines : LineState) (whole : List Answer) (m n h : MachineState) (w : Want) (tells : Bool) (b a : Output)
+    → n ≡ asked u m → w ≡ want_at u m → Hosts u watch watch' keys files files' n h w (Stops ConsoleFault) → (IsTrue tells → a.console ≡ b.console ++ []) → a.heard ≡ b.heard
+    → Comes (own_service None u (seen (beside watch keys files lines) whole m)) (Some ConsoleFault) (seen (beside watch' keys files' lines) whole h) tells b a
+comes-broken u watch watch' keys files files' lines whole m n h w tells b a asks wants made same heard =
     let at = hosts-at u watch watch' keys files files' m n h w (Stops ConsoleFault) asks wants made in
     let v = want_at u m in
-    let s = seen (beside watch keys files) (asked u m) in
-    let stands : seen (beside watch' keys files') h ≡ s =
-    ap (λ (x : WatchState). seen (beside x keys files') h) at.watched
-    ∙ ap (λ (x : List NamedBytes). seen (beside watch keys x) h) (at.changed ∙ console-files v (attachment_in m u) m.processor.memory files at.said)
-    ∙ ap (λ (x : MachineState). seen (beside watch keys files) x) (at.machine ∙ console-done v u watch keys files (asked u m) at.said) in
-    let P : Part → Type 0 = λ x. IsBrokenOff x (seen (beside watch' keys files') h) tells b a in
+    let s = seen (beside watch keys files lines) whole (asked u m) in
+    let stands : seen (beside watch' keys files' lines) whole h ≡ s =
+    ap (λ (x : WatchState). seen (beside x keys files' lines) whole h) at.watched
+    ∙ ap (λ (x : List NamedBytes). seen (beside watch keys x lines) whole h) (at.changed ∙ console-files v (attachment_in m u) m.processor.memory files at.said)
+    ∙ ap (λ (x : MachineState). seen (beside watch keys files lines) whole x) (at.machine ∙ console-done v u watch keys files (asked u m) at.said) in
+    let P : Part → Type 0 = λ x. IsBrokenOff x (seen (beside watch' keys files' lines) whole h) tells b a in
     let p = replied u (own_stop (asks_of watch keys m) watch.expects v) (answer_to None (attachment_in m u) files (asks_of watch keys m) v)
-    (seen (beside (watch_after m.time v watch) keys (files_by None v u files m)) (done_by None v u watch keys files (asked u m))) in
+    (seen (beside (watch_after m.time v watch) keys (files_by None v u files m) lines) whole (done_by None v u watch keys files (asked u m))) in
     let Q : Seen → Type 0 = λ x. IsBrokenOff (behind_made (prints v s) p) x tells b a in
-    subst P (sym (service-is None u watch keys files m)) (subst Q (sym stands) (broken-console v s p tells b a at.said same))
+    subst P (sym (service-is None u watch keys files lines whole m)) (subst Q (sym stands) (broken-console v s p tells b a at.said same heard))
 
 -- the unit got no answer
-pub comes-stops : (u : UnitName) (watch watch' : WatchState) (keys : List (ℕ × ℕ)) (files files' : List NamedBytes) (m n h : MachineState) (w : Want) (stop : Stop) (tells : Bool) (b a : List ℕ)
-    → n ≡ asked u m → w ≡ want_at u m → Hosts u watch watch' keys files files' n h w (Stops stop) → (IsTrue tells → a ≡ b ++ []) → IfSome (unit_note (Some stop)) (λ n. n.unit ≡ u) → IsImageOf u (Some stop)
-    → Comes (service (failure_of_stop (Some stop)) u (seen (beside watch keys files) m)) (Some stop) (seen (beside watch' keys files') h) tells b a
-comes-stops u watch watch' keys files files' m n h w (FileFault f) tells b a asks wants made printed own image = comes-failed u watch watch' keys files files' m n h w f tells b a asks wants made printed own
-comes-stops u watch watch' keys files files' m n h w (BadImage x place) tells b a asks wants made printed own image = comes-bad u watch watch' keys files files' m n h w x place tells b a asks wants made printed image
-comes-stops u watch watch' keys files files' m n h w ConsoleFault tells b a asks wants made printed own image = comes-broken u watch watch' keys files files' m n h w tells b a asks wants made printed
-comes-stops u watch watch' keys files files' m n h w stop tells b a asks wants made printed own image = absurd made.said
+pub comes-stops : (u : UnitName) (watch watch' : WatchState) (keys : List (ℕ × ℕ)) (files files' : List NamedBytes) (lines : LineState) (whole : List Answer) (m n h : MachineState) (w : Want) (stop : Stop) (tells : Bool) (b a : Output)
+    → n ≡ asked u m → w ≡ want_at u m → Hosts u watch watch' keys files files' n h w (Stops stop) → (IsTrue tells → a.console ≡ b.console ++ []) → a.heard ≡ b.heard → IfSome (unit_note (Some stop)) (λ n. n.unit ≡ u) → IsImageOf u (Some stop)
+    → Comes (own_service (failure_of_stop (Some stop)) u (seen (beside watch keys files lines) whole m)) (Some stop) (seen (beside watch' keys files' lines) whole h) tells b a
+comes-stops u watch watch' keys files files' lines whole m n h w (FileFault f) tells b a asks wants made printed heard own image = comes-failed u watch watch' keys files files' lines whole m n h w f tells b a asks wants made printed heard own
+comes-stops u watch watch' keys files files' lines whole m n h w (BadImage x place) tells b a asks wants made printed heard own image = comes-bad u watch watch' keys files files' lines whole m n h w x place tells b a asks wants made printed heard image
+comes-stops u watch watch' keys files files' lines whole m n h w ConsoleFault tells b a asks wants made printed heard own image = comes-broken u watch watch' keys files files' lines whole m n h w tells b a asks wants made printed
+comes-stops u watch watch' keys files files' lines whole m n h w stop tells b a asks wants made printed heard own image = absurd made.said
+
+-- ---- a line that is there
+
+-- what the unit wants comes to this on a line
+service-by : (fault : Option Failure) (u : UnitName) (s : Seen) (l : Option Lined) → lined_at u s ≡ l → service fault u s ≡ service_by l fault u s
+unfolding service
+service-by fault u s l is = ap (λ (x : Option Lined). service_by x fault u s) is
+
+-- it wants nothing of one
+pub comes-own : (fault : Option Failure) (u : UnitName) (s : Seen) (r : Option Stop) (last : Seen) (tells : Bool) (b a : Output)
+    → lined_at u s ≡ None → Comes (own_service fault u s) r last tells b a → Comes (service fault u s) r last tells b a
+comes-own fault u s r last tells b a none comes = subst (λ (p : Part). Comes p r last tells b a) (sym (service-by fault u s None none)) comes
+
+sends-text : (sent : List Sent) → text_of (sends {S = Seen} sent) ≡ []
+sends-text [] = refl
+sends-text (s ∷ sent) = refl
+
+-- the machine behind the answer, with its lines
+lined-answered : (u : UnitName) (watch : WatchState) (keys : List (ℕ × ℕ)) (files : List NamedBytes) (old new : LineState) (whole : List Answer) (m : MachineState) (ls : List (LineOf ℕ)) (l : Lined)
+    → l.lines ≡ map (seen_line new) ls → l.ahead ≡ ahead_of new.told whole
+    → replied u None (Ok l.got) (behind_line u l (seen (beside watch keys files old) whole m))
+    ≡ silent (answered u l.got (record (asked u m) { lines = ls })).stop (seen (beside watch keys files new) whole (answered u l.got (record (asked u m) { lines = ls })).machine)
+unfolding answered asked
+lined-answered u watch keys files old new whole m ls l lines ahead =
+    let t = answered u l.got (asked u (erased m)) in
+    ap (λ (x : List (LineOf Peer)). silent t.stop (record { machine = t.machine; watch = watch; keys = keys; files = files; lines = x; ahead = l.ahead })) lines
+    ∙ ap (λ (x : Ahead). silent t.stop (record { machine = t.machine; watch = watch; keys = keys; files = files; lines = map (seen_line new) ls; ahead = x })) ahead
+
+line-is : (u : UnitName) (l : Lined) (s : Seen) → line_service u l s ≡ behind_made (sends l.sent) (replied u None (Ok l.got) (behind_line u l s))
+unfolding line_service
+line-is u l s = refl
+
+pub comes-lined : (fault : Option Failure) (u : UnitName) (watch : WatchState) (keys : List (ℕ × ℕ)) (files : List NamedBytes) (old new : LineState) (whole : List Answer) (m h last : MachineState) (l : Lined)
+    (r : Option Stop) (tells : Bool) (b a : Output)
+    → lined m.time (want_at u m) (map (seen_line old) m.lines) (ahead_of old.told whole) ≡ Some l → l.lines ≡ map (seen_line new) h.lines → l.ahead ≡ ahead_of new.told whole
+    → a.heard ≡ heard_more b.heard l.sent → (IsTrue tells → a.console ≡ b.console ++ []) → h ≡ record (asked u m) { lines = h.lines } → IsOwn r
+    → r ≡ (answered u l.got h).stop → last ≡ (answered u l.got h).machine
+    → Comes (service fault u (seen (beside watch keys files old) whole m)) r (seen (beside watch keys files new) whole last) tells b a
+comes-lined fault u watch keys files old new whole m h last l r tells b a there lines ahead heard printed is own stops left =
+    let s = seen (beside watch keys files old) whole m in
+    let k : MachineState = record (asked u m) { lines = h.lines } in
+    let t = answered u l.got k in
+    let same : answered u l.got h ≡ t = ap (λ (x : MachineState). answered u l.got x) is in
+    let P : Part → Type 0 = λ p. Comes p r (seen (beside watch keys files new) whole last) tells b a in
+    subst P (sym (service-by fault u s (Some l) there ∙ line-is u l s ∙ ap (behind_made (sends l.sent)) (lined-answered u watch keys files old new whole m h.lines l lines ahead)))
+    (comes-behind (sends l.sent) (silent t.stop (seen (beside watch keys files new) whole t.machine)) r (seen (beside watch keys files new) whole last) tells b a a
+    (λ told. printed told ∙ ap (λ (x : List ℕ). b.console ++ x) (sym (sends-text l.sent)))
+    (heard ∙ heard-sends {S = Seen} b.heard l.sent)
+    (silent-comes t.stop r (seen (beside watch keys files new) whole t.machine) (seen (beside watch keys files new) whole last) tells a own
+    (stops ∙ ap (λ (x : Turned). x.stop) same) (ap (λ (x : MachineState). seen (beside watch keys files new) whole x) (left ∙ ap (λ (x : Turned). x.machine) same))))

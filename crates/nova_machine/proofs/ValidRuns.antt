@@ -13,7 +13,7 @@ use Rattle.unit_list.proofs.Resets.{reset-fits, reset-kinds, sound-resets}
 use Rattle.expect_actions.specs.Watch.{empty_watch}
 use Rattle.nova_machine.specs.declared.machine.Stop.{Stop}
 use Rattle.nova_machine.specs.declared.machine.Stop.TheVariants.{ConsoleFault}
-use Rattle.nova_machine.specs.Comes.{Comes}
+use Rattle.nova_machine.specs.Comes.{Output, Comes}
 use Rattle.nova_machine.specs.Core.{AreListed}
 use Rattle.nova_machine.specs.Machine.{new_machine, reset_machine, reset_devices}
 use Rattle.nova_machine.specs.Notes.{UnitNote, RunNote, at_unit}
@@ -73,7 +73,7 @@ pub run-valid : (note : Option RunNote) (step : Bool) (n : ℕ) (s : Seen) → V
 run-valid note step n s = each-run StaysValid each-valid (λ s stop limit is. valid-silent (Some stop) s is) note step n s
 
 -- what a call has come to that does such a part
-pub left-valid : (p : Part) (stop : Option Stop) (t : Seen) (tells : Bool) (before after : List ℕ) → IsValidPart p → Comes p stop t tells before after → Valid t
+pub left-valid : (p : Part) (stop : Option Stop) (t : Seen) (tells : Bool) (before after : Output) → IsValidPart p → Comes p stop t tells before after → Valid t
 left-valid p (Some ConsoleFault) t tells before after is comes = is.made t comes.stands
 left-valid p stop t tells before after is comes = subst Valid (sym comes.after_is) is.after
 

@@ -14,6 +14,8 @@ use Rattle.nova_processor.specs.Processor.{ProcessorState}
 use Rattle.nova_processor.specs.Instruction.{following, advanced, jump, without_accumulator, memory_reference, load, store, jump_to_subroutine, store_and_skip, arithmetic}
 use Rattle.nova_processor.specs.InputOutput.{past, tested, flag_skips, unanswered, multiply_divide}
 use Rattle.nova_processor.specs.Burst.{steps, refers_to, refers, passes, step_of, step}
+use Rattle.host_lines.specs.Traffic.{Answer}
+use Rattle.host_lines.specs.State.{LineState}
 use Rattle.nova_machine.specs.declared.machine.Stop.TheVariants.{UnknownDevice}
 use Rattle.nova_machine.specs.Machine.{MachineState, on_processor}
 use Rattle.nova_machine.specs.Notes.{RunNote, at_time}
@@ -187,13 +189,13 @@ waiting-erased m waiting = record {
 
 pub waits-told : (watch : WatchState) (keys : List (ℕ × ℕ)) (most rounds budget : ℕ) (old new : MachineState) → AreUnbroken watch old → IsWaiting old → IsCalm budget old → old.time + budget ≤ last_time → budget ≤ most → rounds * 2 ≤ budget
     → new ≡ passed_by (rounds * 2) old → Bursts watch keys most (rounds * 2) burst_end.Transfer old new
-waits-told watch keys most rounds budget old new unbroken waiting calm end few within is = λ note one files.
+waits-told watch keys most rounds budget old new unbroken waiting calm end few within is = λ note one files lines whole.
     let all : most ≡ rounds * 2 + (most - rounds * 2) = omega (arith, few, within) in
-    let s = seen (beside watch keys files) old in
+    let s = seen (beside watch keys files lines) whole old in
     ap (λ (n : ℕ). turns note one false n s) all
     ∙ rounds-pass note one rounds budget (most - rounds * 2) s (record { test = unbroken.test; back = unbroken.back }) (waiting-erased old waiting) (calm-erased budget old calm) within end
     ∙ ap (λ (x : MachineState). turns note one false (most - rounds * 2) (with_machine s x)) (erased-behind (rounds * 2) old old.processor)
-    ∙ ap (λ (x : MachineState). turns note one false (most - rounds * 2) (seen (beside watch keys files) x)) (sym (is ∙ behind-is (rounds * 2) old old.processor))
+    ∙ ap (λ (x : MachineState). turns note one false (most - rounds * 2) (seen (beside watch keys files lines) whole x)) (sym (is ∙ behind-is (rounds * 2) old old.processor))
 
 all-done : (most done more : ℕ) → most - done - more ≡ most - (done + more)
 all-done most done more = omega arith
@@ -201,11 +203,11 @@ all-done most done more = omega arith
 -- a burst that no chain has ended, and another behind it
 pub burst-then : (watch : WatchState) (keys : List (ℕ × ℕ)) (most done more : ℕ) (first end : BurstEnd) (old mid new : MachineState) → first ≢ burst_end.ChainLimit
     → Bursts watch keys most done first old mid → Bursts watch keys (most - done) more end mid new → Bursts watch keys most (done + more) end old new
-burst-then watch keys most done more first burst_end.ChainLimit old mid new other told behind = λ note one files.
-    burst-goes watch note most done first old mid one keys files other told ∙ behind note one files
-burst-then watch keys most done more first burst_end.Spent old mid new other told behind = λ note one files.
-    burst-goes watch note most done first old mid one keys files other told ∙ behind note one files ∙ ap (λ (n : ℕ). turns note one false n (seen (beside watch keys files) new)) (all-done most done more)
-burst-then watch keys most done more first burst_end.Transfer old mid new other told behind = λ note one files.
-    burst-goes watch note most done first old mid one keys files other told ∙ behind note one files ∙ ap (λ (n : ℕ). turns note one false n (seen (beside watch keys files) new)) (all-done most done more)
-burst-then watch keys most done more first burst_end.AtStop old mid new other told behind = λ note one files.
-    burst-goes watch note most done first old mid one keys files other told ∙ behind note one files ∙ ap (λ (n : ℕ). turns note one false n (seen (beside watch keys files) new)) (all-done most done more)
+burst-then watch keys most done more first burst_end.ChainLimit old mid new other told behind = λ note one files lines whole.
+    burst-goes watch note most done first old mid one keys files lines whole other told ∙ behind note one files lines whole
+burst-then watch keys most done more first burst_end.Spent old mid new other told behind = λ note one files lines whole.
+    burst-goes watch note most done first old mid one keys files lines whole other told ∙ behind note one files lines whole ∙ ap (λ (n : ℕ). turns note one false n (seen (beside watch keys files lines) whole new)) (all-done most done more)
+burst-then watch keys most done more first burst_end.Transfer old mid new other told behind = λ note one files lines whole.
+    burst-goes watch note most done first old mid one keys files lines whole other told ∙ behind note one files lines whole ∙ ap (λ (n : ℕ). turns note one false n (seen (beside watch keys files lines) whole new)) (all-done most done more)
+burst-then watch keys most done more first burst_end.AtStop old mid new other told behind = λ note one files lines whole.
+    burst-goes watch note most done first old mid one keys files lines whole other told ∙ behind note one files lines whole ∙ ap (λ (n : ℕ). turns note one false n (seen (beside watch keys files lines) whole new)) (all-done most done more)

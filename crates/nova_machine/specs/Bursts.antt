@@ -9,6 +9,8 @@ use Rattle.expect_actions.specs.Watch.{WatchState}
 use Rattle.nova_machine.specs.declared.machine.Stop.TheVariants.{ChainLimit}
 use Rattle.nova_machine.specs.Machine.{MachineState}
 use Rattle.host_files.specs.Lists.{NamedBytes}
+use Rattle.host_lines.specs.Traffic.{Answer}
+use Rattle.host_lines.specs.State.{LineState}
 use Rattle.nova_machine.specs.Notes.{RunNote}
 use Rattle.nova_machine.specs.Seen.{seen, beside}
 use Rattle.nova_machine.specs.Parts.{silent}
@@ -31,8 +33,8 @@ pub record IsCalm (count : ℕ) (m : MachineState) : Type 0 where
 -- these keys, whichever files and failing calls there are. A chain without an end has ended them.
 abbrev pub Bursts : WatchState → List (ℕ × ℕ) → ℕ → ℕ → BurstEnd → MachineState → MachineState → Type 0
 Bursts watch keys most done burst_end.ChainLimit old new =
-    (note : Option RunNote) (step : Bool) (files : List NamedBytes)
-    → turns note step false most (seen (beside watch keys files) old) ≡ silent (Some ChainLimit) (seen (beside watch keys files) new)
+    (note : Option RunNote) (step : Bool) (files : List NamedBytes) (lines : LineState) (whole : List Answer)
+    → turns note step false most (seen (beside watch keys files lines) whole old) ≡ silent (Some ChainLimit) (seen (beside watch keys files lines) whole new)
 Bursts watch keys most done end old new =
-    (note : Option RunNote) (step : Bool) (files : List NamedBytes)
-    → turns note step false most (seen (beside watch keys files) old) ≡ turns note step false (most - done) (seen (beside watch keys files) new)
+    (note : Option RunNote) (step : Bool) (files : List NamedBytes) (lines : LineState) (whole : List Answer)
+    → turns note step false most (seen (beside watch keys files lines) whole old) ≡ turns note step false (most - done) (seen (beside watch keys files lines) whole new)

@@ -10,6 +10,8 @@ pub mod Transfer
 pub mod Sectors
 pub mod Tapes
 pub mod Wants
+pub mod OnLines
+pub mod LineChanges
 pub mod Hosting
 pub mod Operated
 pub mod Service

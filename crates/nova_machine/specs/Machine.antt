@@ -1,8 +1,13 @@
 -- The state of a machine, on which all that it does depends.
-use Rattle.std.specs.Prelude.{ℕ, Bool, false, List, [], Option}
+use Rattle.std.specs.Prelude.{ℕ, Bool, true, false, List, [], ◌∷◌, Option, None, if◌then◌else◌}
+use Rattle.std.specs.List.{list_any}
+use Rattle.unit_trait.specs.declared.kind.Kind.{Kind}
+use Rattle.unit_trait.specs.declared.kind.Kind.TheVariants.{Tti1, Tto1}
 use Rattle.unit_trait.specs.Calls.{UnitState}
 use Rattle.event_queue.specs.EventList.{Event}
+use Rattle.unit_list.specs.Bus.{kinds_of}
 use Rattle.unit_list.specs.Reset.{reset_units, reset_events}
+use Rattle.telnet_lines.specs.Line.{LineOf, unconnected}
 use Rattle.unit_files.specs.Attachments.{Held, no_files}
 use Rattle.unit_files.specs.Buffer.{Buffer, AttachedFiles, no_buffer}
 use Rattle.nova_interrupts.specs.declared.interrupts.Ints.{Ints}
@@ -11,7 +16,8 @@ use Rattle.nova_processor.specs.Processor.{ProcessorState, new_processor}
 
 -- the processor with its memory, the interrupts, the switch register, whether a word to a device that is not there stops
 -- the machine, the units in bus order, their events that wait, the time: how many instructions were executed since the
--- session began; how many keys were taken; what is attached to the units, and what the disk holds of its file
+-- session began; how many keys were taken; what is attached to the units, and what the disk holds of its file; and the
+-- terminal lines, line 0 first
 pub record MachineState : Type 0 where
   pub processor : ProcessorState
   pub ints : Ints
@@ -23,6 +29,7 @@ pub record MachineState : Type 0 where
   pub taken : ℕ
   pub slots : List (Option Held)
   pub disk : Buffer
+  pub lines : List (LineOf ℕ)
 
 -- what is attached to the units of a machine, and the machine with that attached
 abbrev pub attached_files : MachineState → AttachedFiles
@@ -41,12 +48,21 @@ reset_devices m = record m {
 }
 
 -- A reset: interrupts go off and none waits, and all devices are reset. PC, the accumulators, carry, the switch register,
--- STOP_DEV, memory, time, the keys taken and the files stay.
+-- STOP_DEV, memory, time, the keys taken, the files and the lines stay.
 unfoldable pub reset_machine : MachineState → MachineState
 reset_machine m = record (reset_devices m) { ints = no_interrupts }
 
+-- line 0 is there where one of the units of the second teletype is
+abbrev pub is_of_terminal : Kind → Bool
+is_of_terminal Tti1 = true
+is_of_terminal Tto1 = true
+is_of_terminal other = false
+
+abbrev pub lines_for : List Kind → List (LineOf ℕ)
+lines_for kinds = if list_any is_of_terminal kinds then unconnected None ∷ [] else []
+
 -- a new machine with those units: every register 0, memory of 0, no instruction executed, no key taken, no file
--- attached, and as a reset leaves it
+-- attached, no line with a port, and as a reset leaves it
 unfoldable pub new_machine : List UnitState → MachineState
 new_machine units = reset_machine (record {
   processor = new_processor;
@@ -59,6 +75,7 @@ new_machine units = reset_machine (record {
   taken = 0;
   slots = no_files;
   disk = no_buffer;
+  lines = lines_for (kinds_of units);
 })
 
 -- the machine with its processor changed so

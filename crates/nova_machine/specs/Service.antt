@@ -18,6 +18,7 @@ use Rattle.nova_machine.specs.Notes.{UnitNote, at_unit}
 use Rattle.nova_machine.specs.Sectors.{disk_after}
 use Rattle.nova_machine.specs.Tapes.{NoAnswer}
 use Rattle.nova_machine.specs.Wants.{answer_to, memory_behind, files_after, taken_after, watch_after, first_key, typed_key, own_stop, prints, stop_by, unanswered}
+use Rattle.nova_machine.specs.OnLines.{Lined, lined, sends}
 use Rattle.nova_machine.specs.Seen.{Seen, with_machine, attached_in}
 use Rattle.nova_machine.specs.Parts.{Part, silent, behind_made, then_part}
 use Rattle.nova_machine.specs.Turned.{Turned, still}
@@ -84,14 +85,34 @@ hosted fault unit s =
       files = files_after fault a s.machine.processor.memory s.files want;
     }
 
--- A unit whose event was taken is served: it says what it wants, the machine does that, and the unit gets the answer. A
--- byte for the console is printed before the unit gets the answer. A call on its file fails where the outside says so.
-unfoldable pub service : Option Failure → UnitName → Seen → Part
-service fault unit s =
+-- A unit is served that wants nothing of a line which is there: the machine does what it wants, and the unit gets the
+-- answer. A byte for the console is printed before that. A call on its file fails where the outside says so.
+unfoldable pub own_service : Option Failure → UnitName → Seen → Part
+own_service fault unit s =
     let want = want_at unit s.machine in
     let a = attachment_at (attached_in s.machine) unit in
     behind_made (prints want (with_machine s (asked unit s.machine)))
     (replied unit (own_stop (key_at s) s.watch.expects want) (answer_to fault a s.files (key_at s) want) (hosted fault unit s))
+
+-- A unit is served that wants something of a line which is there: bytes that are sent, are sent before the unit gets the
+-- answer.
+abbrev pub behind_line : UnitName → Lined → Seen → Seen
+behind_line unit l s = record s { machine = asked unit s.machine; lines = l.lines; ahead = l.ahead }
+
+unfoldable pub line_service : UnitName → Lined → Seen → Part
+line_service unit l s = behind_made (sends l.sent) (replied unit None (Ok l.got) (behind_line unit l s))
+
+abbrev pub service_by : Option Lined → Option Failure → UnitName → Seen → Part
+service_by None fault unit s = own_service fault unit s
+service_by (Some l) fault unit s = line_service unit l s
+
+-- what a unit's want comes to on a line
+abbrev pub lined_at : UnitName → Seen → Option Lined
+lined_at unit s = lined s.machine.time (want_at unit s.machine) s.lines s.ahead
+
+-- A unit whose event was taken is served: it says what it wants, the machine does that, and the unit gets the answer.
+unfoldable pub service : Option Failure → UnitName → Seen → Part
+service fault unit s = service_by (lined_at unit s) fault unit s
 
 -- the machine without the event that is due first
 abbrev pub taken : Seen → Seen

@@ -15,7 +15,7 @@ use Rattle.nova_machine.specs.Seen.{Seen, attached_in}
 use Rattle.nova_machine.specs.Parts.{Part}
 use Rattle.nova_machine.specs.Turn.{turn}
 use Rattle.nova_machine.specs.Run.{run, last_time}
-use Rattle.nova_machine.specs.Comes.{Comes}
+use Rattle.nova_machine.specs.Comes.{Output, Comes}
 use Rattle.nova_machine.specs.Valid.{ValidMachine, ValidWatch, Valid, DiskIsItsFile, LeavesDiskFile}
 
 -- the state behind a part is valid, and so is each in which something comes: an early end shows one of these
@@ -55,7 +55,7 @@ pub record RunsStayValid : Type 0 where
   pub run_valid : (note : Option RunNote) (step : Bool) (n : ℕ) (s : Seen) → Valid s
       → IsValidPart (run note step n s)
   -- what a call has come to that does such a part is valid then, also where a byte was refused
-  pub left_valid : (p : Part) (stop : Option Stop) (t : Seen) (tells : Bool) (before after : List ℕ) → IsValidPart p
+  pub left_valid : (p : Part) (stop : Option Stop) (t : Seen) (tells : Bool) (before after : Output) → IsValidPart p
       → Comes p stop t tells before after → Valid t
   -- no run goes past the end of time
   pub run_time : (note : Option RunNote) (step : Bool) (n : ℕ) (s : Seen) → s.machine.time ≤ last_time

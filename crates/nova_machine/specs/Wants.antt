@@ -54,7 +54,7 @@ got_of_byte (ByteFailed f) = Err (FileFails f)
 
 -- The machine's answer to what a unit wants that has this attachment, where this key is due, or the failure of the call on
 -- the unit's file, where it is the call that is made: a read that fails has done nothing, and a write of a byte at most
--- that. There are no lines yet: no key comes on one, and what is sent on one goes nowhere.
+-- that. On a line that is not there no key comes, and a byte for it goes nowhere.
 abbrev pub answer_to : Option Failure → Option Attachment → List NamedBytes → Option ℕ → Want → Result Got NoAnswer
 answer_to fault a files key want.Nothing = Ok got.Done
 answer_to fault a files key want.Key = Ok (got_of_key key)

@@ -38,6 +38,7 @@ impl<U: Unit> Machine<U> {
         ensures few { result.done ≤ most }
         ensures told { Bursts watch.now keys.now most result.done result.end self.old self.new }
         ensures slots { self.new.slots ≡ self.old.slots }
+        ensures lines { self.new.lines ≡ self.old.lines }
         ensures later { self.old.time ≤ self.new.time }
         ensures time { self.new.time ≡ self.old.time + result.done }
         ensures taken { self.new.taken ≡ self.old.taken }
@@ -68,6 +69,7 @@ impl<U: Unit> Machine<U> {
         ensures few { result.done ≤ most }
         ensures told { (keys : List (ℕ × ℕ)) → Bursts watch.now keys most result.done result.end self.old self.new }
         ensures slots { self.new.slots ≡ self.old.slots }
+        ensures lines { self.new.lines ≡ self.old.lines }
         ensures later { self.old.time ≤ self.new.time }
         ensures time { self.new.time ≡ self.old.time + result.done }
         ensures taken { self.new.taken ≡ self.old.taken }

@@ -8,6 +8,7 @@ mod instruction_end;
 pub mod laws;
 mod lending;
 pub mod machine;
+mod on_line;
 mod registers;
 mod run;
 mod sector;

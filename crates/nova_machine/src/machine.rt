@@ -1,10 +1,12 @@
 ghost use Rattle.std.specs.Prelude.{◌≡◌, ◌≤◌, ◌<◌, ◌^◌, ◌↔◌, List, [], map, None, IfOk, IsOk, OnOk, OnErr};
 ghost use Rattle.event_queue.specs.EventList.{due};
+ghost use Rattle.std.specs.List.{list_any};
 ghost use Rattle.unit_list.specs.Bus.{AllFit, kinds_of};
 ghost use Rattle.unit_list.specs.Reset.{reset_units, reset_events};
 ghost use Rattle.host_files.specs.State.{Opened};
 ghost use Rattle.unit_files.specs.Open.{AllOpen, Around};
 ghost use Rattle.nova_machine.specs.Core.{AreListed};
+ghost use Rattle.nova_machine.specs.Machine.{lines_for, is_of_terminal};
 ghost use Rattle.nova_machine.specs.Run.{last_time};
 
 use event_queue::Events;
@@ -14,9 +16,10 @@ use nova_processor::Processor;
 use nova_word::{Addr, Word};
 use std::alloc::{AllocError, Global};
 use std::marker::Model;
+use telnet_lines::Line;
 use unit_files::{Attached, UnitFault};
 use unit_list::{Places, all_fit, reset_all};
-use unit_trait::{CpuReg, RegFault, Unit, UnitName};
+use unit_trait::{CpuReg, Kind, RegFault, Unit, UnitName};
 
 /// Why a run ended.
 #[derive(Clone, Copy, Debug, PartialEq, Eq)]
@@ -90,6 +93,8 @@ pub struct Machine<U: Unit> {
     pub(crate) taken: u64,
     /// The files of its units.
     pub(crate) attached: Attached,
+    /// Its terminal lines, line 0 first.
+    pub(crate) lines: Vec<Line>,
 }
 
 impl<U: Unit> Model for Machine<U> {
@@ -114,6 +119,7 @@ impl<U: Unit> Model for Machine<U> {
       taken = m.taken;
       slots = m.attached.slots;
       disk = m.attached.disk;
+      lines = m.lines.items;
     } };
 
     ghost invariant = { λ m. (m.time ≤ last_time) × IsQuiet m.quiet m.ints (map U.unit_state m.units.items)
@@ -129,7 +135,8 @@ impl<U: Unit> Machine<U> {
     ghost use Rattle.nova_machine.specs.Registers.{register_of, with_register};
 
     /// A machine of 32768 words with those units, at time 0, as a reset leaves it. Memory is 0, and so is every
-    /// register of the processor but `Size`. No key is taken, and no file attached.
+    /// register of the processor but `Size`. No key is taken, no file attached, and no line has a port: line 0 is there
+    /// where a unit of the second teletype is.
     #[tactic(auto, unfolding(crate::specs::Machine::new_machine))]
     pub fn new(alloc: Global, units: Vec<U>) -> Result<Machine<U>, AllocError>
         requires { IsBusOrder (map U.unit_state units.items) }
@@ -139,6 +146,7 @@ impl<U: Unit> Machine<U> {
     {
         all_fit(units.as_slice());
         let places = Places::new(units.as_slice());
+        let lines = lines_of(alloc, units.as_slice())?;
         let mut machine = Machine {
             processor: Processor::new(alloc)?,
             ints: Ints::new(),
@@ -151,6 +159,7 @@ impl<U: Unit> Machine<U> {
             quiet: false,
             taken: 0,
             attached: Attached::new(alloc)?,
+            lines,
         };
         machine.reset();
         Ok(machine)
@@ -232,11 +241,12 @@ impl<U: Unit> Machine<U> {
 
     /// Resets the machine: interrupts go off and wait for no instruction, the interrupt mask is cleared, no event
     /// waits, and each unit is reset, in bus order, which brings the events that a reset wishes. PC, the accumulators,
-    /// carry, the switch register, STOP_DEV, memory, time and the files of its units stay.
+    /// carry, the switch register, STOP_DEV, memory, time, the files of its units and its lines stay.
     #[tactic(auto, unfolding(crate::specs::Machine::reset_machine))]
     pub fn reset(&mut self)
         ensures machine { self.new ≡ reset_machine self.old }
         ensures slots { self.new.slots ≡ self.old.slots }
+        ensures lines { self.new.lines ≡ self.old.lines }
     {
         self.reset_devices();
         self.ints.reset();
@@ -249,10 +259,44 @@ impl<U: Unit> Machine<U> {
         ensures none { due self.new.events ≡ None }
         ensures time { self.new.time ≡ self.old.time }
         ensures slots { self.new.slots ≡ self.old.slots }
+        ensures lines { self.new.lines ≡ self.old.lines }
     {
         self.quiet = false;
         self.ints.mask_out(0);
         restart(self.units.as_mut_slice(), &mut self.events);
+    }
+}
+
+/// The lines of a machine with those units.
+fn lines_of<U: Unit>(alloc: Global, units: &[U]) -> Result<Vec<Line>, AllocError>
+    ensures { IfOk result (λ lines. lines.items ≡ lines_for (kinds_of (map U.unit_state units.now))) }
+{
+    let mut lines = Vec::new(alloc);
+    if has_terminal(units) {
+        lines.push(Line::new(alloc)?)?;
+    }
+    Ok(lines)
+}
+
+/// Whether a unit of the second teletype is among these.
+fn has_terminal<U: Unit>(units: &[U]) -> bool
+    ensures { result ≡ list_any is_of_terminal (kinds_of (map U.unit_state units.now)) }
+{
+    for unit in units {
+        if is_of_terminal(unit.kind()) {
+            return true;
+        }
+    }
+    false
+}
+
+/// Whether a unit of that kind works on line 0.
+fn is_of_terminal(kind: Kind) -> bool
+    ensures { result ≡ is_of_terminal kind }
+{
+    match kind {
+        Kind::Tti1 | Kind::Tto1 => true,
+        _ => false,
     }
 }
 

@@ -6,6 +6,7 @@ ghost use Rattle.nova_machine.specs.Wants.{HasUnit};
 use crate::machine::{Machine, RunLimit, Stop, Turn};
 use expect_actions::{Keys, Watch};
 use host_files::{Files, Sink};
+use host_lines::Lines;
 use nova_processor::BurstEnd;
 use unit_trait::Unit;
 
@@ -31,28 +32,32 @@ impl RunLimit {
 
 impl<U: Unit> Machine<U> {
     ghost use Rattle.nova_machine.specs.Seen.{seen, beside};
-    ghost use Rattle.nova_machine.specs.Comes.{Comes, AreTold, StopCounts, FileCause};
+    ghost use Rattle.nova_machine.specs.Comes.{Does, AreTold, StopCounts, FileCause};
+    ghost use Rattle.nova_machine.specs.LineChanges.{AreLinesTold, LinesGoOn};
     ghost use Rattle.unit_files.specs.Open.{AllOpen};
     ghost use Rattle.nova_machine.specs.Run.{run};
     ghost use Rattle.nova_machine.specs.StopCauses.{moment_of, Watches, RunCause};
 
     /// Makes turns until one stops, the count of the limit is reached, or time ends, and answers which. The instruction
     /// of a HALT counts; one that stopped as `ChainLimit` or `UnknownDevice` does not, and PC stays there.
-    pub fn run<S: Sink, F: Files>(
+    pub fn run<S: Sink, F: Files, L: Lines>(
         &mut self,
         limit: RunLimit,
         watch: &mut Watch,
         keys: &Keys,
         files: &mut F,
+        lines: &mut L,
         out: &mut S,
     ) -> Stop
         requires open { AllOpen self.old.slots (F.state files.old).opened }
-        ensures told { AreTold F.tells self.old.slots
-            → Comes (run (run_note self.new.time (Some result)) limit.step limit.count (seen (beside watch.old keys.now (F.state files.old).files) self.old))
-            (Some result) (seen (beside watch.new keys.now (F.state files.new).files) self.new) S.tells (S.written out.old) (S.written out.new) }
+        ensures told { AreTold F.tells self.old.slots → AreLinesTold L.tells (L.state lines.old) self.old.lines
+            → Does (run (run_note self.new.time (Some result)) limit.step limit.count) (Some result) (beside watch.old keys.now (F.state files.old).files (L.state lines.old)) self.old
+            (beside watch.new keys.now (F.state files.new).files (L.state lines.new)) self.new
+            S.tells (S.written out.old) (S.written out.new) }
         ensures counts { StopCounts (Some result) (S.fault_count out.old) (S.fault_count out.new) }
         ensures unit { HasUnit result }
         ensures slots { self.new.slots ≡ self.old.slots }
+        ensures lines { LinesGoOn L.tells (L.state lines.old) self.old.lines (L.state lines.new) self.new.lines }
         ensures opened { (F.state files.new).opened ≡ (F.state files.old).opened }
         ensures file_cause { FileCause (Some result) self.old.slots (F.state files.old) (F.state files.new) }
         ensures watches { Watches (Some result) (moment_of watch.old self.old) (moment_of watch.new self.new) S.tells
@@ -66,7 +71,7 @@ impl<U: Unit> Machine<U> {
             if self.time == LAST_TIME {
                 return Stop::Limit;
             }
-            match self.turn(first, watch, keys, files, out) {
+            match self.turn(first, watch, keys, files, lines, out) {
                 Turn::Stopped(stop) => return stop,
                 Turn::Executed => (),
             }

@@ -22,6 +22,7 @@ ghost use Rattle.nova_machine.specs.Wants.{taken_after, files_after, watch_after
 use crate::machine::{Machine, Stop};
 use expect_actions::{Keys, Watch};
 use host_files::{Failed, Files, Sink, put_all};
+use host_lines::Lines;
 use unit_files::ByteAnswer;
 use unit_list::{Places, due_at, got_at};
 use unit_trait::{After, Got, Queue, Unit, UnitName, UnitStop, Want};
@@ -29,28 +30,33 @@ use unit_trait::{After, Got, Queue, Unit, UnitName, UnitStop, Want};
 impl<U: Unit> Machine<U> {
     ghost use Rattle.nova_machine.specs.Core.{IsAmong};
     ghost use Rattle.nova_machine.specs.Seen.{seen, beside};
-    ghost use Rattle.nova_machine.specs.Comes.{Comes, AreTold, FileCause};
+    ghost use Rattle.nova_machine.specs.Comes.{Does, AreTold, FileCause};
     ghost use Rattle.nova_machine.specs.Service.{serving, service, asked, answered, want_at};
     ghost use Rattle.nova_machine.specs.StopCauses.{moment_of, Watches, ServiceCause};
+    ghost use Rattle.nova_machine.specs.LineChanges.{AreLinesTold, LinesGoOn};
     ghost use Rattle.unit_files.specs.Open.{AllOpen};
     ghost use Rattle.event_queue.specs.EventList.{served};
 
     /// Serves the units whose events are due, first come first.
-    pub(crate) fn serve<S: Sink, F: Files>(
+    pub(crate) fn serve<S: Sink, F: Files, L: Lines>(
         &mut self,
         watch: &mut Watch,
         keys: &Keys,
         files: &mut F,
+        lines: &mut L,
         out: &mut S,
     ) -> Option<Stop>
         requires open { AllOpen self.old.slots (F.state files.old).opened }
-        ensures told { AreTold F.tells self.old.slots → Comes (serving (unit_note result) (seen (beside watch.old keys.now (F.state files.old).files) self.old)) result
-            (seen (beside watch.new keys.now (F.state files.new).files) self.new) S.tells (S.written out.old) (S.written out.new) }
+        ensures told { AreTold F.tells self.old.slots → AreLinesTold L.tells (L.state lines.old) self.old.lines
+            → Does (serving (unit_note result)) result (beside watch.old keys.now (F.state files.old).files (L.state lines.old)) self.old
+            (beside watch.new keys.now (F.state files.new).files (L.state lines.new)) self.new
+            S.tells (S.written out.old) (S.written out.new) }
         ensures rest { result ≡ None → due self.new.events ≡ None }
         ensures time { self.new.time ≡ self.old.time }
         ensures counts { StopCounts result (S.fault_count out.old) (S.fault_count out.new) }
         ensures unit { IfSome result HasUnit }
         ensures slots { self.new.slots ≡ self.old.slots }
+        ensures lines { LinesGoOn L.tells (L.state lines.old) self.old.lines (L.state lines.new) self.new.lines }
         ensures opened { (F.state files.new).opened ≡ (F.state files.old).opened }
         ensures file_cause { FileCause result self.old.slots (F.state files.old) (F.state files.new) }
         ensures watches { Watches result (moment_of watch.old self.old) (moment_of watch.new self.new) S.tells
@@ -59,7 +65,7 @@ impl<U: Unit> Machine<U> {
         ensures breaks { watch.new.breaks ≡ watch.old.breaks }
     {
         'events: while let Some(unit) = self.take_due() {
-            if let Some(stop) = self.serve_unit(unit, watch, keys, files, out) {
+            if let Some(stop) = self.serve_unit(unit, watch, keys, files, lines, out) {
                 return Some(stop);
             }
         }
@@ -74,6 +80,7 @@ impl<U: Unit> Machine<U> {
         ensures low { IfSome result (λ u. u.unit < units_of u.kind) }
         ensures alone { IfSome result (λ u. IsApart u (dues self.new.events)) }
         ensures slots { self.new.slots ≡ self.old.slots }
+        ensures lines { self.new.lines ≡ self.old.lines }
         ensures listed { IfSome result (λ u. IsAmong u.kind (kinds_of self.new.units)) }
         ensures time { self.new.time ≡ self.old.time }
     {
@@ -82,25 +89,29 @@ impl<U: Unit> Machine<U> {
 
     /// Serves a unit whose event was taken.
     #[tactic(auto, unfolding(crate::specs::Service::service))]
-    fn serve_unit<S: Sink, F: Files>(
+    fn serve_unit<S: Sink, F: Files, L: Lines>(
         &mut self,
         unit: UnitName,
         watch: &mut Watch,
         keys: &Keys,
         files: &mut F,
+        lines: &mut L,
         out: &mut S,
     ) -> Option<Stop>
         requires number { unit.unit < units_of unit.kind }
         requires listed { IsAmong unit.kind (kinds_of self.old.units) }
         requires open { AllOpen self.old.slots (F.state files.old).opened }
-        ensures told { AreTold F.tells self.old.slots → Comes (service (failure_of_stop result) unit (seen (beside watch.old keys.now (F.state files.old).files) self.old)) result
-            (seen (beside watch.new keys.now (F.state files.new).files) self.new) S.tells (S.written out.old) (S.written out.new) }
+        ensures told { AreTold F.tells self.old.slots → AreLinesTold L.tells (L.state lines.old) self.old.lines
+            → Does (service (failure_of_stop result) unit) result (beside watch.old keys.now (F.state files.old).files (L.state lines.old)) self.old
+            (beside watch.new keys.now (F.state files.new).files (L.state lines.new)) self.new
+            S.tells (S.written out.old) (S.written out.new) }
         ensures own { IfSome (unit_note result) (λ n. n.unit ≡ unit) }
         ensures dues { result ≡ None → dues self.new.events ≡ dues self.old.events }
         ensures time { self.new.time ≡ self.old.time }
         ensures counts { StopCounts result (S.fault_count out.old) (S.fault_count out.new) }
         ensures unit { IfSome result HasUnit }
         ensures slots { self.new.slots ≡ self.old.slots }
+        ensures lines { LinesGoOn L.tells (L.state lines.old) self.old.lines (L.state lines.new) self.new.lines }
         ensures opened { (F.state files.new).opened ≡ (F.state files.old).opened }
         ensures file_cause { FileCause result self.old.slots (F.state files.old) (F.state files.new) }
         ensures watches { Watches result (moment_of watch.old self.old) (moment_of watch.new self.new) S.tells
@@ -109,6 +120,10 @@ impl<U: Unit> Machine<U> {
         ensures breaks { watch.new.breaks ≡ watch.old.breaks }
     {
         let want = self.ask(unit);
+        match self.on_line(want, lines) {
+            Some(got) => return self.answer(unit, got),
+            None => (),
+        }
         match self.host(want, unit, watch, keys, files, out) {
             Hosted::Gets(got) => self.answer(unit, got),
             Hosted::Wru => {
@@ -132,6 +147,7 @@ impl<U: Unit> Machine<U> {
         ensures hosted { CanBeHosted result unit.kind }
         ensures room { (got : Got) → IsBelowEnd result got → TakesAnswerIn unit.kind got self.new.units }
         ensures slots { self.new.slots ≡ self.old.slots }
+        ensures lines { self.new.lines ≡ self.old.lines }
         ensures events { self.new.events ≡ self.old.events }
         ensures kinds { kinds_of self.new.units ≡ kinds_of self.old.units }
         ensures time { self.new.time ≡ self.old.time }
@@ -149,6 +165,7 @@ impl<U: Unit> Machine<U> {
         ensures machine { self.new ≡ (answered unit got self.old).machine }
         ensures stop { result ≡ (answered unit got self.old).stop }
         ensures slots { self.new.slots ≡ self.old.slots }
+        ensures lines { self.new.lines ≡ self.old.lines }
         ensures dues { dues self.new.events ≡ dues self.old.events }
         ensures time { self.new.time ≡ self.old.time }
         ensures other { IsOwn result }
@@ -231,6 +248,7 @@ impl<U: Unit> Machine<U> {
             (attachment_at (attached_in self.old) unit) (F.state files.old).files want self.old }
         ensures watch { watch.new ≡ watch_behind self.old.time want result watch.old }
         ensures slots { self.new.slots ≡ self.old.slots }
+        ensures lines { self.new.lines ≡ self.old.lines }
         ensures units { self.new.units ≡ self.old.units }
         ensures dues { dues self.new.events ≡ dues self.old.events }
         ensures kinds { kinds_of self.new.units ≡ kinds_of self.old.units }

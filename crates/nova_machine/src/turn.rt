@@ -1,5 +1,7 @@
 ghost use Rattle.std.specs.Prelude.{◌≡◌, ◌<◌, ◌+◌, ℕ, List, true, None, IfSome};
 ghost use Rattle.host_files.specs.Lists.{NamedBytes};
+ghost use Rattle.host_lines.specs.Traffic.{Answer};
+ghost use Rattle.host_lines.specs.State.{LineState};
 ghost use Rattle.event_queue.specs.EventList.{due};
 ghost use Rattle.nova_machine.specs.Comes.{IsOwn};
 ghost use Rattle.nova_machine.specs.Notes.{unit_note};
@@ -10,6 +12,7 @@ use crate::instruction_end::InstructionEnd;
 use crate::machine::{Machine, Stop, Turn};
 use expect_actions::{Keys, Watch};
 use host_files::{Files, Sink};
+use host_lines::Lines;
 use nova_memory::ChainLimit;
 use nova_word::{Addr, Word};
 use unit_trait::Unit;
@@ -21,9 +24,10 @@ impl<U: Unit> Machine<U> {
     ghost use Rattle.nova_machine.specs.Seen.{seen, beside};
     ghost use Rattle.nova_machine.specs.Parts.{stop_of, silent};
     ghost use Rattle.nova_machine.specs.Ends.{end_stop};
-    ghost use Rattle.nova_machine.specs.Comes.{Comes, AreTold, StopCounts, FileCause};
+    ghost use Rattle.nova_machine.specs.Comes.{Does, AreTold, StopCounts, FileCause};
     ghost use Rattle.nova_machine.specs.StopCauses.{moment_of, Watches, AreCountedDown, TestCause, EntryCause};
     ghost use Rattle.nova_machine.specs.StopCauses.{InstructionCause, AttendedCause, EarlyCause, TurnCause};
+    ghost use Rattle.nova_machine.specs.LineChanges.{AreLinesTold, LinesGoOn};
     ghost use Rattle.unit_files.specs.Open.{AllOpen};
     ghost use Rattle.nova_machine.specs.Quiet.{IsPlain};
     ghost use Rattle.nova_machine.specs.Machine.{on_processor};
@@ -44,30 +48,34 @@ impl<U: Unit> Machine<U> {
     /// processor, `Hold` among them, and the time are as they were before the instruction, or the interrupt.
     #[inline]
     #[tactic(auto, unfolding(crate::specs::Turn::turn))]
-    pub fn turn<S: Sink, F: Files>(
+    pub fn turn<S: Sink, F: Files, L: Lines>(
         &mut self,
         first: bool,
         watch: &mut Watch,
         keys: &Keys,
         files: &mut F,
+        lines: &mut L,
         out: &mut S,
     ) -> Turn
         requires early { self.old.time < last_time }
         requires open { AllOpen self.old.slots (F.state files.old).opened }
-        ensures told { AreTold F.tells self.old.slots → Comes (turn (unit_note (stop_of result)) first (seen (beside watch.old keys.now (F.state files.old).files) self.old))
-            (stop_of result) (seen (beside watch.new keys.now (F.state files.new).files) self.new) S.tells (S.written out.old) (S.written out.new) }
+        ensures told { AreTold F.tells self.old.slots → AreLinesTold L.tells (L.state lines.old) self.old.lines
+            → Does (turn (unit_note (stop_of result)) first) (stop_of result) (beside watch.old keys.now (F.state files.old).files (L.state lines.old)) self.old
+            (beside watch.new keys.now (F.state files.new).files (L.state lines.new)) self.new
+            S.tells (S.written out.old) (S.written out.new) }
         ensures time { stop_of result ≡ None → self.new.time ≡ self.old.time + 1 }
         ensures fault { IfSome (unit_note (stop_of result)) (λ n. self.new.time ≡ self.old.time) }
         ensures counts { StopCounts (stop_of result) (S.fault_count out.old) (S.fault_count out.new) }
         ensures unit { IfSome (stop_of result) HasUnit }
         ensures slots { self.new.slots ≡ self.old.slots }
+        ensures lines { LinesGoOn L.tells (L.state lines.old) self.old.lines (L.state lines.new) self.new.lines }
         ensures opened { (F.state files.new).opened ≡ (F.state files.old).opened }
         ensures file_cause { FileCause (stop_of result) self.old.slots (F.state files.old) (F.state files.new) }
         ensures watches { Watches (stop_of result) (moment_of watch.old self.old) (moment_of watch.new self.new) S.tells
             (S.written out.old) (S.written out.new) }
         ensures cause { TurnCause first (stop_of result) keys.now (moment_of watch.old self.old) watch.new self.new }
     {
-        match self.prepare(first, watch, keys, files, out) {
+        match self.prepare(first, watch, keys, files, lines, out) {
             Some(stop) => Turn::Stopped(stop),
             None => self.fetch().turn(),
         }
@@ -76,29 +84,33 @@ impl<U: Unit> Machine<U> {
     /// What comes before the instruction.
     #[inline]
     #[tactic(auto, unfolding(crate::specs::Turn::prepared))]
-    fn prepare<S: Sink, F: Files>(
+    fn prepare<S: Sink, F: Files, L: Lines>(
         &mut self,
         first: bool,
         watch: &mut Watch,
         keys: &Keys,
         files: &mut F,
+        lines: &mut L,
         out: &mut S,
     ) -> Option<Stop>
         requires open { AllOpen self.old.slots (F.state files.old).opened }
-        ensures told { AreTold F.tells self.old.slots → Comes (prepared (unit_note result) first (seen (beside watch.old keys.now (F.state files.old).files) self.old))
-            result (seen (beside watch.new keys.now (F.state files.new).files) self.new) S.tells (S.written out.old) (S.written out.new) }
+        ensures told { AreTold F.tells self.old.slots → AreLinesTold L.tells (L.state lines.old) self.old.lines
+            → Does (prepared (unit_note result) first) result (beside watch.old keys.now (F.state files.old).files (L.state lines.old)) self.old
+            (beside watch.new keys.now (F.state files.new).files (L.state lines.new)) self.new
+            S.tells (S.written out.old) (S.written out.new) }
         ensures rest { result ≡ None → due self.new.events ≡ None }
         ensures time { self.new.time ≡ self.old.time }
         ensures counts { StopCounts result (S.fault_count out.old) (S.fault_count out.new) }
         ensures unit { IfSome result HasUnit }
         ensures slots { self.new.slots ≡ self.old.slots }
+        ensures lines { LinesGoOn L.tells (L.state lines.old) self.old.lines (L.state lines.new) self.new.lines }
         ensures opened { (F.state files.new).opened ≡ (F.state files.old).opened }
         ensures file_cause { FileCause result self.old.slots (F.state files.old) (F.state files.new) }
         ensures watches { Watches result (moment_of watch.old self.old) (moment_of watch.new self.new) S.tells
             (S.written out.old) (S.written out.new) }
         ensures cause { EarlyCause first result keys.now (moment_of watch.old self.old) watch.new self.new }
     {
-        match self.come_to(watch, keys, files, out) {
+        match self.come_to(watch, keys, files, lines, out) {
             Some(stop) => Some(stop),
             None if first => None,
             None => self.test_breaks(watch),
@@ -109,8 +121,9 @@ impl<U: Unit> Machine<U> {
     #[inline]
     #[tactic(auto, unfolding(crate::specs::Turn::breaks_tested))]
     fn test_breaks(&self, watch: &mut Watch) -> Option<Stop>
-        ensures told { (keys : List (ℕ × ℕ)) (files : List NamedBytes) →
-            breaks_tested (seen (beside watch.old keys files) self.now) ≡ silent result (seen (beside watch.new keys files) self.now) }
+        ensures told { (keys : List (ℕ × ℕ)) (files : List NamedBytes) (lines : LineState) (whole : List Answer) →
+            breaks_tested (seen (beside watch.old keys files lines) whole self.now)
+            ≡ silent result (seen (beside watch.new keys files lines) whole self.now) }
         ensures other { IsOwn result }
         ensures unit { IfSome result HasUnit }
         ensures rest { watch.new ≡ record watch.old { breaks = watch.new.breaks } }
@@ -122,21 +135,25 @@ impl<U: Unit> Machine<U> {
 
     /// The services, and the interrupt: nothing, where the turn is plain.
     #[inline]
-    fn come_to<S: Sink, F: Files>(
+    fn come_to<S: Sink, F: Files, L: Lines>(
         &mut self,
         watch: &mut Watch,
         keys: &Keys,
         files: &mut F,
+        lines: &mut L,
         out: &mut S,
     ) -> Option<Stop>
         requires open { AllOpen self.old.slots (F.state files.old).opened }
-        ensures told { AreTold F.tells self.old.slots → Comes (attended (unit_note result) (seen (beside watch.old keys.now (F.state files.old).files) self.old))
-            result (seen (beside watch.new keys.now (F.state files.new).files) self.new) S.tells (S.written out.old) (S.written out.new) }
+        ensures told { AreTold F.tells self.old.slots → AreLinesTold L.tells (L.state lines.old) self.old.lines
+            → Does (attended (unit_note result)) result (beside watch.old keys.now (F.state files.old).files (L.state lines.old)) self.old
+            (beside watch.new keys.now (F.state files.new).files (L.state lines.new)) self.new
+            S.tells (S.written out.old) (S.written out.new) }
         ensures rest { result ≡ None → due self.new.events ≡ None }
         ensures time { self.new.time ≡ self.old.time }
         ensures counts { StopCounts result (S.fault_count out.old) (S.fault_count out.new) }
         ensures unit { IfSome result HasUnit }
         ensures slots { self.new.slots ≡ self.old.slots }
+        ensures lines { LinesGoOn L.tells (L.state lines.old) self.old.lines (L.state lines.new) self.new.lines }
         ensures opened { (F.state files.new).opened ≡ (F.state files.old).opened }
         ensures file_cause { FileCause result self.old.slots (F.state files.old) (F.state files.new) }
         ensures watches { Watches result (moment_of watch.old self.old) (moment_of watch.new self.new) S.tells
@@ -147,7 +164,7 @@ impl<U: Unit> Machine<U> {
         if self.is_plain() {
             None
         } else {
-            self.attend(watch, keys, files, out)
+            self.attend(watch, keys, files, lines, out)
         }
     }
 
@@ -162,21 +179,25 @@ impl<U: Unit> Machine<U> {
     /// The services, and the interrupt.
     #[inline(never)]
     #[tactic(auto, unfolding(crate::specs::Turn::attended))]
-    fn attend<S: Sink, F: Files>(
+    fn attend<S: Sink, F: Files, L: Lines>(
         &mut self,
         watch: &mut Watch,
         keys: &Keys,
         files: &mut F,
+        lines: &mut L,
         out: &mut S,
     ) -> Option<Stop>
         requires open { AllOpen self.old.slots (F.state files.old).opened }
-        ensures told { AreTold F.tells self.old.slots → Comes (attended (unit_note result) (seen (beside watch.old keys.now (F.state files.old).files) self.old))
-            result (seen (beside watch.new keys.now (F.state files.new).files) self.new) S.tells (S.written out.old) (S.written out.new) }
+        ensures told { AreTold F.tells self.old.slots → AreLinesTold L.tells (L.state lines.old) self.old.lines
+            → Does (attended (unit_note result)) result (beside watch.old keys.now (F.state files.old).files (L.state lines.old)) self.old
+            (beside watch.new keys.now (F.state files.new).files (L.state lines.new)) self.new
+            S.tells (S.written out.old) (S.written out.new) }
         ensures rest { result ≡ None → due self.new.events ≡ None }
         ensures time { self.new.time ≡ self.old.time }
         ensures counts { StopCounts result (S.fault_count out.old) (S.fault_count out.new) }
         ensures unit { IfSome result HasUnit }
         ensures slots { self.new.slots ≡ self.old.slots }
+        ensures lines { LinesGoOn L.tells (L.state lines.old) self.old.lines (L.state lines.new) self.new.lines }
         ensures opened { (F.state files.new).opened ≡ (F.state files.old).opened }
         ensures file_cause { FileCause result self.old.slots (F.state files.old) (F.state files.new) }
         ensures watches { Watches result (moment_of watch.old self.old) (moment_of watch.new self.new) S.tells
@@ -184,7 +205,7 @@ impl<U: Unit> Machine<U> {
         ensures breaks { watch.new.breaks ≡ watch.old.breaks }
         ensures cause { AttendedCause result keys.now (moment_of watch.old self.old) watch.new self.new }
     {
-        match self.serve(watch, keys, files, out) {
+        match self.serve(watch, keys, files, lines, out) {
             Some(stop) => Some(stop),
             None => self.interrupt(),
         }
@@ -197,6 +218,7 @@ impl<U: Unit> Machine<U> {
         ensures stop { result ≡ (interrupt self.old).stop }
         ensures other { IsOwn result }
         ensures slots { self.new.slots ≡ self.old.slots }
+        ensures lines { self.new.lines ≡ self.old.lines }
         ensures unit { IfSome result HasUnit }
         ensures events { self.new.events ≡ self.old.events }
         ensures time { self.new.time ≡ self.old.time }
@@ -232,6 +254,7 @@ impl<U: Unit> Machine<U> {
         ensures stop { result ≡ (enter self.old).stop }
         ensures other { IsOwn result }
         ensures slots { self.new.slots ≡ self.old.slots }
+        ensures lines { self.new.lines ≡ self.old.lines }
         ensures unit { IfSome result HasUnit }
         ensures events { self.new.events ≡ self.old.events }
         ensures time { self.new.time ≡ self.old.time }
@@ -255,6 +278,7 @@ impl<U: Unit> Machine<U> {
         ensures machine { self.new ≡ (fetch self.old).machine }
         ensures answer { end_stop result ≡ (fetch self.old).stop }
         ensures slots { self.new.slots ≡ self.old.slots }
+        ensures lines { self.new.lines ≡ self.old.lines }
         ensures time { end_stop result ≡ None → self.new.time ≡ self.old.time + 1 }
         ensures taken { self.new.taken ≡ self.old.taken }
         ensures cause { InstructionCause (end_stop result) self.old.time self.new }

@@ -26,6 +26,7 @@ impl<U: Unit> Machine<U> {
         ensures few { result ≤ most }
         ensures told { Bursts watch.now keys.now most result Transfer self.old self.new }
         ensures slots { self.new.slots ≡ self.old.slots }
+        ensures lines { self.new.lines ≡ self.old.lines }
         ensures later { self.old.time ≤ self.new.time }
         ensures time { self.new.time ≡ self.old.time + result }
         ensures taken { self.new.taken ≡ self.old.taken }
@@ -46,6 +47,7 @@ impl<U: Unit> Machine<U> {
         ensures few { result ≤ most }
         ensures told { (keys : List (ℕ × ℕ)) → Bursts watch.now keys most result Transfer self.old self.new }
         ensures slots { self.new.slots ≡ self.old.slots }
+        ensures lines { self.new.lines ≡ self.old.lines }
         ensures later { self.old.time ≤ self.new.time }
         ensures time { self.new.time ≡ self.old.time + result }
         ensures taken { self.new.taken ≡ self.old.taken }
@@ -64,6 +66,7 @@ impl<U: Unit> Machine<U> {
         ensures few { result ≤ most }
         ensures told { Bursts watch.now keys.now most result Transfer self.old self.new }
         ensures slots { self.new.slots ≡ self.old.slots }
+        ensures lines { self.new.lines ≡ self.old.lines }
         ensures later { self.old.time ≤ self.new.time }
         ensures time { self.new.time ≡ self.old.time + result }
         ensures taken { self.new.taken ≡ self.old.taken }

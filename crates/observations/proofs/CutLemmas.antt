@@ -375,6 +375,11 @@ sent-more (Sends bytes ∷ rest) more ended takes gives fine refused = ap (λ (s
 pub breaks-before : {S : Type 0} (made more : List (Observation S)) (taken : List ℕ) (at : S) → BreaksOff made taken at → BreaksOff (made ++ more) taken at
 breaks-before {S} made more taken at b = record {
   reads = b.reads;
+  sent = b.sent;
+  sent_is = λ gives.
+      let whole : Ended S = record { status = 0; state = at } in
+      let broken = b.cut_at gives whole in
+      sent-more made more whole (length taken) (b.reads + gives) (λ e. absurd (omega (arith, e))) (ap (λ o. o.status) broken) ∙ b.sent_is gives;
   cut_at = λ gives ended.
       let whole : Ended S = record { status = 0; state = at } in
       let broken = b.cut_at gives whole in
@@ -385,6 +390,12 @@ breaks-before {S} made more taken at b = record {
 pub breaks-behind : {S : Type 0} (done made : List (Observation S)) (taken : List ℕ) (at : S) → BreaksOff made taken at → BreaksOff (done ++ made) (text_of done ++ taken) at
 breaks-behind done made taken at b = record {
   reads = reads_of done + b.reads;
+  sent = sent_of done ++ b.sent;
+  sent_is = λ gives.
+      ap (λ n. sent_until n (reads_of done + b.reads + gives) (done ++ made)) (length-append (text_of done) taken)
+      ∙ ap (λ n. sent_until (length (text_of done) + length taken) n (done ++ made)) (add_assoc (reads_of done) b.reads gives)
+      ∙ sent-after done made (length taken) (b.reads + gives)
+      ∙ ap (λ (sent : List (ℕ × ℕ)). sent_of done ++ sent) (b.sent_is gives);
   cut_at = λ gives ended.
       ap (λ n. cut n (reads_of done + b.reads + gives) (done ++ made) ended) (length-append (text_of done) taken)
       ∙ ap (λ n. cut (length (text_of done) + length taken) n (done ++ made) ended) (add_assoc (reads_of done) b.reads gives)
@@ -396,6 +407,10 @@ breaks-behind done made taken at b = record {
 pub breaks-here : {S : Type 0} (text : List ℕ) (at : S) (more : List (Observation S)) (n : ℕ) → n < length text → BreaksOff (Prints text at ∷ more) (take n text) at
 breaks-here text at more n short = record {
   reads = 0;
+  sent = [];
+  sent_is = λ gives.
+      ap (λ k. sent_until k (0 + gives) (Prints text at ∷ more)) (length-take-le n text (omega (arith, short)))
+      ∙ sent-refused text at more n (0 + gives) short;
   cut_at = λ gives ended.
       ap (λ k. cut k (0 + gives) (Prints text at ∷ more) ended) (length-take-le n text (omega (arith, short)))
       ∙ cut-refused text at more ended n (0 + gives) short;
@@ -410,6 +425,20 @@ pub behind-reads : {S : Type 0} (done made : List (Observation S)) (taken : List
     → (breaks-behind done made taken at b).reads ≡ reads_of done + b.reads
 unfolding breaks-behind
 behind-reads done made taken at b = refl
+
+-- and what was sent before it
+pub before-sent : {S : Type 0} (made more : List (Observation S)) (taken : List ℕ) (at : S) (b : BreaksOff made taken at) → (breaks-before made more taken at b).sent ≡ b.sent
+unfolding breaks-before
+before-sent made more taken at b = refl
+
+pub behind-sent : {S : Type 0} (done made : List (Observation S)) (taken : List ℕ) (at : S) (b : BreaksOff made taken at)
+    → (breaks-behind done made taken at b).sent ≡ sent_of done ++ b.sent
+unfolding breaks-behind
+behind-sent done made taken at b = refl
+
+pub here-sent : {S : Type 0} (text : List ℕ) (at : S) (more : List (Observation S)) (n : ℕ) (short : n < length text) → (breaks-here text at more n short).sent ≡ []
+unfolding breaks-here
+here-sent text at more n short = refl
 
 -- no cut makes more reads than there are
 pub cut-reads : {S : Type 0} (made : List (Observation S)) (ended : Ended S) (takes gives : ℕ) → (cut takes gives made ended).reads ≤ reads_of made
@@ -436,6 +465,8 @@ cut-reads (Sends bytes ∷ more) ended takes gives = cut-reads more ended takes 
 pub breaks-map : {S T : Type 0} (f : S → T) (made : List (Observation S)) (taken : List ℕ) (at : S) → BreaksOff made taken at → BreaksOff (map_made f made) taken (f at)
 breaks-map {S} {T} f made taken at b = record {
   reads = b.reads;
+  sent = b.sent;
+  sent_is = λ gives. sent-map f made (length taken) (b.reads + gives) ∙ b.sent_is gives;
   cut_at = λ gives ended.
       let whole : Ended S = record { status = 0; state = at } in
       let other : Ended T = record { status = 0; state = f at } in
@@ -445,6 +476,11 @@ breaks-map {S} {T} f made taken at b = record {
       ∙ cut-more (map_made f made) [] other ended (length taken) (b.reads + gives) (λ e. absurd (omega (arith, e))) (ap (λ o. o.status) mapped)
       ∙ mapped;
 }
+
+-- and what was sent
+pub map-sent : {S T : Type 0} (f : S → T) (made : List (Observation S)) (taken : List ℕ) (at : S) (b : BreaksOff made taken at) → (breaks-map f made taken at b).sent ≡ b.sent
+unfolding breaks-map
+map-sent f made taken at b = refl
 
 -- the reads before a refused byte are among those that are made
 pub breaks-reads : {S : Type 0} (made : List (Observation S)) (taken : List ℕ) (at : S) (b : BreaksOff made taken at) → b.reads ≤ reads_of made

@@ -48,8 +48,10 @@ sent_until takes gives (Sends bytes ∷ more) = bytes ++ sent_until takes gives 
 abbrev pub cut_trace : {S : Type 0} → ℕ → ℕ → Trace S → Outcome S
 cut_trace takes gives t = cut takes gives t.made t.ended
 
--- A console that took those bytes and no more broke the observations off in that state, behind that many reads: it
--- refused a byte of a text there.
+-- A console that took those bytes and no more broke the observations off in that state, behind that many reads and what
+-- was sent until then: it refused a byte of a text there.
 pub record BreaksOff {S : Type 0} (made : List (Observation S)) (taken : List ℕ) (at : S) : Type 0 where
   pub reads : ℕ
+  pub sent : List (ℕ × ℕ)
+  pub sent_is : (gives : ℕ) → sent_until (length taken) (reads + gives) made ≡ sent
   pub cut_at : (gives : ℕ) (ended : Ended S) → cut (length taken) (reads + gives) made ended ≡ ends (number_of Console) taken reads at

@@ -166,7 +166,8 @@ impl Line {
         ensures others { KeepsOthers (L.state lines.old) self.old (L.state lines.new) self.new }
         ensures parties { IsTrue L.tells → KeepsParties (L.state lines.old) self.old (L.state lines.new) self.new }
         ensures port { self.new.port ≡ self.old.port }
-        ensures idle { self.old.port ≡ None → (result ≡ None) × (self.new ≡ self.old) × (lines.new ≡ lines.old) }
+        ensures idle { self.old.port ≡ None → (result ≡ None) × (self.new ≡ unconnected None) × (self.new ≡ self.old)
+            × (lines.new ≡ lines.old) }
         ensures waiting { self.old.keys ≢ [] → result ≡ first_key self.old.keys }
         ensures none { result ≡ None → self.new.keys ≡ [] }
     {

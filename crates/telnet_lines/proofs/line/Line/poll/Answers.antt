@@ -45,6 +45,7 @@ returns-clause-idle g c = λ portless.
     let taken : c.take_key-key.new.self ≡ unconnected None = c.take_key-key.ensures.line ∙ ap key_taken received in
     let three = c.send.ensures.idle (ap (λ (l : LineOf ℕ). l.connection) taken) in (
       c.take_key-key.ensures.key ∙ ap (λ (l : LineOf ℕ). first_key l.keys) received,
+      three.0 ∙ taken,
       three.0 ∙ taken ∙ sym one.0 ∙ one.1,
       three.1 ∙ two.1 ∙ one.2,
     )
