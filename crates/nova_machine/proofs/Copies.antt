@@ -35,7 +35,8 @@ use Rattle.nova_machine.specs.Parts.{Part, silent, followed, then_part}
 use Rattle.nova_machine.specs.Sectors.{sector_words, bytes_got, disk_after}
 use Rattle.nova_machine.specs.Tapes.{NoAnswer, with_some_done, writes_tape, image_operated, tape_files}
 use Rattle.nova_machine.specs.Wants.{answer_to, files_after, own_stop}
-use Rattle.nova_machine.specs.Service.{want_at, asked, answered, replied, key_at, hosted, service, taken}
+use Rattle.nova_machine.specs.OnLines.{Lined, sends}
+use Rattle.nova_machine.specs.Service.{want_at, asked, answered, replied, key_at, hosted, own_service, behind_line, line_service, service, taken}
 use Rattle.nova_machine.specs.Turn.{breaks_tested, turn}
 use Rattle.nova_machine.specs.Run.{run}
 use Rattle.nova_machine.specs.Valid.{CopyIsFile, KeepsFile, LeavesDiskFile, Valid}
@@ -43,6 +44,7 @@ use Rattle.nova_machine.specs.ValidLaws.{HasOwnFile, DiskHasOwnFile, KeepsCopy}
 use Rattle.nova_machine.proofs.Hosting.{disk-is}
 use Rattle.nova_machine.proofs.Leaves.{leaves-fetch, leaves-interrupt}
 use Rattle.nova_machine.proofs.Walks.{OfServices, OfTurns, OfRuns, walk-turn, walk-run}
+use Rattle.nova_machine.proofs.EachService.{each-service}
 
 -- ---- what may be written into the copy
 
@@ -195,15 +197,34 @@ unfolding answered
 copies-replied u stop (Ok g) s t same = record { slots = same.slots; written = same.written; none = same.none; alone = same.alone }
 copies-replied u stop (Err why) s t same = record { slots = same.slots; written = same.written; none = same.none; alone = same.alone }
 
-copies-service : (fault : Option Failure) (u : UnitName) (s : Seen) → Copies s (service fault u (taken s))
-unfolding service
-copies-service fault u s =
+copies-own : (fault : Option Failure) (u : UnitName) (s : Seen) → Copies s (own_service fault u (taken s))
+unfolding own_service
+copies-own fault u s =
     let x = taken s in
     let w = want_at u x.machine in
     let host = copies-hosted fault u x in
     let p = copies-replied u (own_stop (key_at x) x.watch.expects w) (answer_to fault (attachment_at (attached_in x.machine) u) x.files (key_at x) w) s (hosted fault u x)
     (record { slots = host.slots; written = host.written; none = host.none; alone = host.alone }) in
     record { slots = p.slots; written = p.written; none = p.none; alone = p.alone }
+
+-- a line has nothing to do with the copy
+seen-lined : (u : UnitName) (l : Lined) (s : Seen) → CopiesSeen s (behind_line u l (taken s))
+unfolding asked
+seen-lined u l s = record {
+  slots = refl;
+  written = λ _. refl;
+  none = λ _ _. refl;
+  alone = λ _. keeps-same (attachment_at (attached_in s.machine) disk_unit) s.files;
+}
+
+copies-line : (u : UnitName) (l : Lined) (s : Seen) → Copies s (line_service u l (taken s))
+unfolding line_service
+copies-line u l s =
+    let p = copies-replied u None (Ok l.got) s (behind_line u l (taken s)) (seen-lined u l s) in
+    record { slots = p.slots; written = p.written; none = p.none; alone = p.alone }
+
+copies-service : (fault : Option Failure) (u : UnitName) (s : Seen) → Copies s (service fault u (taken s))
+copies-service fault u s = each-service (Copies s) fault u (taken s) (copies-own fault u s) (λ l is. copies-line u l s)
 
 copies-services : OfServices Copies
 copies-services = record {

@@ -18,7 +18,8 @@ use Rattle.nova_machine.specs.Parts.{Part, silent, behind_made, followed, then_p
 use Rattle.nova_machine.specs.Turned.{still}
 use Rattle.nova_machine.specs.Tapes.{NoAnswer}
 use Rattle.nova_machine.specs.Wants.{answer_to, own_stop, prints}
-use Rattle.nova_machine.specs.Service.{want_at, asked, answered, replied, key_at, hosted, service, taken}
+use Rattle.nova_machine.specs.OnLines.{Lined, sends}
+use Rattle.nova_machine.specs.Service.{want_at, asked, answered, replied, key_at, hosted, own_service, behind_line, line_service, service, taken}
 use Rattle.nova_machine.specs.Turn.{fetch, is_interrupted, jump_to, interrupt_reference, enter, interrupt, breaks_tested, prepared, turn}
 use Rattle.nova_machine.specs.Turned.{goes_on}
 use Rattle.nova_machine.specs.Run.{last_time, expired, next_turn, turns, run}
@@ -26,6 +27,7 @@ use Rattle.nova_machine.specs.ValidLaws.{IsInTime}
 use Rattle.nova_machine.proofs.Opened.{turn-opened, turns-none, turns-some}
 use Rattle.nova_machine.proofs.Turns.{turns-turn}
 use Rattle.nova_machine.proofs.Walks.{OfServices, OfPieces, walk-prepared}
+use Rattle.nova_machine.proofs.EachService.{each-service, sends-nowhere}
 
 -- ---- before the instruction no time passes
 
@@ -63,15 +65,24 @@ at-behind s made p first is = record {
   made = λ t h. elim (stands-either t made p.made h) [ inl x ↦ first t x | inr x ↦ is.made t x ];
 }
 
-at-service : (fault : Option Failure) (u : UnitName) (s : Seen) → AtTime s (service fault u (taken s))
-unfolding service hosted asked
-at-service fault u s =
+at-own : (fault : Option Failure) (u : UnitName) (s : Seen) → AtTime s (own_service fault u (taken s))
+unfolding own_service hosted asked
+at-own fault u s =
     let x = taken s in
     let w = want_at u x.machine in
     let at = with_machine x (asked u x.machine) in
     at-behind s (prints w at) (replied u (own_stop (key_at x) x.watch.expects w) (answer_to fault (attachment_at (attached_in x.machine) u) x.files (key_at x) w) (hosted fault u x))
     (λ t h. at-prints s at t w refl h)
     (at-replied s u (own_stop (key_at x) x.watch.expects w) (answer_to fault (attachment_at (attached_in x.machine) u) x.files (key_at x) w) (hosted fault u x) refl)
+
+at-line : (u : UnitName) (l : Lined) (s : Seen) → AtTime s (line_service u l (taken s))
+unfolding line_service asked
+at-line u l s =
+    at-behind s (sends l.sent) (replied u None (Ok l.got) (behind_line u l (taken s))) (λ t h. absurd (sends-nowhere l.sent t h))
+    (at-replied s u None (Ok l.got) (behind_line u l (taken s)) refl)
+
+at-service : (fault : Option Failure) (u : UnitName) (s : Seen) → AtTime s (service fault u (taken s))
+at-service fault u s = each-service (AtTime s) fault u (taken s) (at-own fault u s) (λ l is. at-line u l s)
 
 at-services : OfServices AtTime
 at-services = record { none = λ s. at-silent s s None refl; both = at-then; one = at-service }

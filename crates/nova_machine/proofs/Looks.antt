@@ -23,8 +23,10 @@ use Rattle.nova_machine.specs.Seen.{Seen, with_machine, attached_in}
 use Rattle.nova_machine.specs.Parts.{Part, silent, behind_made}
 use Rattle.nova_machine.specs.Turned.{Turned, goes_on, still}
 use Rattle.nova_machine.specs.Wants.{answer_to, own_stop, prints, watch_after, files_after, typed_key, first_key, stop_by}
-use Rattle.nova_machine.specs.Service.{asked, answered, hosted, service, replied, done_for, key_at, sent_at, typed_at, want_at}
+use Rattle.nova_machine.specs.OnLines.{Lined, lined}
+use Rattle.nova_machine.specs.Service.{asked, answered, hosted, own_service, lined_at, service, replied, done_for, key_at, sent_at, typed_at, want_at}
 use Rattle.nova_machine.specs.Looks.{keyboard, wish_of, looked_again, LooksChangeNothing}
+use Rattle.nova_machine.proofs.EachService.{service-own}
 
 -- the keyboard keeps its registers where it is asked, and where no key comes
 asked-keeps : (registers : List ℕ) → (row_of Tti registers (Due 0)).registers ≡ registers
@@ -107,9 +109,18 @@ look-of fault s w sent typed =
       files = files_after fault a s.machine.processor.memory s.files w;
     }))
 
-service-is : (fault : Option Failure) (s : Seen) → service fault keyboard s ≡ look-of fault s (want_at keyboard s.machine) (sent_at s) (typed_at s)
-unfolding service hosted look-of
-service-is fault s = refl
+own-is : (fault : Option Failure) (s : Seen) → own_service fault keyboard s ≡ look-of fault s (want_at keyboard s.machine) (sent_at s) (typed_at s)
+unfolding own_service hosted look-of
+own-is fault s = refl
+
+-- the console's keyboard wants nothing of a line
+unlined : (s : Seen) → want_at keyboard s.machine ≡ want.Key → lined_at keyboard s ≡ None
+unfolding lined
+unlined s is = ap (λ (w : Want). lined s.machine.time w s.lines s.ahead) is
+
+service-is : (fault : Option Failure) (s : Seen) → want_at keyboard s.machine ≡ want.Key
+    → service fault keyboard s ≡ look-of fault s (want_at keyboard s.machine) (sent_at s) (typed_at s)
+service-is fault s is = service-own fault keyboard s (unlined s is) ∙ own-is fault s
 
 -- what is left where nothing is sent or typed
 unlooked : (fault : Option Failure) (s : Seen) → sends_left s.machine.time s.watch.sends ≡ s.watch.sends
@@ -135,7 +146,7 @@ pub looks-change-nothing : LooksChangeNothing
 looks-change-nothing fault s there none =
     let m = s.machine in
     let both = first-none (sent_at s) (typed_at s) none in
-    service-is fault s
+    service-is fault s (wants-key m.units there)
     ∙ ap (λ (w : Want). look-of fault s w (sent_at s) (typed_at s)) (wants-key m.units there)
     ∙ ap (λ (k : Option ℕ). look-of fault s want.Key k (typed_at s)) both.0
     ∙ ap (λ (k : Option ℕ). look-of fault s want.Key None k) both.1

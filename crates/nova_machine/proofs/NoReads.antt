@@ -13,11 +13,13 @@ use Rattle.nova_machine.specs.Notes.{RunNote}
 use Rattle.nova_machine.specs.Seen.{Seen, with_machine, attached_in}
 use Rattle.nova_machine.specs.Parts.{Part, followed, then_part}
 use Rattle.nova_machine.specs.Wants.{prints, answer_to, own_stop}
-use Rattle.nova_machine.specs.Service.{want_at, key_at, asked, replied, hosted, service, taken}
+use Rattle.nova_machine.specs.OnLines.{Lined, sends}
+use Rattle.nova_machine.specs.Service.{want_at, key_at, asked, replied, hosted, own_service, behind_line, line_service, service, taken}
 use Rattle.nova_machine.specs.Turn.{breaks_tested}
 use Rattle.nova_machine.specs.Run.{run}
 use Rattle.nova_machine.specs.Tapes.{NoAnswer}
 use Rattle.nova_machine.proofs.Walks.{OfRuns, walk-run}
+use Rattle.nova_machine.proofs.EachService.{each-service, sends-reads}
 
 followed-reads : (made : List (Observation Seen)) (stop : Option Stop) (s : Seen) (goes_on : Seen → Part) → reads_of made ≡ 0 → ((t : Seen) → reads_of (goes_on t).made ≡ 0)
     → reads_of (followed made stop s goes_on).made ≡ 0
@@ -36,13 +38,23 @@ replied-reads : (u : UnitName) (stop : Option Stop) (answer : Result Got NoAnswe
 replied-reads u stop (Ok g) s = refl
 replied-reads u stop (Err f) s = refl
 
-service-reads : (fault : Option Failure) (u : UnitName) (s : Seen) → reads_of (service fault u s).made ≡ 0
-unfolding service
-service-reads fault u s =
+own-reads : (fault : Option Failure) (u : UnitName) (s : Seen) → reads_of (own_service fault u s).made ≡ 0
+unfolding own_service
+own-reads fault u s =
     let w = want_at u s.machine in
     let made = prints w (with_machine s (asked u s.machine)) in
     let none = prints-reads (want_at u s.machine) (with_machine s (asked u s.machine)) in
     reads_of-append made _ ∙ ap (λ (n : ℕ). reads_of made + n) (replied-reads u (own_stop (key_at s) s.watch.expects w) (answer_to fault (attachment_at (attached_in s.machine) u) s.files (key_at s) w) (hosted fault u s)) ∙ omega (arith, none)
+
+line-reads : (u : UnitName) (l : Lined) (s : Seen) → reads_of (line_service u l s).made ≡ 0
+unfolding line_service
+line-reads u l s =
+    let made = sends {S = Seen} l.sent in
+    let none = sends-reads l.sent in
+    reads_of-append made _ ∙ ap (λ (n : ℕ). reads_of made + n) (replied-reads u None (Ok l.got) (behind_line u l s)) ∙ omega (arith, none)
+
+service-reads : (fault : Option Failure) (u : UnitName) (s : Seen) → reads_of (service fault u s).made ≡ 0
+service-reads fault u s = each-service (λ p. reads_of p.made ≡ 0) fault u s (own-reads fault u s) (λ l is. line-reads u l s)
 
 tested-reads : (s : Seen) → reads_of (breaks_tested s).made ≡ 0
 unfolding breaks_tested

@@ -30,11 +30,13 @@ use Rattle.nova_machine.specs.Transfer.{central_function, central_pulse, central
 use Rattle.nova_machine.specs.Wants.{stop_by, key_stop, own_stop, wru, answer_to}
 use Rattle.expect_actions.specs.Breaks.{stop_at}
 use Rattle.expect_actions.specs.Expects.{ExpectTable, match_at}
-use Rattle.nova_machine.specs.Service.{answered, first_stop, replied, hosted, want_at, key_at, service, taken, serving}
+use Rattle.nova_machine.specs.OnLines.{Lined}
+use Rattle.nova_machine.specs.Service.{answered, first_stop, replied, hosted, want_at, key_at, own_service, line_service, service, taken, serving}
 use Rattle.nova_machine.specs.Turn.{with_memory, refer_to, refer, execute, fetch, is_interrupted, jump_to, interrupt_reference, enter, interrupt, breaks_tested, breaks_tested_unless, attended, prepared, turn}
 use Rattle.nova_machine.specs.StopLaws.{fetched, IsTransfer, IsHalt, IsUnknown, IsEndless, IsEndlessEntry, IsBroken, IsReached, ready, IsHalted, behind_entry, TurnStops}
 use Rattle.nova_machine.specs.Tapes.{NoAnswer, FileFails, ImageIsBad}
 use Rattle.nova_machine.proofs.Walks.{OfServices, walk-serving}
+use Rattle.nova_machine.proofs.EachService.{each-service}
 use Rattle.nova_machine.proofs.Opened.{stop-cases, attended-stops, attended-goes, prepared-stops, prepared-goes, turn-stops, turn-goes}
 
 -- ---- an instruction
@@ -268,11 +270,18 @@ unit-replied u key expects w (Ok g) s = unit-own key expects w _ (unit-stop_by u
 unit-replied u key expects w (Err (FileFails f)) s = tt
 unit-replied u key expects w (Err (ImageIsBad place)) s = tt
 
-unit-service : (fault : Option Failure) (u : UnitName) (s : Seen) → IsUnitStop (service fault u s).stop
-unfolding service
-unit-service fault u s =
+unit-own_service : (fault : Option Failure) (u : UnitName) (s : Seen) → IsUnitStop (own_service fault u s).stop
+unfolding own_service
+unit-own_service fault u s =
     let w = want_at u s.machine in
     unit-replied u (key_at s) s.watch.expects w (answer_to fault (attachment_at (attached_in s.machine) u) s.files (key_at s) w) (hosted fault u s)
+
+unit-line : (u : UnitName) (l : Lined) (s : Seen) → IsUnitStop (line_service u l s).stop
+unfolding line_service answered
+unit-line u l s = unit-stop_by u _
+
+unit-service : (fault : Option Failure) (u : UnitName) (s : Seen) → IsUnitStop (service fault u s).stop
+unit-service fault u s = each-service (λ p. IsUnitStop p.stop) fault u s (unit-own_service fault u s) (λ l is. unit-line u l s)
 
 -- the stop of a part is one of a service
 abbrev StopsForUnits : Seen → Part → Type 0

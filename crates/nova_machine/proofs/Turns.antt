@@ -31,7 +31,8 @@ use Rattle.nova_machine.specs.Transfer.{asked_unit, flags_in, to_unit, to_device
 use Rattle.nova_machine.specs.Wants.{prints, stop_by, key_stop, own_stop, wru, answer_to, memory_behind}
 use Rattle.expect_actions.specs.Breaks.{stop_at}
 use Rattle.expect_actions.specs.Expects.{ExpectTable, match_at}
-use Rattle.nova_machine.specs.Service.{asked, answered, first_stop, replied, hosted, want_at, key_at, service, taken}
+use Rattle.nova_machine.specs.OnLines.{Lined, sends}
+use Rattle.nova_machine.specs.Service.{asked, answered, first_stop, replied, hosted, want_at, key_at, own_service, behind_line, line_service, service, taken}
 use Rattle.nova_machine.specs.Turn.{with_memory, refer_to, refer, execute, fetch, is_interrupted, jump_to, interrupt_reference, enter, interrupt, breaks_tested, turn}
 use Rattle.nova_machine.specs.Laws.{IsLimit, Unchanged}
 use Rattle.unit_trait.specs.declared.calls.TapeOrder.{TapeOrder}
@@ -41,6 +42,7 @@ use Rattle.simh_tape.specs.Image.{Met}
 use Rattle.simh_tape.specs.Image.Met.{BlockTo}
 use Rattle.simh_tape.specs.Reading.{next_act}
 use Rattle.nova_machine.proofs.Walks.{OfPieces, stages-of, walk-instruction}
+use Rattle.nova_machine.proofs.EachService.{each-service}
 use Rattle.nova_memory.proofs.Keeps.{address-size}
 
 -- an instruction leaves the size of memory
@@ -374,13 +376,23 @@ size-behind : (fault : Option Failure) (a : Option Attachment) (files : List Nam
 size-behind fault a files disk (want.Tape order) m = tape-size fault a files order m
 size-behind fault a files disk w m = size-after a disk w m
 
-service-prepares : (fault : Option Failure) (u : UnitName) (s : Seen) → Prepares s (service fault u (taken s))
-unfolding service hosted asked
-service-prepares fault u s =
+own-prepares : (fault : Option Failure) (u : UnitName) (s : Seen) → Prepares s (own_service fault u (taken s))
+unfolding own_service hosted asked
+own-prepares fault u s =
     let x = taken s in
     let w = want_at u x.machine in
     prepares-behind s (prints w (with_machine x (asked u x.machine))) _
     (replied-prepares u (key_at x) x.watch.expects w (answer_to fault (attachment_at (attached_in x.machine) u) x.files (key_at x) w) s (hosted fault u x) (record { acts = record { time = refl; unchanged = record { size = size-behind fault _ x.files x.machine.disk w x.machine.processor.memory; sr = refl; stop_dev = refl; slots = refl } }; hold = refl }))
+
+line-prepares : (u : UnitName) (l : Lined) (s : Seen) → Prepares s (line_service u l (taken s))
+unfolding line_service asked
+line-prepares u l s =
+    let x = taken s in
+    prepares-behind s (sends l.sent) _
+    (replied-prepares u None x.watch.expects want.Nothing (Ok l.got) s (behind_line u l x) (record { acts = record { time = refl; unchanged = record { size = refl; sr = refl; stop_dev = refl; slots = refl } }; hold = refl }))
+
+service-prepares : (fault : Option Failure) (u : UnitName) (s : Seen) → Prepares s (service fault u (taken s))
+service-prepares fault u s = each-service (Prepares s) fault u (taken s) (own-prepares fault u s) (λ l is. line-prepares u l s)
 
 -- the interrupt, as a piece
 pub record Enters (before : MachineState) (t : Turned) : Type 0 where

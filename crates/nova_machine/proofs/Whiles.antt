@@ -15,11 +15,13 @@ use Rattle.nova_machine.specs.Wants.{answer_to, own_stop}
 use Rattle.nova_machine.specs.Notes.{at_unit}
 use Rattle.nova_machine.specs.Seen.{Seen, attached_in}
 use Rattle.nova_machine.specs.Parts.{Part, behind_made, followed, then_part}
-use Rattle.nova_machine.specs.Service.{asked, answered, replied, hosted, want_at, key_at, service, taken, services, serving}
+use Rattle.nova_machine.specs.OnLines.{Lined}
+use Rattle.nova_machine.specs.Service.{asked, answered, replied, hosted, want_at, key_at, own_service, behind_line, line_service, service, taken, services, serving}
 use Rattle.nova_machine.specs.ServiceLaws.{ServesWhileDue}
 use Rattle.nova_machine.proofs.Serving.{serving-none, serving-some}
 use Rattle.nova_machine.specs.Tapes.{NoAnswer}
 use Rattle.nova_machine.proofs.Opened.{serving-is}
+use Rattle.nova_machine.proofs.EachService.{each-service}
 
 same-then : (p : Part) (f g : Seen → Part) → f p.after ≡ g p.after → then_part p f ≡ then_part p g
 same-then p f g same = by-stop p.made p.stop p.after same
@@ -36,11 +38,19 @@ replied-dues u stop (Ok g) s fit = wished-dues u _ s.machine.events (again-fits 
 replied-dues u stop (Err f) s fit = refl
 
 -- a service leaves what is due
-service-dues : (fault : Option Failure) (u : UnitName) (s : Seen) → AllFit s.machine.units → dues (service fault u s).after.machine.events ≡ dues s.machine.events
-unfolding service hosted asked
-service-dues fault u s fit =
+own-dues : (fault : Option Failure) (u : UnitName) (s : Seen) → AllFit s.machine.units → dues (own_service fault u s).after.machine.events ≡ dues s.machine.events
+unfolding own_service hosted asked
+own-dues fault u s fit =
     let w = want_at u s.machine in
     replied-dues u (own_stop (key_at s) s.watch.expects w) (answer_to fault (attachment_at (attached_in s.machine) u) s.files (key_at s) w) (hosted fault u s) (after-fits (code_of u.kind) u.unit s.machine.units fit)
+
+line-dues : (u : UnitName) (l : Lined) (s : Seen) → AllFit s.machine.units → dues (line_service u l s).after.machine.events ≡ dues s.machine.events
+unfolding line_service asked
+line-dues u l s fit = replied-dues u None (Ok l.got) (behind_line u l s) (after-fits (code_of u.kind) u.unit s.machine.units fit)
+
+service-dues : (fault : Option Failure) (u : UnitName) (s : Seen) → AllFit s.machine.units → dues (service fault u s).after.machine.events ≡ dues s.machine.events
+service-dues fault u s fit =
+    each-service (λ p. dues p.after.machine.events ≡ dues s.machine.events) fault u s (own-dues fault u s fit) (λ l is. line-dues u l s fit)
 
 pub serves-while-due : ServesWhileDue
 serves-while-due = record {
