@@ -39,23 +39,24 @@ use Rattle.nova_machine.proofs.ValidBytes.{AreFiles, IsByte, byte-low, bytes-tak
 use Rattle.nova_machine.proofs.ValidMemory.{HasSize, memory-sector}
 use Rattle.nova_machine.proofs.ValidTape.{StandsOnTape, tape-stands, files-tape, memory-tape}
 
--- ---- the byte that is written
+-- ---- the byte that is written, or put on a line
 
 abbrev pub WritesByte : Want → Type 0
 WritesByte (want.WriteByte place byte) = byte < 2 ^ 8
+WritesByte (want.LinePut line byte) = byte < 2 ^ 8
 WritesByte other = Unit {0}
 
 writes-of : (kind : Kind) (values : List ℕ) (n : ℕ) → InRange (registers kind) values → WritesByte (row_of kind values (Due n)).want
 unfolding row_of reader_row writer_row clock_row keyboard_row teleprinter_row
 writes-of kind values n =
     every-kind (λ (k : Kind). InRange (registers k) values → WritesByte (row_of k values (Due n)).want)
-    ((λ fits. tt), (λ fits. cond_both (slice_index values 4 == 2) want.Nothing (want.Tape (tape_order n values)) WritesByte (λ _. tt) (λ _. tt)), (λ fits. let held = held-within (registers Lpt) values 4 fits in omega (arith, held)), (λ fits. tt), (λ fits. let held = held-within (registers Ptp) values 4 fits in omega (arith, held)), (λ fits. tt), (λ fits. tt), (λ fits. tt), (λ fits. tt), (λ fits. tt), (λ fits. tt)) kind
+    ((λ fits. tt), (λ fits. cond_both (slice_index values 4 == 2) want.Nothing (want.Tape (tape_order n values)) WritesByte (λ _. tt) (λ _. tt)), (λ fits. let held = held-within (registers Lpt) values 4 fits in omega (arith, held)), (λ fits. tt), (λ fits. let held = held-within (registers Ptp) values 4 fits in omega (arith, held)), (λ fits. tt), (λ fits. tt), (λ fits. tt), (λ fits. tt), (λ fits. let held = held-within (registers Tto1) values 3 fits in omega (arith, held)), (λ fits. tt)) kind
 
 writes-found : (n : ℕ) (there : Option UnitState) → IfSome there Fits → WritesByte (row_or_nothing (Due n) there).want
 writes-found n None fits = tt
 writes-found n (Some u) fits = writes-of u.kind u.registers n fits
 
--- what a unit writes is a byte
+-- what a unit writes, or puts on a line, is a byte
 pub writes-in : (code n : ℕ) (us : List UnitState) → AllFit us → WritesByte (row_at code (Due n) us).want
 writes-in code n us all = writes-found n (unit_at code us) (found-fits code us all)
 

@@ -325,6 +325,8 @@ follows-seen s m valid follows = record {
   taken = subst (λ (n : ℕ). n ≤ length s.keys) (sym follows.taken) valid.taken;
   keys = valid.keys;
   files = valid.files;
+  lines = valid.lines;
+  ahead = valid.ahead;
 }
 
 pub fetched-valid : (s : Seen) → Valid s → Valid (with_machine s (fetch s.machine).machine)

@@ -45,7 +45,7 @@ valid-serving note s is =
 valid-tested : (s : Seen) → Valid s → IsValidPart (breaks_tested s)
 unfolding breaks_tested
 valid-tested s is =
-    valid-silent _ _ (record { machine = is.machine; watch = watch-tested s.machine.processor.cpu.pc s.watch is.watch; taken = is.taken; keys = is.keys; files = is.files })
+    valid-silent _ _ (record { machine = is.machine; watch = watch-tested s.machine.processor.cpu.pc s.watch is.watch; taken = is.taken; keys = is.keys; files = is.files; lines = is.lines; ahead = is.ahead })
 
 -- a part leads from a valid state to valid ones
 abbrev StaysValid : Seen → Part → Type 0

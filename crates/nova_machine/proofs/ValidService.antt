@@ -1,5 +1,5 @@
 -- The service of a unit leaves a valid state, and prints in one.
-use Rattle.std.proofs.Common.{◌≡◌, inl, inr, ℕ, ◌<◌, ◌==◌, List, [], ◌∷◌, Option, Some, None, option_map, IfSome, Result, Ok, Err, refl, ap, sym, subst, ◌∙◌, length}
+use Rattle.std.proofs.Common.{◌≡◌, inl, inr, ℕ, ◌<◌, ◌≤◌, ◌==◌, List, [], ◌∷◌, Option, Some, None, option_map, IfSome, Result, Ok, Err, refl, ap, sym, subst, ◌∙◌, length}
 use Rattle.std.specs.List.{AllByRecursion}
 use Rattle.std.proofs.lemmas.Bool.{cond_both}
 use Rattle.observations.specs.Observations.{Observation, StandsAt}
@@ -28,7 +28,8 @@ use Rattle.nova_machine.specs.Seen.{Seen, with_machine, attached_in}
 use Rattle.nova_machine.specs.Parts.{Part, silent, behind_made, followed, then_part}
 use Rattle.nova_machine.specs.Tapes.{NoAnswer}
 use Rattle.nova_machine.specs.Wants.{answer_to, typed_key, own_stop, prints, unanswered}
-use Rattle.nova_machine.specs.Service.{want_at, asked, answered, stopping, replied, typed_at, sent_at, key_at, done_for, hosted, service, taken}
+use Rattle.nova_machine.specs.OnLines.{Lined, sends}
+use Rattle.nova_machine.specs.Service.{want_at, asked, answered, stopping, replied, typed_at, sent_at, key_at, done_for, hosted, own_service, behind_line, line_service, lined_at, service, taken}
 use Rattle.nova_machine.specs.Valid.{ValidMachine, Valid}
 use Rattle.nova_machine.specs.ValidLaws.{IsValidPart}
 use Rattle.nova_machine.proofs.Hosting.{wants-in}
@@ -37,6 +38,8 @@ use Rattle.nova_machine.proofs.ValidInstruction.{follows-seen}
 use Rattle.nova_machine.proofs.ValidBytes.{AreFiles, IsByte}
 use Rattle.nova_machine.proofs.ValidMemory.{bytes-disk}
 use Rattle.nova_machine.proofs.ValidWatch.{watch-after, key-typed, key-sent, key-first, taken-within}
+use Rattle.nova_machine.proofs.EachService.{each-service, sends-nowhere}
+use Rattle.nova_machine.proofs.ValidLines.{ValidLined, lined-valid}
 use Rattle.nova_machine.proofs.ValidAnswers.{writes-in, IsGiven, answer-given, files-behind, memory-hosted}
 
 -- ---- parts
@@ -167,6 +170,8 @@ valid-hosted fault u s is =
       taken = taken-within (sent_at s) (typed_at s) s.machine.taken (length s.keys) w is.taken (typed-key s is);
       keys = is.keys;
       files = files-behind fault a s.machine.processor.memory s.files w (writes-in (code_of u.kind) u.unit s.machine.units is.machine.core.registers) is.machine.memory is.files;
+      lines = is.lines;
+      ahead = is.ahead;
     }
 
 hosted-units : (fault : Option Failure) (u : UnitName) (s : Seen) → after_at (code_of u.kind) (Due u.unit) s.machine.units ≡ (hosted fault u s).machine.units
@@ -182,9 +187,9 @@ asked-taken : (u : UnitName) (m : MachineState) → (asked u m).taken ≡ m.take
 unfolding asked
 asked-taken u m = refl
 
-pub valid-service : (fault : Option Failure) (u : UnitName) (s : Seen) → u.unit < units_of u.kind → Valid s → IsValidPart (service fault u s)
-unfolding service
-valid-service fault u s low is =
+valid-own : (fault : Option Failure) (u : UnitName) (s : Seen) → u.unit < units_of u.kind → Valid s → IsValidPart (own_service fault u s)
+unfolding own_service
+valid-own fault u s low is =
     let w = want_at u s.machine in
     let a = attachment_at (attached_in s.machine) u in
     let us = s.machine.units in
@@ -197,6 +202,38 @@ valid-service fault u s low is =
     valid-behind (prints w at) (replied u (own_stop key s.watch.expects w) answer (hosted fault u s))
     (λ t h. valid-prints w at t (follows-seen s (asked u s.machine) is (record { valid = valid-asked u s.machine is.machine; taken = asked-taken u s.machine })) h)
     (valid-replied u (own_stop key s.watch.expects w) answer (hosted fault u s) low can (valid-hosted fault u s is))
+
+-- ---- what it wants is done on a line
+
+valid-lined : (u : UnitName) (l : Lined) (s : Seen) → lined_at u s ≡ Some l → Valid s → ValidLined (want_at u s.machine) l
+valid-lined u l s there is =
+    lined-valid s.machine.time (want_at u s.machine) s.lines s.ahead l (writes-in (code_of u.kind) u.unit s.machine.units is.machine.core.registers) is.lines is.ahead there
+
+behind-valid : (u : UnitName) (l : Lined) (s : Seen) → ValidLined (want_at u s.machine) l → Valid s → Valid (behind_line u l s)
+behind-valid u l s lined is = record {
+  machine = valid-asked u s.machine is.machine;
+  watch = is.watch;
+  taken = subst (λ (n : ℕ). n ≤ length s.keys) (sym (asked-taken u s.machine)) is.taken;
+  keys = is.keys;
+  files = is.files;
+  lines = lined.lines;
+  ahead = lined.ahead;
+}
+
+line-units : (u : UnitName) (l : Lined) (s : Seen) → after_at (code_of u.kind) (Due u.unit) s.machine.units ≡ (behind_line u l s).machine.units
+unfolding asked
+line-units u l s = refl
+
+valid-line : (u : UnitName) (l : Lined) (s : Seen) → u.unit < units_of u.kind → lined_at u s ≡ Some l → Valid s → IsValidPart (line_service u l s)
+unfolding line_service
+valid-line u l s low there is =
+    let lined = valid-lined u l s there is in
+    let can = subst (λ (x : List UnitState). CanReply u x (Ok l.got)) (line-units u l s) (can-reply u s.machine.units (Ok l.got) lined.got) in
+    valid-behind (sends l.sent) (replied u None (Ok l.got) (behind_line u l s)) (λ t h. absurd (sends-nowhere l.sent t h))
+    (valid-replied u None (Ok l.got) (behind_line u l s) low can (behind-valid u l s lined is))
+
+pub valid-service : (fault : Option Failure) (u : UnitName) (s : Seen) → u.unit < units_of u.kind → Valid s → IsValidPart (service fault u s)
+valid-service fault u s low is = each-service IsValidPart fault u s (valid-own fault u s low is) (λ l there. valid-line u l s low there is)
 
 -- the events that are due are of units of their kinds
 pub dues-low : (es : List Event) → AllByRecursion (λ (e : Event). e.unit.unit < units_of e.unit.kind) es → AllByRecursion (λ (u : UnitName). u.unit < units_of u.kind) (dues es)

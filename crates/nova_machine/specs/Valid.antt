@@ -1,7 +1,10 @@
 -- What every state is that a run works on: true of the beginning, and kept by every turn. Laws speak of such states.
-use Rattle.std.specs.Prelude.{◌≡◌, ℕ, ◌^◌, ◌<◌, ◌≤◌, false, List, length, Option, Some, None}
+use Rattle.std.specs.Prelude.{◌≡◌, ℕ, ◌+◌, ◌^◌, ◌<◌, ◌≤◌, false, List, length, Option, Some, None}
 use Rattle.std.specs.List.{AllByRecursion}
 use Rattle.host_files.specs.Lists.{NamedBytes, bytes_of}
+use Rattle.host_lines.specs.Traffic.{Peer, Happening, Traffic, Answer, Gave, Ahead, Script, Answers}
+use Rattle.telnet_lines.specs.Line.{LineOf, full_output}
+use Rattle.telnet_lines.specs.Poll.{longest_received}
 use Rattle.unit_files.specs.Attachments.{Attachment, attachment_at}
 use Rattle.unit_files.specs.Buffer.{Buffer, no_buffer, disk_unit}
 use Rattle.nova_memory.specs.Memory.{IsMemory, IsSize}
@@ -54,13 +57,34 @@ pub record ValidWatch (w : WatchState) : Type 0 where
   pub broke : AreBytes w.breaks.actions
   pub matched : AreBytes w.expects.actions
 
--- and with the keys that are to come and the files
+-- a line: keys and coded output that wait are bytes, at most 64 keys and 1025 bytes of output
+pub record ValidLine (line : LineOf Peer) : Type 0 where
+  pub keys : AreBytes line.keys
+  pub output : AreBytes line.output
+  pub few_keys : length line.keys ≤ longest_received
+  pub few_bytes : length line.output ≤ full_output + 1
+
+-- what is still to come on lines: callers send bytes, and an answer that gives some gives no more than one receive takes
+abbrev pub ValidAnswer : Answer → Type 0
+ValidAnswer (Gave bytes) = AreBytes bytes × (length bytes ≤ longest_received)
+ValidAnswer other = Unit {0}
+
+abbrev pub ValidTraffic : Traffic → Type 0
+ValidTraffic t = AllByRecursion (λ (e : Happening). AreBytes e.bytes) t.entries
+
+abbrev pub ValidAhead : Ahead → Type 0
+ValidAhead (Script t) = ValidTraffic t
+ValidAhead (Answers answers) = AllByRecursion ValidAnswer answers
+
+-- and with the keys that are to come, the files, the lines, and what is still to come on them
 pub record Valid (s : Seen) : Type 0 where
   pub machine : ValidMachine s.machine
   pub watch : ValidWatch s.watch
   pub taken : s.machine.taken ≤ length s.keys
   pub keys : AllByRecursion (λ (key : ℕ × ℕ). key.1 < 2 ^ 8) s.keys
   pub files : AllByRecursion (λ (f : NamedBytes). AreBytes f.1) s.files
+  pub lines : AllByRecursion ValidLine s.lines
+  pub ahead : ValidAhead s.ahead
 
 -- what the disk holds of its file is what is in the file, where nothing is to be written back; without a file it holds nothing
 abbrev pub CopyIsFile : Option Attachment → Buffer → List NamedBytes → Type 0
