@@ -1,12 +1,12 @@
 -- The disk's copy of its file over a turn and a run.
-use Rattle.std.proofs.Common.{◌≡◌, ◌≢◌, ◌↔◌, ◌&&◌, [], ◌∷◌, unwrap_or, ℕ, ◌==◌, inl, inr, Bool, true, false, List, length, slice_index, nat_lt, Option, Some, None, option_map, IfSome, Result, Ok, Err, refl, ap, sym, subst, ◌∙◌, arith, if◌then◌else◌}
+use Rattle.std.proofs.Common.{◌≡◌, ◌≢◌, ◌↔◌, ◌&&◌, ℕ, ◌==◌, inl, inr, Bool, true, false, List, length, slice_index, nat_lt, Option, Some, None, option_map, IfSome, Result, Ok, Err, refl, ap, sym, subst, ◌∙◌, arith, if◌then◌else◌}
 use Rattle.std.proofs.lemmas.Bool.{cond_both, cases_lt, le-ltb}
 use Rattle.std.proofs.lemmas.List.{length-map, get_or_past}
 use Rattle.host_files.specs.Lists.{NamedBytes, bytes_of, changed}
 use Rattle.host_files.proofs.Changes.{changed_elsewhere}
 use Rattle.nova_memory.specs.Memory.{MemoryState}
 use Rattle.unit_trait.specs.declared.kind.Kind.{Kind}
-use Rattle.unit_trait.specs.declared.kind.Kind.TheVariants.{Dsk, Mta, Lpt, Ptr, Ptp, Clk, Tti, Tto, Tti1, Tto1}
+use Rattle.unit_trait.specs.declared.kind.Kind.TheVariants.{Dsk, Mta}
 use Rattle.unit_trait.specs.declared.kind.UnitName.{UnitName}
 use Rattle.unit_trait.specs.declared.calls.Want.{Want}
 use Rattle.unit_trait.specs.declared.calls.Want.TheVariants as want
@@ -35,7 +35,7 @@ use Rattle.nova_machine.specs.Parts.{Part, silent, followed, then_part}
 use Rattle.nova_machine.specs.Sectors.{sector_words, bytes_got, disk_after}
 use Rattle.nova_machine.specs.Tapes.{NoAnswer, with_some_done, writes_tape, image_operated, tape_files}
 use Rattle.nova_machine.specs.Wants.{answer_to, files_after, own_stop}
-use Rattle.nova_machine.specs.OnLines.{Lined, sends}
+use Rattle.nova_machine.specs.OnLines.{Lined}
 use Rattle.nova_machine.specs.Service.{want_at, asked, answered, replied, key_at, hosted, own_service, behind_line, line_service, service, taken}
 use Rattle.nova_machine.specs.Turn.{breaks_tested, turn}
 use Rattle.nova_machine.specs.Run.{run}

@@ -1,5 +1,5 @@
 -- A service, by whether what the unit wants is for a line that is there.
-use Rattle.std.proofs.Common.{◌≡◌, ℕ, List, [], ◌∷◌, Option, Some, None, refl, ap}
+use Rattle.std.proofs.Common.{◌≡◌, List, [], ◌∷◌, Option, Some, None, refl, ap}
 use Rattle.observations.specs.Observations.{reads_of, StandsAt}
 use Rattle.host_lines.specs.declared.lines.Sent.{Sent}
 use Rattle.unit_trait.specs.declared.kind.UnitName.{UnitName}

@@ -5,7 +5,7 @@ use Rattle.host_files.specs.declared.files.FileCall.TheVariants.{Read, Write}
 use Rattle.host_files.specs.Lists.{NamedBytes, bytes_of, changed}
 use Rattle.nova_memory.specs.Memory.{MemoryState, IsMemory}
 use Rattle.unit_trait.specs.declared.kind.Kind.{Kind}
-use Rattle.unit_trait.specs.declared.kind.Kind.TheVariants.{Dsk, Mta, Lpt, Ptr, Ptp, Clk, Tti, Tto, Tti1, Tto1}
+use Rattle.unit_trait.specs.declared.kind.Kind.TheVariants.{Lpt, Ptp, Tto1}
 use Rattle.unit_trait.specs.declared.calls.Want.{Want}
 use Rattle.unit_trait.specs.declared.calls.Want.TheVariants as want
 use Rattle.unit_trait.specs.declared.calls.Got.{Got}

@@ -3,7 +3,6 @@ use Rattle.std.proofs.Common.{◌≡◌, ℕ, ◌+◌, ◌^◌, ◌<◌, ◌≤�
 use Rattle.std.proofs.lemmas.Bool.{cond_both}
 use Rattle.nova_word.specs.Bits.{bits}
 use Rattle.unit_trait.specs.declared.kind.Kind.{Kind}
-use Rattle.unit_trait.specs.declared.kind.Kind.TheVariants.{Dsk, Mta, Lpt, Ptr, Ptp, Clk, Tti, Tto, Tti1, Tto1, Qty}
 use Rattle.unit_trait.specs.Kinds.{code_of, units_of}
 use Rattle.unit_trait.specs.Calls.{UnitState, UnitCall, Io, Row}
 use Rattle.unit_trait.proofs.EveryKind.{every-kind}

@@ -1,19 +1,17 @@
 -- What comes of a line is of bytes, and within its limits, where the line and what is still to come are so.
-use Rattle.std.proofs.Common.{◌≡◌, ◌∙◌, sym, ap, refl, subst, ℕ, zero, suc, ◌+◌, ◌-◌, ◌<◌, ◌≤◌, ◌^◌, ◌==◌, ◌&&◌, Bool, true, false, IsTrue, List, [], ◌∷◌, ◌++◌, length, take, drop, remove, slice_get, slice_set, position, min, nat_le, Option, Some, None, IfSome, Ok, is_some, option_map, arith, if◌then◌else◌}
+use Rattle.std.proofs.Common.{◌≡◌, sym, subst, ℕ, zero, suc, ◌+◌, ◌≤◌, ◌==◌, ◌&&◌, Bool, true, false, List, [], ◌∷◌, ◌++◌, length, take, drop, remove, slice_get, slice_set, position, min, nat_le, Option, Some, None, IfSome, Ok, is_some, option_map, arith, if◌then◌else◌}
 use Rattle.std.specs.List.{AllByRecursion}
 use Rattle.std.proofs.lemmas.Bool.{cond_both, leb-false}
-use Rattle.std.proofs.lemmas.List.{length-take, length-drop, length-append}
+use Rattle.std.proofs.lemmas.List.{length-append}
 use Rattle.host_lines.specs.declared.entry.CallerAct.{CallerAct}
 use Rattle.host_lines.specs.declared.entry.CallerAct.TheVariants.{Connects, Sends, HangsUp}
 use Rattle.host_lines.specs.Traffic.{Happening, Traffic, Peer, Caller, Gone, Answer, Quiet, Connected, Gave, HungUp, Failed, Took, Ahead, Script, Answers, Replied, replied, begun, reply, connects_to, taken_caller, accepting, comes_from, entries_behind, input_answer, input_left, given_at, taken_input, received_from, receiving, taken_answer, sent_to, sending}
-use Rattle.host_lines.specs.State.{LineState}
 use Rattle.telnet_lines.specs.declared.decoder.Rest.{Rest}
 use Rattle.telnet_lines.specs.declared.decoder.Place.{Place}
 use Rattle.telnet_lines.specs.declared.decoder.Place.TheVariants as place
-use Rattle.telnet_lines.specs.Telnet.{iac, sb, se, names_option, Text, with_data, text, behind_iac, behind_option, within_subnegotiation, within_pair, text_from, without_fill, carriage_return, fills, further_keys, further_rest, coded, opening}
-use Rattle.telnet_lines.specs.Line.{LineOf, unconnected, connected, fed, full_output, is_full, put_on, first_key, key_taken, IsSettled}
-use Rattle.telnet_lines.specs.Poll.{Met, met, longest_received, after_accept, accepted_by, accepted_on, accepted, after_receive, received_by, received_on, received, piece_of, after_send, Sending, sent_by, sent_on, sent, Polled, with_key_taken, polled}
-use Rattle.telnet_lines.specs.Joined.{seen_line}
+use Rattle.telnet_lines.specs.Telnet.{iac, sb, se, names_option, Text, with_data, text, behind_iac, behind_option, within_subnegotiation, within_pair, text_from, without_fill, carriage_return, fills, further_keys, further_rest, coded}
+use Rattle.telnet_lines.specs.Line.{LineOf, unconnected, connected, full_output, is_full, key_taken}
+use Rattle.telnet_lines.specs.Poll.{Met, met, longest_received, after_accept, accepted_on, accepted, after_receive, received_on, received, piece_of, after_send, sent_on, sent, Polled, polled}
 use Rattle.telnet_lines.proofs.Cutting.{keys_cut, no_keys}
 use Rattle.unit_trait.specs.declared.calls.Want.{Want}
 use Rattle.unit_trait.specs.declared.calls.Want.TheVariants as want
