@@ -425,7 +425,7 @@ pub comes-stops : (u : UnitName) (watch watch' : WatchState) (keys : List (ℕ �
     → Comes (own_service (failure_of_stop (Some stop)) u (seen (beside watch keys files lines) whole m)) (Some stop) (seen (beside watch' keys files' lines) whole h) tells b a
 comes-stops u watch watch' keys files files' lines whole m n h w (FileFault f) tells b a asks wants made printed heard own image = comes-failed u watch watch' keys files files' lines whole m n h w f tells b a asks wants made printed heard own
 comes-stops u watch watch' keys files files' lines whole m n h w (BadImage x place) tells b a asks wants made printed heard own image = comes-bad u watch watch' keys files files' lines whole m n h w x place tells b a asks wants made printed heard image
-comes-stops u watch watch' keys files files' lines whole m n h w ConsoleFault tells b a asks wants made printed heard own image = comes-broken u watch watch' keys files files' lines whole m n h w tells b a asks wants made printed
+comes-stops u watch watch' keys files files' lines whole m n h w ConsoleFault tells b a asks wants made printed heard own image = comes-broken u watch watch' keys files files' lines whole m n h w tells b a asks wants made printed heard
 comes-stops u watch watch' keys files files' lines whole m n h w stop tells b a asks wants made printed heard own image = absurd made.said
 
 -- ---- a line that is there
@@ -474,6 +474,6 @@ comes-lined fault u watch keys files old new whole m h last l r tells b a there 
     subst P (sym (service-by fault u s (Some l) there ∙ line-is u l s ∙ ap (behind_made (sends l.sent)) (lined-answered u watch keys files old new whole m h.lines l lines ahead)))
     (comes-behind (sends l.sent) (silent t.stop (seen (beside watch keys files new) whole t.machine)) r (seen (beside watch keys files new) whole last) tells b a a
     (λ told. printed told ∙ ap (λ (x : List ℕ). b.console ++ x) (sym (sends-text l.sent)))
-    (heard ∙ heard-sends {S = Seen} b.heard l.sent)
+    (heard ∙ heard-sends Seen b.heard l.sent)
     (silent-comes t.stop r (seen (beside watch keys files new) whole t.machine) (seen (beside watch keys files new) whole last) tells a own
     (stops ∙ ap (λ (x : Turned). x.stop) same) (ap (λ (x : MachineState). seen (beside watch keys files new) whole x) (left ∙ ap (λ (x : Turned). x.machine) same))))

@@ -3,6 +3,7 @@ ghost use Rattle.std.specs.Prelude.{◌≡◌, Bool, map, List, None, IfSome};
 ghost use Rattle.host_lines.specs.Traffic.{Answer};
 ghost use Rattle.host_lines.specs.Told.{IsFirst, record_in, ahead_of};
 ghost use Rattle.host_lines.specs.State.{LineState};
+ghost use Rattle.telnet_lines.specs.Line.{IsSettled};
 ghost use Rattle.telnet_lines.specs.Joined.{seen_line};
 ghost use Rattle.unit_list.specs.Bus.{IsBelowEnd};
 ghost use Rattle.unit_trait.specs.declared.calls.Want.TheVariants as wants;
@@ -30,7 +31,13 @@ impl<U: Unit> Machine<U> {
         match want {
             Want::LineKey(number) => self.key_of_line(number, lines),
             Want::LinePut { line, byte } => self.put_on_line(line, byte),
-            _ => None,
+            Want::Nothing
+            | Want::Key
+            | Want::Console(_)
+            | Want::ReadByte { place: _ }
+            | Want::WriteByte { place: _, byte: _ }
+            | Want::Sector { write: _, sector: _, address: _ }
+            | Want::Tape(_) => None,
         }
     }
 
@@ -84,6 +91,7 @@ fn got_of(key: Option<u8>) -> Got
 fn put_on(line: &mut Line, byte: u8) -> Got
     ensures got { result ≡ put_got line.old }
     ensures line { line.new ≡ put_line byte line.old }
+    ensures settled { IsSettled line.old }
 {
     match line.put(byte) {
         Ok(()) => Got::Done,
