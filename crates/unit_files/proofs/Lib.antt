@@ -6,3 +6,4 @@ pub mod Copies
 pub mod Sectors
 pub mod FlushLaws
 pub mod SectorLaws
+pub mod Digests
