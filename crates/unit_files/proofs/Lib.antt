@@ -7,3 +7,4 @@ pub mod Sectors
 pub mod FlushLaws
 pub mod SectorLaws
 pub mod Digests
+pub mod DigestLaws

@@ -15,5 +15,5 @@ pub use attached::Attached;
 pub use digest::FileDigest;
 pub use disk::SECTOR_BYTES;
 pub use faults::{AttachFault, ByteAnswer, DetachFault, SectorAnswer, UnitFault};
-pub use laws::{flushes_leave_the_copy, sectors_read_back};
+pub use laws::{digests_are_of_the_file, flushes_leave_the_copy, sectors_read_back};
 pub use modes::AttachMode;
