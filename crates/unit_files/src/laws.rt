@@ -11,8 +11,8 @@ pub fn sectors_read_back()
     ensures { SectorsReadBack }
 {}
 
-/// The law that the digest of a unit's file, where no call fails, is that of the bytes which the file has once the disk's
-/// copy is written back: of that copy in a file that was no longer. A second digest says the same.
+/// The law that the digest of a unit's file, where no call fails, is that of the bytes which the file has once the
+/// disk's copy is written back: of that copy in a file that was no longer. A second digest says the same.
 pub fn digests_are_of_the_file()
     ensures { DigestsAreOfTheFile }
 {}
