@@ -7,7 +7,7 @@ ghost use Rattle.telnet_lines.specs.Line.{IsSettled};
 ghost use Rattle.telnet_lines.specs.Joined.{seen_line};
 ghost use Rattle.unit_list.specs.Bus.{IsBelowEnd};
 ghost use Rattle.unit_trait.specs.declared.calls.Want.TheVariants as wants;
-ghost use Rattle.nova_machine.specs.OnLines.{lined, got_of_line, put_line, put_got};
+ghost use Rattle.nova_machine.specs.OnLines.{lined, got_of_line, put_line, put_got, IsOfLine};
 ghost use Rattle.nova_machine.specs.LineChanges.{AreLinesTold, LinesGoOn, DoneOnLine};
 
 use crate::machine::Machine;
@@ -27,6 +27,7 @@ impl<U: Unit> Machine<U> {
                 (ahead_of (L.state lines.old).told whole)) result whole (L.state lines.old) (L.state lines.new) self.new.lines }
         ensures none { result ≡ None → (self.new ≡ self.old) × (lines.new ≡ lines.old) }
         ensures below { IfSome result (λ got. IsBelowEnd want got) }
+        ensures of { IfSome result IsOfLine }
     {
         match want {
             Want::LineKey(number) => self.key_of_line(number, lines),
@@ -51,6 +52,7 @@ impl<U: Unit> Machine<U> {
                 (ahead_of (L.state lines.old).told whole)) result whole (L.state lines.old) (L.state lines.new) self.new.lines }
         ensures none { result ≡ None → (self.new ≡ self.old) × (lines.new ≡ lines.old) }
         ensures below { IfSome result (λ got. IsBelowEnd (wants.LineKey number) got) }
+        ensures of { IfSome result IsOfLine }
     {
         if number as usize >= self.lines.len() {
             return None;
@@ -69,6 +71,7 @@ impl<U: Unit> Machine<U> {
                 result whole s s self.new.lines }
         ensures none { result ≡ None → self.new ≡ self.old }
         ensures below { IfSome result (λ got. IsBelowEnd (wants.LinePut number byte) got) }
+        ensures of { IfSome result IsOfLine }
     {
         if number as usize >= self.lines.len() {
             return None;
@@ -79,7 +82,8 @@ impl<U: Unit> Machine<U> {
 
 /// What a key of a line means for a unit, where one came.
 fn got_of(key: Option<u8>) -> Got
-    ensures { result ≡ got_of_line key }
+    ensures got { result ≡ got_of_line key }
+    ensures of { IsOfLine result }
 {
     match key {
         None => Got::NoKey,
@@ -90,6 +94,7 @@ fn got_of(key: Option<u8>) -> Got
 /// Puts a byte on a line; answers what its unit gets.
 fn put_on(line: &mut Line, byte: u8) -> Got
     ensures got { result ≡ put_got line.old }
+    ensures of { IsOfLine result }
     ensures line { line.new ≡ put_line byte line.old }
     ensures settled { IsSettled line.old }
 {

@@ -69,4 +69,4 @@ returns-clause-told g c = λ told whole first.
     let R : Got → Type 0 = λ r. DoneOnLine (lined c.self.inside.time (want.LineKey n) (map (seen_line old) ls) (ahead_of old.told whole)) (Some r) whole old new (slice_set ls n after) in
     let T : ℕ → Type 0 = λ t. DoneOnLine (lined t (want.LineKey n) (map (seen_line old) ls) (ahead_of old.told whole)) (Some c.got_of.result) whole old new (slice_set ls n after) in
     let P : List (LineOf ℕ) → Type 0 = λ x. DoneOnLine (lined time (want.LineKey n) (map (seen_line old) x) (ahead_of old.told whole)) (Some c.got_of.result) whole old new (slice_set ls n after) in
-    subst P is (subst T now (subst R (sym c.got_of.ensures) done))
+    subst P is (subst T now (subst R (sym c.got_of.ensures.got) done))

@@ -24,4 +24,5 @@ returns-in-Nothing g c =
       told = λ told whole first. done-plain c.args.self.now.time c.args.want (g.L.Lines.state c.args.lines.now) c.args.self.now.lines whole plain;
       none = λ none. (refl, refl);
       below = tt;
+      of = tt;
     }
