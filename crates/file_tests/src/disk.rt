@@ -3,6 +3,7 @@
 ghost use Rattle.std.specs.Prelude.{◌≡◌};
 ghost use Rattle.unit_files.specs.Open.{AllOpen};
 
+use crate::digests::digest_answer;
 use crate::images::with_file;
 use crate::texts::{Call, call_of, columns_of, equal, file_call, holds, number, size};
 use host_files::{FileCall, FileId, Files, MemFiles};
@@ -54,6 +55,7 @@ fn act<F: Files>(rt: &impl Abort, alloc: Global, attached: &mut Attached, files:
         "attach" => attach(rt, alloc, attached, files, call),
         "flush" => flush(rt, attached, files, call),
         "detach" => detach(rt, attached, files, call),
+        "digest" => digest(rt, attached, files, call),
         "file" => {
             let wanted = call.answer == "yes";
             holds(rt, attached.file_of(DISK).is_some() == wanted, call.word);
@@ -122,6 +124,15 @@ fn detach_answer(text: &str) -> Result<Option<UnitFault>, DetachFault> {
         Some(fault) if fault.call == FileCall::Write => Err(DetachFault::Failed(fault)),
         closing => Ok(closing),
     }
+}
+
+fn digest<F: Files>(rt: &impl Abort, attached: &mut Attached, files: &mut F, call: Call)
+    requires { AllOpen attached.old.slots (F.state files.old).opened }
+    ensures { AllOpen attached.new.slots (F.state files.new).opened }
+{
+    let said = attached.digest(DISK, files);
+    let wanted = digest_answer(call.answer, fault_of(call.answer));
+    equal(rt, &said, &wanted, call.word);
 }
 
 /// What is called with a sector: to read it, to write bytes of 1, or to write what it has.
@@ -218,7 +229,7 @@ fn plays_new<F: Files>(rt: &impl Abort, alloc: Global, files: &mut F, calls: &st
 fn plays_line(rt: &impl Abort, alloc: Global, line: &str) -> Option<()> {
     let row = columns_of(line);
     let length = size(row.first).unwrap_or(0).min(700);
-    let mut files = with_file(alloc, 4096, "d", &IMAGE[..length], row.second)?;
+    let mut files = with_file(alloc, 8192, "d", &IMAGE[..length], row.second)?;
     plays_new(rt, alloc, &mut files, row.third)?;
     image_left(rt, &files, row.fourth, line);
     Some(())
@@ -283,4 +294,19 @@ const A_FAILING_CALL_REFUSES_AN_IMAGE: &str = "700 | 1:0 | attach=Length:0 file=
 #[test]
 fn a_failing_call_refuses_an_image(rt: HostRuntime) {
     all(&rt, rt.alloc(), A_FAILING_CALL_REFUSES_AN_IMAGE);
+}
+
+// The opening, the length and one read come first, and behind a sector that was written the write of the copy, the length
+// and the reads. A failed length or read leaves nothing to be written back, so that a flush makes no call.
+const A_DISK_IS_WRITTEN_BACK_AND_THEN_DIGESTED: &str =
+    "600 | none | attach=600 write@2=done digest=1536:394d4bf460a0167ddc49de1c1a7ef2d3aec311d7f6b6838ec8c17b046288e841 | 1536 512 600
+600 | none | digest=no_file attach=600 write@9=done digest=5120:098d6eacdb5a934d58c86da9bef1acdf7a4592305244c10c5e6e933d5e79d8fb | 5120 512 600
+600 | 6:0 | attach=600 write@9=done digest=Read:0 file=yes | 5120 512 600
+600 | 3:7 | attach=600 write@2=done digest=Write:7 digest=1536:394d4bf460a0167ddc49de1c1a7ef2d3aec311d7f6b6838ec8c17b046288e841 | 1536 512 600
+600 | 3:7 | attach=600 write@2=done digest=Write:7 file=yes | 600 0 600
+600 | 4:0 6:0 | attach=600 write@2=done digest=Length:0 flush=ok digest=Read:0 digest=1536:394d4bf460a0167ddc49de1c1a7ef2d3aec311d7f6b6838ec8c17b046288e841 | 1536 512 600";
+
+#[test]
+fn a_disk_is_written_back_and_then_digested(rt: HostRuntime) {
+    all(&rt, rt.alloc(), A_DISK_IS_WRITTEN_BACK_AND_THEN_DIGESTED);
 }

@@ -2,6 +2,8 @@
 #![tactic(auto)]
 
 #[cfg(test)]
+mod digests;
+#[cfg(test)]
 mod disk;
 #[cfg(test)]
 mod images;

@@ -4,6 +4,7 @@ ghost use Rattle.std.specs.Prelude.{◌≤◌, ◌^◌, IsTrue};
 ghost use Rattle.unit_files.specs.Attachments.{takes_attachment, is_paper};
 ghost use Rattle.unit_files.specs.Open.{AllOpen};
 
+use crate::digests::digest_answer;
 use crate::images::{left, with_file};
 use crate::texts::{Call, call_of, columns_of, equal, file_call, holds, number};
 use host_files::{FileId, Files, MemFiles};
@@ -115,6 +116,7 @@ fn act<F: Files>(rt: &impl Abort, alloc: Global, attached: &mut Attached, files:
         "detach" => detach(rt, attached, files, call),
         "read" => read(rt, attached, files, call),
         "write" => write(rt, attached, files, call),
+        "digest" => digest(rt, attached, files, call),
         "faults" | "openings" => counts(rt, files, call),
         _ => stands(rt, attached, call),
     }
@@ -182,6 +184,16 @@ fn write<F: Files>(rt: &impl Abort, attached: &mut Attached, files: &mut F, call
     }
     let said = attached.write_byte(unit, place_of(call.second), byte, files);
     equal(rt, &Some(said), &byte_answer(unit, call.answer), call.word);
+}
+
+fn digest<F: Files>(rt: &impl Abort, attached: &mut Attached, files: &mut F, call: Call)
+    requires { AllOpen attached.old.slots (F.state files.old).opened }
+    ensures { AllOpen attached.new.slots (F.state files.new).opened }
+{
+    let unit = unit_of(call.first);
+    let said = attached.digest(unit, files);
+    let wanted = digest_answer(call.answer, fault_of(unit, call.answer));
+    equal(rt, &said, &wanted, call.word);
 }
 
 /// How often calls on a file have failed, or openings.
@@ -396,4 +408,29 @@ const WHAT_ONE_UNIT_WRITES_ANOTHER_READS: &str =
 #[test]
 fn what_one_unit_writes_another_reads(rt: HostRuntime) {
     all(&rt, rt.alloc(), WHAT_ONE_UNIT_WRITES_ANOTHER_READS);
+}
+
+const A_FILE_IS_DIGESTED_AS_IT_STANDS_THERE: &str =
+    "none | digest@PTR=NotAttached attach@PTR:tape:read=5 digest@PTR=5:2cf24dba5fb0a30e26e83b2ac5b9e29e1b161e5c1fa7425e73043362938b9824 read@PTR:0=h | tape=hello
+none | attach@PTP:tape:any=5 write@PTP:1:a=written digest@PTP=5:d3751d33f9cd5049c4af2b462735457e4d3baf130bcbb87f389e349fbaeb20b9 | tape=hallo
+none | attach@LPT:other:any=0 digest@LPT=0:e3b0c44298fc1c149afbf4c8996fb92427ae41e4649b934ca495991b7852b855 detach@LPT=ok | other=";
+
+#[test]
+fn a_file_is_digested_as_it_stands_there(rt: HostRuntime) {
+    all(&rt, rt.alloc(), A_FILE_IS_DIGESTED_AS_IT_STANDS_THERE);
+}
+
+// The opening and the length come first. Of a file without bytes nothing is read.
+const A_FAILED_CALL_OF_A_DIGEST_IS_SAID_OF_THE_UNIT: &str =
+    "2:0 | attach@PTR:tape:any=5 digest@PTR=Length:0:0 faults@0=1 file@PTR=0 digest@PTR=5:2cf24dba5fb0a30e26e83b2ac5b9e29e1b161e5c1fa7425e73043362938b9824
+3:0 | attach@PTR:tape:any=5 digest@PTR=Read:0:0 faults@0=1 file@PTR=0 digest@PTR=5:2cf24dba5fb0a30e26e83b2ac5b9e29e1b161e5c1fa7425e73043362938b9824
+3:0 | attach@PTR:tape:new=0 digest@PTR=0:e3b0c44298fc1c149afbf4c8996fb92427ae41e4649b934ca495991b7852b855 faults@0=0 digest@PTR=Length:0:0";
+
+#[test]
+fn a_failed_call_of_a_digest_is_said_of_the_unit(rt: HostRuntime) {
+    all(
+        &rt,
+        rt.alloc(),
+        A_FAILED_CALL_OF_A_DIGEST_IS_SAID_OF_THE_UNIT,
+    );
 }

@@ -52,9 +52,9 @@ named-pairs : (sent : List Sent) → map named (map pair_of sent) ≡ sent
 named-pairs [] = refl
 named-pairs (s ∷ sent) = ap (λ (l : List Sent). s ∷ l) (named-pairs sent)
 
-pub sent-observed : {S : Type 0} (sent : List Sent) → map named (sent_of (sends {S = S} sent)) ≡ sent
-sent-observed [] = refl
-sent-observed (s ∷ sent) = ap (map named) (append-nil (map pair_of (s ∷ sent))) ∙ named-pairs (s ∷ sent)
+pub sent-observed : (S : Type 0) (sent : List Sent) → map named (sent_of (sends {S = S} sent)) ≡ sent
+sent-observed S [] = refl
+sent-observed S (s ∷ sent) = ap (map named) (append-nil (map pair_of (s ∷ sent))) ∙ named-pairs (s ∷ sent)
 
-pub heard-sends : {S : Type 0} (h : Heard) (sent : List Sent) → heard_more h sent ≡ heard_with h (sent_of (sends {S = S} sent))
-heard-sends {S} h sent = ap (heard_more h) (sym (sent-observed {S = S} sent))
+pub heard-sends : (S : Type 0) (h : Heard) (sent : List Sent) → heard_more h sent ≡ heard_with h (sent_of (sends {S = S} sent))
+heard-sends S h sent = ap (heard_more h) (sym (sent-observed S sent))

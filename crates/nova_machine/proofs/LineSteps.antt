@@ -4,7 +4,7 @@ use Rattle.std.proofs.lemmas.Option.{same_Some, slice_get-map}
 use Rattle.host_lines.specs.Traffic.{Peer, Answer, Ahead}
 use Rattle.host_lines.specs.Told.{Told, IsFirst, record_in, ahead_of, heard_more}
 use Rattle.host_lines.specs.State.{LineState}
-use Rattle.telnet_lines.specs.Line.{LineOf, line_of, unconnected, is_full, full_output, put_on}
+use Rattle.telnet_lines.specs.Line.{LineOf, IsSettled, line_of, unconnected, is_full, full_output, put_on}
 use Rattle.telnet_lines.specs.Telnet.{coded}
 use Rattle.telnet_lines.specs.declared.decoder.Rest.{Rest}
 use Rattle.telnet_lines.specs.Poll.{Polled, accepted, received, sent, polled}
@@ -111,10 +111,10 @@ no-port-at i [] line at none = absurd (cc)
 no-port-at zero (l ∷ lines) line at none = ap (λ (x : LineOf ℕ). x.port) (sym (same_Some l line at)) ∙ none.0
 no-port-at (suc i) (l ∷ lines) line at none = no-port-at i lines line at none.1
 
-set-same : (i : ℕ) (lines : List (LineOf ℕ)) (line : LineOf ℕ) → slice_get lines i ≡ Some line → slice_set lines i line ≡ lines
+set-same : {P : Type 0} (i : ℕ) (lines : List (LineOf P)) (line : LineOf P) → slice_get lines i ≡ Some line → slice_set lines i line ≡ lines
 set-same i [] line at = refl
-set-same zero (l ∷ lines) line at = ap (λ (x : LineOf ℕ). x ∷ lines) (sym (same_Some l line at))
-set-same (suc i) (l ∷ lines) line at = ap (λ (ls : List (LineOf ℕ)). l ∷ ls) (set-same i lines line at)
+set-same {P} zero (l ∷ lines) line at = ap (λ (x : LineOf P). x ∷ lines) (sym (same_Some l line at))
+set-same {P} (suc i) (l ∷ lines) line at = ap (λ (ls : List (LineOf P)). l ∷ ls) (set-same i lines line at)
 
 -- a step for the line at a place
 pub record StepsAt (tells : Bool) (i : ℕ) (old : LineState) (lines : List (LineOf ℕ)) (before : LineOf ℕ) (new : LineState) (after : LineOf ℕ) : Type 0 where
@@ -186,7 +186,7 @@ done-no-put time n byte s lines whole none =
     unlined time (want.LinePut n byte) s lines whole (no-put time n byte (map (seen_line s) lines) (ahead_of s.told whole) (seen-at s lines n None none))
 
 -- wants that are for no line
-abbrev IsOnLine : Want → Type 0
+abbrev pub IsOnLine : Want → Type 0
 IsOnLine (want.LineKey n) = Unit {0}
 IsOnLine (want.LinePut n byte) = Unit {0}
 IsOnLine other = ⊥
@@ -337,3 +337,35 @@ done-put time n byte s lines line whole there =
 put-nobody : (byte : ℕ) (line : LineOf ℕ) → line.connection ≡ None → put_line byte line ≡ line
 put-nobody byte line nobody =
     ap (λ (o : Option ℕ). if is_some o && nat_le full_output (length line.output) then line else (if is_some o then record line { output = line.output ++ coded (byte ∷ []) } else line)) nobody
+
+-- a poll, told or of a line without a port
+pub done-poll : (tells : Bool) (time n : ℕ) (old new : LineState) (lines : List (LineOf ℕ)) (before after : LineOf ℕ) (key : Option ℕ) (whole : List Answer)
+    → StepsAt tells n old lines before new after → (IsTrue tells → Polls time key old before new after)
+    → (before.port ≡ None → (key ≡ None) × (after ≡ unconnected None)) → AreLinesTold tells old lines → IsFirst (record_in new.told) whole
+    → DoneOnLine (lined time (want.LineKey n) (map (seen_line old) lines) (ahead_of old.told whole)) (Some (got_of_line key)) whole old new (slice_set lines n after)
+done-poll tells time n old new lines before after key whole step polls nobody told first = elim told [
+  | inl apart ↦ done-key time n old new lines before after key whole step.here apart.1 (polls apart.0) (step.parties apart.0) first
+  | inr none ↦
+      let portless = no-port-at n lines before step.here none in
+      let still = step.idle portless in
+      let quiet = nobody portless in
+      let alone : before ≡ unconnected None = sym still.1 ∙ quiet.1 in
+      let at : DoneOnLine (lined time (want.LineKey n) (map (seen_line old) lines) (ahead_of old.told whole)) (Some got.NoKey) whole old old lines =
+      done-nobody time n old lines before whole step.here alone in
+      let K : Option ℕ → Type 0 = λ k. DoneOnLine (lined time (want.LineKey n) (map (seen_line old) lines) (ahead_of old.told whole)) (Some (got_of_line k)) whole old old lines in
+      let S : LineState → Type 0 = λ x. DoneOnLine (lined time (want.LineKey n) (map (seen_line old) lines) (ahead_of old.told whole)) (Some (got_of_line key)) whole old x lines in
+      let L : List (LineOf ℕ) → Type 0 = λ x. DoneOnLine (lined time (want.LineKey n) (map (seen_line old) lines) (ahead_of old.told whole)) (Some (got_of_line key)) whole old new x in
+      subst L (sym (ap (slice_set lines n) still.1 ∙ set-same n lines before step.here)) (subst S (sym still.0) (subst K (sym quiet.0) at))
+]
+
+-- a byte for the line at a place
+pub put-steps : (tells : Bool) (n byte : ℕ) (s : LineState) (lines : List (LineOf ℕ)) (line : LineOf ℕ) → slice_get lines n ≡ Some line
+    → IsSettled line → StepsAt tells n s lines line s (put_line byte line)
+put-steps tells n byte s lines line there settled = record {
+  here = there;
+  port = put-port byte line;
+  others = put-others s byte line;
+  parties = λ told. put-parties s byte line;
+  idle = λ none. (refl, put-nobody byte line (settled.port none));
+  grows = λ told. first-same (record_in s.told);
+}

@@ -44,6 +44,7 @@ use Rattle.nova_machine.specs.declared.service.Hosted.TheVariants.{Gets, Matched
 use Rattle.nova_machine.specs.declared.service.Hosted.TheVariants as hosted
 use Rattle.nova_machine.specs.Machine.{MachineState}
 use Rattle.nova_machine.specs.Seen.{attached_in}
+use Rattle.nova_machine.specs.OnLines.{IsOfLine}
 use Rattle.nova_machine.specs.Service.{want_at, asked, answered}
 use Rattle.nova_machine.specs.Hosting.{CanBeHosted, hosted_of, bytes_printed, watch_behind}
 use Rattle.nova_machine.specs.Wants.{first_key, typed_key, wru, key_stop, own_stop, watch_after, taken_after, bytes_of, stop_by}
@@ -520,6 +521,27 @@ hosts-gets keys u w g watch watch' m n h now stop x slots want_is units can past
     answered-cause keys (moment_of watch m) watch' u g h now (attachment_at (attached_in n) u) stop x.made_is.0
     (ap (λ (s : List (Option Held)). attachment_at (attachments_of s) u) slots)
     (full-behind u g m n h now x.asked_is units is (subst (λ (y : Want). IsPastRoom y (Gets g)) want_is past) (subst (λ (y : Want). CanBeHosted y u.kind) want_is can)) stops is
+
+-- a unit is answered of a line
+of-no-file : (a : Option Attachment) (g : Got) → IsOfLine g → IsGotOf a g
+of-no-file a got.End of = absurd of
+of-no-file a got.NoFile of = absurd of
+of-no-file a (got.Tape tape) of = absurd of
+of-no-file a g of = tt
+
+no-end : (g : Got) → IsOfLine g → ¬ IsEnd g
+no-end got.End of = λ end. of
+no-end got.NoFile of = λ end. end
+no-end (got.Tape tape) of = λ end. of
+no-end g of = λ end. end
+
+pub line-cause : (keys : List (ℕ × ℕ)) (start : Moment) (watch : WatchState) (u : UnitName) (g : Got) (h now : MachineState) (stop : Option Stop) → IsOfLine g
+    → stop ≡ (answered u g h).stop → now ≡ (answered u g h).machine → ServiceCause stop keys start watch now
+line-cause keys start watch u g h now stop of stops is =
+    let there = unit_at (code_of u.kind) h.units in
+    let found = unit-stops u.kind u.unit g there (kind-found u.kind h.units) in
+    let a = attachment_at (attached_in now) u in
+    answered-cause keys start watch u g h now a stop (of-no-file a g of) refl (λ same. absurd (no-end g of (found.row.ended same))) stops is
 
 -- ---- what the files of units say
 

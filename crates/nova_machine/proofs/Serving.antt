@@ -16,7 +16,8 @@ use Rattle.expect_actions.specs.KeysFile.{due_key}
 use Rattle.expect_actions.specs.Sends.{due_send}
 use Rattle.expect_actions.specs.Watch.{WatchState}
 use Rattle.nova_machine.specs.Notes.{UnitNote, at_unit, unit_note, failure_of_stop}
-use Rattle.std.proofs.Common.{map, ◌||◌, IfSome, Result, Ok, Err, ◌≡◌, ℕ, ◌==◌, Bool, true, false, IsTrue, List, [], ◌∷◌, ◌++◌, refl, ap, sym, ◌∙◌, subst, inl, arith, Option, Some, None, if◌then◌else◌}
+use Rattle.std.proofs.Common.{map, ◌||◌, IfSome, Result, Ok, Err, ◌≡◌, ℕ, ◌==◌, Bool, true, false, IsTrue, List, [], ◌∷◌, ◌++◌, refl, ap, sym, ◌∙◌, subst, inl, arith, Option, Some, None, option_map, if◌then◌else◌}
+use Rattle.std.proofs.lemmas.Option.{same_Some}
 use Rattle.observations.specs.Observations.{Observation, text_of, sent_of}
 use Rattle.unit_trait.specs.declared.calls.Got.TheVariants as got
 use Rattle.unit_files.specs.declared.faults.UnitFault.{UnitFault}
@@ -43,7 +44,7 @@ use Rattle.nova_machine.specs.Turned.{Turned, still}
 use Rattle.nova_machine.specs.Wants.{answer_to, files_after, watch_after, first_key, typed_key, own_stop, bytes_of, prints, IsConsole}
 use Rattle.nova_machine.specs.Service.{want_at, done_for, asked, answered, first_stop, stopping, replied, own_service, behind_line, line_service, service_by, lined_at, service, taken, services, serving}
 use Rattle.nova_machine.specs.Comes.{Output, Comes, IsBrokenOff}
-use Rattle.nova_machine.specs.LineChanges.{heard_with}
+use Rattle.nova_machine.specs.LineChanges.{heard_with, DoneOnLine}
 use Rattle.nova_machine.specs.OnLines.{Lined, lined, sends}
 use Rattle.nova_machine.proofs.Hearing.{heard-nothing, heard-sends}
 use Rattle.nova_machine.proofs.Parts.{silent-comes, comes-behind, comes-then, comes-stopped}
@@ -425,7 +426,7 @@ pub comes-stops : (u : UnitName) (watch watch' : WatchState) (keys : List (ℕ �
     → Comes (own_service (failure_of_stop (Some stop)) u (seen (beside watch keys files lines) whole m)) (Some stop) (seen (beside watch' keys files' lines) whole h) tells b a
 comes-stops u watch watch' keys files files' lines whole m n h w (FileFault f) tells b a asks wants made printed heard own image = comes-failed u watch watch' keys files files' lines whole m n h w f tells b a asks wants made printed heard own
 comes-stops u watch watch' keys files files' lines whole m n h w (BadImage x place) tells b a asks wants made printed heard own image = comes-bad u watch watch' keys files files' lines whole m n h w x place tells b a asks wants made printed heard image
-comes-stops u watch watch' keys files files' lines whole m n h w ConsoleFault tells b a asks wants made printed heard own image = comes-broken u watch watch' keys files files' lines whole m n h w tells b a asks wants made printed
+comes-stops u watch watch' keys files files' lines whole m n h w ConsoleFault tells b a asks wants made printed heard own image = comes-broken u watch watch' keys files files' lines whole m n h w tells b a asks wants made printed heard
 comes-stops u watch watch' keys files files' lines whole m n h w stop tells b a asks wants made printed heard own image = absurd made.said
 
 -- ---- a line that is there
@@ -474,6 +475,56 @@ comes-lined fault u watch keys files old new whole m h last l r tells b a there 
     subst P (sym (service-by fault u s (Some l) there ∙ line-is u l s ∙ ap (behind_made (sends l.sent)) (lined-answered u watch keys files old new whole m h.lines l lines ahead)))
     (comes-behind (sends l.sent) (silent t.stop (seen (beside watch keys files new) whole t.machine)) r (seen (beside watch keys files new) whole last) tells b a a
     (λ told. printed told ∙ ap (λ (x : List ℕ). b.console ++ x) (sym (sends-text l.sent)))
-    (heard ∙ heard-sends {S = Seen} b.heard l.sent)
+    (heard ∙ heard-sends Seen b.heard l.sent)
     (silent-comes t.stop r (seen (beside watch keys files new) whole t.machine) (seen (beside watch keys files new) whole last) tells a own
     (stops ∙ ap (λ (x : Turned). x.stop) same) (ap (λ (x : MachineState). seen (beside watch keys files new) whole x) (left ∙ ap (λ (x : Turned). x.machine) same))))
+
+-- ---- what was done on a line, of the machine before its unit was asked
+
+pub asked-lines : (u : UnitName) (m : MachineState) → (asked u m).lines ≡ m.lines
+unfolding asked
+asked-lines u m = refl
+
+asked-lined : (u : UnitName) (m : MachineState) (s : LineState) (ahead : Ahead)
+    → lined (asked u m).time (want_at u m) (map (seen_line s) (asked u m).lines) ahead ≡ lined m.time (want_at u m) (map (seen_line s) m.lines) ahead
+unfolding asked
+asked-lined u m s ahead = refl
+
+lined-asked : (u : UnitName) (m n : MachineState) (w : Want) (s : LineState) (ahead : Ahead) → n ≡ asked u m → w ≡ want_at u m
+    → lined n.time w (map (seen_line s) n.lines) ahead ≡ lined m.time (want_at u m) (map (seen_line s) m.lines) ahead
+lined-asked u m n w s ahead asks wants =
+    ap (λ (x : MachineState). lined x.time w (map (seen_line s) x.lines) ahead) asks
+    ∙ ap (λ (x : Want). lined (asked u m).time x (map (seen_line s) (asked u m).lines) ahead) wants
+    ∙ asked-lined u m s ahead
+
+none-of : (o : Option Lined) → None ≡ option_map (λ (x : Lined). x.got) o → o ≡ None
+none-of None is = refl
+none-of (Some l) is = absurd (cc)
+
+-- nothing was done on one
+pub none-lined : (u : UnitName) (m n : MachineState) (w : Want) (s new : LineState) (whole : List Answer) (ls : List (LineOf ℕ)) → n ≡ asked u m → w ≡ want_at u m
+    → DoneOnLine (lined n.time w (map (seen_line s) n.lines) (ahead_of s.told whole)) None whole s new ls
+    → lined m.time (want_at u m) (map (seen_line s) m.lines) (ahead_of s.told whole) ≡ None
+none-lined u m n w s new whole ls asks wants done =
+    sym (lined-asked u m n w s (ahead_of s.told whole) asks wants) ∙ none-of (lined n.time w (map (seen_line s) n.lines) (ahead_of s.told whole)) done.answers
+
+-- this was done on one
+pub record IsLined (o : Option Lined) (g : Got) (whole : List Answer) (old new : LineState) (ls : List (LineOf ℕ)) : Type 0 where
+  pub done : Lined
+  pub is : o ≡ Some done
+  pub got_is : g ≡ done.got
+  pub lines : done.lines ≡ map (seen_line new) ls
+  pub ahead : done.ahead ≡ ahead_of new.told whole
+  pub heard : new.sent ≡ heard_more old.sent done.sent
+
+lined-of : (o : Option Lined) (g : Got) (whole : List Answer) (old new : LineState) (ls : List (LineOf ℕ)) → DoneOnLine o (Some g) whole old new ls → IsLined o g whole old new ls
+lined-of None g whole old new ls done = let none = done.answers in absurd (cc)
+lined-of (Some l) g whole old new ls done =
+    record { done = l; is = refl; got_is = same_Some g l.got done.answers; lines = done.lines; ahead = done.ahead; heard = done.heard }
+
+pub some-lined : (u : UnitName) (m n : MachineState) (w : Want) (g : Got) (s new : LineState) (whole : List Answer) (ls : List (LineOf ℕ)) → n ≡ asked u m → w ≡ want_at u m
+    → DoneOnLine (lined n.time w (map (seen_line s) n.lines) (ahead_of s.told whole)) (Some g) whole s new ls
+    → IsLined (lined m.time (want_at u m) (map (seen_line s) m.lines) (ahead_of s.told whole)) g whole s new ls
+some-lined u m n w g s new whole ls asks wants done =
+    lined-of (lined m.time (want_at u m) (map (seen_line s) m.lines) (ahead_of s.told whole)) g whole s new ls
+    (subst (λ (o : Option Lined). DoneOnLine o (Some g) whole s new ls) (lined-asked u m n w s (ahead_of s.told whole) asks wants) done)

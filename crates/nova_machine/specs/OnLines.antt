@@ -21,6 +21,13 @@ abbrev pub got_of_line : Option ℕ → Got
 got_of_line None = got.NoKey
 got_of_line (Some key) = got.Key key
 
+-- an answer to what is wanted of a line: none that speaks of a file
+abbrev pub IsOfLine : Got → Type 0
+IsOfLine got.End = ⊥
+IsOfLine got.NoFile = ⊥
+IsOfLine (got.Tape tape) = ⊥
+IsOfLine other = Unit {0}
+
 -- the line with that number was polled
 abbrev pub lined_by : ℕ → List (LineOf Peer) → Polled → Lined
 lined_by n lines p = record { got = got_of_line p.key; sent = p.sent; lines = slice_set lines n p.line; ahead = p.ahead }

@@ -3,10 +3,11 @@ ghost use Rattle.std.specs.Prelude.{◌≡◌, Bool, map, List, None, IfSome};
 ghost use Rattle.host_lines.specs.Traffic.{Answer};
 ghost use Rattle.host_lines.specs.Told.{IsFirst, record_in, ahead_of};
 ghost use Rattle.host_lines.specs.State.{LineState};
+ghost use Rattle.telnet_lines.specs.Line.{IsSettled};
 ghost use Rattle.telnet_lines.specs.Joined.{seen_line};
 ghost use Rattle.unit_list.specs.Bus.{IsBelowEnd};
 ghost use Rattle.unit_trait.specs.declared.calls.Want.TheVariants as wants;
-ghost use Rattle.nova_machine.specs.OnLines.{lined, got_of_line, put_line, put_got};
+ghost use Rattle.nova_machine.specs.OnLines.{lined, got_of_line, put_line, put_got, IsOfLine};
 ghost use Rattle.nova_machine.specs.LineChanges.{AreLinesTold, LinesGoOn, DoneOnLine};
 
 use crate::machine::Machine;
@@ -26,11 +27,18 @@ impl<U: Unit> Machine<U> {
                 (ahead_of (L.state lines.old).told whole)) result whole (L.state lines.old) (L.state lines.new) self.new.lines }
         ensures none { result ≡ None → (self.new ≡ self.old) × (lines.new ≡ lines.old) }
         ensures below { IfSome result (λ got. IsBelowEnd want got) }
+        ensures of { IfSome result IsOfLine }
     {
         match want {
             Want::LineKey(number) => self.key_of_line(number, lines),
             Want::LinePut { line, byte } => self.put_on_line(line, byte),
-            _ => None,
+            Want::Nothing
+            | Want::Key
+            | Want::Console(_)
+            | Want::ReadByte { place: _ }
+            | Want::WriteByte { place: _, byte: _ }
+            | Want::Sector { write: _, sector: _, address: _ }
+            | Want::Tape(_) => None,
         }
     }
 
@@ -44,6 +52,7 @@ impl<U: Unit> Machine<U> {
                 (ahead_of (L.state lines.old).told whole)) result whole (L.state lines.old) (L.state lines.new) self.new.lines }
         ensures none { result ≡ None → (self.new ≡ self.old) × (lines.new ≡ lines.old) }
         ensures below { IfSome result (λ got. IsBelowEnd (wants.LineKey number) got) }
+        ensures of { IfSome result IsOfLine }
     {
         if number as usize >= self.lines.len() {
             return None;
@@ -62,6 +71,7 @@ impl<U: Unit> Machine<U> {
                 result whole s s self.new.lines }
         ensures none { result ≡ None → self.new ≡ self.old }
         ensures below { IfSome result (λ got. IsBelowEnd (wants.LinePut number byte) got) }
+        ensures of { IfSome result IsOfLine }
     {
         if number as usize >= self.lines.len() {
             return None;
@@ -72,7 +82,8 @@ impl<U: Unit> Machine<U> {
 
 /// What a key of a line means for a unit, where one came.
 fn got_of(key: Option<u8>) -> Got
-    ensures { result ≡ got_of_line key }
+    ensures got { result ≡ got_of_line key }
+    ensures of { IsOfLine result }
 {
     match key {
         None => Got::NoKey,
@@ -83,7 +94,9 @@ fn got_of(key: Option<u8>) -> Got
 /// Puts a byte on a line; answers what its unit gets.
 fn put_on(line: &mut Line, byte: u8) -> Got
     ensures got { result ≡ put_got line.old }
+    ensures of { IsOfLine result }
     ensures line { line.new ≡ put_line byte line.old }
+    ensures settled { IsSettled line.old }
 {
     match line.put(byte) {
         Ok(()) => Got::Done,

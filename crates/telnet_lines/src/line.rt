@@ -1,6 +1,6 @@
 ghost use Rattle.std.specs.Prelude.{◌≡◌, ◌≢◌, ◌≤◌, ◌↔◌, ℕ, List, [], ◌++◌, length, None, IsSome, IfOk, OnOk, OnErr, IsErr, option_map, IsTrue};
 ghost use Rattle.telnet_lines.specs.Telnet.{rest_of, keys_of};
-ghost use Rattle.telnet_lines.specs.Line.{unconnected, connected, fed, is_full, put_on, first_key, key_taken};
+ghost use Rattle.telnet_lines.specs.Line.{IsSettled, unconnected, connected, fed, is_full, put_on, first_key, key_taken};
 
 use crate::decoder::{NO_REST, Rest, decode};
 use crate::pieces::{LONGEST_SENT, first_bytes};
@@ -123,6 +123,7 @@ impl Line {
         ensures full { IsErr result ↔ IsTrue (is_full self.old) }
         ensures ok { OnOk result (self.new ≡ put_on byte self.old) }
         ensures refused { OnErr result (self.new ≡ self.old) }
+        ensures settled { IsSettled self.old }
     {
         if self.connection.is_none() {
             return Ok(());

@@ -6,3 +6,5 @@ pub mod Copies
 pub mod Sectors
 pub mod FlushLaws
 pub mod SectorLaws
+pub mod Digests
+pub mod DigestLaws

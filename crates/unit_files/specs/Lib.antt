@@ -8,3 +8,4 @@ pub mod Shapes
 pub mod Opening
 pub mod View
 pub mod Laws
+pub mod Digests

@@ -1,4 +1,4 @@
-ghost use Rattle.unit_files.specs.Laws.{FlushesLeaveTheCopy, SectorsReadBack};
+ghost use Rattle.unit_files.specs.Laws.{DigestsAreOfTheFile, FlushesLeaveTheCopy, SectorsReadBack};
 
 /// The law that a writing back leaves in the disk's file what was written of the copy, and behind that what it had
 /// there: exactly the copy in a file that was no longer, where the write does not fail.
@@ -9,4 +9,10 @@ pub fn flushes_leave_the_copy()
 /// The law that a sector which is written is read back, and every other one is read as before.
 pub fn sectors_read_back()
     ensures { SectorsReadBack }
+{}
+
+/// The law that the digest of a unit's file, where no call fails, is that of the bytes which the file has once the
+/// disk's copy is written back: of that copy in a file that was no longer. A second digest says the same.
+pub fn digests_are_of_the_file()
+    ensures { DigestsAreOfTheFile }
 {}

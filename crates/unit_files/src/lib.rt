@@ -3,6 +3,7 @@
 
 pub mod attached;
 pub mod bytes;
+pub mod digest;
 pub mod disk;
 pub mod faults;
 pub mod laws;
@@ -11,7 +12,8 @@ mod opening;
 mod slots;
 
 pub use attached::Attached;
+pub use digest::FileDigest;
 pub use disk::SECTOR_BYTES;
 pub use faults::{AttachFault, ByteAnswer, DetachFault, SectorAnswer, UnitFault};
-pub use laws::{flushes_leave_the_copy, sectors_read_back};
+pub use laws::{digests_are_of_the_file, flushes_leave_the_copy, sectors_read_back};
 pub use modes::AttachMode;

@@ -1,0 +1,49 @@
+use Rattle.std.proofs.Common.{◌≡◌, ap, sym, refl, subst, rules, Bool, ℕ, ◌<◌, ◌≤◌, List, length, map, slice_get, slice_set, Option, Some, None}
+use Rattle.std.proofs.lemmas.Option.{slice_get_past, slice_get_read}
+use Rattle.host_lines.specs.Traffic.{Answer}
+use Rattle.host_lines.specs.Told.{ahead_of}
+use Rattle.host_lines.specs.State.{LineState}
+use Rattle.telnet_lines.specs.Line.{LineOf}
+use Rattle.telnet_lines.specs.Joined.{seen_line}
+use Rattle.unit_trait.specs.declared.calls.Got.{Got}
+use Rattle.unit_trait.specs.declared.calls.Want.TheVariants as want
+use Rattle.nova_machine.specs.Machine.{MachineState}
+use Rattle.nova_machine.specs.OnLines.{lined, put_line, put_got}
+use Rattle.nova_machine.specs.LineChanges.{LinesGoOn, DoneOnLine}
+use Rattle.nova_machine.proofs.LineSteps.{lines-stay, one-goes-on, put-steps, done-no-put, done-put}
+use Rattle.nova_machine.proofs.machine.Machine.put_on_line.Goals as goal
+
+pub returns-then-number-len-clause-lines : goal.returns-then-number-len-clause-lines
+returns-then-number-len-clause-lines g c = λ tells s. lines-stay tells s c.args.self.now.lines
+
+pub returns-then-number-len-clause-told : goal.returns-then-number-len-clause-told
+returns-then-number-len-clause-told g c = λ s whole.
+    let past : length c.args.self.now.lines ≤ c.args.number = search rules in
+    done-no-put c.args.self.now.time c.args.number c.args.byte s c.args.self.now.lines whole (slice_get_past c.args.self.now.lines c.args.number past)
+
+pub returns-clause-lines : goal.returns-clause-lines
+returns-clause-lines g c = λ tells s.
+    let ls = c.self.inside.lines.items in
+    let n = c.args.number in
+    let line = c.index_mut.result.now in
+    let within : n < length ls = search rules in
+    let there : slice_get ls n ≡ Some line = slice_get_read ls (length ls) n line refl within c.index_mut.ensures.value in
+    let is : ls ≡ c.args.self.now.lines = ap (λ (m : MachineState). m.lines) c.self.view_is in
+    let goes = one-goes-on tells n s ls line s (put_line c.args.byte line) (put-steps tells n c.args.byte s ls line there c.put_on.ensures.settled) in
+    subst (λ (x : List (LineOf ℕ)). LinesGoOn tells s x s (slice_set ls n c.put_on.new.line)) is
+    (subst (λ (l : LineOf ℕ). LinesGoOn tells s ls s (slice_set ls n l)) (sym c.put_on.ensures.line) goes)
+
+pub returns-clause-told : goal.returns-clause-told
+returns-clause-told g c = λ s whole.
+    let ls = c.self.inside.lines.items in
+    let n = c.args.number in
+    let byte = c.args.byte in
+    let time = c.args.self.now.time in
+    let line = c.index_mut.result.now in
+    let within : n < length ls = search rules in
+    let there : slice_get ls n ≡ Some line = slice_get_read ls (length ls) n line refl within c.index_mut.ensures.value in
+    let is : ls ≡ c.args.self.now.lines = ap (λ (m : MachineState). m.lines) c.self.view_is in
+    let L : LineOf ℕ → Type 0 = λ l. DoneOnLine (lined time (want.LinePut n byte) (map (seen_line s) ls) (ahead_of s.told whole)) (Some (put_got line)) whole s s (slice_set ls n l) in
+    let R : Got → Type 0 = λ r. DoneOnLine (lined time (want.LinePut n byte) (map (seen_line s) ls) (ahead_of s.told whole)) (Some r) whole s s (slice_set ls n c.put_on.new.line) in
+    let P : List (LineOf ℕ) → Type 0 = λ x. DoneOnLine (lined time (want.LinePut n byte) (map (seen_line s) x) (ahead_of s.told whole)) (Some c.put_on.result) whole s s (slice_set ls n c.put_on.new.line) in
+    subst P is (subst R (sym c.put_on.ensures.got) (subst L (sym c.put_on.ensures.line) (done-put time n byte s ls line whole there)))

@@ -1,0 +1,161 @@
+-- A file that is read piece by piece, and the digest of a unit's file behind a writing back.
+use Rattle.std.proofs.Common.{◌≡◌, ℕ, ◌+◌, ◌≤◌, Bool, true, false, List, ◌++◌, length, take, drop, refl, ap, sym, ◌∙◌, arith}
+use Rattle.std.proofs.Common.{Option, Some, None, Result, Ok, Err, inl, subst, if◌then◌else◌}
+use Rattle.std.specs.Prelude.{IfSome}
+use Rattle.std.proofs.Math.Seq.{take-append-add}
+use Rattle.std.proofs.lemmas.List.{take-append-drop, take-append-le, length-take-le}
+use Rattle.fault_counts.specs.Faults.{raised}
+use Rattle.host_files.specs.declared.files.FileCall.TheVariants.{Write}
+use Rattle.host_files.specs.Lists.{NamedBytes, bytes_of, changed, overwritten}
+use Rattle.host_files.specs.State.{FileState, content, name_at}
+use Rattle.unit_trait.specs.declared.kind.UnitName.{UnitName}
+use Rattle.unit_files.specs.declared.digest.FileDigest.{FileDigest}
+use Rattle.unit_files.specs.declared.faults.UnitFault.{UnitFault}
+use Rattle.unit_files.specs.declared.faults.DetachFault.{DetachFault}
+use Rattle.unit_files.specs.declared.faults.DetachFault.TheVariants as detach
+use Rattle.unit_files.specs.Attachments.{Attachment, Held, held_at}
+use Rattle.unit_files.specs.Buffer.{Buffer}
+use Rattle.unit_files.specs.Acts.{Failure, failure_at, is_due_back, piece_of, flushed_as, flush_failure, flush_said, flush_files}
+use Rattle.unit_files.specs.Acts.{buffer_flushed, FlushSaid, HasNone, NotFlushed, Flushed}
+use Rattle.unit_files.specs.Answers.{failure_in, said_of_flush, failure_of_flush}
+use Rattle.unit_files.specs.Causes.{IsQuiet, IsFaultOf, FlushCause}
+use Rattle.unit_files.specs.Digests.{DigestSaid, digest_measured, digest_said, digest_flushed, behind_flush}
+use Rattle.unit_files.specs.Shapes.{IsPart}
+use Rattle.unit_files.specs.Digests.{buffer_digested, said_of_digest, failure_of_digest, MayDigest, DigestCause}
+
+-- ---- a file is read piece by piece
+
+pub next-piece : (all : List ℕ) (place count : ℕ) (buf rest : List ℕ) → place ≤ length all → count ≤ length buf
+    → take count buf ≡ take count (drop place all)
+    → take place all ++ take count (buf ++ rest) ≡ take (place + count) all
+next-piece all place count buf rest within fits same =
+    let size = length-take-le place all within in
+    ap (λ (l : List ℕ). take place all ++ l) (take-append-le count buf rest fits ∙ same)
+    ∙ sym (take-append-add (take place all) (drop place all) count)
+    ∙ ap (λ (l : List ℕ). take (length (take place all) + count) l) (take-append-drop place all)
+    ∙ ap (λ (n : ℕ). take (n + count) all) size
+
+pub same-content : (a b : FileState) (file : ℕ) → a.files ≡ b.files → a.opened ≡ b.opened
+    → content a file ≡ content b file
+same-content a b file f o = λ i. bytes_of (f i) (name_at (o i) file)
+
+-- ---- behind a writing back that did not fail
+
+-- what is written back where the failing call is another one is what is written back where none fails
+same-said : (fault : Option Failure) (unit : UnitName) (a : Option Attachment) (disk : Buffer)
+    → failure_at Write fault ≡ None → flush_said fault unit a disk ≡ flush_said None unit a disk
+same-said fault unit None disk is = refl
+same-said fault unit (Some a) disk is =
+    ap (λ (f : Option Failure). flushed_as (if is_due_back unit disk then f else None)) is
+
+pub same-files : (fault : Option Failure) (unit : UnitName) (a : Option Attachment) (disk : Buffer)
+    (files : List NamedBytes) → failure_at Write fault ≡ None
+    → flush_files fault unit a disk files ≡ flush_files None unit a disk files
+unfolding flush_files
+same-files fault unit None disk files is = refl
+same-files fault unit (Some a) disk files is =
+    ap (λ (f : Option Failure). if is_due_back unit disk then changed files a.name (λ (old : List ℕ). overwritten old 0
+    (piece_of f disk.bytes)) else files) is
+
+module _ (fault : Option Failure) (unit : UnitName) (a : Option Attachment) (disk : Buffer)
+    (other : failure_at Write fault ≡ None) (flushed : Flushed ≡ flush_said None unit a disk) where
+  is-flushed : Flushed ≡ flush_said fault unit a disk
+  is-flushed = flushed ∙ sym (same-said fault unit a disk other)
+
+  pub said-behind : (said : DigestSaid) (files files' : List NamedBytes) → files' ≡ flush_files None unit a disk files
+      → said ≡ digest_flushed fault a files' → said ≡ digest_said fault unit a disk files
+  said-behind said files files' written is =
+      is
+      ∙ (λ i. behind_flush (is-flushed i) (digest_flushed fault a ((written ∙ sym (same-files fault unit a disk files other)) i)))
+
+  pub disk-behind : buffer_flushed Flushed unit disk ≡ buffer_digested fault unit a disk
+  disk-behind = ap (λ (s : FlushSaid). buffer_flushed s unit disk) is-flushed
+
+pub may-behind : (result : Result FileDigest DetachFault) (unit : UnitName) (a b : Option Attachment) (disk : Buffer)
+    → b ≡ a → MayDigest result unit b disk → MayDigest result unit a disk
+may-behind result unit a b disk same = subst (λ (x : Option Attachment). MayDigest result unit x disk) same
+
+-- a call that wrote nothing wrote no more than there is
+pub nothing-written : (fault : Option Failure) (disk : Buffer) → IfSome fault (λ f. f.done ≡ 0) → IsPart fault disk
+nothing-written None disk is = is
+nothing-written (Some f) disk is = omega (arith, is)
+
+quiet-both : (old mid new : FileState) → IsQuiet old mid → IsQuiet mid new → IsQuiet old new
+quiet-both old mid new first last = record {
+  counts = last.counts ∙ first.counts;
+  openings = last.openings ∙ first.openings;
+  ids = last.ids ∙ first.ids;
+}
+
+quiet-fault : (f : UnitFault) (unit : UnitName) (slots slots' : List (Option Held)) (old mid new : FileState)
+    → slots' ≡ slots → IsQuiet old mid → IsFaultOf f unit slots' mid new → IsFaultOf f unit slots old new
+quiet-fault f unit slots slots' old mid new same first fault = record {
+  unit_is = fault.unit_is;
+  held = fault.held;
+  there = ap (λ (l : List (Option Held)). held_at l unit) (sym same) ∙ fault.there;
+  id = fault.id;
+  file_is = fault.file_is;
+  id_is = fault.id_is;
+  rose = fault.rose ∙ (λ i. raised (first.counts i fault.held.file));
+  others = λ other apart. fault.others other apart ∙ (λ i. first.counts i other);
+  openings = fault.openings ∙ first.openings;
+  ids = fault.ids ∙ first.ids;
+}
+
+pub cause-behind : (result : Result FileDigest DetachFault) (unit : UnitName) (slots slots' : List (Option Held))
+    (old mid new : FileState) → slots' ≡ slots → IsQuiet old mid → DigestCause result unit slots' mid new
+    → DigestCause result unit slots old new
+cause-behind (Ok d) unit slots slots' old mid new same first last = quiet-both old mid new first last
+cause-behind (Err detach.NotAttached) unit slots slots' old mid new same first last = quiet-both old mid new first last
+cause-behind (Err (detach.Failed f)) unit slots slots' old mid new same first last =
+    record { calls = last.calls; fault = quiet-fault f unit slots slots' old mid new same first last.fault }
+
+-- ---- a writing back that was refused
+
+pub said-refused : (fault : DetachFault) (unit : UnitName) (a : Option Attachment) (disk : Buffer)
+    (files : List NamedBytes) → said_of_flush (Err fault) ≡ flush_said (failure_of_flush (Err fault)) unit a disk
+    → said_of_digest (Err fault) ≡ digest_said (failure_of_digest (Err fault)) unit a disk files
+said-refused detach.NotAttached unit a disk files is =
+    ap (λ (s : FlushSaid). behind_flush s (digest_flushed None a (flush_files None unit a disk files))) is
+said-refused (detach.Failed f) unit a disk files is =
+    let fault = Some (failure_in f) in
+    ap (λ (s : FlushSaid). behind_flush s (digest_flushed fault a (flush_files fault unit a disk files))) is
+
+pub disk-refused : (fault : DetachFault) (unit : UnitName) (a : Option Attachment) (disk : Buffer)
+    → said_of_flush (Err fault) ≡ flush_said (failure_of_flush (Err fault)) unit a disk
+    → buffer_flushed (said_of_flush (Err fault)) unit disk ≡ buffer_digested (failure_of_digest (Err fault)) unit a disk
+disk-refused detach.NotAttached unit a disk is = ap (λ (s : FlushSaid). buffer_flushed s unit disk) is
+disk-refused (detach.Failed f) unit a disk is = ap (λ (s : FlushSaid). buffer_flushed s unit disk) is
+
+none-flushed : (f : Option Failure) → HasNone ≡ flushed_as f → ⊥
+none-flushed None is = absurd (cc)
+none-flushed (Some f) is = absurd (cc)
+
+due-back : (due : Bool) (f : Failure) (fault : Option Failure) → NotFlushed f ≡ flushed_as (if due then fault else None)
+    → due ≡ true
+due-back true f fault is = refl
+due-back false f fault is = absurd (cc)
+
+pub may-refused : (fault : DetachFault) (unit : UnitName) (a : Option Attachment) (disk : Buffer)
+    → said_of_flush (Err fault) ≡ flush_said (failure_of_flush (Err fault)) unit a disk
+    → MayDigest (Err fault) unit a disk
+may-refused detach.NotAttached unit None disk is = record {}
+may-refused detach.NotAttached unit (Some a) disk is = none-flushed (flush_failure None unit disk) is
+may-refused (detach.Failed f) unit None disk is = absurd (cc)
+may-refused (detach.Failed f) unit (Some a) disk is = λ write.
+    due-back (is_due_back unit disk) (failure_in f) (failure_at Write (Some (failure_in f))) is
+
+pub cause-refused : (fault : DetachFault) (unit : UnitName) (slots : List (Option Held)) (old new : FileState)
+    → FlushCause (Err fault) unit slots old new → DigestCause (Err fault) unit slots old new
+cause-refused detach.NotAttached unit slots old new cause = cause
+cause-refused (detach.Failed f) unit slots old new cause =
+    record { calls = inl (cause.disk, cause.call, cause.written); fault = cause.fault }
+
+-- ---- a unit's file
+
+pub flushed-file : (fault : Option Failure) (a : Option Attachment) (b : Attachment) (files : List NamedBytes)
+    (name : List ℕ) → a ≡ Some b → name ≡ b.name
+    → digest_measured fault (bytes_of files name) ≡ digest_flushed fault a files
+flushed-file fault a b files name is same =
+    ap (λ (n : List ℕ). digest_measured fault (bytes_of files n)) same
+    ∙ ap (λ (x : Option Attachment). digest_flushed fault x files) (sym is)

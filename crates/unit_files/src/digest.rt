@@ -1,0 +1,144 @@
+ghost use Rattle.std.specs.Prelude.{◌≡◌, ◌⊎◌, ◌<◌, IsTrue, IfOk, IfErr, IfSome, OnErr, Err, None, length};
+ghost use Rattle.host_files.specs.declared.files.FileCall.{FileCall};
+ghost use Rattle.host_files.specs.declared.files.FileCall.TheVariants.{Length, Read, Write};
+ghost use Rattle.host_files.specs.FileCalls.{Counted};
+ghost use Rattle.host_files.specs.State.{IsOpen, content};
+ghost use Rattle.sha2.specs.Sha256.{sha256};
+ghost use Rattle.unit_files.specs.Attachments.{attachments_of, attachment_at, takes_attachment};
+ghost use Rattle.unit_files.specs.Buffer.{Buffer};
+ghost use Rattle.unit_files.specs.Acts.{failure_at, flush_files};
+ghost use Rattle.unit_files.specs.Digests.{digest_said, digest_flushed, digest_measured, buffer_digested};
+ghost use Rattle.unit_files.specs.Digests.{said_of_digest, failure_of_digest, MayDigest, DigestCause, FileDigestCause};
+ghost use Rattle.unit_files.specs.Open.{AllOpen};
+ghost use Rattle.unit_files.specs.Shapes.{IsPart};
+
+use crate::attached::Attached;
+use crate::faults::{DetachFault, UnitFault};
+use host_files::{Failed, FileCall, FileId, Files};
+use sha2::{Digest, Sha256};
+use unit_trait::UnitName;
+
+/// How many bytes are read at once.
+const PIECE: usize = 4096;
+
+/// How long a file is, in bytes, and the SHA-256 of its bytes.
+#[derive(Clone, Copy, Debug, PartialEq, Eq)]
+pub struct FileDigest {
+    pub length: u64,
+    pub digest: [u8; 32],
+}
+
+impl Attached {
+    /// The length in bytes and the SHA-256 of a unit's file, as it is once that what the disk holds of it is written
+    /// back; that is done first, as `flush` does it. The file is read piece by piece, and no memory is taken.
+    /// `NotAttached` comes exactly where nothing is attached, and `Failed` where the write of the disk's copy failed,
+    /// or the length, or a read. After a failed write the file is as `flush` leaves it, and the disk's copy is still to
+    /// be written back; after a failed length or read all is as after an `Ok`: the copy is written back. The unit keeps
+    /// its file in every case.
+    pub fn digest<F: Files>(
+        &mut self,
+        unit: UnitName,
+        files: &mut F,
+    ) -> Result<FileDigest, DetachFault>
+        requires unit { IsTrue (takes_attachment unit) }
+        requires open { AllOpen self.old.slots (F.state files.old).opened }
+        ensures said { IsTrue F.tells → said_of_digest result ≡ digest_said (failure_of_digest result) unit
+            (attachment_at (attachments_of self.old.slots) unit) self.old.disk (F.state files.old).files }
+        ensures may { MayDigest result unit (attachment_at (attachments_of self.old.slots) unit) self.old.disk }
+        ensures slots { self.new.slots ≡ self.old.slots }
+        ensures disk { self.new.disk ≡ buffer_digested (failure_of_digest result) unit
+            (attachment_at (attachments_of self.old.slots) unit) self.old.disk }
+        ensures part { OnErr result (IsPart (failure_of_digest result) self.old.disk) }
+        ensures files { (F.state files.new).files ≡ flush_files (failure_of_digest result) unit
+            (attachment_at (attachments_of self.old.slots) unit) self.old.disk (F.state files.old).files }
+        ensures opened { (F.state files.new).opened ≡ (F.state files.old).opened }
+        ensures cause { DigestCause result unit self.old.slots (F.state files.old) (F.state files.new) }
+    {
+        match self.flush(unit, files) {
+            Err(fault) => Err(fault),
+            Ok(()) => self.digest_there(unit, files),
+        }
+    }
+
+    // The length and the digest of a unit's file as it stands there.
+    fn digest_there<F: Files>(
+        &self,
+        unit: UnitName,
+        files: &mut F,
+    ) -> Result<FileDigest, DetachFault>
+        requires { AllOpen self.now.slots (F.state files.old).opened }
+        ensures said { IsTrue F.tells → said_of_digest result ≡ digest_flushed (failure_of_digest result)
+            (attachment_at (attachments_of self.now.slots) unit) (F.state files.old).files }
+        ensures may { (disk : Buffer)
+            → MayDigest result unit (attachment_at (attachments_of self.now.slots) unit) disk }
+        ensures unwritten { failure_at Write (failure_of_digest result) ≡ None }
+        ensures none_done { IfSome (failure_of_digest result) (λ f. f.done ≡ 0) }
+        ensures files { (F.state files.new).files ≡ (F.state files.old).files }
+        ensures opened { (F.state files.new).opened ≡ (F.state files.old).opened }
+        ensures cause { DigestCause result unit self.now.slots (F.state files.old) (F.state files.new) }
+    {
+        match self.file_of(unit) {
+            None => Err(DetachFault::NotAttached),
+            Some(file) => digest_file(unit, file, files),
+        }
+    }
+}
+
+// The length and the digest of the open file of a unit.
+fn digest_file<F: Files>(
+    unit: UnitName,
+    file: FileId,
+    files: &mut F,
+) -> Result<FileDigest, DetachFault>
+    requires { IsOpen (F.state files.old) file.0 }
+    ensures said { IsTrue F.tells → said_of_digest result
+        ≡ digest_measured (failure_of_digest result) (content (F.state files.old) file.0) }
+    ensures files { (F.state files.new).files ≡ (F.state files.old).files }
+    ensures opened { (F.state files.new).opened ≡ (F.state files.old).opened }
+    ensures cause { FileDigestCause result unit file (F.state files.old) (F.state files.new) }
+{
+    match digest_of(file, files) {
+        Ok(found) => Ok(found),
+        Err(call) => Err(DetachFault::Failed(UnitFault {
+            unit,
+            file: Some(file),
+            call,
+            done: 0,
+        })),
+    }
+}
+
+// The length and the digest of an open file, which is read piece by piece. The error is the call that failed.
+fn digest_of<F: Files>(file: FileId, files: &mut F) -> Result<FileDigest, FileCall>
+    requires { IsOpen (F.state files.old) file.0 }
+    ensures length { IsTrue F.tells → IfOk result (λ d. d.length ≡ length (content (F.state files.old) file.0)) }
+    ensures digest { IsTrue F.tells → IfOk result (λ d. d.digest ≡ sha256 (content (F.state files.old) file.0)) }
+    ensures some { IsTrue F.tells → result ≡ Err FileCall.Read → 0 < length (content (F.state files.old) file.0) }
+    ensures calls { IfErr result (λ call. (call ≡ Length) ⊎ (call ≡ Read)) }
+    ensures files { (F.state files.new).files ≡ (F.state files.old).files }
+    ensures opened { (F.state files.new).opened ≡ (F.state files.old).opened }
+    ensures counted { Counted file.0 (F.state files.old) (F.state files.new) result }
+{
+    let length = match files.length(file) {
+        Ok(length) => length,
+        Err(Failed) => return Err(FileCall::Length),
+    };
+    let mut hasher = Sha256::new();
+    let mut place = 0;
+    let mut piece = [0; PIECE];
+    while place < length {
+        let want = (length - place).min(PIECE as u64) as usize;
+        match files.read_at(file, place, &mut piece[..want]) {
+            Ok(0) => break,
+            Ok(count) => {
+                hasher.update(&piece[..count]);
+                place += count as u64;
+            }
+            Err(Failed) => return Err(FileCall::Read),
+        }
+    }
+    Ok(FileDigest {
+        length,
+        digest: hasher.finalize(),
+    })
+}
