@@ -249,6 +249,7 @@ went : (stops : ℕ → Bool) (watch : WatchState) (note : Option RunNote) (one 
     → AreAtBreaks stops watch → IsCalm budget old → old.time + budget ≤ last_time → budget ≤ most → done ≤ budget
     → Reaches stops done old.processor q → new ≡ passed_by done (record old { processor = q })
     → turns note one false most (seen (beside watch keys files lines) whole old) ≡ turns note one false (most - done) (seen (beside watch keys files lines) whole new)
+unfolding behind passed_by
 went stops watch note one keys files lines whole most done budget old new q at_breaks calm end few within reaches is =
     let all : most ≡ done + (most - done) = omega (arith, few, within) in
     let s = seen (beside watch keys files lines) whole old in
@@ -261,6 +262,7 @@ ended : (stops : ℕ → Bool) (watch : WatchState) (note : Option RunNote) (one
     → AreAtBreaks stops watch → IsCalm budget old → old.time + budget ≤ last_time → budget ≤ most → done < budget
     → Reaches stops done old.processor mid → stops mid.cpu.pc ≡ false → step mid ≡ record { processor = q; end = step_end.ChainLimit } → new ≡ passed_by done (record old { processor = q })
     → turns note one false most (seen (beside watch keys files lines) whole old) ≡ silent (Some ChainLimit) (seen (beside watch keys files lines) whole new)
+unfolding behind passed_by
 ended stops watch note one keys files lines whole most done budget old new mid q at_breaks calm end few within reaches passes chain is =
     let left = most - done - 1 in
     let all : most ≡ done + suc left = omega (arith, few, within) in
@@ -301,6 +303,10 @@ calm-less less more m within calm = record {
 pub passed-slots : (count : ℕ) (m : MachineState) → (passed_by count m).slots ≡ m.slots
 unfolding passed_by
 passed-slots count m = refl
+
+pub passed-lines : (count : ℕ) (m : MachineState) → (passed_by count m).lines ≡ m.lines
+unfolding passed_by
+passed-lines count m = refl
 
 pub passed-time : (count : ℕ) (m : MachineState) → (passed_by count m).time ≡ m.time + count
 unfolding passed_by

@@ -109,6 +109,7 @@ behind-same period count m = refl
 pub idle-waits : (period : ℕ) (watch : WatchState) (keys : List (ℕ × ℕ)) (most rounds budget : ℕ) (old new : MachineState) → AreUnbroken watch old → IsWaiting old
     → IsIdle budget period old watch.sends keys → old.time + budget ≤ last_time → budget ≤ most → rounds * 2 ≤ budget
     → new ≡ idled_by period (rounds * 2) old → Bursts watch keys most (rounds * 2) burst_end.Transfer old new
+unfolding idle_behind idled_by
 idle-waits period watch keys most rounds budget old new unbroken waiting idle end few within is = λ note one files lines whole.
     let all : most ≡ rounds * 2 + (most - rounds * 2) = omega (arith, few, within) in
     let s = seen (beside watch keys files lines) whole old in

@@ -210,6 +210,7 @@ went : (period : ℕ) (stops : ℕ → Bool) (watch : WatchState) (note : Option
     → AreAtBreaks stops watch → IsIdle budget period old watch.sends keys → old.time + budget ≤ last_time → budget ≤ most → done ≤ budget
     → Reaches stops done old.processor q → new ≡ idled_by period done (record old { processor = q })
     → turns note one false most (seen (beside watch keys files lines) whole old) ≡ turns note one false (most - done) (seen (beside watch keys files lines) whole new)
+unfolding idle_behind idled_by
 went period stops watch note one keys files lines whole most done budget old new q at_breaks idle end few within reaches is =
     let all : most ≡ done + (most - done) = omega (arith, few, within) in
     let s = seen (beside watch keys files lines) whole old in
@@ -234,6 +235,7 @@ ended : (period : ℕ) (stops : ℕ → Bool) (watch : WatchState) (note : Optio
     → Reaches stops done old.processor mid → stops mid.cpu.pc ≡ false → step mid ≡ record { processor = q; end = step_end.ChainLimit }
     → new ≡ looked_at period (idled_by period done (record old { processor = q }))
     → turns note one false most (seen (beside watch keys files lines) whole old) ≡ silent (Some ChainLimit) (seen (beside watch keys files lines) whole new)
+unfolding looked_at idle_behind idled_by
 ended period stops watch note one keys files lines whole most done budget old new mid q at_breaks idle end few within reaches passes chain is =
     let left = most - done - 1 in
     let all : most ≡ done + suc left = omega (arith, few, within) in
@@ -267,6 +269,10 @@ pub idled-slots : (period count : ℕ) (m : MachineState) → (idled_by period c
 unfolding idled_by
 idled-slots period count m = refl
 
+pub idled-lines : (period count : ℕ) (m : MachineState) → (idled_by period count m).lines ≡ m.lines
+unfolding idled_by
+idled-lines period count m = refl
+
 pub idled-time : (period count : ℕ) (m : MachineState) → (idled_by period count m).time ≡ m.time + count
 unfolding idled_by
 idled-time period count m = refl
@@ -274,6 +280,10 @@ idled-time period count m = refl
 pub looked-slots : (period : ℕ) (m : MachineState) → (looked_at period m).slots ≡ m.slots
 unfolding looked_at
 looked-slots period m = refl
+
+pub looked-lines : (period : ℕ) (m : MachineState) → (looked_at period m).lines ≡ m.lines
+unfolding looked_at
+looked-lines period m = refl
 
 pub looked-time : (period : ℕ) (m : MachineState) → (looked_at period m).time ≡ m.time
 unfolding looked_at
@@ -313,6 +323,12 @@ end-slots burst_end.ChainLimit period m = looked-slots period m
 end-slots burst_end.Spent period m = refl
 end-slots burst_end.Transfer period m = refl
 end-slots burst_end.AtStop period m = refl
+
+pub end-lines : (end : BurstEnd) (period : ℕ) (m : MachineState) → (idle_end end period m).lines ≡ m.lines
+end-lines burst_end.ChainLimit period m = looked-lines period m
+end-lines burst_end.Spent period m = refl
+end-lines burst_end.Transfer period m = refl
+end-lines burst_end.AtStop period m = refl
 
 pub end-time : (end : BurstEnd) (period : ℕ) (m : MachineState) → (idle_end end period m).time ≡ m.time
 end-time burst_end.ChainLimit period m = looked-time period m

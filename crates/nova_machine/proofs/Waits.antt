@@ -189,6 +189,7 @@ waiting-erased m waiting = record {
 
 pub waits-told : (watch : WatchState) (keys : List (ℕ × ℕ)) (most rounds budget : ℕ) (old new : MachineState) → AreUnbroken watch old → IsWaiting old → IsCalm budget old → old.time + budget ≤ last_time → budget ≤ most → rounds * 2 ≤ budget
     → new ≡ passed_by (rounds * 2) old → Bursts watch keys most (rounds * 2) burst_end.Transfer old new
+unfolding behind passed_by
 waits-told watch keys most rounds budget old new unbroken waiting calm end few within is = λ note one files lines whole.
     let all : most ≡ rounds * 2 + (most - rounds * 2) = omega (arith, few, within) in
     let s = seen (beside watch keys files lines) whole old in

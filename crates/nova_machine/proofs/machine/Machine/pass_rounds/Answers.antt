@@ -2,7 +2,7 @@ use Rattle.std.proofs.Common.{◌≡◌, ◌+◌, ◌*◌, ◌/◌, ◌≤◌, a
 use Rattle.nova_machine.specs.Machine.{MachineState}
 use Rattle.nova_machine.specs.Run.{last_time}
 use Rattle.nova_machine.specs.Bursts.{IsCalm, passed_by}
-use Rattle.nova_machine.proofs.Bursts.{calm-less, passed-slots, passed-time}
+use Rattle.nova_machine.proofs.Bursts.{calm-less, passed-slots, passed-lines, passed-time}
 use Rattle.nova_machine.proofs.Waits.{waits-told}
 use Rattle.nova_machine.proofs.InstructionCauses.{passed-taken}
 use Rattle.nova_machine.proofs.machine.Machine.pass_rounds.Goals as goal
@@ -26,6 +26,13 @@ returns-clause-slots g c =
     let count = c.min-budget.result / 2 * 2 in
     let is : c.pass_time.new.self ≡ passed_by count old = search rules in
     ap (λ (m : MachineState). m.slots) is ∙ passed-slots count old
+
+pub returns-clause-lines : goal.returns-clause-lines
+returns-clause-lines g c =
+    let old = c.args.self.now in
+    let count = c.min-budget.result / 2 * 2 in
+    let is : c.pass_time.new.self ≡ passed_by count old = search rules in
+    ap (λ (m : MachineState). m.lines) is ∙ passed-lines count old
 
 pub returns-clause-later : goal.returns-clause-later
 returns-clause-later g c =

@@ -1,7 +1,7 @@
 use Rattle.std.proofs.Common.{◌≡◌, ◌*◌, ◌/◌, ◌≤◌, ap, ◌∙◌, arith, rules}
 use Rattle.nova_machine.specs.Machine.{MachineState}
 use Rattle.nova_machine.specs.Looks.{idled_by}
-use Rattle.nova_machine.proofs.Idling.{idled-slots, idled-time, passed-keys}
+use Rattle.nova_machine.proofs.Idling.{idled-slots, idled-lines, idled-time, passed-keys}
 use Rattle.nova_machine.proofs.IdleWaits.{idle-waits}
 use Rattle.nova_machine.proofs.machine.Machine.pass_rounds_and_looks.Goals as goal
 
@@ -19,6 +19,13 @@ returns-clause-slots g c =
     let count = c.idle_budget-rounds.result / 2 * 2 in
     let is : c.pass_looks.new.self ≡ idled_by c.args.looks.period count old = search rules in
     ap (λ (m : MachineState). m.slots) is ∙ idled-slots c.args.looks.period count old
+
+pub returns-clause-lines : goal.returns-clause-lines
+returns-clause-lines g c =
+    let old = c.args.self.now in
+    let count = c.idle_budget-rounds.result / 2 * 2 in
+    let is : c.pass_looks.new.self ≡ idled_by c.args.looks.period count old = search rules in
+    ap (λ (m : MachineState). m.lines) is ∙ idled-lines c.args.looks.period count old
 
 pub returns-clause-later : goal.returns-clause-later
 returns-clause-later g c =

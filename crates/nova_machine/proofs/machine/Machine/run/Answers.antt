@@ -1,9 +1,13 @@
-use Rattle.std.proofs.Common.{◌≡◌, ◌≢◌, ℕ, ◌-◌, ◌+◌, ◌<◌, ◌≤◌, suc, false, None, Some, Option, inl, inr, ap, refl, sym, subst, ◌∙◌, arith, rules}
+use Rattle.std.proofs.Common.{◌≡◌, ◌≢◌, ℕ, ◌-◌, ◌+◌, ◌<◌, ◌≤◌, suc, false, List, None, Some, Option, inl, inr, ap, refl, sym, subst, ◌∙◌, arith, rules}
 use Rattle.nova_processor.specs.declared.burst.BurstEnd.TheVariants as burst_end
 use Rattle.nova_machine.specs.declared.machine.Stop.TheVariants.{Limit, ChainLimit}
 use Rattle.nova_machine.specs.Notes.{UnitNote, RunNote, at_time, unit_note, run_note}
 use Rattle.nova_machine.specs.Seen.{seen, beside}
-use Rattle.nova_machine.specs.Comes.{AreTold, Comes}
+use Rattle.host_lines.specs.Told.{record_in}
+use Rattle.telnet_lines.specs.Line.{LineOf}
+use Rattle.nova_machine.specs.LineChanges.{LinesGoOn}
+use Rattle.nova_machine.proofs.LineSteps.{lines-stay, lines-then, first-through}
+use Rattle.nova_machine.specs.Comes.{AreTold, Comes, output}
 use Rattle.nova_machine.specs.Turn.{turn}
 use Rattle.nova_machine.specs.Run.{last_time, turns, run}
 use Rattle.nova_machine.proofs.Quiet.{told-same, quiet-same, quiet-then, cause-behind}
@@ -15,41 +19,48 @@ use Rattle.nova_machine.proofs.RunCauses.{run-stopped, run-expired, expired-no-m
 use Rattle.nova_machine.proofs.machine.Machine.run.Goals as goal
 
 pub returns-then-self-eq-LAST_TIME-clause-told : goal.returns-then-self-eq-LAST_TIME-clause-told
-returns-then-self-eq-LAST_TIME-clause-told g c = λ told.
-    let s = seen (beside c.turns.watch c.args.keys.now (g.F.Files.state c.turns.files).files) c.turns.self in
-    c.turns.invariant.told told None (Some Limit) s (g.S.Sink.written c.turns.out) tt
-    (ended-of None c.args.limit.step c.turns.first c.turns.left s g.S.Sink.tells (g.S.Sink.written c.turns.out) (search rules) (search rules))
+returns-then-self-eq-LAST_TIME-clause-told g c = λ told lt whole first-of.
+    let s = seen (beside c.turns.watch c.args.keys.now (g.F.Files.state c.turns.files).files (g.L.Lines.state c.turns.lines)) whole c.turns.self in
+    c.turns.invariant.told told lt None (Some Limit) s (output (g.S.Sink.written c.turns.out) (g.L.Lines.state c.turns.lines).sent) whole first-of tt
+    (ended-of None c.args.limit.step c.turns.first c.turns.left s g.S.Sink.tells (output (g.S.Sink.written c.turns.out) (g.L.Lines.state c.turns.lines).sent) (search rules) (search rules))
 
 pub returns-in-Stopped-clause-told : goal.returns-in-Stopped-clause-told
-returns-in-Stopped-clause-told g c = λ told.
+returns-in-Stopped-clause-told g c = λ told lt whole first-of.
+    let before = g.L.Lines.state c.turns.lines in
+    let lt-now = (c.turns.invariant.lines.told lt).0 in
+    let earlier = first-through (record_in before.told) (record_in (g.L.Lines.state c.turn.new.lines).told) whole (c.in-Stopped.ensures.lines.told lt-now).1 first-of in
     let early : c.turns.self.time < last_time = search rules in
     let now : AreTold g.F.Files.tells c.turns.self.slots = told-same g.F.Files.tells _ _ (search rules) told in
-    let s = seen (beside c.turns.watch c.args.keys.now (g.F.Files.state c.turns.files).files) c.turns.self in
-    let last = seen (beside c.turn.new.watch c.args.keys.now (g.F.Files.state c.turn.new.files).files) c.turn.new.self in
+    let s = seen (beside c.turns.watch c.args.keys.now (g.F.Files.state c.turns.files).files (g.L.Lines.state c.turns.lines)) whole c.turns.self in
+    let last = seen (beside c.turn.new.watch c.args.keys.now (g.F.Files.state c.turn.new.files).files (g.L.Lines.state c.turn.new.lines)) whole c.turn.new.self in
     let stop = c.in-Stopped.stop in
     let note = run_note c.turn.new.self.time (Some stop) in
     let here : at_time c.turns.self.time note ≡ unit_note (Some stop) = note-here stop c.turns.self.time c.turn.new.self.time c.in-Stopped.ensures.fault in
-    let P : Option UnitNote → Type 0 = λ x. Comes (turn x c.turns.first s) (Some stop) last g.S.Sink.tells (g.S.Sink.written c.turns.out) (g.S.Sink.written c.turn.new.out) in
-    c.turns.invariant.told told note (Some stop) last (g.S.Sink.written c.turn.new.out)
+    let P : Option UnitNote → Type 0 = λ x. Comes (turn x c.turns.first s) (Some stop) last g.S.Sink.tells (output (g.S.Sink.written c.turns.out) (g.L.Lines.state c.turns.lines).sent) (output (g.S.Sink.written c.turn.new.out) (g.L.Lines.state c.turn.new.lines).sent) in
+    c.turns.invariant.told told lt note (Some stop) last (output (g.S.Sink.written c.turn.new.out) (g.L.Lines.state c.turn.new.lines).sent) whole earlier
     (note-coming stop c.turns.self.time c.turn.new.self.time c.in-Stopped.ensures.fault)
     (last-of note c.args.limit.step c.turns.first c.turns.left s stop last g.S.Sink.tells
-    (g.S.Sink.written c.turns.out) (g.S.Sink.written c.turn.new.out) early (search rules) (subst P (sym here) (c.in-Stopped.ensures.told now)))
+    (output (g.S.Sink.written c.turns.out) (g.L.Lines.state c.turns.lines).sent) (output (g.S.Sink.written c.turn.new.out) (g.L.Lines.state c.turn.new.lines).sent) early (search rules) (subst P (sym here) (c.in-Stopped.ensures.told now lt-now whole first-of)))
 
 pub returns-in-ChainLimit-clause-told : goal.returns-in-ChainLimit-clause-told
-returns-in-ChainLimit-clause-told g c = λ told.
+returns-in-ChainLimit-clause-told g c = λ told lt whole first-of.
+    let before = g.L.Lines.state c.turns.lines in
+    let lt-now = (c.turns.invariant.lines.told lt).0 in
+    let new = g.L.Lines.state c.turn.new.lines in
+    let earlier = first-through (record_in before.told) (record_in new.told) whole (c.in-Executed.ensures.lines.told lt-now).1 first-of in
     let early : c.turns.self.time < last_time = search rules in
     let one : c.turns.left ≡ suc (c.turns.left - 1) = search rules in
     let ends : c.burst-burst.result.end ≡ burst_end.ChainLimit = search rules in
     let now : AreTold g.F.Files.tells c.turns.self.slots = told-same g.F.Files.tells _ _ (search rules) told in
     let keys = c.args.keys.now in
     let files = (g.F.Files.state c.turn.new.files).files in
-    let s = seen (beside c.turns.watch keys (g.F.Files.state c.turns.files).files) c.turns.self in
-    let mid = seen (beside c.turn.new.watch keys files) c.turn.new.self in
-    let last = seen (beside c.turn.new.watch keys files) c.burst-burst.new.self in
-    c.turns.invariant.told told None (Some ChainLimit) last (g.S.Sink.written c.turn.new.out) tt
+    let s = seen (beside c.turns.watch keys (g.F.Files.state c.turns.files).files (g.L.Lines.state c.turns.lines)) whole c.turns.self in
+    let mid = seen (beside c.turn.new.watch keys files new) whole c.turn.new.self in
+    let last = seen (beside c.turn.new.watch keys files new) whole c.burst-burst.new.self in
+    c.turns.invariant.told told lt None (Some ChainLimit) last (output (g.S.Sink.written c.turn.new.out) (g.L.Lines.state c.turn.new.lines).sent) whole earlier tt
     (chain-of None c.args.limit.step c.turns.first c.turns.left (c.turns.left - 1) s mid last g.S.Sink.tells
-    (g.S.Sink.written c.turns.out) (g.S.Sink.written c.turn.new.out) early one (c.in-Executed.ensures.told now)
-    (burst-ends c.turn.new.watch None (c.turns.left - 1) c.burst-burst.result.done c.burst-burst.result.end c.turn.new.self c.burst-burst.new.self c.args.limit.step keys files ends
+    (output (g.S.Sink.written c.turns.out) (g.L.Lines.state c.turns.lines).sent) (output (g.S.Sink.written c.turn.new.out) (g.L.Lines.state c.turn.new.lines).sent) early one (c.in-Executed.ensures.told now lt-now whole first-of)
+    (burst-ends c.turn.new.watch None (c.turns.left - 1) c.burst-burst.result.done c.burst-burst.result.end c.turn.new.self c.burst-burst.new.self c.args.limit.step keys files new whole ends
     c.burst-burst.ensures.told))
 
 pub returns-in-ChainLimit-clause-file_cause : goal.returns-in-ChainLimit-clause-file_cause
@@ -67,27 +78,36 @@ turns-preserved g c =
     let other : c.burst-burst.result.end ≢ burst_end.ChainLimit = search rules in
     let keys = c.args.keys.now in
     let files = (g.F.Files.state c.turn.new.files).files in
-    let s = seen (beside c.turns.watch keys (g.F.Files.state c.turns.files).files) c.turns.self in
-    let mid = seen (beside c.turn.new.watch keys files) c.turn.new.self in
-    let next = seen (beside c.turn.new.watch keys files) c.burst-burst.new.self in
     let step = c.args.limit.step in
     let rest : c.turns.left - 1 - c.burst-burst.result.done ≡ c.turns.left - (1 + c.burst-burst.result.done) = omega arith in
     let time : c.turn.new.self.time ≡ c.turns.self.time + 1 = search rules in
     let grows : c.turn.new.self.time ≤ c.burst-burst.new.self.time = search rules in
     record {
-      told = λ told note r last after still more.
+      told = λ told lt note r last after whole first-of still more.
+          let before = g.L.Lines.state c.turns.lines in
+          let lt-now = (c.turns.invariant.lines.told lt).0 in
+          let new = g.L.Lines.state c.turn.new.lines in
+          let earlier = first-through (record_in before.told) (record_in new.told) whole (c.in-Executed.ensures.lines.told lt-now).1 first-of in
+          let s = seen (beside c.turns.watch keys (g.F.Files.state c.turns.files).files (g.L.Lines.state c.turns.lines)) whole c.turns.self in
+          let mid = seen (beside c.turn.new.watch keys files new) whole c.turn.new.self in
+          let next = seen (beside c.turn.new.watch keys files new) whole c.burst-burst.new.self in
           let now : AreTold g.F.Files.tells c.turns.self.slots = told-same g.F.Files.tells _ _ (search rules) told in
           let later : c.turns.self.time < c.burst-burst.new.self.time = omega (arith, time, grows) in
-          let before : c.turns.self.time ≤ c.burst-burst.new.self.time = omega (arith, time, grows) in
+          let sooner : c.turns.self.time ≤ c.burst-burst.new.self.time = omega (arith, time, grows) in
           let none : at_time c.turns.self.time note ≡ None = not-now note c.turns.self.time c.burst-burst.new.self.time later still in
-          let P : Option UnitNote → Type 0 = λ x. Comes (turn x c.turns.first s) None mid g.S.Sink.tells (g.S.Sink.written c.turns.out) (g.S.Sink.written c.turn.new.out) in
-          let goes = burst-goes c.turn.new.watch note (c.turns.left - 1) c.burst-burst.result.done c.burst-burst.result.end c.turn.new.self c.burst-burst.new.self step keys files other
+          let P : Option UnitNote → Type 0 = λ x. Comes (turn x c.turns.first s) None mid g.S.Sink.tells (output (g.S.Sink.written c.turns.out) (g.L.Lines.state c.turns.lines).sent) (output (g.S.Sink.written c.turn.new.out) (g.L.Lines.state c.turn.new.lines).sent) in
+          let goes = burst-goes c.turn.new.watch note (c.turns.left - 1) c.burst-burst.result.done c.burst-burst.result.end c.turn.new.self c.burst-burst.new.self step keys files new whole other
           c.burst-burst.ensures.told in
-          c.turns.invariant.told told note r last after (still-later note c.turns.self.time c.burst-burst.new.self.time before still)
+          c.turns.invariant.told told lt note r last after whole earlier (still-later note c.turns.self.time c.burst-burst.new.self.time sooner still)
           (burst-of note step c.turns.first c.turns.left (c.turns.left - 1) (c.turns.left - (1 + c.burst-burst.result.done)) s mid next r last
-          g.S.Sink.tells (g.S.Sink.written c.turns.out) (g.S.Sink.written c.turn.new.out) after early one (subst P (sym none) (c.in-Executed.ensures.told now))
+          g.S.Sink.tells (output (g.S.Sink.written c.turns.out) (g.L.Lines.state c.turns.lines).sent) (output (g.S.Sink.written c.turn.new.out) (g.L.Lines.state c.turn.new.lines).sent) after early one (subst P (sym none) (c.in-Executed.ensures.told now lt-now whole first-of))
           (goes ∙ ap (λ (n : ℕ). turns note step false n next) rest) more);
       slots = search rules;
+      lines =
+          let before = g.L.Lines.state c.turns.lines in
+          let new = g.L.Lines.state c.turn.new.lines in
+          subst (λ (ls : List (LineOf ℕ)). LinesGoOn g.L.Lines.tells (g.L.Lines.state c.args.lines.now) c.args.self.now.lines new ls) (sym c.burst-burst.ensures.lines)
+          (lines-then g.L.Lines.tells (g.L.Lines.state c.args.lines.now) before new c.args.self.now.lines c.turns.self.lines c.turn.new.self.lines c.turns.invariant.lines c.in-Executed.ensures.lines);
       opened = c.in-Executed.ensures.opened ∙ c.turns.invariant.opened;
       is_open = search rules;
       counts = c.in-Executed.ensures.counts ∙ c.turns.invariant.counts;
@@ -108,20 +128,21 @@ turns-preserved g c =
     }
 
 pub returns-clause-told : goal.returns-clause-told
-returns-clause-told g c = λ told.
-    let s = seen (beside c.turns.watch c.args.keys.now (g.F.Files.state c.turns.files).files) c.turns.self in
+returns-clause-told g c = λ told lt whole first-of.
+    let s = seen (beside c.turns.watch c.args.keys.now (g.F.Files.state c.turns.files).files (g.L.Lines.state c.turns.lines)) whole c.turns.self in
     let stop = c.expired.result in
     let none : run_note c.turns.self.time (Some stop) ≡ None = note-own stop c.turns.self.time c.expired.ensures.other in
-    let start = seen (beside c.args.watch.now c.args.keys.now (g.F.Files.state c.args.files.now).files) c.args.self.now in
+    let start = seen (beside c.args.watch.now c.args.keys.now (g.F.Files.state c.args.files.now).files (g.L.Lines.state c.args.lines.now)) whole c.args.self.now in
     let P : Option RunNote → Type 0 = λ x. Comes (run x c.args.limit.step c.args.limit.count start) (Some stop) s g.S.Sink.tells
-    (g.S.Sink.written c.args.out.now) (g.S.Sink.written c.turns.out) in
-    subst P (sym none) (c.turns.invariant.told told None (Some stop) s (g.S.Sink.written c.turns.out) tt
+    (output (g.S.Sink.written c.args.out.now) (g.L.Lines.state c.args.lines.now).sent) (output (g.S.Sink.written c.turns.out) (g.L.Lines.state c.turns.lines).sent) in
+    subst P (sym none) (c.turns.invariant.told told lt None (Some stop) s (output (g.S.Sink.written c.turns.out) (g.L.Lines.state c.turns.lines).sent) whole first-of tt
     (expired-of None c.args.limit.step c.turns.first c.turns.left s stop
-    g.S.Sink.tells (g.S.Sink.written c.turns.out) (search rules) c.expired.ensures.other c.expired.ensures.stop))
+    g.S.Sink.tells (output (g.S.Sink.written c.turns.out) (g.L.Lines.state c.turns.lines).sent) (search rules) c.expired.ensures.other c.expired.ensures.stop))
 
 pub turns-init : goal.turns-init
 turns-init g c = record {
-  told = λ told note r s after still comes. comes;
+  told = λ told lt note r s after whole first-of still comes. comes;
+  lines = lines-stay g.L.Lines.tells (g.L.Lines.state c.args.lines.now) c.args.self.now.lines;
   slots = refl;
   opened = refl;
   is_open = c.requires.«open»;
@@ -187,3 +208,15 @@ returns-clause-cause g c =
     let none : c.turns.left ≡ 0 = search rules in
     run-expired c.args.limit.step c.turns.first c.args.limit.count c.turns.left c.expired.result c.args.keys.now (moment_of c.args.watch.now c.args.self.now) c.turns.watch c.turns.self
     c.expired.ensures.stop none c.turns.invariant.within
+
+pub returns-in-Stopped-clause-lines : goal.returns-in-Stopped-clause-lines
+returns-in-Stopped-clause-lines g c =
+    lines-then g.L.Lines.tells (g.L.Lines.state c.args.lines.now) (g.L.Lines.state c.turns.lines) (g.L.Lines.state c.turn.new.lines) c.args.self.now.lines c.turns.self.lines c.turn.new.self.lines
+    c.turns.invariant.lines c.in-Stopped.ensures.lines
+
+pub returns-in-ChainLimit-clause-lines : goal.returns-in-ChainLimit-clause-lines
+returns-in-ChainLimit-clause-lines g c =
+    let new = g.L.Lines.state c.turn.new.lines in
+    subst (λ (ls : List (LineOf ℕ)). LinesGoOn g.L.Lines.tells (g.L.Lines.state c.args.lines.now) c.args.self.now.lines new ls) (sym c.burst-burst.ensures.lines)
+    (lines-then g.L.Lines.tells (g.L.Lines.state c.args.lines.now) (g.L.Lines.state c.turns.lines) new c.args.self.now.lines c.turns.self.lines c.turn.new.self.lines c.turns.invariant.lines
+    c.in-Executed.ensures.lines)

@@ -1,8 +1,14 @@
-use Rattle.std.proofs.Common.{◌≡◌, ap, refl, sym, subst, ◌∙◌, Option, None, Some, rules}
+use Rattle.std.proofs.Common.{◌≡◌, ℕ, List, ap, refl, sym, subst, ◌∙◌, Option, None, Some, rules}
 use Rattle.event_queue.specs.EventList.{due}
 use Rattle.nova_machine.specs.Notes.{unit_note, failure_of_stop}
 use Rattle.nova_machine.specs.Seen.{seen, beside}
-use Rattle.nova_machine.specs.Comes.{AreTold}
+use Rattle.host_lines.specs.Told.{record_in}
+use Rattle.telnet_lines.specs.Line.{LineOf}
+use Rattle.unit_files.specs.Acts.{Failure}
+use Rattle.nova_machine.specs.Service.{service}
+use Rattle.nova_machine.specs.LineChanges.{AreLinesTold, LinesGoOn}
+use Rattle.nova_machine.proofs.LineSteps.{lines-stay, lines-then, first-through}
+use Rattle.nova_machine.specs.Comes.{AreTold, Comes, output}
 use Rattle.nova_machine.proofs.Serving.{stop-at, more-at, none-at, note-first, note-later}
 use Rattle.nova_machine.proofs.Parts.{counts-none}
 use Rattle.nova_machine.proofs.Quiet.{told-same, quiet-same, quiet-none, quiet-then, cause-behind}
@@ -13,21 +19,29 @@ use Rattle.nova_machine.proofs.Causes.{watches-still, watches-goes, watches-left
 use Rattle.nova_machine.proofs.machine.Machine.serve.Goals as goal
 
 pub returns-in-Some-serve_unit-clause-told : goal.returns-in-Some-serve_unit-clause-told
-returns-in-Some-serve_unit-clause-told g c = λ told.
+returns-in-Some-serve_unit-clause-told g c = λ told lt whole first-of.
+    let start = g.L.Lines.state c.args.lines.now in
+    let mid = g.L.Lines.state c.events.lines in
+    let told-here = c.events.invariant.lines.told lt in
+    let lt-now : AreLinesTold g.L.Lines.tells mid c.take_due.new.self.lines =
+    subst (λ (ls : List (LineOf ℕ)). AreLinesTold g.L.Lines.tells mid ls) (sym c.take_due.ensures.lines) told-here.0 in
+    let two = c.in-Some-serve_unit.ensures.lines.told lt-now in
+    let earlier = first-through (record_in mid.told) (record_in (g.L.Lines.state c.serve_unit.new.lines).told) whole two.1 first-of in
     let stop = c.in-Some-serve_unit.stop in
     let keys = c.args.keys.now in
     let files = (g.F.Files.state c.events.files).files in
-    let last = seen (beside c.serve_unit.new.watch keys (g.F.Files.state c.serve_unit.new.files).files) c.serve_unit.new.self in
+    let last = seen (beside c.serve_unit.new.watch keys (g.F.Files.state c.serve_unit.new.files).files (g.L.Lines.state c.serve_unit.new.lines)) whole c.serve_unit.new.self in
     let first : due c.events.self.events ≡ Some c.in-Some.unit = sym c.in-Some.ensures.unit in
     let note = note-first stop c.in-Some.unit c.events.self first c.in-Some-serve_unit.ensures.own in
     let now : AreTold g.F.Files.tells c.take_due.new.self.slots = told-same g.F.Files.tells _ _ (search rules) told in
-    c.events.invariant.told told (unit_note (Some stop)) (Some stop) last (g.S.Sink.written c.serve_unit.new.out) note.0
-    (stop-at (unit_note (Some stop)) c.events.watch keys files c.events.self c.take_due.new.self c.in-Some.unit (failure_of_stop (Some stop)) stop last g.S.Sink.tells
-    (g.S.Sink.written c.events.out) (g.S.Sink.written c.serve_unit.new.out) first c.take_due.ensures.taken note.1 (c.in-Some-serve_unit.ensures.told now))
+    c.events.invariant.told told lt (unit_note (Some stop)) (Some stop) last (output (g.S.Sink.written c.serve_unit.new.out) (g.L.Lines.state c.serve_unit.new.lines).sent) whole earlier note.0
+    (stop-at (unit_note (Some stop)) c.events.watch keys files mid whole c.events.self c.take_due.new.self c.in-Some.unit (failure_of_stop (Some stop)) stop last g.S.Sink.tells
+    (output (g.S.Sink.written c.events.out) (g.L.Lines.state c.events.lines).sent) (output (g.S.Sink.written c.serve_unit.new.out) (g.L.Lines.state c.serve_unit.new.lines).sent) first c.take_due.ensures.taken note.1 (c.in-Some-serve_unit.ensures.told now lt-now whole first-of))
 
 pub events-init : goal.events-init
 events-init g c = record {
-  told = λ told note r s after still comes. comes;
+  told = λ told lt note r s after whole first still comes. comes;
+  lines = lines-stay g.L.Lines.tells (g.L.Lines.state c.args.lines.now) c.args.self.now.lines;
   time = refl;
   slots = refl;
   opened = refl;
@@ -43,16 +57,33 @@ events-preserved g c =
     let goes : c.serve_unit.result ≡ None = search rules in
     let keys = c.args.keys.now in
     let files = (g.F.Files.state c.events.files).files in
-    let next = seen (beside c.serve_unit.new.watch keys (g.F.Files.state c.serve_unit.new.files).files) c.serve_unit.new.self in
     let first : due c.events.self.events ≡ Some c.in-Some.unit = sym c.in-Some.ensures.unit in
     record {
-      told = λ told note r s after still rest.
+      told = λ told lt note r s after whole first-of still rest.
+          let start = g.L.Lines.state c.args.lines.now in
+          let mid = g.L.Lines.state c.events.lines in
+          let told-here = c.events.invariant.lines.told lt in
+          let lt-now : AreLinesTold g.L.Lines.tells mid c.take_due.new.self.lines =
+          subst (λ (ls : List (LineOf ℕ)). AreLinesTold g.L.Lines.tells mid ls) (sym c.take_due.ensures.lines) told-here.0 in
+          let two = c.serve_unit.ensures.lines.told lt-now in
+          let earlier = first-through (record_in mid.told) (record_in (g.L.Lines.state c.serve_unit.new.lines).told) whole two.1 first-of in
+          let next = seen (beside c.serve_unit.new.watch keys (g.F.Files.state c.serve_unit.new.files).files (g.L.Lines.state c.serve_unit.new.lines)) whole c.serve_unit.new.self in
           let now : AreTold g.F.Files.tells c.take_due.new.self.slots = told-same g.F.Files.tells _ _ (search rules) told in
           let later = note-later note c.in-Some.unit c.events.self _ first (search rules) (search rules) still in
-          c.events.invariant.told told note r s after later.0
-          (more-at note c.events.watch keys files c.events.self c.take_due.new.self next c.in-Some.unit c.serve_unit.result r s g.S.Sink.tells
-          (g.S.Sink.written c.events.out) (g.S.Sink.written c.serve_unit.new.out) after
-          first c.take_due.ensures.taken later.1 goes (search rules) (c.serve_unit.ensures.dues goes) rest);
+          c.events.invariant.told told lt note r s after whole earlier later.0
+          (more-at note c.events.watch keys files mid whole c.events.self c.take_due.new.self next c.in-Some.unit c.serve_unit.result r s g.S.Sink.tells
+          (output (g.S.Sink.written c.events.out) (g.L.Lines.state c.events.lines).sent) (output (g.S.Sink.written c.serve_unit.new.out) (g.L.Lines.state c.serve_unit.new.lines).sent) after
+          first c.take_due.ensures.taken later.1 goes
+          (subst (λ (f : Option Failure). Comes (service f c.in-Some.unit (seen (beside c.events.watch keys files mid) whole c.take_due.new.self)) c.serve_unit.result next g.S.Sink.tells
+          (output (g.S.Sink.written c.events.out) (g.L.Lines.state c.events.lines).sent)
+          (output (g.S.Sink.written c.serve_unit.new.out) (g.L.Lines.state c.serve_unit.new.lines).sent)) (ap failure_of_stop goes) (c.serve_unit.ensures.told now lt-now whole first-of))
+          (c.serve_unit.ensures.dues goes) rest);
+      lines =
+          let taken = c.take_due.ensures.lines in
+          let mid = g.L.Lines.state c.events.lines in
+          let new = g.L.Lines.state c.serve_unit.new.lines in
+          lines-then g.L.Lines.tells (g.L.Lines.state c.args.lines.now) mid new c.args.self.now.lines c.events.self.lines c.serve_unit.new.self.lines c.events.invariant.lines
+          (subst (λ (ls : List (LineOf ℕ)). LinesGoOn g.L.Lines.tells mid ls new c.serve_unit.new.self.lines) taken c.serve_unit.ensures.lines);
       time = search rules;
       slots = search rules;
       opened = c.serve_unit.ensures.opened ∙ c.events.invariant.opened;
@@ -69,12 +100,13 @@ events-preserved g c =
     }
 
 pub returns-clause-told : goal.returns-clause-told
-returns-clause-told g c = λ told.
+returns-clause-told g c = λ told lt whole first-of.
+    let mid = g.L.Lines.state c.events.lines in
     let none : due c.events.self.events ≡ None = search rules in
     let keys = c.args.keys.now in
     let files = (g.F.Files.state c.events.files).files in
-    c.events.invariant.told told None None (seen (beside c.events.watch keys files) c.take_due.new.self) (g.S.Sink.written c.events.out) tt
-    (none-at None c.events.watch keys files c.events.self c.take_due.new.self g.S.Sink.tells (g.S.Sink.written c.events.out) none c.take_due.ensures.taken)
+    c.events.invariant.told told lt None None (seen (beside c.events.watch keys files mid) whole c.take_due.new.self) (output (g.S.Sink.written c.events.out) (g.L.Lines.state c.events.lines).sent) whole first-of tt
+    (none-at None c.events.watch keys files mid whole c.events.self c.take_due.new.self g.S.Sink.tells (output (g.S.Sink.written c.events.out) (g.L.Lines.state c.events.lines).sent) none c.take_due.ensures.taken)
 
 pub returns-in-Some-serve_unit-clause-file_cause : goal.returns-in-Some-serve_unit-clause-file_cause
 returns-in-Some-serve_unit-clause-file_cause g c =
@@ -109,3 +141,14 @@ returns-clause-watches g c =
 
 pub returns-clause-breaks : goal.returns-clause-breaks
 returns-clause-breaks g c = c.events.invariant.breaks
+
+pub returns-in-Some-serve_unit-clause-lines : goal.returns-in-Some-serve_unit-clause-lines
+returns-in-Some-serve_unit-clause-lines g c =
+    let mid = g.L.Lines.state c.events.lines in
+    let new = g.L.Lines.state c.serve_unit.new.lines in
+    lines-then g.L.Lines.tells (g.L.Lines.state c.args.lines.now) mid new c.args.self.now.lines c.events.self.lines c.serve_unit.new.self.lines c.events.invariant.lines
+    (subst (λ (ls : List (LineOf ℕ)). LinesGoOn g.L.Lines.tells mid ls new c.serve_unit.new.self.lines) c.take_due.ensures.lines c.in-Some-serve_unit.ensures.lines)
+
+pub returns-clause-lines : goal.returns-clause-lines
+returns-clause-lines g c =
+    subst (λ (ls : List (LineOf ℕ)). LinesGoOn g.L.Lines.tells (g.L.Lines.state c.args.lines.now) c.args.self.now.lines (g.L.Lines.state c.events.lines) ls) (sym c.take_due.ensures.lines) c.events.invariant.lines

@@ -6,7 +6,7 @@ use Rattle.nova_machine.specs.Run.{last_time}
 use Rattle.nova_processor.specs.Burst.{IsBurst}
 use Rattle.expect_actions.specs.Breaks.{has_break}
 use Rattle.nova_machine.specs.Bursts.{IsCalm, passed_by}
-use Rattle.nova_machine.proofs.Bursts.{burst-told, calm-less, passed-slots, passed-time}
+use Rattle.nova_machine.proofs.Bursts.{burst-told, calm-less, passed-slots, passed-lines, passed-time}
 use Rattle.nova_machine.proofs.InstructionCauses.{passed-taken, any-burst-cause}
 use Rattle.nova_machine.proofs.machine.Machine.work.Goals as goal
 
@@ -30,6 +30,12 @@ returns-clause-slots g c =
     let old = c.args.self.now in
     let is : c.pass_time.new.self ≡ passed_by c.step_to_break-burst.result.done (record old { processor = c.step_to_break-burst.new.self.processor }) = search rules in
     ap (λ (m : MachineState). m.slots) is ∙ passed-slots c.step_to_break-burst.result.done (record old { processor = c.step_to_break-burst.new.self.processor })
+
+pub returns-clause-lines : goal.returns-clause-lines
+returns-clause-lines g c =
+    let old = c.args.self.now in
+    let is : c.pass_time.new.self ≡ passed_by c.step_to_break-burst.result.done (record old { processor = c.step_to_break-burst.new.self.processor }) = search rules in
+    ap (λ (m : MachineState). m.lines) is ∙ passed-lines c.step_to_break-burst.result.done (record old { processor = c.step_to_break-burst.new.self.processor })
 
 pub returns-clause-later : goal.returns-clause-later
 returns-clause-later g c =
