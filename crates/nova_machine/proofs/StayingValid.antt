@@ -7,6 +7,7 @@ use Rattle.nova_machine.specs.Machine.{new_machine}
 use Rattle.nova_machine.specs.Valid.{ValidMachine}
 use Rattle.nova_machine.specs.ValidLaws.{RunsStayValid}
 use Rattle.nova_machine.proofs.ValidRuns.{turn-valid, run-valid, left-valid, new-valid, empty-valid}
+use Rattle.nova_machine.proofs.ValidLines.{new-lines, settled-valid, record-ahead}
 use Rattle.nova_machine.proofs.InTime.{run-in-time}
 use Rattle.nova_machine.proofs.Copies.{turn-copies, run-copies}
 
@@ -14,6 +15,9 @@ pub runs-stay-valid : RunsStayValid
 runs-stay-valid = record {
   begin = new-valid;
   nothing_watched = empty-valid;
+  new_lines = new-lines;
+  settled_line = settled-valid;
+  record_ahead = record-ahead;
   turn_valid = turn-valid;
   run_valid = run-valid;
   left_valid = left-valid;

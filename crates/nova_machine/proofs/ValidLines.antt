@@ -1,25 +1,32 @@
 -- What comes of a line is of bytes, and within its limits, where the line and what is still to come are so.
-use Rattle.std.proofs.Common.{◌≡◌, sym, subst, ℕ, zero, suc, ◌+◌, ◌≤◌, ◌==◌, ◌&&◌, Bool, true, false, List, [], ◌∷◌, ◌++◌, length, take, drop, remove, slice_get, slice_set, position, min, nat_le, Option, Some, None, IfSome, Ok, is_some, option_map, arith, if◌then◌else◌}
-use Rattle.std.specs.List.{AllByRecursion}
+use Rattle.std.proofs.Common.{◌≡◌, sym, subst, ℕ, zero, suc, ◌+◌, ◌≤◌, ◌==◌, ◌&&◌, Bool, true, false, List, [], ◌∷◌, ◌++◌, map, length, take, drop, remove, slice_get, slice_set, position, min, nat_le, Option, Some, None, IfSome, Ok, is_some, option_map, arith, if◌then◌else◌}
+use Rattle.std.specs.List.{AllByRecursion, list_any}
 use Rattle.std.proofs.lemmas.Bool.{cond_both, leb-false}
 use Rattle.std.proofs.lemmas.List.{length-append}
 use Rattle.host_lines.specs.declared.entry.CallerAct.{CallerAct}
 use Rattle.host_lines.specs.declared.entry.CallerAct.TheVariants.{Connects, Sends, HangsUp}
 use Rattle.host_lines.specs.Traffic.{Happening, Traffic, Peer, Caller, Gone, Answer, Quiet, Connected, Gave, HungUp, Failed, Took, Ahead, Script, Answers, Replied, replied, begun, reply, connects_to, taken_caller, accepting, comes_from, entries_behind, input_answer, input_left, given_at, taken_input, received_from, receiving, taken_answer, sent_to, sending}
+use Rattle.host_lines.specs.Told.{Records, ahead_of}
+use Rattle.host_lines.specs.State.{LineState}
 use Rattle.telnet_lines.specs.declared.decoder.Rest.{Rest}
 use Rattle.telnet_lines.specs.declared.decoder.Place.{Place}
 use Rattle.telnet_lines.specs.declared.decoder.Place.TheVariants as place
 use Rattle.telnet_lines.specs.Telnet.{iac, sb, se, names_option, Text, with_data, text, behind_iac, behind_option, within_subnegotiation, within_pair, text_from, without_fill, carriage_return, fills, further_keys, further_rest, coded}
-use Rattle.telnet_lines.specs.Line.{LineOf, unconnected, connected, full_output, is_full, key_taken}
+use Rattle.telnet_lines.specs.Line.{LineOf, unconnected, connected, full_output, is_full, key_taken, IsSettled}
 use Rattle.telnet_lines.specs.Poll.{Met, met, longest_received, after_accept, accepted_on, accepted, after_receive, received_on, received, piece_of, after_send, sent_on, sent, Polled, polled}
+use Rattle.telnet_lines.specs.Joined.{seen_line}
 use Rattle.telnet_lines.proofs.Cutting.{keys_cut, no_keys}
+use Rattle.unit_trait.specs.declared.kind.Kind.{Kind}
+use Rattle.unit_trait.specs.Calls.{UnitState}
+use Rattle.unit_list.specs.Bus.{kinds_of}
 use Rattle.unit_trait.specs.declared.calls.Want.{Want}
 use Rattle.unit_trait.specs.declared.calls.Want.TheVariants as want
 use Rattle.unit_trait.specs.declared.calls.Got.{Got}
 use Rattle.unit_trait.specs.declared.calls.Got.TheVariants as got
+use Rattle.nova_machine.specs.Machine.{is_of_terminal, lines_for, new_machine, reset_machine, reset_devices}
 use Rattle.nova_machine.specs.OnLines.{Lined, got_of_line, lined_by, put_line, put_got, lined}
 use Rattle.nova_machine.specs.Valid.{AreBytes, ValidLine, ValidAnswer, ValidTraffic, ValidAhead}
-use Rattle.nova_machine.proofs.ValidBytes.{IsByte, bytes-append, bytes-take, bytes-drop, every-remove, every-set}
+use Rattle.nova_machine.proofs.ValidBytes.{IsByte, bytes-append, bytes-take, bytes-drop, every-drop, every-remove, every-set}
 use Rattle.nova_machine.proofs.ValidAnswers.{WritesByte, IsGiven}
 
 -- ---- few bytes
@@ -300,3 +307,22 @@ lined-valid time (want.LinePut n byte) lines ahead l low all coming there = by (
         subst (ValidLined (want.LinePut n byte)) same
         (record { got = got-put n byte line; lines = every-set ValidLine lines n (put_line byte line) (put-valid byte line low valid) all; ahead = coming })
 lined-valid time w lines ahead l byte all coming there = absurd (cc)
+
+-- ---- the beginning
+
+lines-begin : (s : LineState) (kinds : List Kind) → AllByRecursion ValidLine (map (seen_line s) (lines_for kinds))
+lines-begin s kinds =
+    cond_both (list_any is_of_terminal kinds) (unconnected None ∷ []) [] (λ (lines : List (LineOf ℕ)). AllByRecursion ValidLine (map (seen_line s) lines)) (λ _. (unconnected-valid None, tt)) (λ _. tt)
+
+-- the lines of a new machine
+pub new-lines : (s : LineState) (us : List UnitState) → AllByRecursion ValidLine (map (seen_line s) (new_machine us).lines)
+unfolding new_machine reset_machine reset_devices
+new-lines s us = lines-begin s (kinds_of us)
+
+-- a settled line that holds bytes, whoever is behind its connection
+pub settled-valid : (s : LineState) (line : LineOf ℕ) → IsSettled line → AreBytes line.keys → AreBytes line.output → ValidLine (seen_line s line)
+settled-valid s line settled keys output = record { keys = keys; output = output; few_keys = settled.keys; few_bytes = settled.output }
+
+-- what is still to come behind answers that were recorded
+pub record-ahead : (answers whole : List Answer) → AllByRecursion ValidAnswer whole → ValidAhead (ahead_of (Records answers) whole)
+record-ahead answers whole all = every-drop ValidAnswer (length answers) whole all

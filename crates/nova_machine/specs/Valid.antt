@@ -64,7 +64,7 @@ pub record ValidLine (line : LineOf Peer) : Type 0 where
   pub few_keys : length line.keys ≤ longest_received
   pub few_bytes : length line.output ≤ full_output + 1
 
--- what is still to come on lines: callers send bytes, and an answer that gives some gives no more than one receive takes
+-- what is still to come on lines: callers send bytes, and an answer gives no more of them than one receive takes
 abbrev pub ValidAnswer : Answer → Type 0
 ValidAnswer (Gave bytes) = AreBytes bytes × (length bytes ≤ longest_received)
 ValidAnswer other = Unit {0}

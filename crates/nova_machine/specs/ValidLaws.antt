@@ -1,6 +1,12 @@
 -- Every state of a run is one that a machine can be in, with its files, keys and watch tables.
-use Rattle.std.specs.Prelude.{◌≡◌, ◌≢◌, ◌↔◌, ℕ, ◌≤◌, Bool, false, List, Option, Some, None, IfSome}
+use Rattle.std.specs.Prelude.{◌≡◌, ◌≢◌, ◌↔◌, ℕ, ◌≤◌, Bool, false, List, map, Option, Some, None, IfSome}
+use Rattle.std.specs.List.{AllByRecursion}
 use Rattle.observations.specs.Observations.{StandsAt}
+use Rattle.host_lines.specs.Traffic.{Answer}
+use Rattle.host_lines.specs.Told.{Records, ahead_of}
+use Rattle.host_lines.specs.State.{LineState}
+use Rattle.telnet_lines.specs.Line.{LineOf, IsSettled}
+use Rattle.telnet_lines.specs.Joined.{seen_line}
 use Rattle.unit_trait.specs.declared.kind.Kind.TheVariants.{Dsk}
 use Rattle.unit_trait.specs.declared.kind.UnitName.{UnitName}
 use Rattle.unit_trait.specs.Calls.{UnitState}
@@ -16,7 +22,7 @@ use Rattle.nova_machine.specs.Parts.{Part}
 use Rattle.nova_machine.specs.Turn.{turn}
 use Rattle.nova_machine.specs.Run.{run, last_time}
 use Rattle.nova_machine.specs.Comes.{Output, Comes}
-use Rattle.nova_machine.specs.Valid.{ValidMachine, ValidWatch, Valid, DiskIsItsFile, LeavesDiskFile}
+use Rattle.nova_machine.specs.Valid.{AreBytes, ValidMachine, ValidWatch, ValidLine, ValidAnswer, ValidAhead, Valid, DiskIsItsFile, LeavesDiskFile}
 
 -- the state behind a part is valid, and so is each in which something comes: an early end shows one of these
 pub record IsValidPart (p : Part) : Type 0 where
@@ -51,6 +57,14 @@ pub record RunsStayValid : Type 0 where
   -- a new machine, with whatever units whose registers are in their ranges, and empty watch tables
   pub begin : (units : List UnitState) → AllFit units → ValidMachine (new_machine units)
   pub nothing_watched : ValidWatch empty_watch
+  -- its lines, and settled lines that hold bytes, whoever is behind their connections
+  pub new_lines : (s : LineState) (units : List UnitState)
+      → AllByRecursion ValidLine (map (seen_line s) (new_machine units).lines)
+  pub settled_line : (s : LineState) (line : LineOf ℕ) → IsSettled line → AreBytes line.keys → AreBytes line.output
+      → ValidLine (seen_line s line)
+  -- what is still to come behind the answers that were recorded, where all that the record comes to is in its range
+  pub record_ahead : (answers whole : List Answer) → AllByRecursion ValidAnswer whole
+      → ValidAhead (ahead_of (Records answers) whole)
   pub turn_valid : (note : Option UnitNote) (first : Bool) (s : Seen) → Valid s → IsValidPart (turn note first s)
   pub run_valid : (note : Option RunNote) (step : Bool) (n : ℕ) (s : Seen) → Valid s
       → IsValidPart (run note step n s)
