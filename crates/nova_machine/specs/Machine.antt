@@ -1,11 +1,10 @@
 -- The state of a machine, on which all that it does depends.
-use Rattle.std.specs.Prelude.{ℕ, Bool, true, false, List, [], ◌∷◌, Option, None, if◌then◌else◌}
-use Rattle.std.specs.List.{list_any}
-use Rattle.unit_trait.specs.declared.kind.Kind.{Kind}
+use Rattle.std.specs.Prelude.{ℕ, Bool, false, ◌||◌, List, [], ◌∷◌, Option, None, is_some, slice_set, if◌then◌else◌}
 use Rattle.unit_trait.specs.declared.kind.Kind.TheVariants.{Tti1, Tto1}
 use Rattle.unit_trait.specs.Calls.{UnitState}
 use Rattle.event_queue.specs.EventList.{Event}
-use Rattle.unit_list.specs.Bus.{kinds_of}
+use Rattle.unit_trait.specs.Kinds.{code_of}
+use Rattle.unit_list.specs.Bus.{unit_at}
 use Rattle.unit_list.specs.Reset.{reset_units, reset_events}
 use Rattle.telnet_lines.specs.Line.{LineOf, unconnected}
 use Rattle.unit_files.specs.Attachments.{Held, no_files}
@@ -38,6 +37,10 @@ attached_files m = record { slots = m.slots; disk = m.disk }
 abbrev pub with_attached_files : MachineState → AttachedFiles → MachineState
 with_attached_files m a = record m { slots = a.slots; disk = a.disk }
 
+-- the machine with that line in place of the one with that number
+abbrev pub with_line : MachineState → ℕ → LineOf ℕ → MachineState
+with_line m n line = record m { lines = slice_set m.lines n line }
+
 -- All devices are reset: the mask is cleared, no event waits, and each unit is reset, in bus order, which may bring an
 -- event of it.
 unfoldable pub reset_devices : MachineState → MachineState
@@ -53,13 +56,11 @@ unfoldable pub reset_machine : MachineState → MachineState
 reset_machine m = record (reset_devices m) { ints = no_interrupts }
 
 -- line 0 is there where one of the units of the second teletype is
-abbrev pub is_of_terminal : Kind → Bool
-is_of_terminal Tti1 = true
-is_of_terminal Tto1 = true
-is_of_terminal other = false
+abbrev pub has_terminal : List UnitState → Bool
+has_terminal units = is_some (unit_at (code_of Tti1) units) || is_some (unit_at (code_of Tto1) units)
 
-abbrev pub lines_for : List Kind → List (LineOf ℕ)
-lines_for kinds = if list_any is_of_terminal kinds then unconnected None ∷ [] else []
+abbrev pub lines_for : List UnitState → List (LineOf ℕ)
+lines_for units = if has_terminal units then unconnected None ∷ [] else []
 
 -- a new machine with those units: every register 0, memory of 0, no instruction executed, no key taken, no file
 -- attached, no line with a port, and as a reset leaves it
@@ -75,7 +76,7 @@ new_machine units = reset_machine (record {
   taken = 0;
   slots = no_files;
   disk = no_buffer;
-  lines = lines_for (kinds_of units);
+  lines = lines_for units;
 })
 
 -- the machine with its processor changed so

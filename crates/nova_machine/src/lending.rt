@@ -1,17 +1,19 @@
-ghost use Rattle.std.specs.Prelude.{◌≡◌};
+ghost use Rattle.std.specs.Prelude.{◌≡◌, slice_get, option_map};
 
 use crate::machine::Machine;
 use nova_memory::Memory;
+use telnet_lines::Line;
 use unit_files::Attached;
 use unit_trait::Unit;
 
 impl<U: Unit> Machine<U> {
-    ghost use Rattle.std.specs.Borrow.{sem, Lends};
+    ghost use Rattle.std.specs.Borrow.{sem, Lends, LendsIf};
+    ghost use Rattle.telnet_lines.specs.contracts.line.Line.{the_row as line_row};
     ghost use Rattle.nova_memory.specs.contracts.memory.Memory.{the_row as memory_row};
     ghost use Rattle.nova_machine.specs.contracts.machine.Machine.{the_row};
     ghost use Rattle.unit_files.specs.contracts.attached.Attached.{the_row as attached_row};
     ghost use Rattle.nova_machine.specs.Turn.{with_memory};
-    ghost use Rattle.nova_machine.specs.Machine.{attached_files, with_attached_files};
+    ghost use Rattle.nova_machine.specs.Machine.{attached_files, with_attached_files, with_line};
 
     /// The machine's memory, to be changed as a person at the console or a loader does. It takes no time.
     pub fn memory_mut(&mut self) -> &mut Memory
@@ -19,6 +21,16 @@ impl<U: Unit> Machine<U> {
         ensures value { result.now ≡ self.old.processor.memory }
     {
         &mut self.processor.memory
+    }
+
+    /// The terminal line with that number, where it is there, to be given a port or none as a person at the console does.
+    /// It takes no time.
+    pub fn line(&mut self, number: u8) -> Option<&mut Line>
+        ensures* writes_back { sem 𝓛 (LendsIf (the_row U.row U.Unit) line_row self.entry result
+            (with_line self.old number) self.old) }
+        ensures value { option_map (λ l. l.now) result ≡ slice_get self.old.lines number }
+    {
+        self.lines.get_mut(number as usize)
     }
 
     /// The files of its units, to be attached and detached as a person at the console does. It takes no time.

@@ -1,12 +1,12 @@
 ghost use Rattle.std.specs.Prelude.{◌≡◌, ◌≤◌, ◌<◌, ◌^◌, ◌↔◌, List, [], map, None, IfOk, IsOk, OnOk, OnErr};
 ghost use Rattle.event_queue.specs.EventList.{due};
-ghost use Rattle.std.specs.List.{list_any};
 ghost use Rattle.unit_list.specs.Bus.{AllFit, kinds_of};
+ghost use Rattle.unit_list.specs.Places.{places_in};
 ghost use Rattle.unit_list.specs.Reset.{reset_units, reset_events};
 ghost use Rattle.host_files.specs.State.{Opened};
 ghost use Rattle.unit_files.specs.Open.{AllOpen, Around};
 ghost use Rattle.nova_machine.specs.Core.{AreListed};
-ghost use Rattle.nova_machine.specs.Machine.{lines_for, is_of_terminal};
+ghost use Rattle.nova_machine.specs.Machine.{lines_for};
 ghost use Rattle.nova_machine.specs.Run.{last_time};
 
 use event_queue::Events;
@@ -18,8 +18,8 @@ use std::alloc::{AllocError, Global};
 use std::marker::Model;
 use telnet_lines::Line;
 use unit_files::{Attached, UnitFault};
-use unit_list::{Places, all_fit, reset_all};
-use unit_trait::{CpuReg, Kind, RegFault, Unit, UnitName};
+use unit_list::{Places, all_fit, has_unit, reset_all};
+use unit_trait::{CpuReg, Kind, RegFault, Unit, UnitName, code_of};
 
 /// Why a run ended.
 #[derive(Clone, Copy, Debug, PartialEq, Eq)]
@@ -146,7 +146,7 @@ impl<U: Unit> Machine<U> {
     {
         all_fit(units.as_slice());
         let places = Places::new(units.as_slice());
-        let lines = lines_of(alloc, units.as_slice())?;
+        let lines = lines_of(alloc, &places, units.as_slice())?;
         let mut machine = Machine {
             processor: Processor::new(alloc)?,
             ints: Ints::new(),
@@ -267,37 +267,21 @@ impl<U: Unit> Machine<U> {
     }
 }
 
-/// The lines of a machine with those units.
-fn lines_of<U: Unit>(alloc: Global, units: &[U]) -> Result<Vec<Line>, AllocError>
-    ensures { IfOk result (λ lines. lines.items ≡ lines_for (kinds_of (map U.unit_state units.now))) }
+/// The lines of a machine with those units: line 0, where one of them works on it.
+fn lines_of<U: Unit>(
+    alloc: Global,
+    places: &Places,
+    units: &[U],
+) -> Result<Vec<Line>, AllocError>
+    requires { places.now ≡ places_in (kinds_of (map U.unit_state units.now)) }
+    ensures { IfOk result (λ lines. lines.items ≡ lines_for (map U.unit_state units.now)) }
 {
     let mut lines = Vec::new(alloc);
-    if has_terminal(units) {
+    if has_unit(places, units, code_of(Kind::Tti1)) || has_unit(places, units, code_of(Kind::Tto1))
+    {
         lines.push(Line::new(alloc)?)?;
     }
     Ok(lines)
-}
-
-/// Whether a unit of the second teletype is among these.
-fn has_terminal<U: Unit>(units: &[U]) -> bool
-    ensures { result ≡ list_any is_of_terminal (kinds_of (map U.unit_state units.now)) }
-{
-    for unit in units {
-        if is_of_terminal(unit.kind()) {
-            return true;
-        }
-    }
-    false
-}
-
-/// Whether a unit of that kind works on line 0.
-fn is_of_terminal(kind: Kind) -> bool
-    ensures { result ≡ is_of_terminal kind }
-{
-    match kind {
-        Kind::Tti1 | Kind::Tto1 => true,
-        _ => false,
-    }
 }
 
 /// No event waits, and each unit is reset, in bus order, which may bring an event of it.
