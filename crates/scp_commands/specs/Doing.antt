@@ -1,12 +1,17 @@
--- What a call comes to that does a command: on a console that had and has these bytes, and with the notes that it kept.
+-- What a call comes to that does a command: on a console that had and has these bytes, with callers of lines that had and
+-- have heard these, and with the notes that it kept.
 use Rattle.std.specs.Prelude.{◌≡◌, ◌⊎◌, ℕ, ◌≤◌, ◌<◌, Bool, true, IsTrue, List, [], ◌∷◌, ◌++◌, length, Option, is_some, Result, Ok, Err, false, if◌then◌else◌, Some, None}
 use Rattle.std.specs.List.{AllByRecursion, list_any}
 use Rattle.fault_counts.specs.Faults.{raised, Rose}
-use Rattle.observations.specs.Observations.{text_of, StandsAt}
+use Rattle.observations.specs.Observations.{text_of, sent_of, StandsAt}
 use Rattle.observations.specs.Cut.{BreaksOff}
 use Rattle.host_files.specs.declared.files.FileCall.{FileCall}
 use Rattle.host_files.specs.declared.files.FileCall.TheVariants.{Write, Closing}
 use Rattle.host_files.specs.State.{FileState}
+use Rattle.host_lines.specs.Traffic.{Answer as LineAnswer}
+use Rattle.host_lines.specs.Told.{IsFirst, record_in}
+use Rattle.host_lines.specs.State.{LineState}
+use Rattle.telnet_lines.specs.Line.{LineOf}
 use Rattle.unit_trait.specs.declared.kind.Kind.{Kind}
 use Rattle.unit_trait.specs.declared.kind.UnitName.{UnitName}
 use Rattle.unit_trait.specs.Kinds.{same_unit}
@@ -24,7 +29,8 @@ use Rattle.file_commands.specs.Kept.{fault_note}
 use Rattle.file_commands.specs.AllUnits.{attachable}
 use Rattle.nova_machine.specs.declared.machine.Stop.{Stop}
 use Rattle.nova_machine.specs.declared.machine.Stop.TheVariants.{ConsoleFault, FileFault}
-use Rattle.nova_machine.specs.Comes.{AreFree, AreTold, FileCause as StopCause}
+use Rattle.nova_machine.specs.Comes.{Output, output, AreFree, AreTold, FileCause as StopCause}
+use Rattle.nova_machine.specs.LineChanges.{heard_with, AreLinesTold, LinesGoOn}
 use Rattle.nova_machine.specs.Wants.{HasUnit}
 use Rattle.nova_machine.specs.Seen.{attached_in}
 use Rattle.scp_parser.specs.Command.{Request, Attach, Detach, Exit as ExitRequest}
@@ -32,7 +38,7 @@ use Rattle.scp_commands.specs.declared.next.Next.{Next}
 use Rattle.scp_commands.specs.declared.next.Next.TheVariants.{Exit, Ran}
 use Rattle.scp_commands.specs.declared.fault.CommandFault.TheVariants.{Console, OutOfMemory, NoFile, FileTooLong, FileFailed}
 use Rattle.scp_commands.specs.declared.fault.CommandFault.TheVariants.{LoadTruncated, LoadSum, PastMemory}
-use Rattle.scp_commands.specs.Live.{Live, Standing, standing, CommandState, live_in}
+use Rattle.scp_commands.specs.Live.{Live, Standing, standing, CommandState, Around, around, live_in}
 use Rattle.scp_commands.specs.Nature.{Telling, nature}
 use Rattle.scp_commands.specs.Nature.Telling.{Nothing, Attached, Named}
 use Rattle.scp_commands.specs.Remains.{Remains, AreLeft}
@@ -41,26 +47,28 @@ use Rattle.scp_commands.specs.FileEffects.{emptied_all, emptied_live}
 
 -- ---- what is printed, and what is left
 
--- it has left its place, and all that it prints was printed
-pub record IsSaid (reply : Reply) (at : Standing) (tells : Bool) (before after : List ℕ) : Type 0 where
+-- it has left its place, and all that it prints and sends was printed and sent
+pub record IsSaid (reply : Reply) (at : Standing) (tells : Bool) (before after : Output) : Type 0 where
   pub after_is : at ≡ reply.after
-  pub written : IsTrue tells → after ≡ before ++ text_of reply.made
+  pub written : IsTrue tells → after.console ≡ before.console ++ text_of reply.made
+  pub heard : after.heard ≡ heard_with before.heard (sent_of reply.made)
 
--- the first bytes of what it makes were printed, and the next one was refused at that place
-pub record BrokenOff (reply : Reply) (at : Standing) (before after : List ℕ) : Type 0 where
+-- the first bytes of what it makes were printed, and the next one was refused at that place; nothing behind it was sent
+pub record BrokenOff (reply : Reply) (at : Standing) (before after : Output) : Type 0 where
   pub taken : List ℕ
-  pub written : after ≡ before ++ taken
+  pub written : after.console ≡ before.console ++ taken
   pub breaks : BreaksOff reply.made taken at
+  pub heard : after.heard ≡ heard_with before.heard breaks.sent
 
 -- The console refused a byte. The place is that at which the byte was to be printed, and, where bytes are not told, that
 -- of one of the texts.
-pub record IsBrokenOff (reply : Reply) (at : Standing) (tells : Bool) (before after : List ℕ) : Type 0 where
+pub record IsBrokenOff (reply : Reply) (at : Standing) (tells : Bool) (before after : Output) : Type 0 where
   pub stands : StandsAt at reply.made
   pub told : IsTrue tells → BrokenOff reply at before after
 
 -- The answer is that of the definition, or that the console refused a byte. Where memory ran out, another clause says
 -- what stands.
-abbrev pub Does : Reply → Answer → Standing → Bool → List ℕ → List ℕ → Type 0
+abbrev pub Does : Reply → Answer → Standing → Bool → Output → Output → Type 0
 Does reply (Err Console) at tells before after = IsBrokenOff reply at tells before after
 Does reply (Err OutOfMemory) at tells before after = Unit {0}
 Does reply answer at tells before after = (bare_answer answer ≡ reply.answer) × IsSaid reply at tells before after
@@ -88,19 +96,19 @@ abbrev pub ComeBehind : Live → List CommandNote → Type 0
 ComeBehind live notes = AllByRecursion (IsLate live) notes
 
 -- A command was done, with the notes that were kept in it: it has used all of them and no others, whatever comes behind.
-pub record Did (reply : List CommandNote → Reply) (number : ℕ) (answer : Answer) (new : Live) (tells : Bool) (before after : List ℕ) (notes notes' : List Note) : Type 0 where
+pub record Did (reply : List CommandNote → Reply) (number : ℕ) (answer : Answer) (new : Live) (tells : Bool) (before after : Output) (notes notes' : List Note) : Type 0 where
   pub own : List CommandNote
   pub kept : notes' ≡ notes ++ numbered number own
   pub does : (behind : List CommandNote) → ComeBehind new behind → Does (reply (own ++ behind)) answer (standing (length own) new) tells before after
 
--- what is done is told where of files that is told which the command needs
-abbrev pub told_by : Telling → Bool → List (Option Held) → Type 0
-told_by Named tells slots = IsTrue tells
-told_by Attached tells slots = IsTrue tells ⊎ AreFree slots
-told_by Nothing tells slots = Unit {0}
+-- what is done is told where of files and lines that is told which the command needs: a run needs the lines
+abbrev pub told_by : Telling → Bool → List (Option Held) → Bool → LineState → List (LineOf ℕ) → Type 0
+told_by Named tells slots line_tells s lines = IsTrue tells
+told_by Attached tells slots line_tells s lines = AreTold tells slots × AreLinesTold line_tells s lines
+told_by Nothing tells slots line_tells s lines = Unit {0}
 
-abbrev pub IsTold : Bool → List (Option Held) → Request → Type 0
-IsTold tells slots request = told_by (nature request).telling tells slots
+abbrev pub IsTold : Bool → List (Option Held) → Bool → LineState → List (LineOf ℕ) → Request → Type 0
+IsTold tells slots line_tells s lines request = told_by (nature request).telling tells slots line_tells s lines
 
 -- ---- causes, whether anything is told or not
 
@@ -231,10 +239,14 @@ abbrev pub IsExitAnswer : Answer → Type 0
 IsExitAnswer (Ok (Exit status)) = status ≤ 99
 IsExitAnswer answer = Unit {0}
 
--- what a command that runs promises
-pub record RunDone (reply : List CommandNote → Reply) (answer : Answer) (old new : CommandState) (files files' : FileState) (named tells : Bool) (before after : List ℕ) (sink sink_now : ℕ) : Type 0 where
-  pub told : AreTold named old.machine.slots
-      → Did reply old.command answer (live_in new files'.files) tells before after (notes_said old.notes) (notes_said new.notes)
+-- what a command that runs promises: what it is told of comes whatever the record of the lines comes to in the end
+pub record RunDone (reply : List LineAnswer → List CommandNote → Reply) (answer : Answer) (old new : CommandState) (files files' : FileState) (lines lines' : LineState)
+    (named line_tells tells : Bool) (before after : List ℕ) (sink sink_now : ℕ) : Type 0 where
+  pub told : AreTold named old.machine.slots → AreLinesTold line_tells lines old.machine.lines
+      → (whole : List LineAnswer) → IsFirst (record_in lines'.told) whole
+      → Did (reply whole) old.command answer (live_in new (around files'.files lines' whole)) tells (output before lines.sent) (output after lines'.sent)
+      (notes_said old.notes) (notes_said new.notes)
+  pub lines : LinesGoOn line_tells lines old.machine.lines lines' new.machine.lines
   pub keeps : Keeps old.command new.machine.time named answer old.notes new.notes files files'
   pub whose : AreOwn old.machine.slots new.machine.slots old.notes new.notes files files'
   pub keys : new.keys ≡ old.keys
@@ -278,7 +290,9 @@ pub record IsUndone (flushes : Bool) (reads : Option Subject) (says : Bool) (old
   pub left : AreLeft flushes old new
   pub notes : NotesRemain reads old.command old.machine.time old.notes new.notes
   pub written : after ≡ before
-  pub live : IsTrue says → Remains flushes (live_in old files.files) (live_in new files'.files)
+  pub lines : new.machine.lines ≡ old.machine.lines
+  pub live : IsTrue says → (lines : LineState) (whole : List LineAnswer)
+      → Remains flushes (live_in old (around files.files lines whole)) (live_in new (around files'.files lines whole))
 
 -- ---- the end of the input
 

@@ -1,15 +1,17 @@
 -- What commands work on: all that they may change and on which the future depends. An early end shows it as it then
--- stands. Lines join it here.
+-- stands.
 use Rattle.std.specs.Prelude.{ℕ, List, map, option_map, Option}
 use Rattle.host_files.specs.Lists.{NamedBytes}
+use Rattle.host_lines.specs.Traffic.{Answer}
+use Rattle.host_lines.specs.State.{LineState}
 use Rattle.unit_files.specs.Attachments.{Attachment, Held}
 use Rattle.file_commands.specs.declared.note.FaultNote.{FaultNote}
 use Rattle.expect_actions.specs.Watch.{WatchState}
 use Rattle.nova_machine.specs.Machine.{MachineState}
 use Rattle.nova_machine.specs.Seen.{Seen, seen, beside}
 
--- the machine, without the numbers of open files; the breaks, expects and sent bytes; the timed keys; and all files by
--- their names
+-- the machine, without the numbers of open files; its terminal lines, and what is still to come on them; the breaks,
+-- expects and sent bytes; the timed keys; and all files by their names
 abbrev pub Live : Type 0
 Live = Seen
 
@@ -43,6 +45,16 @@ pub record CommandState : Type 0 where
   pub command : ℕ
   pub spare : ℕ
 
+-- what stands around a session: all files by their names; the ports and connections of the outside, and what the record
+-- of the answers that it gives on lines comes to in the end
+pub record Around : Type 0 where
+  pub files : List NamedBytes
+  pub lines : LineState
+  pub whole : List Answer
+
+abbrev pub around : List NamedBytes → LineState → List Answer → Around
+around files lines whole = record { files = files; lines = lines; whole = whole }
+
 -- what its commands work on
-abbrev pub live_in : CommandState → List NamedBytes → Live
-live_in s files = seen (beside s.watch s.keys files) s.machine
+abbrev pub live_in : CommandState → Around → Live
+live_in s a = seen (beside s.watch s.keys a.files a.lines) a.whole s.machine

@@ -1,6 +1,7 @@
 -- What every state is within a session, and what commands make of it.
 use Rattle.std.specs.Prelude.{◌≡◌, ◌≢◌, ◌≤◌, ℕ, Bool, false, List, Some, Ok, Err}
 use Rattle.observations.specs.Observations.{StandsAt}
+use Rattle.nova_machine.specs.Comes.{Output}
 use Rattle.nova_machine.specs.Run.{last_time}
 use Rattle.nova_machine.specs.Valid.{AreBytes, Valid, DiskIsItsFile, LeavesDiskFile}
 use Rattle.file_commands.specs.Notes.{CommandNote}
@@ -52,6 +53,6 @@ pub record CommandsKeepStates : Type 0 where
       → DiskIsItsFile (effect limit notes live (Detach (Some disk_unit))).after.live
   -- what a call has left that does such a command, also where the console refused a byte; and what one has left that
   -- was refused or that memory ran out in
-  pub left : (reply : Reply) (answer : Answer) (at : Standing) (tells : Bool) (before after : List ℕ)
+  pub left : (reply : Reply) (answer : Answer) (at : Standing) (tells : Bool) (before after : Output)
       → IsValidReply reply → answer ≢ Err OutOfMemory → Does reply answer at tells before after → ValidLive at.live
   pub remains : (flushes : Bool) (old new : Live) → ValidLive old → Remains flushes old new → ValidLive new

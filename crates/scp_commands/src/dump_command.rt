@@ -6,8 +6,11 @@ ghost use Rattle.file_commands.specs.declared.note.Subject.TheVariants.{Dump as 
 ghost use Rattle.file_commands.specs.OwnFiles.{AreOwn};
 ghost use Rattle.file_commands.specs.Notes.{notes_said};
 ghost use Rattle.whole_files.specs.Writing.{write_act};
+ghost use Rattle.host_lines.specs.Traffic.{Answer as LineAnswer};
+ghost use Rattle.host_lines.specs.State.{LineState};
+ghost use Rattle.nova_machine.specs.Comes.{Output};
 ghost use Rattle.scp_commands.specs.declared.fault.CommandFault.TheVariants.{OutOfMemory};
-ghost use Rattle.scp_commands.specs.Live.{live_in};
+ghost use Rattle.scp_commands.specs.Live.{live_in, around};
 ghost use Rattle.scp_commands.specs.WholeCalls.{write_calls, written_answer};
 ghost use Rattle.scp_commands.specs.TapeEffects.{can_dump, dump_after, dump_reply};
 ghost use Rattle.scp_parser.specs.Command.{Dump};
@@ -48,9 +51,9 @@ pub fn dump_file<U: Unit, F: Files>(
     requires open { AllOpen session.old.machine.slots (F.state files.old).opened }
     ensures refused { IsRefused result
         → (session.new.machine ≡ session.old.machine) × (session.new.watch ≡ session.old.watch) }
-    ensures told { (tells : Bool) (text : List ℕ) → IsTrue F.tells
-        → Did (λ notes. dump_reply notes (live_in session.old (F.state files.old).files) from to name.now)
-        session.old.command result (live_in session.new (F.state files.new).files) tells text text
+    ensures told { (lines : LineState) (whole : List LineAnswer) (tells : Bool) (text : Output) → IsTrue F.tells
+        → Did (λ notes. dump_reply notes (live_in session.old (around (F.state files.old).files lines whole)) from to name.now)
+        session.old.command result (live_in session.new (around (F.state files.new).files lines whole)) tells text text
         (notes_said session.old.notes) (notes_said session.new.notes) }
     ensures undone { (text : List ℕ) → result ≡ Err OutOfMemory
         → IsUndone false None true session.old session.new text text (F.state files.old) (F.state files.new) }
@@ -63,6 +66,7 @@ pub fn dump_file<U: Unit, F: Files>(
     ensures own { IsOwn result }
     ensures exit { IsExitAnswer result }
     ensures watch { session.new.watch ≡ session.old.watch }
+    ensures terminals { session.new.machine.lines ≡ session.old.machine.lines }
     ensures keys { session.new.keys ≡ session.old.keys }
     ensures limit { session.new.limit ≡ session.old.limit }
     ensures command { session.new.command ≡ session.old.command }
@@ -113,10 +117,10 @@ fn write_tape<U: Unit, F: Files>(
     requires open { AllOpen session.old.machine.slots (F.state files.old).opened }
     ensures refused { IsRefused result
         → (session.new.machine ≡ session.old.machine) × (session.new.watch ≡ session.old.watch) }
-    ensures told { (tells : Bool) (text : List ℕ) → IsTrue F.tells
+    ensures told { (lines : LineState) (whole : List LineAnswer) (tells : Bool) (text : Output) → IsTrue F.tells
         → Did (λ notes. dump_after (write_act (write_calls of_dump session.old.machine.time notes) name.now tape.now
-        (F.state files.old).files) (live_in session.old (F.state files.old).files))
-        session.old.command result (live_in session.new (F.state files.new).files) tells text text
+        (F.state files.old).files) (live_in session.old (around (F.state files.old).files lines whole)))
+        session.old.command result (live_in session.new (around (F.state files.new).files lines whole)) tells text text
         (notes_said session.old.notes) (notes_said session.new.notes) }
     ensures undone { (text : List ℕ) → result ≡ Err OutOfMemory
         → IsUndone false None true session.old session.new text text (F.state files.old) (F.state files.new) }
@@ -127,6 +131,7 @@ fn write_tape<U: Unit, F: Files>(
     ensures own { IsOwn result }
     ensures exit { IsExitAnswer result }
     ensures watch { session.new.watch ≡ session.old.watch }
+    ensures terminals { session.new.machine.lines ≡ session.old.machine.lines }
     ensures keys { session.new.keys ≡ session.old.keys }
     ensures limit { session.new.limit ≡ session.old.limit }
     ensures command { session.new.command ≡ session.old.command }

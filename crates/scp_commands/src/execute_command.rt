@@ -4,9 +4,14 @@ ghost use Rattle.unit_files.specs.Open.{AllOpen, Around};
 ghost use Rattle.file_commands.specs.OwnFiles.{AreOwn};
 ghost use Rattle.file_commands.specs.Notes.{notes_said};
 ghost use Rattle.nova_machine.specs.declared.machine.Stop.TheVariants.{ConsoleFault};
+ghost use Rattle.host_lines.specs.Traffic.{Answer as LineAnswer};
+ghost use Rattle.host_lines.specs.Told.{Heard, IsFirst, record_in};
+ghost use Rattle.host_lines.specs.State.{LineState};
+ghost use Rattle.nova_machine.specs.Comes.{output};
+ghost use Rattle.nova_machine.specs.LineChanges.{LinesGoOn};
 ghost use Rattle.scp_commands.specs.declared.next.Next.TheVariants.{Ran};
 ghost use Rattle.scp_commands.specs.declared.fault.CommandFault.TheVariants.{OutOfMemory};
-ghost use Rattle.scp_commands.specs.Live.{live_in};
+ghost use Rattle.scp_commands.specs.Live.{live_in, around};
 ghost use Rattle.scp_commands.specs.Effect.{effect};
 ghost use Rattle.scp_commands.specs.Nature.{nature, plain, Nothing};
 ghost use Rattle.scp_commands.specs.Remains.{AreLeft};
@@ -31,6 +36,7 @@ use crate::watch_commands::{
     add_break, add_expect, remove_breaks, remove_expects, remove_sends, send,
 };
 use host_files::{Files, Sink};
+use host_lines::Lines;
 use scp_parser::{Command, Verb};
 use std::alloc::Global;
 use unit_trait::Unit;
@@ -43,20 +49,27 @@ use unit_trait::Unit;
 /// did when that byte was to be printed. `OutOfMemory` means that nothing was done: it comes where the room for 16
 /// notes can't be taken, and from BREAK, EXPECT, ATTACH, DO, LOAD and DUMP. A closing that fails then in DO or LOAD is
 /// noted.
-pub fn execute<U: Unit, F: Files, S: Sink>(
+pub fn execute<U: Unit, F: Files, L: Lines, S: Sink>(
     alloc: Global,
     session: &mut Session<U>,
     command: &Command,
     files: &mut F,
+    lines: &mut L,
     out: &mut S,
 ) -> Result<Next, CommandFault>
     requires open { AllOpen session.old.machine.slots (F.state files.old).opened }
     ensures refused { IsRefusal command.now result
         → AreLeft (nature command.now).flushes session.old session.new }
-    ensures told { IsTold F.tells session.old.machine.slots command.now
-        → Did (λ notes. effect session.old.limit notes (live_in session.old (F.state files.old).files) command.now)
-        session.old.command result (live_in session.new (F.state files.new).files) S.tells (S.written out.old)
-        (S.written out.new) (notes_said session.old.notes) (notes_said session.new.notes) }
+    ensures told { IsTold F.tells session.old.machine.slots L.tells (L.state lines.old) session.old.machine.lines
+        command.now → (whole : List LineAnswer) → IsFirst (record_in (L.state lines.new).told) whole
+        → Did (λ notes. effect session.old.limit notes
+        (live_in session.old (around (F.state files.old).files (L.state lines.old) whole)) command.now)
+        session.old.command result (live_in session.new (around (F.state files.new).files (L.state lines.new) whole))
+        S.tells (output (S.written out.old) (L.state lines.old).sent) (output (S.written out.new) (L.state lines.new).sent)
+        (notes_said session.old.notes) (notes_said session.new.notes) }
+    ensures lines { LinesGoOn L.tells (L.state lines.old) session.old.machine.lines (L.state lines.new)
+        session.new.machine.lines }
+    ensures unasked { IsRefused result → lines.new ≡ lines.old }
     ensures undone { result ≡ Err OutOfMemory → IsUndone (nature command.now).flushes (nature command.now).reads_whole
         (says_files F.tells command.now) session.old session.new (S.written out.old) (S.written out.new)
         (F.state files.old) (F.state files.new) }
@@ -85,28 +98,35 @@ pub fn execute<U: Unit, F: Files, S: Sink>(
         → Around session.new.machine.slots base (F.state files.new).opened }
 {
     match session.take_room() {
-        Ok(()) => obey(alloc, session, command, files, out),
+        Ok(()) => obey(alloc, session, command, files, lines, out),
         Err(_) => Err(CommandFault::OutOfMemory),
     }
 }
 
 // The same, where there is room for the notes.
 #[tactic(auto, using(crate::proofs::RemainLemmas::leaves, file_commands::proofs::OwnFiles::unused), unfolding(crate::specs::Effect::effect))]
-fn obey<U: Unit, F: Files, S: Sink>(
+fn obey<U: Unit, F: Files, L: Lines, S: Sink>(
     alloc: Global,
     session: &mut Session<U>,
     command: &Command,
     files: &mut F,
+    lines: &mut L,
     out: &mut S,
 ) -> Result<Next, CommandFault>
     requires room { 16 ≤ session.old.spare }
     requires open { AllOpen session.old.machine.slots (F.state files.old).opened }
     ensures refused { IsRefusal command.now result
         → AreLeft (nature command.now).flushes session.old session.new }
-    ensures told { IsTold F.tells session.old.machine.slots command.now
-        → Did (λ notes. effect session.old.limit notes (live_in session.old (F.state files.old).files) command.now)
-        session.old.command result (live_in session.new (F.state files.new).files) S.tells (S.written out.old)
-        (S.written out.new) (notes_said session.old.notes) (notes_said session.new.notes) }
+    ensures told { IsTold F.tells session.old.machine.slots L.tells (L.state lines.old) session.old.machine.lines
+        command.now → (whole : List LineAnswer) → IsFirst (record_in (L.state lines.new).told) whole
+        → Did (λ notes. effect session.old.limit notes
+        (live_in session.old (around (F.state files.old).files (L.state lines.old) whole)) command.now)
+        session.old.command result (live_in session.new (around (F.state files.new).files (L.state lines.new) whole))
+        S.tells (output (S.written out.old) (L.state lines.old).sent) (output (S.written out.new) (L.state lines.new).sent)
+        (notes_said session.old.notes) (notes_said session.new.notes) }
+    ensures lines { LinesGoOn L.tells (L.state lines.old) session.old.machine.lines (L.state lines.new)
+        session.new.machine.lines }
+    ensures unasked { IsRefused result → lines.new ≡ lines.old }
     ensures undone { result ≡ Err OutOfMemory → IsUndone (nature command.now).flushes (nature command.now).reads_whole
         (says_files F.tells command.now) session.old session.new (S.written out.old) (S.written out.new)
         (F.state files.old) (F.state files.new) }
@@ -135,10 +155,10 @@ fn obey<U: Unit, F: Files, S: Sink>(
         → Around session.new.machine.slots base (F.state files.new).opened }
 {
     match &command.verb {
-        Verb::Run(address) => run_from(session, true, *address, files, out),
-        Verb::Go(address) => run_from(session, false, *address, files, out),
-        Verb::Cont => run(session, files, out),
-        Verb::Step(count) => step(session, count.unwrap_or(1), files, out),
+        Verb::Run(address) => run_from(session, true, *address, files, lines, out),
+        Verb::Go(address) => run_from(session, false, *address, files, lines, out),
+        Verb::Cont => run(session, files, lines, out),
+        Verb::Step(count) => step(session, count.unwrap_or(1), files, lines, out),
         Verb::Attach { option, unit, .. } => {
             attach(alloc, session, *option, *unit, command.file_name(), files)
         }
@@ -167,10 +187,13 @@ fn obey_untold<U: Unit, F: Files, S: Sink>(
     requires part { (nature command.now).telling ≡ Nothing }
     ensures refused { IsRefusal command.now result
         → AreLeft (nature command.now).flushes session.old session.new }
-    ensures told { IsTold F.tells session.old.machine.slots command.now
-        → Did (λ notes. effect session.old.limit notes (live_in session.old (F.state files.old).files) command.now)
-        session.old.command result (live_in session.new (F.state files.new).files) S.tells (S.written out.old)
-        (S.written out.new) (notes_said session.old.notes) (notes_said session.new.notes) }
+    ensures told { (lines : LineState) (whole : List LineAnswer) (heard : Heard)
+        → Did (λ notes. effect session.old.limit notes
+        (live_in session.old (around (F.state files.old).files lines whole)) command.now)
+        session.old.command result (live_in session.new (around (F.state files.new).files lines whole)) S.tells
+        (output (S.written out.old) heard) (output (S.written out.new) heard) (notes_said session.old.notes)
+        (notes_said session.new.notes) }
+    ensures terminals { session.new.machine.lines ≡ session.old.machine.lines }
     ensures undone { result ≡ Err OutOfMemory → IsUndone (nature command.now).flushes (nature command.now).reads_whole
         (says_files F.tells command.now) session.old session.new (S.written out.old) (S.written out.new)
         (F.state files.old) (F.state files.new) }
@@ -221,10 +244,13 @@ fn obey_plain<U: Unit, F: Files, S: Sink>(
     requires part { nature command.now ≡ plain }
     ensures refused { IsRefusal command.now result
         → AreLeft (nature command.now).flushes session.old session.new }
-    ensures told { IsTold F.tells session.old.machine.slots command.now
-        → Did (λ notes. effect session.old.limit notes (live_in session.old (F.state files.now).files) command.now)
-        session.old.command result (live_in session.new (F.state files.now).files) S.tells (S.written out.old)
-        (S.written out.new) (notes_said session.old.notes) (notes_said session.new.notes) }
+    ensures told { (lines : LineState) (whole : List LineAnswer) (heard : Heard)
+        → Did (λ notes. effect session.old.limit notes
+        (live_in session.old (around (F.state files.now).files lines whole)) command.now)
+        session.old.command result (live_in session.new (around (F.state files.now).files lines whole)) S.tells
+        (output (S.written out.old) heard) (output (S.written out.new) heard) (notes_said session.old.notes)
+        (notes_said session.new.notes) }
+    ensures terminals { session.new.machine.lines ≡ session.old.machine.lines }
     ensures undone { result ≡ Err OutOfMemory → IsUndone (nature command.now).flushes (nature command.now).reads_whole
         (says_files F.tells command.now) session.old session.new (S.written out.old) (S.written out.new)
         (F.state files.now) (F.state files.now) }

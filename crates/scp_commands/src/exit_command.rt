@@ -4,7 +4,10 @@ ghost use Rattle.host_files.specs.State.{Opened};
 ghost use Rattle.unit_files.specs.Open.{AllOpen, Around};
 ghost use Rattle.file_commands.specs.OwnFiles.{AreOwn};
 ghost use Rattle.file_commands.specs.Notes.{notes_said};
-ghost use Rattle.scp_commands.specs.Live.{live_in};
+ghost use Rattle.host_lines.specs.Traffic.{Answer as LineAnswer};
+ghost use Rattle.host_lines.specs.State.{LineState};
+ghost use Rattle.nova_machine.specs.Comes.{Output};
+ghost use Rattle.scp_commands.specs.Live.{live_in, around};
 ghost use Rattle.scp_commands.specs.ExitEffects.{exit_reply};
 ghost use Rattle.scp_commands.specs.Doing.{Did, Keeps, IsPlain, IsExitAnswer, IsKept};
 
@@ -27,9 +30,9 @@ pub fn exit<U: Unit, F: Files>(
     requires open { AllOpen session.old.machine.slots (F.state files.old).opened }
     ensures refused { IsKept result
         → (session.new.machine ≡ session.old.machine) × (session.new.watch ≡ session.old.watch) }
-    ensures told { (tells : Bool) (text : List ℕ)
-        → Did (λ notes. exit_reply notes (live_in session.old (F.state files.old).files) status)
-        session.old.command result (live_in session.new (F.state files.new).files) tells text text
+    ensures told { (lines : LineState) (whole : List LineAnswer) (tells : Bool) (text : Output)
+        → Did (λ notes. exit_reply notes (live_in session.old (around (F.state files.old).files lines whole)) status)
+        session.old.command result (live_in session.new (around (F.state files.new).files lines whole)) tells text text
         (notes_said session.old.notes) (notes_said session.new.notes) }
     ensures keeps { Keeps session.old.command session.new.machine.time F.tells result session.old.notes
         session.new.notes (F.state files.old) (F.state files.new) }
@@ -38,6 +41,7 @@ pub fn exit<U: Unit, F: Files>(
     ensures own { IsPlain result }
     ensures exit { IsExitAnswer result }
     ensures watch { session.new.watch ≡ session.old.watch }
+    ensures terminals { session.new.machine.lines ≡ session.old.machine.lines }
     ensures keys { session.new.keys ≡ session.old.keys }
     ensures limit { session.new.limit ≡ session.old.limit }
     ensures command { session.new.command ≡ session.old.command }

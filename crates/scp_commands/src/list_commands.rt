@@ -1,7 +1,8 @@
 // EXAMINE and DEPOSIT.
 ghost use Rattle.std.specs.Prelude.{◌≡◌, ℕ, Bool, List, []};
-ghost use Rattle.host_files.specs.Lists.{NamedBytes};
-ghost use Rattle.scp_commands.specs.Live.{standing, live_in};
+ghost use Rattle.host_lines.specs.Told.{Heard};
+ghost use Rattle.nova_machine.specs.Comes.{Output, output};
+ghost use Rattle.scp_commands.specs.Live.{standing, live_in, Around};
 ghost use Rattle.scp_commands.specs.ListEffects.{lacks_device, examine_reply, handed, deposit_reply};
 ghost use Rattle.scp_commands.specs.Doing.{Does, ConsoleCounts, IsShown, IsPlain, IsExitAnswer, IsRefused};
 
@@ -21,8 +22,9 @@ pub fn examine_list<U: Unit, S: Sink>(
     listing: &Listing,
     out: &mut S,
 ) -> Result<Next, CommandFault>
-    ensures told { (files : List NamedBytes) → Does (examine_reply (live_in session.now files) listing.now) result
-        (standing 0 (live_in session.now files)) S.tells (S.written out.old) (S.written out.new) }
+    ensures told { (files : Around) (heard : Heard) → Does (examine_reply (live_in session.now files) listing.now) result
+        (standing 0 (live_in session.now files)) S.tells (output (S.written out.old) heard)
+        (output (S.written out.new) heard) }
     ensures counts { ConsoleCounts result (S.fault_count out.old) (S.fault_count out.new) }
     ensures own { IsShown result }
     ensures exit { IsExitAnswer result }
@@ -44,7 +46,7 @@ pub fn deposit_list<U: Unit>(
 ) -> Result<Next, CommandFault>
     ensures refused { IsRefused result
         → (session.new.machine ≡ session.old.machine) × (session.new.watch ≡ session.old.watch) }
-    ensures told { (files : List NamedBytes) (tells : Bool) (text : List ℕ)
+    ensures told { (files : Around) (tells : Bool) (text : Output)
         → Does (deposit_reply (live_in session.old files) listing.now value) result
         (standing 0 (live_in session.new files)) tells text text }
     ensures own { IsPlain result }
@@ -62,14 +64,14 @@ fn fill_list<U: Unit>(
     listing: &Listing,
     value: u64,
 ) -> Result<Next, CommandFault>
-    ensures answer { (files : List NamedBytes)
+    ensures answer { (files : Around)
         → result ≡ (deposit_reply (live_in session.old files) listing.now value).answer }
-    ensures after { (files : List NamedBytes) → standing 0 (live_in session.new files)
+    ensures after { (files : Around) → standing 0 (live_in session.new files)
         ≡ (deposit_reply (live_in session.old files) listing.now value).after }
     ensures exit { IsExitAnswer result }
     ensures refused { IsRefused result
         → (session.new.machine ≡ session.old.machine) × (session.new.watch ≡ session.old.watch) }
-    ensures silent { (files : List NamedBytes)
+    ensures silent { (files : Around)
         → (deposit_reply (live_in session.old files) listing.now value).made ≡ [] }
     ensures rest { session.new ≡ record session.old { machine = session.new.machine } }
     ensures slots { session.new.machine.slots ≡ session.old.machine.slots }

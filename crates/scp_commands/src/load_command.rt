@@ -5,8 +5,11 @@ ghost use Rattle.unit_files.specs.Open.{AllOpen, Around};
 ghost use Rattle.file_commands.specs.declared.note.Subject.TheVariants.{Load as of_load};
 ghost use Rattle.file_commands.specs.OwnFiles.{AreOwn};
 ghost use Rattle.file_commands.specs.Notes.{notes_said};
+ghost use Rattle.host_lines.specs.Traffic.{Answer as LineAnswer};
+ghost use Rattle.host_lines.specs.State.{LineState};
+ghost use Rattle.nova_machine.specs.Comes.{Output};
 ghost use Rattle.scp_commands.specs.declared.fault.CommandFault.TheVariants.{OutOfMemory};
-ghost use Rattle.scp_commands.specs.Live.{live_in};
+ghost use Rattle.scp_commands.specs.Live.{live_in, around};
 ghost use Rattle.scp_commands.specs.RunEffects.{starting_at};
 ghost use Rattle.scp_commands.specs.WholeCalls.{whole_answer};
 ghost use Rattle.scp_commands.specs.Refusals.{UnreadCause};
@@ -44,9 +47,9 @@ pub fn load_file<U: Unit, F: Files>(
     requires open { AllOpen session.old.machine.slots (F.state files.old).opened }
     ensures refused { IsRefused result
         → (session.new.machine ≡ session.old.machine) × (session.new.watch ≡ session.old.watch) }
-    ensures told { (tells : Bool) (text : List ℕ) → IsTrue F.tells
-        → Did (λ notes. load_reply notes (live_in session.old (F.state files.old).files) name.now)
-        session.old.command result (live_in session.new (F.state files.new).files) tells text text
+    ensures told { (lines : LineState) (whole : List LineAnswer) (tells : Bool) (text : Output) → IsTrue F.tells
+        → Did (λ notes. load_reply notes (live_in session.old (around (F.state files.old).files lines whole)) name.now)
+        session.old.command result (live_in session.new (around (F.state files.new).files lines whole)) tells text text
         (notes_said session.old.notes) (notes_said session.new.notes) }
     ensures undone { (text : List ℕ) → result ≡ Err OutOfMemory
         → IsUndone false (Some of_load) F.tells session.old session.new text text (F.state files.old)
@@ -59,6 +62,7 @@ pub fn load_file<U: Unit, F: Files>(
     ensures own { IsOwn result }
     ensures exit { IsExitAnswer result }
     ensures watch { session.new.watch ≡ session.old.watch }
+    ensures terminals { session.new.machine.lines ≡ session.old.machine.lines }
     ensures keys { session.new.keys ≡ session.old.keys }
     ensures limit { session.new.limit ≡ session.old.limit }
     ensures command { session.new.command ≡ session.old.command }

@@ -1,13 +1,13 @@
 // RUN, GO, CONT, STEP and RESET.
 ghost use Rattle.std.specs.Prelude.{◌≡◌, ◌≢◌, ◌≤◌, ◌++◌, ℕ, Bool, List, true, false, IsTrue, min, nat_le};
-ghost use Rattle.host_files.specs.Lists.{NamedBytes};
 ghost use Rattle.unit_files.specs.Open.{AllOpen};
 ghost use Rattle.file_commands.specs.Notes.{notes_said};
 ghost use Rattle.nova_machine.specs.Comes.{AreTold};
 ghost use Rattle.nova_machine.specs.Run.{run};
 ghost use Rattle.nova_machine.specs.declared.machine.Stop.TheVariants.{ConsoleFault};
 ghost use Rattle.nova_machine.specs.Machine.{reset_machine};
-ghost use Rattle.scp_commands.specs.Live.{live_in, standing};
+ghost use Rattle.nova_machine.specs.Comes.{Output};
+ghost use Rattle.scp_commands.specs.Live.{live_in, standing, Around, around};
 ghost use Rattle.scp_commands.specs.RunEffects.{address_fits, starting_at, reset_where, running, run_from};
 ghost use Rattle.scp_commands.specs.RunEffects.{stepped, step_of, run_failure, ran, reset_reply};
 ghost use Rattle.scp_commands.specs.Doing.{Does, IsRefused};
@@ -22,6 +22,7 @@ use crate::stop_line::put_stop;
 use crate::unit_commands::stamp_of;
 use file_commands::{keep, note_of};
 use host_files::{Files, Sink};
+use host_lines::Lines;
 use nova_machine::{CpuReg, Machine, RunLimit, Stop};
 use unit_trait::Unit;
 
@@ -30,20 +31,23 @@ const LAST_ADDRESS: u64 = 0o77777;
 
 /// Runs up to the limit of the session, from that address where one is given. RUN resets the machine first.
 #[tactic(auto, unfolding(crate::specs::RunEffects::run_from))]
-pub fn run_from<U: Unit, F: Files, S: Sink>(
+pub fn run_from<U: Unit, F: Files, L: Lines, S: Sink>(
     session: &mut Session<U>,
     resets: bool,
     address: Option<u64>,
     files: &mut F,
+    lines: &mut L,
     out: &mut S,
 ) -> Result<Next, CommandFault>
     requires room { 16 ≤ session.old.spare }
     requires open { AllOpen session.old.machine.slots (F.state files.old).opened }
+    ensures unasked { IsRefused result → lines.new ≡ lines.old }
     ensures refused { IsRefused result
         → (session.new.machine ≡ session.old.machine) × (session.new.watch ≡ session.old.watch) }
     ensures done { RunDone
-        (λ notes. run_from session.old.limit notes resets address (live_in session.old (F.state files.old).files))
-        result session.old session.new (F.state files.old) (F.state files.new) F.tells S.tells (S.written out.old)
+        (λ whole notes. run_from session.old.limit notes resets address (live_in session.old (around (F.state files.old).files (L.state lines.old) whole)))
+        result session.old session.new (F.state files.old) (F.state files.new) (L.state lines.old) (L.state lines.new)
+        F.tells L.tells S.tells (S.written out.old)
         (S.written out.new) (S.fault_count out.old) (S.fault_count out.new) }
     ensures stopped { RunStops false session.old.limit result session.old session.new S.tells (S.written out.old)
         (S.written out.new) }
@@ -52,7 +56,7 @@ pub fn run_from<U: Unit, F: Files, S: Sink>(
         return Err(CommandFault::OutOfRange);
     }
     start(session, resets, address);
-    run(session, files, out)
+    run(session, files, lines, out)
 }
 
 // Whether an address is one of memory's.
@@ -96,17 +100,19 @@ fn reset_where<U: Unit>(machine: &mut Machine<U>, resets: bool)
 }
 
 /// Runs from PC up to the limit of the session, and prints the stop behind what the run has printed.
-pub fn run<U: Unit, F: Files, S: Sink>(
+pub fn run<U: Unit, F: Files, L: Lines, S: Sink>(
     session: &mut Session<U>,
     files: &mut F,
+    lines: &mut L,
     out: &mut S,
 ) -> Result<Next, CommandFault>
     requires room { 16 ≤ session.old.spare }
     requires open { AllOpen session.old.machine.slots (F.state files.old).opened }
     ensures never { IsRefused result → ⊥ }
     ensures done { RunDone
-        (λ notes. running session.old.limit notes (live_in session.old (F.state files.old).files)) result
-        session.old session.new (F.state files.old) (F.state files.new) F.tells S.tells (S.written out.old)
+        (λ whole notes. running session.old.limit notes (live_in session.old (around (F.state files.old).files (L.state lines.old) whole))) result
+        session.old session.new (F.state files.old) (F.state files.new) (L.state lines.old) (L.state lines.new)
+        F.tells L.tells S.tells (S.written out.old)
         (S.written out.new) (S.fault_count out.old) (S.fault_count out.new) }
     ensures stopped { RunStops false session.old.limit result session.old session.new S.tells (S.written out.old)
         (S.written out.new) }
@@ -115,48 +121,53 @@ pub fn run<U: Unit, F: Files, S: Sink>(
         count: session.limit,
         step: false,
     };
-    run_up_to(session, limit, files, out)
+    run_up_to(session, limit, files, lines, out)
 }
 
 /// Runs that many instructions, from 1 to 2^48, and prints the stop.
 #[tactic(auto, unfolding(crate::specs::RunEffects::step_of))]
-pub fn step<U: Unit, F: Files, S: Sink>(
+pub fn step<U: Unit, F: Files, L: Lines, S: Sink>(
     session: &mut Session<U>,
     count: u64,
     files: &mut F,
+    lines: &mut L,
     out: &mut S,
 ) -> Result<Next, CommandFault>
     requires room { 16 ≤ session.old.spare }
     requires open { AllOpen session.old.machine.slots (F.state files.old).opened }
+    ensures unasked { IsRefused result → lines.new ≡ lines.old }
     ensures refused { IsRefused result
         → (session.new.machine ≡ session.old.machine) × (session.new.watch ≡ session.old.watch) }
     ensures done { RunDone
-        (λ notes. step_of session.old.limit notes count (live_in session.old (F.state files.old).files)) result
-        session.old session.new (F.state files.old) (F.state files.new) F.tells S.tells (S.written out.old)
+        (λ whole notes. step_of session.old.limit notes count (live_in session.old (around (F.state files.old).files (L.state lines.old) whole))) result
+        session.old session.new (F.state files.old) (F.state files.new) (L.state lines.old) (L.state lines.new)
+        F.tells L.tells S.tells (S.written out.old)
         (S.written out.new) (S.fault_count out.old) (S.fault_count out.new) }
     ensures stopped { RunStops (nat_le count session.old.limit) (min count session.old.limit) result session.old
         session.new S.tells (S.written out.old) (S.written out.new) }
 {
     if is_count(count) {
-        step_by(session, count, files, out)
+        step_by(session, count, files, lines, out)
     } else {
         Err(CommandFault::OutOfRange)
     }
 }
 
 #[tactic(auto, unfolding(crate::specs::RunEffects::stepped))]
-fn step_by<U: Unit, F: Files, S: Sink>(
+fn step_by<U: Unit, F: Files, L: Lines, S: Sink>(
     session: &mut Session<U>,
     count: u64,
     files: &mut F,
+    lines: &mut L,
     out: &mut S,
 ) -> Result<Next, CommandFault>
     requires room { 16 ≤ session.old.spare }
     requires open { AllOpen session.old.machine.slots (F.state files.old).opened }
     ensures never { IsRefused result → ⊥ }
     ensures done { RunDone
-        (λ notes. stepped session.old.limit notes count (live_in session.old (F.state files.old).files)) result
-        session.old session.new (F.state files.old) (F.state files.new) F.tells S.tells (S.written out.old)
+        (λ whole notes. stepped session.old.limit notes count (live_in session.old (around (F.state files.old).files (L.state lines.old) whole))) result
+        session.old session.new (F.state files.old) (F.state files.new) (L.state lines.old) (L.state lines.new)
+        F.tells L.tells S.tells (S.written out.old)
         (S.written out.new) (S.fault_count out.old) (S.fault_count out.new) }
     ensures stopped { RunStops (nat_le count session.old.limit) (min count session.old.limit) result session.old
         session.new S.tells (S.written out.old) (S.written out.new) }
@@ -165,31 +176,33 @@ fn step_by<U: Unit, F: Files, S: Sink>(
         count: count.min(session.limit),
         step: count <= session.limit,
     };
-    run_up_to(session, limit, files, out)
+    run_up_to(session, limit, files, lines, out)
 }
 
 // Runs up to that limit, notes the call on a file that failed, if that is why it stopped, and prints the stop behind
 // what the run has printed.
-fn run_up_to<U: Unit, F: Files, S: Sink>(
+fn run_up_to<U: Unit, F: Files, L: Lines, S: Sink>(
     session: &mut Session<U>,
     limit: RunLimit,
     files: &mut F,
+    lines: &mut L,
     out: &mut S,
 ) -> Result<Next, CommandFault>
     requires room { 16 ≤ session.old.spare }
     requires open { AllOpen session.old.machine.slots (F.state files.old).opened }
     ensures never { IsRefused result → ⊥ }
     ensures done { RunDone
-        (λ notes. ran
-        (run (run_failure notes) limit.step limit.count (live_in session.old (F.state files.old).files)))
-        result session.old session.new (F.state files.old) (F.state files.new) F.tells S.tells (S.written out.old)
+        (λ whole notes. ran
+        (run (run_failure notes) limit.step limit.count (live_in session.old (around (F.state files.old).files (L.state lines.old) whole))))
+        result session.old session.new (F.state files.old) (F.state files.new) (L.state lines.old) (L.state lines.new)
+        F.tells L.tells S.tells (S.written out.old)
         (S.written out.new) (S.fault_count out.old) (S.fault_count out.new) }
     ensures stopped { RunStops limit.step limit.count result session.old session.new S.tells (S.written out.old)
         (S.written out.new) }
 {
     let stop = session
         .machine
-        .run(limit, &mut session.watch, &session.keys, files, out);
+        .run(limit, &mut session.watch, &session.keys, files, lines, out);
     if is_console_fault(stop) {
         return Err(CommandFault::Console);
     }
@@ -225,7 +238,7 @@ fn is_console_fault(stop: Stop) -> bool
 /// RESET resets the machine. It prints nothing.
 #[tactic(auto, unfolding(crate::specs::RunEffects::reset_reply))]
 pub fn reset<U: Unit>(session: &mut Session<U>) -> Result<Next, CommandFault>
-    ensures told { (files : List NamedBytes) (tells : Bool) (text : List ℕ)
+    ensures told { (files : Around) (tells : Bool) (text : Output)
         → Does (reset_reply (live_in session.old files)) result (standing 0 (live_in session.new files)) tells text text }
     ensures never { IsRefused result → ⊥ }
     ensures own { IsPlain result }

@@ -1,10 +1,11 @@
 // ECHO and ASSERT.
 ghost use Rattle.std.specs.Prelude.{◌≡◌, ◌++◌, ◌∷◌, ℕ, Bool, List, [], IsTrue};
 ghost use Rattle.fault_counts.specs.Faults.{CountsFault};
-ghost use Rattle.host_files.specs.Lists.{NamedBytes};
 ghost use Rattle.host_files.specs.Streams.{Puts};
 ghost use Rattle.operand_forms.specs.Forms.{IsTested};
-ghost use Rattle.scp_commands.specs.Live.{Live, standing, live_in};
+ghost use Rattle.host_lines.specs.Told.{Heard};
+ghost use Rattle.nova_machine.specs.Comes.{Output, output};
+ghost use Rattle.scp_commands.specs.Live.{Live, standing, live_in, Around};
 ghost use Rattle.scp_commands.specs.ScriptEffects.{echo_reply, assert_answer, assert_reply};
 ghost use Rattle.scp_commands.specs.Doing.{Does, ConsoleCounts, IsShown, IsPlain, IsExitAnswer};
 
@@ -20,8 +21,8 @@ use unit_trait::Unit;
 
 /// ECHO prints its text and a newline.
 pub fn echo<S: Sink>(text: &[u8], out: &mut S) -> Result<Next, CommandFault>
-    ensures told { (live : Live) → Does (echo_reply live text.now) result (standing 0 live) S.tells
-        (S.written out.old) (S.written out.new) }
+    ensures told { (live : Live) (heard : Heard) → Does (echo_reply live text.now) result (standing 0 live) S.tells
+        (output (S.written out.old) heard) (output (S.written out.new) heard) }
     ensures counts { ConsoleCounts result (S.fault_count out.old) (S.fault_count out.new) }
     ensures own { IsShown result }
     ensures exit { IsExitAnswer result }
@@ -42,7 +43,7 @@ fn put_line<S: Sink>(text: &[u8], out: &mut S) -> Result<(), Failed>
 /// condition, and `NotBuilt` where the machine has no unit of its device. It prints nothing, and changes nothing.
 pub fn assert_condition<U: Unit>(session: &Session<U>, what: &Test) -> Result<Next, CommandFault>
     requires { IsTested what.now.item }
-    ensures told { (files : List NamedBytes) (tells : Bool) (text : List ℕ)
+    ensures told { (files : Around) (tells : Bool) (text : Output)
         → Does (assert_reply (live_in session.now files) what.now) result (standing 0 (live_in session.now files))
         tells text text }
     ensures own { IsPlain result }

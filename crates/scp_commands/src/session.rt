@@ -33,7 +33,9 @@ pub struct Session<U: Unit> {
 
 impl<U: Unit> Model for Session<U> {
     ghost use Rattle.std.specs.Prelude.{◌-◌, vec_len, vec_capacity};
-    ghost use Rattle.scp_commands.specs.Live.{CommandState};
+ghost use Rattle.host_lines.specs.Traffic.{Answer as LineAnswer};
+ghost use Rattle.host_lines.specs.State.{LineState};
+    ghost use Rattle.scp_commands.specs.Live.{CommandState, around};
 
     ghost Value = { CommandState };
 
@@ -102,8 +104,9 @@ impl<U: Unit> Session<U> {
     pub fn detach_files<F: Files>(&mut self, files: &mut F) -> Result<(), UnitFault>
         requires room { 12 ≤ self.old.spare }
         requires open { AllOpen self.old.machine.slots (F.state files.old).opened }
-        ensures closes { Closes self.old.command (live_in self.old (F.state files.old).files)
-            (live_in self.new (F.state files.new).files) (keeper result) (notes_said self.old.notes)
+        ensures closes { (lines : LineState) (whole : List LineAnswer)
+            → Closes self.old.command (live_in self.old (around (F.state files.old).files lines whole))
+            (live_in self.new (around (F.state files.new).files lines whole)) (keeper result) (notes_said self.old.notes)
             (notes_said self.new.notes) }
         ensures keeps { Keeps self.old.command self.new.machine.time F.tells (kept_answer (keeper result) Go)
             self.old.notes self.new.notes (F.state files.old) (F.state files.new) }
@@ -111,6 +114,7 @@ impl<U: Unit> Session<U> {
         ensures whose { AreOwn self.old.machine.slots self.new.machine.slots self.old.notes self.new.notes
             (F.state files.old) (F.state files.new) }
         ensures watch { self.new.watch ≡ self.old.watch }
+        ensures terminals { self.new.machine.lines ≡ self.old.machine.lines }
         ensures keys { self.new.keys ≡ self.old.keys }
         ensures limit { self.new.limit ≡ self.old.limit }
         ensures command { self.new.command ≡ self.old.command }

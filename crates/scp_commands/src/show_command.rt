@@ -1,7 +1,6 @@
 // SHOW.
 ghost use Rattle.std.specs.Prelude.{◌≡◌, ◌<◌, ◌++◌, ◌∷◌, ℕ, List, [], Some, IsTrue};
 ghost use Rattle.fault_counts.specs.Faults.{CountsFault};
-ghost use Rattle.host_files.specs.Lists.{NamedBytes};
 ghost use Rattle.host_files.specs.Streams.{Puts};
 ghost use Rattle.unit_trait.specs.Kinds.{units_of};
 ghost use Rattle.unit_files.specs.Attachments.{attachments_of, attachment_at};
@@ -10,7 +9,9 @@ ghost use Rattle.expect_actions.specs.Watch.{WatchState};
 ghost use Rattle.nova_machine.specs.Seen.{seen, beside};
 ghost use Rattle.scp_parser.specs.Command.{ShowsUnit};
 ghost use Rattle.scp_parser.specs.declared.command.Shown.TheVariants.{Unit as AUnit};
-ghost use Rattle.scp_commands.specs.Live.{standing, live_in};
+ghost use Rattle.host_lines.specs.Told.{Heard};
+ghost use Rattle.nova_machine.specs.Comes.{output};
+ghost use Rattle.scp_commands.specs.Live.{standing, live_in, Around};
 ghost use Rattle.scp_commands.specs.FileEffects.{attachment_text, unit_line};
 ghost use Rattle.scp_commands.specs.ShowEffects.{time_text, cpu_text, version_text, event_line, queue_text, show_reply};
 ghost use Rattle.scp_commands.specs.Doing.{Does, ConsoleCounts, IsShown, IsExitAnswer};
@@ -37,8 +38,9 @@ pub fn show<U: Unit, S: Sink>(
     out: &mut S,
 ) -> Result<Next, CommandFault>
     requires { ShowsUnit subject }
-    ensures told { (files : List NamedBytes) → Does (show_reply (live_in session.now files) subject) result
-        (standing 0 (live_in session.now files)) S.tells (S.written out.old) (S.written out.new) }
+    ensures told { (files : Around) (heard : Heard) → Does (show_reply (live_in session.now files) subject) result
+        (standing 0 (live_in session.now files)) S.tells (output (S.written out.old) heard)
+        (output (S.written out.new) heard) }
     ensures counts { ConsoleCounts result (S.fault_count out.old) (S.fault_count out.new) }
     ensures own { IsShown result }
     ensures exit { IsExitAnswer result }
@@ -83,9 +85,10 @@ fn show_unit<U: Unit, S: Sink>(
     out: &mut S,
 ) -> Result<Next, CommandFault>
     requires { unit.unit < units_of unit.kind }
-    ensures told { (watch : WatchState) (keys : List (ℕ × ℕ)) (files : List NamedBytes)
-        → Does (show_reply (seen (beside watch keys files) machine.now) (AUnit unit)) result
-        (standing 0 (seen (beside watch keys files) machine.now)) S.tells (S.written out.old) (S.written out.new) }
+    ensures told { (watch : WatchState) (keys : List (ℕ × ℕ)) (files : Around) (heard : Heard)
+        → Does (show_reply (seen (beside watch keys files.files files.lines) files.whole machine.now) (AUnit unit)) result
+        (standing 0 (seen (beside watch keys files.files files.lines) files.whole machine.now)) S.tells
+        (output (S.written out.old) heard) (output (S.written out.new) heard) }
     ensures counts { ConsoleCounts result (S.fault_count out.old) (S.fault_count out.new) }
     ensures own { IsShown result }
     ensures exit { IsExitAnswer result }

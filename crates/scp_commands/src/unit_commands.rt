@@ -7,8 +7,11 @@ ghost use Rattle.unit_files.specs.Attachments.{IsFileName, is_paper};
 ghost use Rattle.unit_files.specs.Open.{AllOpen, Around};
 ghost use Rattle.file_commands.specs.OwnFiles.{AreOwn};
 ghost use Rattle.file_commands.specs.Notes.{notes_said};
+ghost use Rattle.host_lines.specs.Traffic.{Answer as LineAnswer};
+ghost use Rattle.host_lines.specs.State.{LineState};
+ghost use Rattle.nova_machine.specs.Comes.{Output};
 ghost use Rattle.scp_commands.specs.declared.fault.CommandFault.TheVariants.{OutOfMemory};
-ghost use Rattle.scp_commands.specs.Live.{live_in};
+ghost use Rattle.scp_commands.specs.Live.{live_in, around};
 ghost use Rattle.scp_commands.specs.FileEffects.{lacks_unit, mode_of, first_place, positioned};
 ghost use Rattle.scp_commands.specs.FileEffects.{attach_reply, detach_reply, detach_all_reply, detach_one_or_all};
 ghost use Rattle.scp_parser.specs.Command.{Attach, Detach};
@@ -41,9 +44,9 @@ pub fn attach<U: Unit, F: Files>(
     requires open { AllOpen session.old.machine.slots (F.state files.old).opened }
     ensures refused { IsRefused result
         → (session.new.machine ≡ session.old.machine) × (session.new.watch ≡ session.old.watch) }
-    ensures told { (tells : Bool) (text : List ℕ) → IsTrue F.tells
-        → Did (λ notes. attach_reply notes (live_in session.old (F.state files.old).files) option unit name.now)
-        session.old.command result (live_in session.new (F.state files.new).files) tells text text
+    ensures told { (lines : LineState) (whole : List LineAnswer) (tells : Bool) (text : Output) → IsTrue F.tells
+        → Did (λ notes. attach_reply notes (live_in session.old (around (F.state files.old).files lines whole)) option unit name.now)
+        session.old.command result (live_in session.new (around (F.state files.new).files lines whole)) tells text text
         (notes_said session.old.notes) (notes_said session.new.notes) }
     ensures undone { (text : List ℕ) → result ≡ Err OutOfMemory
         → IsUndone false None true session.old session.new text text (F.state files.old) (F.state files.new) }
@@ -59,6 +62,7 @@ pub fn attach<U: Unit, F: Files>(
     ensures own { IsOwn result }
     ensures exit { IsExitAnswer result }
     ensures watch { session.new.watch ≡ session.old.watch }
+    ensures terminals { session.new.machine.lines ≡ session.old.machine.lines }
     ensures keys { session.new.keys ≡ session.old.keys }
     ensures limit { session.new.limit ≡ session.old.limit }
     ensures command { session.new.command ≡ session.old.command }
@@ -100,9 +104,9 @@ pub fn detach_one_or_every<U: Unit, F: Files>(
     requires open { AllOpen session.old.machine.slots (F.state files.old).opened }
     ensures refused { IsRefusal (Detach unit) result
         → (session.new.machine ≡ session.old.machine) × (session.new.watch ≡ session.old.watch) }
-    ensures told { (tells : Bool) (text : List ℕ)
-        → Did (λ notes. detach_one_or_all notes (live_in session.old (F.state files.old).files) unit)
-        session.old.command result (live_in session.new (F.state files.new).files) tells text text
+    ensures told { (lines : LineState) (whole : List LineAnswer) (tells : Bool) (text : Output)
+        → Did (λ notes. detach_one_or_all notes (live_in session.old (around (F.state files.old).files lines whole)) unit)
+        session.old.command result (live_in session.new (around (F.state files.new).files lines whole)) tells text text
         (notes_said session.old.notes) (notes_said session.new.notes) }
     ensures keeps { Keeps session.old.command session.new.machine.time F.tells result session.old.notes
         session.new.notes (F.state files.old) (F.state files.new) }
@@ -111,6 +115,7 @@ pub fn detach_one_or_every<U: Unit, F: Files>(
     ensures own { IsPlain result }
     ensures exit { IsExitAnswer result }
     ensures watch { session.new.watch ≡ session.old.watch }
+    ensures terminals { session.new.machine.lines ≡ session.old.machine.lines }
     ensures keys { session.new.keys ≡ session.old.keys }
     ensures limit { session.new.limit ≡ session.old.limit }
     ensures command { session.new.command ≡ session.old.command }
@@ -136,9 +141,9 @@ fn detach<U: Unit, F: Files>(
     requires open { AllOpen session.old.machine.slots (F.state files.old).opened }
     ensures refused { IsRefused result
         → (session.new.machine ≡ session.old.machine) × (session.new.watch ≡ session.old.watch) }
-    ensures told { (tells : Bool) (text : List ℕ)
-        → Did (λ notes. detach_reply notes (live_in session.old (F.state files.old).files) unit)
-        session.old.command result (live_in session.new (F.state files.new).files) tells text text
+    ensures told { (lines : LineState) (whole : List LineAnswer) (tells : Bool) (text : Output)
+        → Did (λ notes. detach_reply notes (live_in session.old (around (F.state files.old).files lines whole)) unit)
+        session.old.command result (live_in session.new (around (F.state files.new).files lines whole)) tells text text
         (notes_said session.old.notes) (notes_said session.new.notes) }
     ensures keeps { Keeps session.old.command session.new.machine.time F.tells result session.old.notes
         session.new.notes (F.state files.old) (F.state files.new) }
@@ -147,6 +152,7 @@ fn detach<U: Unit, F: Files>(
     ensures own { IsPlain result }
     ensures exit { IsExitAnswer result }
     ensures watch { session.new.watch ≡ session.old.watch }
+    ensures terminals { session.new.machine.lines ≡ session.old.machine.lines }
     ensures keys { session.new.keys ≡ session.old.keys }
     ensures limit { session.new.limit ≡ session.old.limit }
     ensures command { session.new.command ≡ session.old.command }
@@ -180,9 +186,9 @@ fn detach_every<U: Unit, F: Files>(
     requires open { AllOpen session.old.machine.slots (F.state files.old).opened }
     ensures refused { IsKept result
         → (session.new.machine ≡ session.old.machine) × (session.new.watch ≡ session.old.watch) }
-    ensures told { (tells : Bool) (text : List ℕ)
-        → Did (λ notes. detach_all_reply notes (live_in session.old (F.state files.old).files))
-        session.old.command result (live_in session.new (F.state files.new).files) tells text text
+    ensures told { (lines : LineState) (whole : List LineAnswer) (tells : Bool) (text : Output)
+        → Did (λ notes. detach_all_reply notes (live_in session.old (around (F.state files.old).files lines whole)))
+        session.old.command result (live_in session.new (around (F.state files.new).files lines whole)) tells text text
         (notes_said session.old.notes) (notes_said session.new.notes) }
     ensures keeps { Keeps session.old.command session.new.machine.time F.tells result session.old.notes
         session.new.notes (F.state files.old) (F.state files.new) }
@@ -191,6 +197,7 @@ fn detach_every<U: Unit, F: Files>(
     ensures own { IsPlain result }
     ensures exit { IsExitAnswer result }
     ensures watch { session.new.watch ≡ session.old.watch }
+    ensures terminals { session.new.machine.lines ≡ session.old.machine.lines }
     ensures keys { session.new.keys ≡ session.old.keys }
     ensures limit { session.new.limit ≡ session.old.limit }
     ensures command { session.new.command ≡ session.old.command }
