@@ -31,9 +31,10 @@ use Rattle.file_commands.specs.Kept.{fault_note, IsAttachFault, MissingCause, fa
 use Rattle.expect_actions.specs.Watch.{WatchState}
 use Rattle.nova_machine.specs.Machine.{MachineState, attached_files, with_attached_files}
 use Rattle.nova_machine.specs.Seen.{erased, seen, beside, attached_in}
+use Rattle.nova_machine.specs.Comes.{Output}
 use Rattle.scp_commands.specs.declared.next.Next.TheVariants.{Go}
 use Rattle.scp_commands.specs.declared.fault.CommandFault.TheVariants.{AlreadyAttached, ReadOnly, NoFile, FileTooLong, NotBuilt, FileFailed}
-use Rattle.scp_commands.specs.Live.{Live, standing}
+use Rattle.scp_commands.specs.Live.{Live, standing, Beyond}
 use Rattle.scp_commands.specs.Reply.{Answer, Reply, refused}
 use Rattle.scp_commands.specs.FaultText.{attach_fault}
 use Rattle.scp_commands.specs.FileEffects.{has_files, lacks_unit, mode_of, attach_answer, attach_used, first_place, positioned, attached_machine, attach_with, attach_reply}
@@ -67,7 +68,7 @@ record IsNoFailure (f : Option Failure) : Type 0 where
   measuring : failure_at Length f ≡ None
   reading : failure_at Read f ≡ None
 
-said-same : (f : Option Failure) (mode : AttachMode) (unit : UnitName) (name : List ℕ) (attached : List (Option Attachment)) (files : List NamedBytes) → IsNoFailure f
+said-same : (f : Option Failure) (mode : AttachMode) (unit : UnitName) (name : List ℕ) (attached : List (Option Attachment)) (files : Beyond) → IsNoFailure f
     → attach_said f mode unit name attached files ≡ attach_said None mode unit name attached files
 unfolding attach_said
 said-same f mode unit name attached files clear = unless (refused_first (attachment_at attached unit) unit mode)
@@ -89,7 +90,7 @@ said-same f mode unit name attached files clear = unless (refused_first (attachm
     unless (Some refusal) = refl
     unless None = ap (λ (x : Option Failure). opening_said x f mode unit name files) clear.opening ∙ opened (opened_files mode name files)
 
-files-same : (f : Option Failure) (mode : AttachMode) (unit : UnitName) (name : List ℕ) (attached : List (Option Attachment)) (files : List NamedBytes) → IsNoFailure f
+files-same : (f : Option Failure) (mode : AttachMode) (unit : UnitName) (name : List ℕ) (attached : List (Option Attachment)) (files : Beyond) → IsNoFailure f
     → attach_files f mode unit name attached files ≡ attach_files None mode unit name attached files
 unfolding attach_files
 files-same f mode unit name attached files clear = unless (refused_first (attachment_at attached unit) unit mode)
@@ -123,7 +124,7 @@ said_reply said mode unit name files live = record {
   after = standing (attach_used said) (record live { machine = attached_machine said mode unit name (bytes_of files name) live.machine; files = files });
 }
 
-reply-is : (notes : List CommandNote) (live : Live) (option : ℕ) (unit : UnitName) (name : List ℕ) (said : AttachSaid) (files : List NamedBytes) → lacks_unit live.machine unit ≡ false
+reply-is : (notes : List CommandNote) (live : Live) (option : ℕ) (unit : UnitName) (name : List ℕ) (said : AttachSaid) (files : Beyond) → lacks_unit live.machine unit ≡ false
     → said ≡ attach_said (failure_now live.machine.time (subject.Unit unit) notes) (mode_of option) unit name (attached_in live.machine) live.files
     → files ≡ attach_files (failure_now live.machine.time (subject.Unit unit) notes) (mode_of option) unit name (attached_in live.machine) live.files
     → attach_reply notes live option unit name ≡ said_reply said (mode_of option) unit name files live
@@ -149,7 +150,7 @@ Leaves live mode unit name fault files =
 abbrev pub Becomes : Live → Live → AttachMode → UnitName → List ℕ → AttachSaid → Type 0
 Becomes live new mode unit name said = new ≡ record live { machine = attached_machine said mode unit name (bytes_of new.files name) live.machine; files = new.files }
 
-pub attach-did : (number : ℕ) (live new : Live) (option : ℕ) (unit : UnitName) (name : List ℕ) (r : Result ℕ AttachFault) (tells : Bool) (text : List ℕ) (notes notes' : List Note)
+pub attach-did : (number : ℕ) (live new : Live) (option : ℕ) (unit : UnitName) (name : List ℕ) (r : Result ℕ AttachFault) (tells : Bool) (text : Output) (notes notes' : List Note)
     → lacks_unit live.machine unit ≡ false → IfSome (said_of_attach r) (λ said. Says live (mode_of option) unit name (fault_of_attach r) said)
     → IfSome (said_of_attach r) (λ said. Leaves live (mode_of option) unit name (fault_of_attach r) new.files)
     → IfSome (said_of_attach r) (λ said. Becomes live new (mode_of option) unit name said)
@@ -210,7 +211,7 @@ pub record Calls (stamp : Stamp) (mode : AttachMode) (held : List (Option Attach
   pub noted : after ≡ before ++ kept_of stamp (fault_of_attach r)
 
 pub attach-done : (number : ℕ) (stamp : Stamp) (mode : AttachMode) (live new : Live) (held : List (Option Attachment)) (option : ℕ) (unit : UnitName) (name : List ℕ) (r : Result ℕ AttachFault)
-    (answer : Answer) (tells : Bool) (text : List ℕ) (before after : List FaultNote) → stamp ≡ record { command = number; time = live.machine.time }
+    (answer : Answer) (tells : Bool) (text : Output) (before after : List FaultNote) → stamp ≡ record { command = number; time = live.machine.time }
     → mode ≡ mode_of option → held ≡ attached_in live.machine → answer ≡ attach_result r → lacks_unit live.machine unit ≡ false
     → IfSome (fault_of_attach r) (IsAttachFault unit) → Calls stamp mode held live new unit name r before after
     → Did (λ (own : List CommandNote). attach_reply own live option unit name) number answer new tells text text (notes_said before) (notes_said after)
@@ -228,7 +229,7 @@ pub becomes-attached : (watch : WatchState) (keys : List (ℕ × ℕ)) (files fi
     → held ≡ attached_files m → attachments_of a.slots ≡ attached_by (Attached count) mode unit name (attachments_of held.slots)
     → a.disk ≡ buffer_by (Attached count) unit (bytes_of files' name) held.disk → place ≡ first_place unit.kind count
     → m' ≡ record (with_attached_files m a) { units = positioned unit place m.units }
-    → Becomes (seen (beside watch keys files) m) (seen (beside watch keys files') m') mode unit name (Attached count)
+    → Becomes (seen (beside watch keys files.files files.lines) files.whole m) (seen (beside watch keys files') m') mode unit name (Attached count)
 becomes-attached watch keys files files' m m' a held mode unit name count place was are copied begins is =
     let attached = attached_by (Attached count) mode unit name (attached_in (erased m)) in
     let disk = buffer_by (Attached count) unit (bytes_of files' name) m.disk in
@@ -240,13 +241,13 @@ becomes-attached watch keys files files' m m' a held mode unit name count place 
     (copied ∙ ap (λ (x : AttachedFiles). buffer_by (Attached count) unit (bytes_of files' name) x.disk) was))
 
 pub becomes-refused : (watch : WatchState) (keys : List (ℕ × ℕ)) (files files' : List NamedBytes) (m : MachineState) (a held : AttachedFiles) (mode : AttachMode) (unit : UnitName) (name : List ℕ) (fault : AttachFault)
-    → held ≡ attached_files m → a ≡ held → IfSome (said_of_attach (Err fault)) (λ said. Becomes (seen (beside watch keys files) m) (seen (beside watch keys files') (with_attached_files m a)) mode unit name said)
+    → held ≡ attached_files m → a ≡ held → IfSome (said_of_attach (Err fault)) (λ said. Becomes (seen (beside watch keys files.files files.lines) files.whole m) (seen (beside watch keys files') (with_attached_files m a)) mode unit name said)
 becomes-refused watch keys files files' m a held mode unit name fault was stays = by-fault fault
   where
     same : seen (beside watch keys files') (with_attached_files m a) ≡ seen (beside watch keys files') m
     same = ap (λ (x : MachineState). seen (beside watch keys files') x) (same-with m a held was stays)
 
-    by-fault : (fault : AttachFault) → IfSome (said_of_attach (Err fault)) (λ said. Becomes (seen (beside watch keys files) m) (seen (beside watch keys files') (with_attached_files m a)) mode unit name said)
+    by-fault : (fault : AttachFault) → IfSome (said_of_attach (Err fault)) (λ said. Becomes (seen (beside watch keys files.files files.lines) files.whole m) (seen (beside watch keys files') (with_attached_files m a)) mode unit name said)
     by-fault attach.AlreadyAttached = same
     by-fault attach.ReadOnly = same
     by-fault attach.NoFile = same
@@ -255,7 +256,7 @@ becomes-refused watch keys files files' m a held mode unit name fault was stays 
     by-fault attach.OutOfMemory = tt
 
 -- there is no such unit
-pub attach-not-built : (number : ℕ) (live : Live) (option : ℕ) (unit : UnitName) (name : List ℕ) (tells : Bool) (text : List ℕ) (notes : List Note) → lacks_unit live.machine unit ≡ true
+pub attach-not-built : (number : ℕ) (live : Live) (option : ℕ) (unit : UnitName) (name : List ℕ) (tells : Bool) (text : Output) (notes : List Note) → lacks_unit live.machine unit ≡ true
     → Did (λ (own : List CommandNote). attach_reply own live option unit name) number (Err NotBuilt) live tells text text notes notes
 unfolding attach_reply
 attach-not-built number live option unit name tells text notes lacks =

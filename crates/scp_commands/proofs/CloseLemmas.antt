@@ -25,6 +25,7 @@ use Rattle.expect_actions.specs.Watch.{WatchState}
 use Rattle.nova_machine.specs.Machine.{MachineState, attached_files, with_attached_files}
 use Rattle.host_files.specs.Lists.{NamedBytes}
 use Rattle.nova_machine.specs.Seen.{attached_in, erased, seen, beside}
+use Rattle.nova_machine.specs.Comes.{Output}
 use Rattle.scp_commands.specs.declared.next.Next.{Next}
 use Rattle.scp_commands.specs.declared.next.Next.TheVariants.{Go, Exit}
 use Rattle.scp_commands.specs.Live.{Live, Standing, standing, with_attached, numberless}
@@ -491,7 +492,7 @@ same-attached m = ap (λ (l : List (Option Held)). record m { slots = l }) (ap n
 
 pub left-is : (number time : ℕ) (watch : WatchState) (keys : List (ℕ × ℕ)) (files files' : List NamedBytes) (m : MachineState) (a held : AttachedFiles) (k : Option UnitName) (before after : List FaultNote) (old now : FileState)
     → held ≡ attached_files m → Empties number time attachable (filed_of held files) (filed_of a files') k before after old now
-    → seen (beside watch keys files') (with_attached_files m a) ≡ left_by k (filed_of a files') (seen (beside watch keys files) m)
+    → seen (beside watch keys files') (with_attached_files m a) ≡ left_by k (filed_of a files') (seen (beside watch keys files.files files.lines) files.whole m)
 left-is number time watch keys files files' m a held None before after old now was e = seen-with watch keys files' m a (attachments_of a.slots) a.disk refl refl
 left-is number time watch keys files files' m a held (Some u) before after old now was e =
     let same = kept-left number time (filed_of held files) (filed_of a files') u before after old now e in
@@ -562,7 +563,7 @@ unmoved live own behind (Some u) used kept come =
     let is = kept-is live.machine.time _ _ (filed_in live) own u none-other used kept in
     ap (λ (l : List CommandNote). emptied_all (l ++ behind) live) is.own_is ∙ is.always behind ∙ sym (is.always []) ∙ sym (ap (λ (l : List CommandNote). emptied_all l live) is.own_is)
 
-pub all-did : (next : Next) (number : ℕ) (live new : Live) (k : Option UnitName) (tells : Bool) (text : List ℕ) (notes notes' : List Note) → bare_answer (Ok next) ≡ Ok next
+pub all-did : (next : Next) (number : ℕ) (live new : Live) (k : Option UnitName) (tells : Bool) (text : Output) (notes notes' : List Note) → bare_answer (Ok next) ≡ Ok next
     → ((at : Standing) (reply : Reply) → (bare_answer (Ok next) ≡ reply.answer) × IsSaid reply at tells text text → Does reply (Ok next) at tells text text)
     → Closes number live new k notes notes' → Did (λ (own : List CommandNote). emptied_reply next (emptied_all own live) live) number (kept_answer k next) new tells text text notes notes'
 all-did next number live new k tells text notes notes' plain does closes = record {

@@ -26,6 +26,7 @@ use Rattle.file_commands.specs.Kept.{fault_note, fault_of_detach, kept_of, own_o
 use Rattle.expect_actions.specs.Watch.{WatchState}
 use Rattle.nova_machine.specs.Machine.{MachineState, attached_files, with_attached_files}
 use Rattle.nova_machine.specs.Seen.{erased, seen, beside, attached_in}
+use Rattle.nova_machine.specs.Comes.{Output}
 use Rattle.scp_commands.specs.declared.next.Next.TheVariants.{Go}
 use Rattle.scp_commands.specs.declared.fault.CommandFault.TheVariants.{NotBuilt, FileFailed}
 use Rattle.scp_commands.specs.Live.{Live, standing}
@@ -102,7 +103,7 @@ Leaves live unit r files = files ≡ flushed_files (failure_now live.machine.tim
 abbrev Becomes : Live → Live → UnitName → Result (Option UnitFault) DetachFault → Type 0
 Becomes live new unit r = new ≡ record live { machine = detached_machine (said_of_detach r) unit live.machine; files = new.files }
 
-pub detach-did : (number : ℕ) (live new : Live) (unit : UnitName) (r : Result (Option UnitFault) DetachFault) (tells : Bool) (text : List ℕ) (notes notes' : List Note)
+pub detach-did : (number : ℕ) (live new : Live) (unit : UnitName) (r : Result (Option UnitFault) DetachFault) (tells : Bool) (text : Output) (notes notes' : List Note)
     → lacks_unit live.machine unit ≡ false → Says live unit r → Leaves live unit r new.files → Becomes live new unit r → IfSome (fault_of_detach r) (λ (f : UnitFault). f.unit ≡ unit)
     → notes' ≡ notes ++ numbered number (own_of live.machine.time (fault_of_detach r))
     → Did (λ (own : List CommandNote). detach_reply own live unit) number (detach_result r) new tells text text notes notes'
@@ -150,7 +151,7 @@ detach-did number live new unit r tells text notes notes' has said left after of
         (ap (λ (u : UnitName). Err (FileFailed (subject.Unit u))) of_unit, record { after_is = ap (standing 1) after; written = λ _. sym (append-nil text) })
 
 -- there is no such unit
-pub detach-not-built : (number : ℕ) (live : Live) (unit : UnitName) (tells : Bool) (text : List ℕ) (notes : List Note) → lacks_unit live.machine unit ≡ true
+pub detach-not-built : (number : ℕ) (live : Live) (unit : UnitName) (tells : Bool) (text : Output) (notes : List Note) → lacks_unit live.machine unit ≡ true
     → Did (λ (own : List CommandNote). detach_reply own live unit) number (Err NotBuilt) live tells text text notes notes
 unfolding detach_reply
 detach-not-built number live unit tells text notes lacks =
@@ -165,7 +166,7 @@ pub record Calls (stamp : Stamp) (held : List (Option Attachment)) (disk : Buffe
 
 -- the same as its call says it
 pub detach-done : (number : ℕ) (stamp : Stamp) (live new : Live) (held : List (Option Attachment)) (disk : Buffer) (unit : UnitName) (r : Result (Option UnitFault) DetachFault) (answer : Answer)
-    (tells : Bool) (text : List ℕ) (before after : List FaultNote) → stamp ≡ record { command = number; time = live.machine.time } → held ≡ attached_in live.machine → disk ≡ live.machine.disk
+    (tells : Bool) (text : Output) (before after : List FaultNote) → stamp ≡ record { command = number; time = live.machine.time } → held ≡ attached_in live.machine → disk ≡ live.machine.disk
     → answer ≡ detach_result r → lacks_unit live.machine unit ≡ false → Calls stamp held disk live new unit r before after
     → new ≡ record live { machine = detached_machine (said_of_detach r) unit live.machine; files = new.files } → IfSome (fault_of_detach r) (λ (f : UnitFault). f.unit ≡ unit)
     → Did (λ (own : List CommandNote). detach_reply own live unit) number answer new tells text text (notes_said before) (notes_said after)

@@ -6,6 +6,7 @@ use Rattle.file_commands.specs.Notes.{CommandNote, notes_said}
 use Rattle.whole_files.specs.declared.whole.Whole.{Whole}
 use Rattle.whole_files.specs.Whole.{WholeSaid, whole_act}
 use Rattle.whole_files.specs.Claims.{said_of, claimed}
+use Rattle.nova_machine.specs.Comes.{Output}
 use Rattle.scp_commands.specs.Live.{Live}
 use Rattle.scp_commands.specs.Reply.{Answer}
 use Rattle.scp_commands.specs.ScriptEffects.{script_of, do_reply}
@@ -14,7 +15,7 @@ use Rattle.scp_commands.specs.Doing.{Did}
 use Rattle.scp_commands.proofs.WholeLemmas.{script-is, read-did}
 
 pub do-did : (number : ℕ) (live new : Live) (echo strict : Bool) (name : List ℕ) (w : Whole) (answer : Answer) (tells : Bool)
-    (text : List ℕ) (notes notes' : List FaultNote) → answer ≡ whole_answer subject.Script (script_of echo strict) w.bytes
+    (text : Output) (notes notes' : List FaultNote) → answer ≡ whole_answer subject.Script (script_of echo strict) w.bytes
     → new ≡ live
     → IfSome (said_of w) (λ (said : WholeSaid). whole_act (claimed w) name live.files ≡ (said, length (claimed w)))
     → notes' ≡ notes ++ read_notes subject.Script (record { command = number; time = live.machine.time }) w

@@ -30,6 +30,7 @@ use Rattle.scp_parser.specs.Command.{Request}
 use Rattle.scp_parser.specs.Command as request
 use Rattle.scp_examine.specs.declared.fault.ExamineFault.{ExamineFault}
 use Rattle.scp_examine.specs.Effect.{examine_fault, fault_of_deposit, tested}
+use Rattle.nova_machine.specs.Comes.{Output}
 use Rattle.scp_commands.specs.declared.next.Next.TheVariants.{Go, Ran, Do, Goto, Exit}
 use Rattle.scp_commands.specs.declared.fault.CommandFault.{CommandFault}
 use Rattle.scp_commands.specs.declared.fault.CommandFault.TheVariants.{OutOfRange, NotBuilt, FileFailed}
@@ -83,7 +84,7 @@ fair-if false live x y first second = second
 fair-goes : {W : CommandFault → Type 0} (before live : Live) → Fair false W before (goes live)
 fair-goes before live = record { reads = refl; exit = tt; untouched = λ fault h. absurd (cc); all = λ fault h none. absurd (cc) }
 
-fair-says : {W : CommandFault → Type 0} (text : List ℕ) (before live : Live) → Fair false W before (says text live)
+fair-says : {W : CommandFault → Type 0} (text : Output) (before live : Live) → Fair false W before (says text live)
 fair-says text before live = record { reads = refl; exit = tt; untouched = λ fault h. absurd (cc); all = λ fault h none. absurd (cc) }
 
 fair-refused : {W : CommandFault → Type 0} (fault : CommandFault) (live : Live) → Fair false W live (refused fault live)
@@ -317,7 +318,7 @@ fair-no_send live = fair-goes live _
 
 -- ---- ECHO and ASSERT
 
-fair-echo : {W : CommandFault → Type 0} (live : Live) (text : List ℕ) → Fair false W live (echo_reply live text)
+fair-echo : {W : CommandFault → Type 0} (live : Live) (text : Output) → Fair false W live (echo_reply live text)
 unfolding echo_reply
 fair-echo live text = fair-says _ live live
 
@@ -451,7 +452,7 @@ does-reads limit notes live (Ok r) = (fair-effect limit notes live r).reads
 does-reads limit notes live (Err fault) = refl
 
 -- the status of an exit that is answered is 0 to 99
-pub does-exit : (limit : ℕ) (notes : List CommandNote) (live : Live) (r : Request) (answer : Answer) (at : Standing) (tells : Bool) (before after : List ℕ)
+pub does-exit : (limit : ℕ) (notes : List CommandNote) (live : Live) (r : Request) (answer : Answer) (at : Standing) (tells : Bool) (before after : Output)
     → Does (effect limit notes live r) answer at tells before after → IsExitAnswer answer
 does-exit limit notes live r (Ok (Exit status)) at tells before after h = subst (λ (a : Answer). IsExitAnswer a) (sym h.0) (fair-effect limit notes live r).exit
 does-exit limit notes live r (Ok Go) at tells before after h = tt

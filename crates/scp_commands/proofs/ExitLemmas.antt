@@ -2,6 +2,7 @@
 use Rattle.std.proofs.Common.{◌≡◌, ℕ, ◌<◌, ◌≤◌, nat_le, true, false, List, Option, unwrap_or, refl, ap, sym, ◌∙◌, subst, Err, Bool, if◌then◌else◌, arith}
 use Rattle.std.proofs.lemmas.Bool.Decides.{nat_tests}
 use Rattle.file_commands.specs.Notes.{CommandNote, Note}
+use Rattle.nova_machine.specs.Comes.{Output}
 use Rattle.scp_commands.specs.declared.next.Next.TheVariants.{Exit}
 use Rattle.scp_commands.specs.declared.fault.CommandFault.TheVariants.{OutOfRange}
 use Rattle.scp_commands.specs.Live.{Live}
@@ -28,7 +29,7 @@ past notes live status number is high =
     let large : nat_le (unwrap_or status 0) 99 ≡ false = grind (arith, nat_tests) in
     ap (λ (b : Bool). if b then emptied_reply (Exit (unwrap_or status 0)) (emptied_all notes live) live else refused OutOfRange live) large
 
-pub exit-did : (status : Option ℕ) (code number : ℕ) (live new : Live) (k : Option UnitName) (tells : Bool) (text : List ℕ) (notes notes' : List Note)
+pub exit-did : (status : Option ℕ) (code number : ℕ) (live new : Live) (k : Option UnitName) (tells : Bool) (text : Output) (notes notes' : List Note)
     → code ≡ unwrap_or status 0 → code ≤ 99 → Closes number live new k notes notes'
     → Did (λ (own : List CommandNote). exit_reply own live status) number (kept_answer k (Exit code)) new tells text text notes notes'
 exit-did status code number live new k tells text notes notes' is low closes =
@@ -36,7 +37,7 @@ exit-did status code number live new k tells text notes notes' is low closes =
     (λ i own. sym (within own live status code is low) i)
     (all-did (Exit code) number live new k tells text notes notes' refl (λ at reply both. both) closes)
 
-pub exit-refused : (status : Option ℕ) (code number : ℕ) (live : Live) (tells : Bool) (text : List ℕ) (notes : List Note)
+pub exit-refused : (status : Option ℕ) (code number : ℕ) (live : Live) (tells : Bool) (text : Output) (notes : List Note)
     → code ≡ unwrap_or status 0 → 99 < code → Did (λ (own : List CommandNote). exit_reply own live status) number (Err OutOfRange) live tells text text notes notes
 exit-refused status code number live tells text notes is high =
     refused-did (λ (own : List CommandNote). exit_reply own live status) OutOfRange number live tells text notes tt (λ own. past own live status code is high)

@@ -17,9 +17,10 @@ use Rattle.scp_examine.specs.declared.fault.ExamineFault.TheVariants as list
 use Rattle.scp_examine.specs.Shape.{shape_of}
 use Rattle.scp_examine.specs.Places.{Place, Cell, Register, UnitRegister, value_at, value_text, place_name, place_text, line_of, is_chosen}
 use Rattle.scp_examine.specs.Effect.{all_places, listed, examined, examine_fault, with_value, filled, deposited, fault_of_deposit, Examines, FaultIs}
+use Rattle.nova_machine.specs.Comes.{Output}
 use Rattle.scp_commands.specs.declared.next.Next.TheVariants.{Go}
 use Rattle.scp_commands.specs.declared.fault.CommandFault.TheVariants.{NotBuilt}
-use Rattle.scp_commands.specs.Live.{Live, standing, with_machine}
+use Rattle.scp_commands.specs.Live.{Live, standing, with_machine, Beyond}
 use Rattle.scp_commands.specs.Reply.{Answer, Reply, refused}
 use Rattle.scp_commands.specs.FaultText.{list_fault}
 use Rattle.scp_commands.specs.ListEffects.{lacks_device, examine_after, examine_reply, handed, deposit_after, deposit_reply}
@@ -81,15 +82,15 @@ abbrev pub list_answer : {T : Type 0} → Result T ExamineFault → Answer
 list_answer (Ok x) = Ok Go
 list_answer (Err fault) = Err (list_fault fault)
 
-after-does : {T : Type 0} (m : MachineState) (l : Listing) (live : Live) (r : Result T ExamineFault) (tells : Bool) (before after : List ℕ)
+after-does : {T : Type 0} (m : MachineState) (l : Listing) (live : Live) (r : Result T ExamineFault) (tells : Bool) (before after : Output)
     → examined live.machine l ≡ examined m l → FaultIs (examine_fault m l) r → (IsTrue tells → Examines m l r before after)
     → Does (examine_after (examine_fault m l) live l) (list_answer r) (standing 0 live) tells before after
 after-does {T} m l live (Ok x) tells before after same fault told =
     subst (λ (o : Option ExamineFault). Does (examine_after o live l) (Ok Go) (standing 0 live) tells before after) (sym fault)
-    (refl, text-said (examined live.machine l) (Ok Go) (standing 0 live) tells before after (λ t. (told t).1 ∙ ap (λ (text : List ℕ). before ++ text) (sym same)))
+    (refl, text-said (examined live.machine l) (Ok Go) (standing 0 live) tells before after (λ t. (told t).1 ∙ ap (λ (text : Output). before ++ text) (sym same)))
 after-does {T} m l live (Err list.Console) tells before after same fault told =
     subst (λ (o : Option ExamineFault). IsBrokenOff (examine_after o live l) (standing 0 live) tells before after) (sym fault)
-    (text-refused (examined live.machine l) (Ok Go) (standing 0 live) tells before after (λ t. subst (λ (text : List ℕ). AddsPart before text after) (sym same) (told t).1))
+    (text-refused (examined live.machine l) (Ok Go) (standing 0 live) tells before after (λ t. subst (λ (text : Output). AddsPart before text after) (sym same) (told t).1))
 after-does {T} m l live (Err list.NoSuchName) tells before after same fault told =
     subst (λ (o : Option ExamineFault). Does (examine_after o live l) (Err (list_fault list.NoSuchName)) (standing 0 live) tells before after) (sym fault)
     (refl, record { after_is = refl; written = λ t. (told t).1 ∙ sym (append-nil before) })
@@ -99,12 +100,12 @@ after-does {T} m l live (Err list.OutOfRange) tells before after same fault told
 after-does {T} m l live (Err list.ReadOnlyName) tells before after same fault told = absurd fault
 
 -- what EXAMINE comes to, where the machine has the device
-pub examine-does : {T : Type 0} (m : MachineState) (watch : WatchState) (keys : List (ℕ × ℕ)) (files : List NamedBytes) (l : Listing) (r : Result T ExamineFault) (tells : Bool) (before after : List ℕ)
+pub examine-does : {T : Type 0} (m : MachineState) (watch : WatchState) (keys : List (ℕ × ℕ)) (files : Beyond) (l : Listing) (r : Result T ExamineFault) (tells : Bool) (before after : Output)
     → lacks_device m l.device ≡ false → FaultIs (examine_fault m l) r → (IsTrue tells → Examines m l r before after)
-    → Does (examine_reply (seen (beside watch keys files) m) l) (list_answer r) (standing 0 (seen (beside watch keys files) m)) tells before after
+    → Does (examine_reply (seen (beside watch keys files.files files.lines) files.whole m) l) (list_answer r) (standing 0 (seen (beside watch keys files.files files.lines) files.whole m)) tells before after
 unfolding examine_reply
 examine-does m watch keys files l r tells before after there fault told =
-    let live = seen (beside watch keys files) m in
+    let live = seen (beside watch keys files.files files.lines) files.whole m in
     subst (λ (b : Bool). Does (if b then refused NotBuilt live else examine_after (examine_fault (erased m) l) live l) (list_answer r) (standing 0 live) tells before after)
     (sym (erased-lacks m l.device ∙ there))
     (subst (λ (o : Option ExamineFault). Does (examine_after o live l) (list_answer r) (standing 0 live) tells before after) (sym (erased-fault m l))
@@ -187,32 +188,32 @@ pub record IsSilent (reply : Reply) (answer : Answer) (live : Live) : Type 0 whe
   pub after_is : standing 0 live ≡ reply.after
   pub silent : reply.made ≡ []
 
-after-silent : {T : Type 0} (m new : MachineState) (watch : WatchState) (keys : List (ℕ × ℕ)) (files : List NamedBytes) (l : Listing) (v : ℕ) (r : Result T ExamineFault) → Deposits m l v r new
-    → IsSilent (deposit_after (fault_of_deposit m l v) (seen (beside watch keys files) m) l v) (list_answer r) (seen (beside watch keys files) new)
+after-silent : {T : Type 0} (m new : MachineState) (watch : WatchState) (keys : List (ℕ × ℕ)) (files : Beyond) (l : Listing) (v : ℕ) (r : Result T ExamineFault) → Deposits m l v r new
+    → IsSilent (deposit_after (fault_of_deposit m l v) (seen (beside watch keys files.files files.lines) files.whole m) l v) (list_answer r) (seen (beside watch keys files.files files.lines) files.whole new)
 after-silent m new watch keys files l v (Ok x) done =
-    subst (λ (o : Option ExamineFault). IsSilent (deposit_after o (seen (beside watch keys files) m) l v) (Ok Go) (seen (beside watch keys files) new)) (sym done.0)
+    subst (λ (o : Option ExamineFault). IsSilent (deposit_after o (seen (beside watch keys files.files files.lines) files.whole m) l v) (Ok Go) (seen (beside watch keys files.files files.lines) files.whole new)) (sym done.0)
     (record {
       answer_is = refl;
-      after_is = ap (λ (x : MachineState). standing 0 (seen (beside watch keys files) x)) done.1 ∙ ap (λ (x : MachineState). standing 0 (with_machine (seen (beside watch keys files) m) x)) (sym (erased-deposited m l v));
+      after_is = ap (λ (x : MachineState). standing 0 (seen (beside watch keys files.files files.lines) files.whole x)) done.1 ∙ ap (λ (x : MachineState). standing 0 (with_machine (seen (beside watch keys files.files files.lines) files.whole m) x)) (sym (erased-deposited m l v));
       silent = refl;
     })
 after-silent m new watch keys files l v (Err fault) done =
-    subst (λ (o : Option ExamineFault). IsSilent (deposit_after o (seen (beside watch keys files) m) l v) (Err (list_fault fault)) (seen (beside watch keys files) new)) (sym done.0)
-    (record { answer_is = refl; after_is = ap (λ (x : MachineState). standing 0 (seen (beside watch keys files) x)) done.1; silent = refl })
+    subst (λ (o : Option ExamineFault). IsSilent (deposit_after o (seen (beside watch keys files.files files.lines) files.whole m) l v) (Err (list_fault fault)) (seen (beside watch keys files.files files.lines) files.whole new)) (sym done.0)
+    (record { answer_is = refl; after_is = ap (λ (x : MachineState). standing 0 (seen (beside watch keys files.files files.lines) files.whole x)) done.1; silent = refl })
 
 erased-deposit_fault : (m : MachineState) (l : Listing) (v : ℕ) → fault_of_deposit (erased m) l v ≡ fault_of_deposit m l v
 unfolding fault_of_deposit
 erased-deposit_fault m l v = refl
 
 -- what DEPOSIT comes to, where the machine has the device
-pub deposit-silent : {T : Type 0} (m new : MachineState) (watch : WatchState) (keys : List (ℕ × ℕ)) (files : List NamedBytes) (l : Listing) (value : ℕ) (r : Result T ExamineFault)
-    → lacks_device m l.device ≡ false → Deposits m l (handed value) r new → IsSilent (deposit_reply (seen (beside watch keys files) m) l value) (list_answer r) (seen (beside watch keys files) new)
+pub deposit-silent : {T : Type 0} (m new : MachineState) (watch : WatchState) (keys : List (ℕ × ℕ)) (files : Beyond) (l : Listing) (value : ℕ) (r : Result T ExamineFault)
+    → lacks_device m l.device ≡ false → Deposits m l (handed value) r new → IsSilent (deposit_reply (seen (beside watch keys files.files files.lines) files.whole m) l value) (list_answer r) (seen (beside watch keys files.files files.lines) files.whole new)
 unfolding deposit_reply
 deposit-silent m new watch keys files l value r there deposits =
-    let live = seen (beside watch keys files) m in
-    subst (λ (b : Bool). IsSilent (if b then refused NotBuilt live else deposit_after (fault_of_deposit (erased m) l (handed value)) live l (handed value)) (list_answer r) (seen (beside watch keys files) new))
+    let live = seen (beside watch keys files.files files.lines) files.whole m in
+    subst (λ (b : Bool). IsSilent (if b then refused NotBuilt live else deposit_after (fault_of_deposit (erased m) l (handed value)) live l (handed value)) (list_answer r) (seen (beside watch keys files.files files.lines) files.whole new))
     (sym (erased-lacks m l.device ∙ there))
-    (subst (λ (o : Option ExamineFault). IsSilent (deposit_after o live l (handed value)) (list_answer r) (seen (beside watch keys files) new)) (sym (erased-deposit_fault m l (handed value)))
+    (subst (λ (o : Option ExamineFault). IsSilent (deposit_after o live l (handed value)) (list_answer r) (seen (beside watch keys files.files files.lines) files.whole new)) (sym (erased-deposit_fault m l (handed value)))
     (after-silent m new watch keys files l (handed value) r deposits))
 
 -- what is attached and the time stand

@@ -21,6 +21,7 @@ use Rattle.expect_actions.specs.Sends.{most_sends}
 use Rattle.scp_examine.specs.declared.fault.ExamineFault.{ExamineFault}
 use Rattle.scp_examine.specs.declared.fault.ExamineFault.TheVariants as list
 use Rattle.scp_examine.specs.Effect.{examine_fault, fault_of_deposit, tested}
+use Rattle.nova_machine.specs.Comes.{Output}
 use Rattle.scp_commands.specs.declared.next.Next.TheVariants.{Go, Goto, Ran}
 use Rattle.scp_commands.specs.declared.fault.CommandFault.TheVariants.{Console, OutOfMemory, NoFile, FileTooLong, FileFailed, NotBuilt}
 use Rattle.scp_commands.specs.declared.fault.CommandFault.TheVariants.{LoadTruncated, LoadSum, PastMemory}
@@ -44,7 +45,7 @@ use Rattle.scp_commands.specs.Doing.{Does, Did, FileCause, Keeps, MayWant, Attac
 use Rattle.scp_commands.proofs.DidLemmas.{did-of}
 
 -- a request that keeps no note
-pub plain-did : (limit number : ℕ) (live new : Live) (request other : Request) (r : Reply) (answer : Answer) (tells : Bool) (before after : List ℕ) (notes notes' : List Note)
+pub plain-did : (limit number : ℕ) (live new : Live) (request other : Request) (r : Reply) (answer : Answer) (tells : Bool) (before after : Output) (notes notes' : List Note)
     → request ≡ other → ((own : List CommandNote) → effect limit own live other ≡ r) → notes' ≡ notes → Does r answer (standing 0 new) tells before after
     → Did (λ (own : List CommandNote). effect limit own live request) number answer new tells before after notes notes'
 plain-did limit number live new request other r answer tells before after notes notes' is comes none does =
@@ -52,7 +53,7 @@ plain-did limit number live new request other r answer tells before after notes 
     (λ own. ap (λ (x : Request). effect limit own live x) is ∙ comes own) none does
 
 -- one that may keep some
-pub noted-did : (limit number : ℕ) (live new : Live) (request other : Request) (reply : List CommandNote → Reply) (answer : Answer) (tells : Bool) (before after : List ℕ) (notes notes' : List Note)
+pub noted-did : (limit number : ℕ) (live new : Live) (request other : Request) (reply : List CommandNote → Reply) (answer : Answer) (tells : Bool) (before after : Output) (notes notes' : List Note)
     → request ≡ other → ((own : List CommandNote) → effect limit own live other ≡ reply own) → Did reply number answer new tells before after notes notes'
     → Did (λ (own : List CommandNote). effect limit own live request) number answer new tells before after notes notes'
 noted-did limit number live new request other reply answer tells before after notes notes' is comes did =
@@ -80,7 +81,7 @@ dump-named line v from to file r name read is named =
     asks ∙ ap (Dump from to) (sym (named ∙ ap file_name_of asks))
 
 -- a BREAK, an EXPECT and a SEND, by the texts that they give
-pub break-given : (line : List ℕ) (v : Verb) (at count : ℕ) (actions : Piece) (r : Request) (text : List ℕ) → r ≡ request_of line v → v ≡ verb.Break at count actions
+pub break-given : (line : List ℕ) (v : Verb) (at count : ℕ) (actions : Piece) (r : Request) (text : Output) → r ≡ request_of line v → v ≡ verb.Break at count actions
     → text ≡ given_text r → r ≡ Break at count text
 break-given line v at count actions r text read is gives =
     let asks = read ∙ ap (request_of line) is in
@@ -92,17 +93,17 @@ expect-given line v count quoted actions r text behind read is quotes gives =
     let asks = read ∙ ap (request_of line) is in
     asks ∙ ap (λ (t : List ℕ). Expect count t (piece_of line actions)) (sym (quotes ∙ ap given_quoted asks)) ∙ ap (Expect count text) (sym (gives ∙ ap given_text asks))
 
-pub send-given : (line : List ℕ) (v : Verb) (after delay : ℕ) (quoted : Piece) (r : Request) (text : List ℕ) → r ≡ request_of line v → v ≡ verb.Send after delay quoted
+pub send-given : (line : List ℕ) (v : Verb) (after delay : ℕ) (quoted : Piece) (r : Request) (text : Output) → r ≡ request_of line v → v ≡ verb.Send after delay quoted
     → text ≡ given_quoted r → r ≡ Send after delay text
 send-given line v after delay quoted r text read is quotes =
     let asks = read ∙ ap (request_of line) is in
     asks ∙ ap (Send after delay) (sym (quotes ∙ ap given_quoted asks))
 
 -- nothing is done
-pub goes-does : (live : Live) (tells : Bool) (text : List ℕ) → Does (goes live) (Ok Go) (standing 0 live) tells text text
+pub goes-does : (live : Live) (tells : Bool) (text : Output) → Does (goes live) (Ok Go) (standing 0 live) tells text text
 goes-does live tells text = (refl, record { after_is = refl; written = λ _. sym (append-nil text) })
 
-pub goto-does : (live : Live) (tells : Bool) (text : List ℕ) → Does (goto_reply live) (Ok Goto) (standing 0 live) tells text text
+pub goto-does : (live : Live) (tells : Bool) (text : Output) → Does (goto_reply live) (Ok Goto) (standing 0 live) tells text text
 goto-does live tells text = (refl, record { after_is = refl; written = λ _. sym (append-nil text) })
 
 -- ---- an answer that speaks of no file
@@ -142,7 +143,7 @@ keeps-none number time tells answer notes notes' state none own = record {
     cause (Ok next) own = tt
 
 -- what was done answers for no file where its reply does not
-pub does-of-no-file : (reply : Reply) (answer : Answer) (at : Standing) (tells : Bool) (before after : List ℕ) → Does reply answer at tells before after
+pub does-of-no-file : (reply : Reply) (answer : Answer) (at : Standing) (tells : Bool) (before after : Output) → Does reply answer at tells before after
     → IsOfNoFile reply.answer → IsOfNoFile answer
 does-of-no-file reply (Err NoFile) at tells before after does own = of-no-file (Err NoFile) reply.answer does.0 own
 does-of-no-file reply (Err (FileFailed who)) at tells before after does own = of-no-file (Err (FileFailed who)) reply.answer does.0 own
@@ -219,7 +220,7 @@ pub set_size-no-file : (live : Live) (k : ℕ) → IsOfNoFile (set_size_reply li
 unfolding set_size_reply
 set_size-no-file live k = no-file-if (fits_size k) _ _ tt tt
 
-pub echo-no-file : (live : Live) (text : List ℕ) → IsOfNoFile (echo_reply live text).answer
+pub echo-no-file : (live : Live) (text : Output) → IsOfNoFile (echo_reply live text).answer
 unfolding echo_reply
 echo-no-file live text = tt
 

@@ -11,9 +11,9 @@ use Rattle.host_files.specs.declared.files.FileId.{FileId}
 use Rattle.host_files.specs.Streams.{Puts}
 use Rattle.host_files.specs.State.{FileState}
 use Rattle.fault_counts.specs.Faults.{raised}
-use Rattle.observations.specs.Observations.{Observation, Prints, text_of, map_made}
-use Rattle.observations.proofs.MadeLemmas.{text_of-map, stands-before, stands-map}
-use Rattle.observations.proofs.CutLemmas.{breaks-before, breaks-map}
+use Rattle.observations.specs.Observations.{Observation, Prints, text_of, sent_of, map_made}
+use Rattle.observations.proofs.MadeLemmas.{text_of-map, sent_of-map, stands-before, stands-map}
+use Rattle.observations.proofs.CutLemmas.{breaks-before, breaks-map, before-sent, map-sent}
 use Rattle.unit_files.specs.declared.faults.UnitFault.{UnitFault}
 use Rattle.unit_files.specs.Attachments.{Held}
 use Rattle.unit_files.specs.Acts.{Failure}
@@ -36,7 +36,8 @@ use Rattle.nova_machine.specs.Machine.{MachineState}
 use Rattle.nova_machine.specs.Seen.{erased}
 use Rattle.nova_machine.specs.Wants.{IsRunCall, IsRunDone, HasUnit}
 use Rattle.nova_machine.specs.Parts.{Part}
-use Rattle.nova_machine.specs.Comes.{Comes, bare}
+use Rattle.nova_machine.specs.Comes.{Output, Comes, bare}
+use Rattle.nova_machine.specs.LineChanges.{heard_with}
 use Rattle.nova_machine.specs.Comes as coming
 use Rattle.nova_machine.specs.Run.{run}
 use Rattle.nova_machine.proofs.Parts.{split-comes}
@@ -125,7 +126,7 @@ ran-is p time stop s stops after =
     ∙ stopped-is (map_made (standing 0) p.made) time stop s
 
 -- a byte that a run prints was refused
-pub ran-cut : (p : Part) (stop : Stop) (s : Live) (tells : Bool) (before after : List ℕ) → stop ≡ ConsoleFault
+pub ran-cut : (p : Part) (stop : Stop) (s : Live) (tells : Bool) (before after : Output) → stop ≡ ConsoleFault
     → Comes p (Some stop) s tells before after → IsBrokenOff (ran p) (standing 0 s) tells before after
 unfolding ran
 ran-cut p stop s tells before after is comes =
@@ -140,36 +141,42 @@ ran-cut p stop s tells before after is comes =
             taken = o.taken;
             written = o.written;
             breaks = breaks-before made last o.taken (standing 0 s) (breaks-map (standing 0) p.made o.taken s o.breaks);
+            heard =
+                o.heard
+                ∙ ap (heard_with before.heard) (sym (before-sent made last o.taken (standing 0 s) (breaks-map (standing 0) p.made o.taken s o.breaks) ∙ map-sent (standing 0) p.made o.taken s o.breaks));
           };
     }
 
 -- a run that ended by itself, whose stop was printed, or a byte of it refused
-ran-told : {T E : Type 0} (p : Part) (time : ℕ) (stop : Stop) (s : Live) (printed : Result T E) (tells : Bool) (before mid after : List ℕ) → stop ≢ ConsoleFault
-    → Comes p (Some stop) s tells before mid → (IsTrue tells → Puts mid (stop_text stop s.machine) printed after)
+ran-told : {T E : Type 0} (p : Part) (time : ℕ) (stop : Stop) (s : Live) (printed : Result T E) (tells : Bool) (before mid after : Output) → stop ≢ ConsoleFault
+    → Comes p (Some stop) s tells before mid → (IsTrue tells → Puts mid.console (stop_text stop s.machine) printed after.console) → after.heard ≡ mid.heard
     → Does (ran p) (told_or_console printed (Ran stop)) (standing (length (own_run time stop)) s) tells before after
-ran-told {T} {E} p time stop s printed tells before mid after other comes puts =
-    ⊎_elim (λ cut. absurd (let e = cut.0 in other (cc))) (λ whole. by-printed whole.1 printed puts) (split-comes p (Some stop) s tells before mid comes)
+ran-told {T} {E} p time stop s printed tells before mid after other comes puts quiet =
+    ⊎_elim (λ cut. absurd (let e = cut.0 in other (cc))) (λ whole. by-printed whole.1 printed puts quiet) (split-comes p (Some stop) s tells before mid comes)
   where
     made : List (Observation Standing)
     made = map_made (standing 0) p.made
 
-    written : coming.IsWhole p (Some stop) s tells before mid → IsTrue tells → mid ≡ before ++ text_of (map_made (standing 0) p.made)
-    written whole told = whole.written told ∙ ap (λ (t : List ℕ). before ++ t) (sym (text_of-map (standing 0) p.made))
+    written : coming.IsWhole p (Some stop) s tells before mid → IsTrue tells → mid.console ≡ before.console ++ text_of (map_made (standing 0) p.made)
+    written whole told = whole.written told ∙ ap (λ (t : List ℕ). before.console ++ t) (sym (text_of-map (standing 0) p.made))
 
-    by-printed : coming.IsWhole p (Some stop) s tells before mid → (printed : Result T E) → (IsTrue tells → Puts mid (stop_text stop s.machine) printed after)
+    sent : coming.IsWhole p (Some stop) s tells before mid → mid.heard ≡ heard_with before.heard (sent_of (map_made (standing 0) p.made))
+    sent whole = whole.heard ∙ ap (heard_with before.heard) (sym (sent_of-map (standing 0) p.made))
+
+    by-printed : coming.IsWhole p (Some stop) s tells before mid → (printed : Result T E) → (IsTrue tells → Puts mid.console (stop_text stop s.machine) printed after.console) → after.heard ≡ mid.heard
         → Does (ran p) (told_or_console printed (Ran stop)) (standing (length (own_run time stop)) s) tells before after
-    by-printed whole (Ok x) puts =
+    by-printed whole (Ok x) puts quiet =
         subst (λ (r : Reply). Does r (Ok (Ran stop)) (standing (length (own_run time stop)) s) tells before after) (sym (ran-is p time stop s whole.stop_is whole.after_is))
-        (refl, behind-said (map_made (standing 0) p.made) (stop_text stop s.machine) (bare_answer (Ok (Ran stop))) (standing (length (own_run time stop)) s) tells before mid after (written whole) puts)
-    by-printed whole (Err e) puts =
+        (refl, behind-said (map_made (standing 0) p.made) (stop_text stop s.machine) (bare_answer (Ok (Ran stop))) (standing (length (own_run time stop)) s) tells before mid after (written whole) (sent whole) puts quiet)
+    by-printed whole (Err e) puts quiet =
         subst (λ (r : Reply). Does r (Err Console) (standing (length (own_run time stop)) s) tells before after) (sym (ran-is p time stop s whole.stop_is whole.after_is))
-        (behind-refused (map_made (standing 0) p.made) (stop_text stop s.machine) (bare_answer (Ok (Ran stop))) (standing (length (own_run time stop)) s) tells before mid after (written whole) puts)
+        (behind-refused (map_made (standing 0) p.made) (stop_text stop s.machine) (bare_answer (Ok (Ran stop))) (standing (length (own_run time stop)) s) tells before mid after (written whole) (sent whole) puts quiet)
 
-pub ran-does : {T E : Type 0} (p : Part) (time : ℕ) (stop : Stop) (s : Live) (printed : Result T E) (answer : Answer) (tells : Bool) (before mid after : List ℕ) → stop ≢ ConsoleFault
-    → Comes p (Some stop) s tells before mid → (IsTrue tells → Puts mid (stop_text stop s.machine) printed after) → answer ≡ told_or_console printed (Ran stop)
+pub ran-does : {T E : Type 0} (p : Part) (time : ℕ) (stop : Stop) (s : Live) (printed : Result T E) (answer : Answer) (tells : Bool) (before mid after : Output) → stop ≢ ConsoleFault
+    → Comes p (Some stop) s tells before mid → (IsTrue tells → Puts mid.console (stop_text stop s.machine) printed after.console) → after.heard ≡ mid.heard → answer ≡ told_or_console printed (Ran stop)
     → Does (ran p) answer (standing (length (own_run time stop)) s) tells before after
-ran-does p time stop s printed answer tells before mid after other comes puts is =
-    subst (λ (a : Answer). Does (ran p) a (standing (length (own_run time stop)) s) tells before after) (sym is) (ran-told p time stop s printed tells before mid after other comes puts)
+ran-does p time stop s printed answer tells before mid after other comes puts quiet is =
+    subst (λ (a : Answer). Does (ran p) a (standing (length (own_run time stop)) s) tells before after) (sym is) (ran-told p time stop s printed tells before mid after other comes puts quiet)
 
 -- the text of a stop speaks of no file's number
 pub erased-text : (stop : Stop) (m : MachineState) → stop_text stop (erased m) ≡ stop_text stop m
@@ -179,7 +186,7 @@ erased-text stop m = refl
 -- ---- what a run comes to
 
 -- a run in which the console refused a byte
-pub cut-did : (step : Bool) (count : ℕ) (old new : Live) (time : ℕ) (stop : Stop) (number : ℕ) (tells : Bool) (before after : List ℕ) (notes : List Note) → stop ≡ ConsoleFault
+pub cut-did : (step : Bool) (count : ℕ) (old new : Live) (time : ℕ) (stop : Stop) (number : ℕ) (tells : Bool) (before after : Output) (notes : List Note) → stop ≡ ConsoleFault
     → Comes (run (run_note time (Some stop)) step count old) (Some stop) new tells before after
     → Did (λ given. ran (run (run_failure given) step count old)) number (Err Console) new tells before after notes notes
 cut-did step count old new time stop number tells before after notes is comes = record {
@@ -192,17 +199,17 @@ cut-did step count old new time stop number tells before after notes is comes = 
 }
 
 -- a run that ended by itself, whose stop was printed or cut off
-pub run-did : {T E : Type 0} (step : Bool) (count : ℕ) (old new : Live) (time : ℕ) (stop : Stop) (printed : Result T E) (answer : Answer) (number : ℕ) (tells : Bool) (before mid after : List ℕ)
+pub run-did : {T E : Type 0} (step : Bool) (count : ℕ) (old new : Live) (time : ℕ) (stop : Stop) (printed : Result T E) (answer : Answer) (number : ℕ) (tells : Bool) (before mid after : Output)
     (notes notes' : List Note) → stop ≢ ConsoleFault → HasUnit stop → Comes (run (run_note time (Some stop)) step count old) (Some stop) new tells before mid
-    → (IsTrue tells → Puts mid (stop_text stop new.machine) printed after) → answer ≡ told_or_console printed (Ran stop) → notes' ≡ notes ++ numbered number (own_run time stop)
+    → (IsTrue tells → Puts mid.console (stop_text stop new.machine) printed after.console) → after.heard ≡ mid.heard → answer ≡ told_or_console printed (Ran stop) → notes' ≡ notes ++ numbered number (own_run time stop)
     → Did (λ given. ran (run (run_failure given) step count old)) number answer new tells before after notes notes'
-run-did step count old new time stop printed answer number tells before mid after notes notes' other unit comes puts is kept = record {
+run-did step count old new time stop printed answer number tells before mid after notes notes' other unit comes puts quiet is kept = record {
   own = own_run time stop;
   kept = kept;
   does = λ behind come.
       subst (λ (o : Option RunNote). Does (ran (run o step count old)) answer (standing (length (own_run time stop)) new) tells before after)
       (sym (handed-run time stop new behind unit come))
-      (ran-does (run (run_note time (Some stop)) step count old) time stop new printed answer tells before mid after other comes puts is);
+      (ran-does (run (run_note time (Some stop)) step count old) time stop new printed answer tells before mid after other comes puts quiet is);
 }
 
 -- ---- causes

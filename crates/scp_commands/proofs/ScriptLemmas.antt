@@ -13,9 +13,10 @@ use Rattle.scp_examine.specs.Shape.{shape_of}
 use Rattle.scp_examine.specs.Places.{Place, value_at, largest_at, meets, places_of}
 use Rattle.scp_examine.specs.Checks.{condition_fits, item_fault}
 use Rattle.scp_examine.specs.Effect.{compared, test_of, test_after, tested}
+use Rattle.nova_machine.specs.Comes.{Output}
 use Rattle.scp_commands.specs.declared.next.Next.TheVariants.{Go}
 use Rattle.scp_commands.specs.declared.fault.CommandFault.TheVariants.{NotBuilt}
-use Rattle.scp_commands.specs.Live.{Live, standing}
+use Rattle.scp_commands.specs.Live.{Live, standing, Beyond}
 use Rattle.scp_commands.specs.Reply.{Answer}
 use Rattle.scp_commands.specs.ListEffects.{lacks_device}
 use Rattle.scp_commands.specs.ScriptEffects.{echo_reply, test_answer, assert_answer, assert_reply}
@@ -24,7 +25,7 @@ use Rattle.scp_commands.proofs.ReplyLemmas.{says-does, silent-does}
 use Rattle.scp_commands.proofs.ListLemmas.{erased-lacks, erased-value}
 use Rattle.scp_commands.proofs.OwnLemmas.{IsListsOwn, own-item}
 
-pub echo-does : {T E : Type 0} (live : Live) (text : List ℕ) (printed : Result T E) (answer : Answer) (tells : Bool) (before after : List ℕ) → answer ≡ told_or_console printed Go
+pub echo-does : {T E : Type 0} (live : Live) (text : Output) (printed : Result T E) (answer : Answer) (tells : Bool) (before after : Output) → answer ≡ told_or_console printed Go
     → (IsTrue tells → Puts before (text ++ 10 ∷ []) printed after) → Does (echo_reply live text) answer (standing 0 live) tells before after
 unfolding echo_reply
 echo-does live text printed answer tells before after is puts = says-does (text ++ 10 ∷ []) live printed answer tells before after is puts
@@ -84,9 +85,9 @@ own-answer false (Err list.Console) own = absurd own
 pub assert-own : (m : MachineState) (test : Test) → IsPlain (assert_answer m test)
 assert-own m test = own-answer (lacks_device m test.device) (tested m test) (own-tested m test)
 
-pub assert-does : (m : MachineState) (watch : WatchState) (keys : List (ℕ × ℕ)) (files : List NamedBytes) (test : Test) (answer : Answer) (tells : Bool) (text : List ℕ) → answer ≡ assert_answer m test
-    → Does (assert_reply (seen (beside watch keys files) m) test) answer (standing 0 (seen (beside watch keys files) m)) tells text text
+pub assert-does : (m : MachineState) (watch : WatchState) (keys : List (ℕ × ℕ)) (files : Beyond) (test : Test) (answer : Answer) (tells : Bool) (text : Output) → answer ≡ assert_answer m test
+    → Does (assert_reply (seen (beside watch keys files.files files.lines) files.whole m) test) answer (standing 0 (seen (beside watch keys files.files files.lines) files.whole m)) tells text text
 unfolding assert_reply
 assert-does m watch keys files test answer tells text is =
-    let live = seen (beside watch keys files) m in
+    let live = seen (beside watch keys files.files files.lines) files.whole m in
     silent-does (assert_reply live test) answer (standing 0 live) tells text (assert-own (erased m) test) (is ∙ sym (erased-assert m test)) refl refl

@@ -9,9 +9,10 @@ use Rattle.file_commands.specs.Notes.{CommandNote}
 use Rattle.expect_actions.specs.Watch.{WatchState}
 use Rattle.nova_machine.specs.Machine.{MachineState}
 use Rattle.nova_machine.specs.Seen.{seen, beside}
+use Rattle.nova_machine.specs.Comes.{Output}
 use Rattle.scp_commands.specs.declared.next.Next.TheVariants.{Go}
 use Rattle.scp_commands.specs.declared.fault.CommandFault.TheVariants.{OutOfRange}
-use Rattle.scp_commands.specs.Live.{Live, standing, with_machine}
+use Rattle.scp_commands.specs.Live.{Live, standing, with_machine, Beyond}
 use Rattle.scp_parser.specs.Command.{SetSize}
 use Rattle.scp_commands.specs.Reply.{goes, refused}
 use Rattle.scp_commands.specs.SetEffects.{sized, set_size_reply}
@@ -20,16 +21,16 @@ use Rattle.scp_commands.specs.Laws.{IsSized, SetCpuLeavesTheRest}
 use Rattle.scp_commands.specs.Doing.{Does}
 use Rattle.scp_commands.proofs.ReplyLemmas.{goes-said, refused-said}
 
-pub size-does : (watch : WatchState) (keys : List (ℕ × ℕ)) (files : List NamedBytes) (m new : MachineState) (k : ℕ) (tells : Bool) (text : List ℕ) → fits_size k ≡ true → new ≡ sized m k
-    → Does (set_size_reply (seen (beside watch keys files) m) k) (Ok Go) (standing 0 (seen (beside watch keys files) new)) tells text text
+pub size-does : (watch : WatchState) (keys : List (ℕ × ℕ)) (files : Beyond) (m new : MachineState) (k : ℕ) (tells : Bool) (text : Output) → fits_size k ≡ true → new ≡ sized m k
+    → Does (set_size_reply (seen (beside watch keys files.files files.lines) files.whole m) k) (Ok Go) (standing 0 (seen (beside watch keys files.files files.lines) files.whole new)) tells text text
 unfolding set_size_reply
 size-does watch keys files m new k tells text fits is =
-    let live = seen (beside watch keys files) m in
-    subst (λ (b : Bool). Does (if b then goes (with_machine live (sized live.machine k)) else refused OutOfRange live) (Ok Go) (standing 0 (seen (beside watch keys files) new)) tells text text) (sym fits)
-    (subst (λ (x : MachineState). Does (goes (with_machine live (sized live.machine k))) (Ok Go) (standing 0 (seen (beside watch keys files) x)) tells text text) (sym is)
+    let live = seen (beside watch keys files.files files.lines) files.whole m in
+    subst (λ (b : Bool). Does (if b then goes (with_machine live (sized live.machine k)) else refused OutOfRange live) (Ok Go) (standing 0 (seen (beside watch keys files.files files.lines) files.whole new)) tells text text) (sym fits)
+    (subst (λ (x : MachineState). Does (goes (with_machine live (sized live.machine k))) (Ok Go) (standing 0 (seen (beside watch keys files.files files.lines) files.whole x)) tells text text) (sym is)
     (refl, goes-said (with_machine live (sized live.machine k)) tells text))
 
-pub size-refused : (live : Live) (k : ℕ) (tells : Bool) (text : List ℕ) → fits_size k ≡ false → Does (set_size_reply live k) (Err OutOfRange) (standing 0 live) tells text text
+pub size-refused : (live : Live) (k : ℕ) (tells : Bool) (text : Output) → fits_size k ≡ false → Does (set_size_reply live k) (Err OutOfRange) (standing 0 live) tells text text
 unfolding set_size_reply
 size-refused live k tells text fits =
     subst (λ (b : Bool). Does (if b then goes (with_machine live (sized live.machine k)) else refused OutOfRange live) (Err OutOfRange) (standing 0 live) tells text text) (sym fits)

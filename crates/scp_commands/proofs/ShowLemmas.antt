@@ -9,9 +9,10 @@ use Rattle.expect_actions.specs.Watch.{WatchState}
 use Rattle.nova_machine.specs.Machine.{MachineState}
 use Rattle.nova_machine.specs.Seen.{seen, beside}
 use Rattle.scp_parser.specs.declared.command.Shown.TheVariants.{Time, Cpu, Queue, Break, Expect, Send, Version, Unit as AUnit}
+use Rattle.nova_machine.specs.Comes.{Output}
 use Rattle.scp_commands.specs.declared.next.Next.TheVariants.{Go}
 use Rattle.scp_commands.specs.declared.fault.CommandFault.TheVariants.{NotBuilt}
-use Rattle.scp_commands.specs.Live.{standing}
+use Rattle.scp_commands.specs.Live.{standing, Beyond}
 use Rattle.scp_commands.specs.Reply.{Answer, says, refused}
 use Rattle.scp_commands.specs.FileEffects.{lacks_unit, attachment_text, unit_line, unit_text}
 use Rattle.scp_commands.specs.WatchTexts.{breaks_text, expects_text, sends_text}
@@ -42,66 +43,66 @@ read_only-line name file =
     ap (λ (t : List ℕ). name ++ (words ++ t)) (sym (append_assoc file end (10 ∷ []))) ∙ ap (λ (t : List ℕ). name ++ t) (sym (append_assoc words (file ++ end) (10 ∷ [])))
     ∙ sym (append_assoc name (words ++ (file ++ end)) (10 ∷ []))
 
-pub time-does : {T E : Type 0} (m : MachineState) (watch : WatchState) (keys : List (ℕ × ℕ)) (files : List NamedBytes) (printed : Result T E) (answer : Answer) (tells : Bool) (before after : List ℕ)
+pub time-does : {T E : Type 0} (m : MachineState) (watch : WatchState) (keys : List (ℕ × ℕ)) (files : Beyond) (printed : Result T E) (answer : Answer) (tells : Bool) (before after : Output)
     → answer ≡ told_or_console printed Go → (IsTrue tells → Puts before (time_text m) printed after)
-    → Does (show_reply (seen (beside watch keys files) m) Time) answer (standing 0 (seen (beside watch keys files) m)) tells before after
+    → Does (show_reply (seen (beside watch keys files.files files.lines) files.whole m) Time) answer (standing 0 (seen (beside watch keys files.files files.lines) files.whole m)) tells before after
 unfolding show_reply
-time-does m watch keys files printed answer tells before after is puts = says-does (time_text m) (seen (beside watch keys files) m) printed answer tells before after is puts
+time-does m watch keys files printed answer tells before after is puts = says-does (time_text m) (seen (beside watch keys files.files files.lines) files.whole m) printed answer tells before after is puts
 
-pub cpu-does : {T E : Type 0} (m : MachineState) (watch : WatchState) (keys : List (ℕ × ℕ)) (files : List NamedBytes) (printed : Result T E) (answer : Answer) (tells : Bool) (before after : List ℕ)
+pub cpu-does : {T E : Type 0} (m : MachineState) (watch : WatchState) (keys : List (ℕ × ℕ)) (files : Beyond) (printed : Result T E) (answer : Answer) (tells : Bool) (before after : Output)
     → answer ≡ told_or_console printed Go → (IsTrue tells → Puts before (cpu_text m) printed after)
-    → Does (show_reply (seen (beside watch keys files) m) Cpu) answer (standing 0 (seen (beside watch keys files) m)) tells before after
+    → Does (show_reply (seen (beside watch keys files.files files.lines) files.whole m) Cpu) answer (standing 0 (seen (beside watch keys files.files files.lines) files.whole m)) tells before after
 unfolding show_reply
-cpu-does m watch keys files printed answer tells before after is puts = says-does (cpu_text m) (seen (beside watch keys files) m) printed answer tells before after is puts
+cpu-does m watch keys files printed answer tells before after is puts = says-does (cpu_text m) (seen (beside watch keys files.files files.lines) files.whole m) printed answer tells before after is puts
 
-pub version-does : {T E : Type 0} (m : MachineState) (watch : WatchState) (keys : List (ℕ × ℕ)) (files : List NamedBytes) (printed : Result T E) (answer : Answer) (tells : Bool) (before after : List ℕ)
+pub version-does : {T E : Type 0} (m : MachineState) (watch : WatchState) (keys : List (ℕ × ℕ)) (files : Beyond) (printed : Result T E) (answer : Answer) (tells : Bool) (before after : Output)
     → answer ≡ told_or_console printed Go → (IsTrue tells → Puts before version_text printed after)
-    → Does (show_reply (seen (beside watch keys files) m) Version) answer (standing 0 (seen (beside watch keys files) m)) tells before after
+    → Does (show_reply (seen (beside watch keys files.files files.lines) files.whole m) Version) answer (standing 0 (seen (beside watch keys files.files files.lines) files.whole m)) tells before after
 unfolding show_reply
-version-does m watch keys files printed answer tells before after is puts = says-does version_text (seen (beside watch keys files) m) printed answer tells before after is puts
+version-does m watch keys files printed answer tells before after is puts = says-does version_text (seen (beside watch keys files.files files.lines) files.whole m) printed answer tells before after is puts
 
-pub queue-does : {T E : Type 0} (m : MachineState) (watch : WatchState) (keys : List (ℕ × ℕ)) (files : List NamedBytes) (printed : Result T E) (answer : Answer) (tells : Bool) (before after : List ℕ)
+pub queue-does : {T E : Type 0} (m : MachineState) (watch : WatchState) (keys : List (ℕ × ℕ)) (files : Beyond) (printed : Result T E) (answer : Answer) (tells : Bool) (before after : Output)
     → answer ≡ told_or_console printed Go → (IsTrue tells → Puts before (queue_text m.events) printed after)
-    → Does (show_reply (seen (beside watch keys files) m) Queue) answer (standing 0 (seen (beside watch keys files) m)) tells before after
+    → Does (show_reply (seen (beside watch keys files.files files.lines) files.whole m) Queue) answer (standing 0 (seen (beside watch keys files.files files.lines) files.whole m)) tells before after
 unfolding show_reply
-queue-does m watch keys files printed answer tells before after is puts = says-does (queue_text m.events) (seen (beside watch keys files) m) printed answer tells before after is puts
+queue-does m watch keys files printed answer tells before after is puts = says-does (queue_text m.events) (seen (beside watch keys files.files files.lines) files.whole m) printed answer tells before after is puts
 
-pub breaks-does : {T E : Type 0} (m : MachineState) (watch : WatchState) (keys : List (ℕ × ℕ)) (files : List NamedBytes) (printed : Result T E) (answer : Answer) (tells : Bool) (before after : List ℕ)
+pub breaks-does : {T E : Type 0} (m : MachineState) (watch : WatchState) (keys : List (ℕ × ℕ)) (files : Beyond) (printed : Result T E) (answer : Answer) (tells : Bool) (before after : Output)
     → answer ≡ told_or_console printed Go → (IsTrue tells → Puts before (breaks_text watch.breaks.list) printed after)
-    → Does (show_reply (seen (beside watch keys files) m) Break) answer (standing 0 (seen (beside watch keys files) m)) tells before after
+    → Does (show_reply (seen (beside watch keys files.files files.lines) files.whole m) Break) answer (standing 0 (seen (beside watch keys files.files files.lines) files.whole m)) tells before after
 unfolding show_reply
 breaks-does m watch keys files printed answer tells before after is puts =
-    says-does (breaks_text watch.breaks.list) (seen (beside watch keys files) m) printed answer tells before after is puts
+    says-does (breaks_text watch.breaks.list) (seen (beside watch keys files.files files.lines) files.whole m) printed answer tells before after is puts
 
-pub expects-does : {T E : Type 0} (m : MachineState) (watch : WatchState) (keys : List (ℕ × ℕ)) (files : List NamedBytes) (printed : Result T E) (answer : Answer) (tells : Bool) (before after : List ℕ)
+pub expects-does : {T E : Type 0} (m : MachineState) (watch : WatchState) (keys : List (ℕ × ℕ)) (files : Beyond) (printed : Result T E) (answer : Answer) (tells : Bool) (before after : Output)
     → answer ≡ told_or_console printed Go → (IsTrue tells → Puts before (expects_text watch.expects.list) printed after)
-    → Does (show_reply (seen (beside watch keys files) m) Expect) answer (standing 0 (seen (beside watch keys files) m)) tells before after
+    → Does (show_reply (seen (beside watch keys files.files files.lines) files.whole m) Expect) answer (standing 0 (seen (beside watch keys files.files files.lines) files.whole m)) tells before after
 unfolding show_reply
 expects-does m watch keys files printed answer tells before after is puts =
-    says-does (expects_text watch.expects.list) (seen (beside watch keys files) m) printed answer tells before after is puts
+    says-does (expects_text watch.expects.list) (seen (beside watch keys files.files files.lines) files.whole m) printed answer tells before after is puts
 
-pub sends-does : {T E : Type 0} (m : MachineState) (watch : WatchState) (keys : List (ℕ × ℕ)) (files : List NamedBytes) (printed : Result T E) (answer : Answer) (tells : Bool) (before after : List ℕ)
+pub sends-does : {T E : Type 0} (m : MachineState) (watch : WatchState) (keys : List (ℕ × ℕ)) (files : Beyond) (printed : Result T E) (answer : Answer) (tells : Bool) (before after : Output)
     → answer ≡ told_or_console printed Go → (IsTrue tells → Puts before (sends_text watch.sends) printed after)
-    → Does (show_reply (seen (beside watch keys files) m) Send) answer (standing 0 (seen (beside watch keys files) m)) tells before after
+    → Does (show_reply (seen (beside watch keys files.files files.lines) files.whole m) Send) answer (standing 0 (seen (beside watch keys files.files files.lines) files.whole m)) tells before after
 unfolding show_reply
 sends-does m watch keys files printed answer tells before after is puts =
-    says-does (sends_text watch.sends) (seen (beside watch keys files) m) printed answer tells before after is puts
+    says-does (sends_text watch.sends) (seen (beside watch keys files.files files.lines) files.whole m) printed answer tells before after is puts
 
 -- a unit that can have no file here
-pub unit-refused : (m : MachineState) (watch : WatchState) (keys : List (ℕ × ℕ)) (files : List NamedBytes) (unit : UnitName) (tells : Bool) (text : List ℕ) → lacks_unit m unit ≡ true
-    → Does (show_reply (seen (beside watch keys files) m) (AUnit unit)) (Err NotBuilt) (standing 0 (seen (beside watch keys files) m)) tells text text
+pub unit-refused : (m : MachineState) (watch : WatchState) (keys : List (ℕ × ℕ)) (files : Beyond) (unit : UnitName) (tells : Bool) (text : Output) → lacks_unit m unit ≡ true
+    → Does (show_reply (seen (beside watch keys files.files files.lines) files.whole m) (AUnit unit)) (Err NotBuilt) (standing 0 (seen (beside watch keys files.files files.lines) files.whole m)) tells text text
 unfolding show_reply
 unit-refused m watch keys files unit tells text lacks =
-    let live = seen (beside watch keys files) m in
+    let live = seen (beside watch keys files.files files.lines) files.whole m in
     subst (λ (b : Bool). Does (if b then refused NotBuilt live else says (unit_text live.machine unit) live) (Err NotBuilt) (standing 0 live) tells text text)
     (sym lacks) (refl, refused-said NotBuilt live tells text)
 
-pub unit-does : {T E : Type 0} (m : MachineState) (watch : WatchState) (keys : List (ℕ × ℕ)) (files : List NamedBytes) (unit : UnitName) (printed : Result T E) (answer : Answer) (tells : Bool) (before after : List ℕ)
+pub unit-does : {T E : Type 0} (m : MachineState) (watch : WatchState) (keys : List (ℕ × ℕ)) (files : Beyond) (unit : UnitName) (printed : Result T E) (answer : Answer) (tells : Bool) (before after : Output)
     → lacks_unit m unit ≡ false → answer ≡ told_or_console printed Go → (IsTrue tells → Puts before (unit_line unit (attachment_at (attachments_of m.slots) unit)) printed after)
-    → Does (show_reply (seen (beside watch keys files) m) (AUnit unit)) answer (standing 0 (seen (beside watch keys files) m)) tells before after
+    → Does (show_reply (seen (beside watch keys files.files files.lines) files.whole m) (AUnit unit)) answer (standing 0 (seen (beside watch keys files.files files.lines) files.whole m)) tells before after
 unfolding show_reply
 unit-does m watch keys files unit printed answer tells before after has is puts =
-    let live = seen (beside watch keys files) m in
+    let live = seen (beside watch keys files.files files.lines) files.whole m in
     subst (λ (b : Bool). Does (if b then refused NotBuilt live else says (unit_text live.machine unit) live) answer (standing 0 live) tells before after) (sym has)
     (subst (λ (l : List (Option Attachment)). Does (says (unit_line unit (attachment_at l unit)) live) answer (standing 0 live) tells before after) (sym (unnumbered-attachments m.slots))
     (says-does (unit_line unit (attachment_at (attachments_of m.slots) unit)) live printed answer tells before after is puts))

@@ -5,9 +5,10 @@ use Rattle.file_commands.specs.Notes.{CommandNote, Note, notes_said}
 use Rattle.expect_actions.specs.Watch.{WatchState}
 use Rattle.nova_machine.specs.Machine.{MachineState, reset_machine, reset_devices}
 use Rattle.nova_machine.specs.Seen.{erased, seen, beside}
+use Rattle.nova_machine.specs.Comes.{Output}
 use Rattle.scp_commands.specs.declared.next.Next.TheVariants.{Go}
 use Rattle.scp_commands.specs.declared.fault.CommandFault.TheVariants.{OutOfRange}
-use Rattle.scp_commands.specs.Live.{Live, standing, CommandState, live_in}
+use Rattle.scp_commands.specs.Live.{Live, standing, CommandState, live_in, Beyond}
 use Rattle.scp_commands.specs.Reply.{Answer, goes, refused}
 use Rattle.scp_commands.specs.RunEffects.{running, address_fits, starting_at, reset_where, started, run_from, stepped, step_of, reset_reply}
 use Rattle.scp_commands.specs.Doing.{Does, Did}
@@ -39,12 +40,12 @@ pub started-slots : (resets : Bool) (address : Option ℕ) (m : MachineState) �
 started-slots resets address m = starting-slots address (reset_where resets m) ∙ reset-slots resets m
 
 -- RESET prints nothing
-pub reset-does : (watch : WatchState) (keys : List (ℕ × ℕ)) (files : List NamedBytes) (m new : MachineState) (tells : Bool) (text : List ℕ) → new ≡ reset_machine m
-    → Does (reset_reply (seen (beside watch keys files) m)) (Ok Go) (standing 0 (seen (beside watch keys files) new)) tells text text
+pub reset-does : (watch : WatchState) (keys : List (ℕ × ℕ)) (files : Beyond) (m new : MachineState) (tells : Bool) (text : Output) → new ≡ reset_machine m
+    → Does (reset_reply (seen (beside watch keys files.files files.lines) files.whole m)) (Ok Go) (standing 0 (seen (beside watch keys files.files files.lines) files.whole new)) tells text text
 unfolding reset_reply
 reset-does watch keys files m new tells text is =
-    subst (λ (x : MachineState). Does (goes (record { machine = x; watch = watch; keys = keys; files = files })) (Ok Go) (standing 0 (seen (beside watch keys files) new)) tells text text)
-    (ap erased is ∙ sym (erased-reset_machine m)) (refl, goes-said (seen (beside watch keys files) new) tells text)
+    subst (λ (x : MachineState). Does (goes (record { machine = x; watch = watch; keys = keys; files = files })) (Ok Go) (standing 0 (seen (beside watch keys files.files files.lines) files.whole new)) tells text text)
+    (ap erased is ∙ sym (erased-reset_machine m)) (refl, goes-said (seen (beside watch keys files.files files.lines) files.whole new) tells text)
 
 -- ---- an address, and a count, that is out of range
 
@@ -59,21 +60,21 @@ step-refused limit count live fits given = ap (λ (b : Bool). if b then stepped 
 
 -- ---- a run from an address
 
-run_from-runs : (limit : ℕ) (resets : Bool) (address : Option ℕ) (watch : WatchState) (keys : List (ℕ × ℕ)) (files : List NamedBytes) (m : MachineState) → address_fits address ≡ true → (given : List CommandNote)
-    → run_from limit given resets address (seen (beside watch keys files) m) ≡ running limit given (seen (beside watch keys files) (starting_at address (reset_where resets m)))
+run_from-runs : (limit : ℕ) (resets : Bool) (address : Option ℕ) (watch : WatchState) (keys : List (ℕ × ℕ)) (files : Beyond) (m : MachineState) → address_fits address ≡ true → (given : List CommandNote)
+    → run_from limit given resets address (seen (beside watch keys files.files files.lines) files.whole m) ≡ running limit given (seen (beside watch keys files.files files.lines) files.whole (starting_at address (reset_where resets m)))
 unfolding run_from
 run_from-runs limit resets address watch keys files m fits given =
-    ap (λ (b : Bool). if b then running limit given (started resets address (seen (beside watch keys files) m)) else refused OutOfRange (seen (beside watch keys files) m)) fits
+    ap (λ (b : Bool). if b then running limit given (started resets address (seen (beside watch keys files.files files.lines) files.whole m)) else refused OutOfRange (seen (beside watch keys files.files files.lines) files.whole m)) fits
     ∙ ap (λ (x : MachineState). running limit given (record { machine = starting_at address x; watch = watch; keys = keys; files = files })) (erased-reset_where resets m)
     ∙ ap (λ (x : MachineState). running limit given (record { machine = x; watch = watch; keys = keys; files = files })) (erased-starting address (reset_where resets m))
 
 -- a run of the machine that was readied
-pub started-did : (old at : CommandState) (resets : Bool) (address : Option ℕ) (files : List NamedBytes) (answer : Answer) (new : Live) (tells : Bool) (before after : List ℕ) (notes' : List Note)
+pub started-did : (old at : CommandState) (resets : Bool) (address : Option ℕ) (files : Beyond) (answer : Answer) (new : Live) (tells : Bool) (before after : Output) (notes' : List Note)
     → at ≡ record old { machine = starting_at address (reset_where resets old.machine) } → address_fits address ≡ true
     → Did (λ given. running at.limit given (live_in at files)) at.command answer new tells before after (notes_said at.notes) notes'
     → Did (λ given. run_from old.limit given resets address (live_in old files)) old.command answer new tells before after (notes_said old.notes) notes'
 started-did old at resets address files answer new tells before after notes' is fits did =
     let readied = starting_at address (reset_where resets old.machine) in
-    did-same (λ given. running old.limit given (seen (beside old.watch old.keys files) readied)) (λ given. run_from old.limit given resets address (live_in old files)) old.command answer new tells before after
+    did-same (λ given. running old.limit given (seen (beside old.watch old.keys files.files files.lines) files.whole readied)) (λ given. run_from old.limit given resets address (live_in old files)) old.command answer new tells before after
     (notes_said old.notes) notes' (run_from-runs old.limit resets address old.watch old.keys files old.machine fits)
     (subst (λ (s : CommandState). Did (λ given. running s.limit given (live_in s files)) s.command answer new tells before after (notes_said s.notes) notes') is did)

@@ -21,9 +21,10 @@ use Rattle.expect_actions.specs.Watch.{WatchState}
 use Rattle.nova_machine.specs.Machine.{MachineState}
 use Rattle.nova_machine.specs.Seen.{erased, seen, beside}
 use Rattle.nova_machine.specs.Turn.{with_memory}
+use Rattle.nova_machine.specs.Comes.{Output}
 use Rattle.scp_commands.specs.declared.next.Next.TheVariants.{Go}
 use Rattle.scp_commands.specs.declared.fault.CommandFault.TheVariants.{OutOfRange, OutOfMemory}
-use Rattle.scp_commands.specs.Live.{Live, with_machine}
+use Rattle.scp_commands.specs.Live.{Live, with_machine, Beyond}
 use Rattle.scp_commands.specs.Reply.{Answer, Reply, refused}
 use Rattle.scp_commands.specs.RunEffects.{starting_at}
 use Rattle.scp_commands.specs.FaultText.{tape_fault}
@@ -137,9 +138,9 @@ read-none (Err why) m is = refl
 
 -- ---- LOAD
 
-loaded-live : (watch : WatchState) (keys : List (ℕ × ℕ)) (m : MachineState) (files : List NamedBytes) (bytes : Result (Vec ℕ) WholeFault)
+loaded-live : (watch : WatchState) (keys : List (ℕ × ℕ)) (m : MachineState) (files : Beyond) (bytes : Result (Vec ℕ) WholeFault)
     → IfSome (said_of_bytes bytes) (λ (said : WholeSaid).
-    seen (beside watch keys files) (read_machine bytes m) ≡ with_machine (seen (beside watch keys files) m) (loaded_machine said (erased m)))
+    seen (beside watch keys files.files files.lines) files.whole (read_machine bytes m) ≡ with_machine (seen (beside watch keys files.files files.lines) files.whole m) (loaded_machine said (erased m)))
 loaded-live watch keys m files (Ok v) =
     ap (λ (x : MachineState). record { machine = x; watch = watch; keys = keys; files = files }) (tape-erased (tape_in m v.items) m)
 loaded-live watch keys m files (Err fault.NoFile) = refl
@@ -148,17 +149,17 @@ loaded-live watch keys m files (Err fault.Failed) = refl
 loaded-live watch keys m files (Err fault.OutOfMemory) = tt
 
 pub load-did : (number : ℕ) (watch : WatchState) (keys : List (ℕ × ℕ)) (m new : MachineState) (files files' : List NamedBytes) (name : List ℕ) (w : Whole)
-    (answer : Answer) (tells : Bool) (text : List ℕ) (notes notes' : List FaultNote)
+    (answer : Answer) (tells : Bool) (text : Output) (notes notes' : List FaultNote)
     → answer ≡ whole_answer subject.Load (tape_comes m) w.bytes → new ≡ read_machine w.bytes m → files' ≡ files
     → IfSome (said_of w) (λ (said : WholeSaid). whole_act (claimed w) name files ≡ (said, length (claimed w)))
     → notes' ≡ notes ++ read_notes subject.Load (record { command = number; time = m.time }) w
-    → Did (λ (own : List CommandNote). load_reply own (seen (beside watch keys files) m) name) number answer (seen (beside watch keys files') new) tells text text
+    → Did (λ (own : List CommandNote). load_reply own (seen (beside watch keys files.files files.lines) files.whole m) name) number answer (seen (beside watch keys files') new) tells text text
     (notes_said notes) (notes_said notes')
 unfolding load_reply
 load-did number watch keys m new files files' name w answer tells text notes notes' answered is same told noted =
-    read-did subject.Load (tape_comes m) (λ (said : WholeSaid). with_machine (seen (beside watch keys files) m) (loaded_machine said (erased m)))
+    read-did subject.Load (tape_comes m) (λ (said : WholeSaid). with_machine (seen (beside watch keys files.files files.lines) files.whole m) (loaded_machine said (erased m)))
     number m.time (seen (beside watch keys files') new) name files w answer tells text notes notes' load-is (tape-plain m) answered
-    (subst (λ (live : Live). IfSome (said_of w) (λ (said : WholeSaid). live ≡ with_machine (seen (beside watch keys files) m) (loaded_machine said (erased m))))
+    (subst (λ (live : Live). IfSome (said_of w) (λ (said : WholeSaid). live ≡ with_machine (seen (beside watch keys files.files files.lines) files.whole m) (loaded_machine said (erased m))))
     (λ i. seen (beside watch keys (sym same i)) (sym is i)) (loaded-live watch keys m files w.bytes)) told noted
 
 -- ---- DUMP

@@ -38,6 +38,7 @@ use Rattle.scp_parser.specs.Command as request
 use Rattle.scp_examine.specs.declared.fault.ExamineFault.{ExamineFault}
 use Rattle.scp_examine.specs.Effect.{examine_fault, fault_of_deposit, deposited, tested}
 use Rattle.scp_examine.proofs.ValidLemmas.{LeavesRest, deposited-valid, deposited-leaves}
+use Rattle.nova_machine.specs.Comes.{Output}
 use Rattle.scp_commands.specs.declared.next.Next.{Next}
 use Rattle.scp_commands.specs.declared.next.Next.TheVariants.{Go, Exit}
 use Rattle.scp_commands.specs.declared.fault.CommandFault.{CommandFault}
@@ -108,7 +109,7 @@ stands-if false live x y first second = second refl
 stands-goes : (before live : Live) → ValidLive live → live.machine.slots ≡ before.machine.slots → live.machine.disk ≡ before.machine.disk → Stands before (goes live)
 stands-goes before live is slots disk = record { valid = record { after = is; made = λ at h. absurd h; script = tt }; copy = copy-same before live slots disk }
 
-stands-says : (text : List ℕ) (live : Live) → ValidLive live → Stands live (says text live)
+stands-says : (text : Output) (live : Live) → ValidLive live → Stands live (says text live)
 stands-says text live is = record {
   valid = record {
     after = is;
@@ -406,7 +407,7 @@ stands-show live shown.Send is = stands-says _ live is
 stands-show live shown.Version is = stands-says _ live is
 stands-show live (shown.Unit unit) is = stands-if (lacks_unit live.machine unit) live _ _ (λ _. stands-refused _ live is) (λ _. stands-says _ live is)
 
-stands-echo : (live : Live) (text : List ℕ) → ValidLive live → Stands live (echo_reply live text)
+stands-echo : (live : Live) (text : Output) → ValidLive live → Stands live (echo_reply live text)
 unfolding echo_reply
 stands-echo live text is = stands-says _ live is
 
@@ -581,7 +582,7 @@ detached-anew limit notes live is done = detach-anew notes live is done
 
 -- ---- what a call has left
 
-left-valid : (reply : Reply) (answer : Answer) (at : Standing) (tells : Bool) (before after : List ℕ) → IsValidReply reply → answer ≢ Err OutOfMemory → Does reply answer at tells before after
+left-valid : (reply : Reply) (answer : Answer) (at : Standing) (tells : Bool) (before after : Output) → IsValidReply reply → answer ≢ Err OutOfMemory → Does reply answer at tells before after
     → ValidLive at.live
 left-valid reply (Err Console) at tells before after is some does = is.made at does.stands
 left-valid reply (Err OutOfMemory) at tells before after is some does = absurd (some refl)

@@ -34,6 +34,7 @@ use Rattle.whole_files.specs.Claims as claims
 use Rattle.whole_files.specs.Claims.{WholeCause}
 use Rattle.whole_files.specs.Writing.{FailingCall, WriteSaid, AllWritten, WriteFailed, WriteAct, write_act, said_of_writing, failing_call}
 use Rattle.whole_files.specs.Writing.{claimed_in_writing, is_failed_writing, ComesBeforeClosing, WasNotOpened, HasWriteShape, is_unmade}
+use Rattle.nova_machine.specs.Comes.{Output}
 use Rattle.scp_commands.specs.declared.fault.CommandFault.TheVariants.{OutOfMemory}
 use Rattle.scp_commands.specs.Live.{Live, standing}
 use Rattle.scp_commands.specs.Reply.{Answer, Reply}
@@ -202,7 +203,7 @@ said-plain whose comes_to TooLong plain = tt
 said-plain whose comes_to CallFailed plain = tt
 
 pub read-did : (whose : Subject) (comes_to : List ℕ → Answer) (after : WholeSaid → Live) (number time : ℕ) (new : Live)
-    (name : List ℕ) (files : List NamedBytes) (w : Whole) (answer : Answer) (tells : Bool) (text : List ℕ)
+    (name : List ℕ) (files : List NamedBytes) (w : Whole) (answer : Answer) (tells : Bool) (text : Output)
     (notes notes' : List FaultNote) → IsNoUnit whose → ((bytes : List ℕ) → IsPlain (comes_to bytes))
     → answer ≡ whole_answer whose comes_to w.bytes → IfSome (said_of w) (λ (said : WholeSaid). new ≡ after said)
     → IfSome (said_of w) (λ (said : WholeSaid). whole_act (claimed w) name files ≡ (said, length (claimed w)))
@@ -266,7 +267,7 @@ wrote-plain whose AllWritten = tt
 wrote-plain whose WriteFailed = tt
 
 pub write-did : (whose : Subject) (after : List NamedBytes → Live) (number time : ℕ) (new : Live) (name piece : List ℕ)
-    (files files' : List NamedBytes) (w : Written) (answer : Answer) (tells : Bool) (text : List ℕ) (notes notes' : List FaultNote)
+    (files files' : List NamedBytes) (w : Written) (answer : Answer) (tells : Bool) (text : Output) (notes notes' : List FaultNote)
     → IsNoUnit whose → answer ≡ written_answer whose w.answer → new ≡ after files'
     → (w.answer ≡ Err fault.NoFile → ⊥) → (w.answer ≡ Err fault.TooLong → ⊥)
     → IfSome (said_of_writing w.answer) (λ (said : WriteSaid). write_act (claimed_in_writing w) name piece files

@@ -38,7 +38,7 @@ use Rattle.scp_commands.specs.declared.next.Next.{Next}
 use Rattle.scp_commands.specs.declared.next.Next.TheVariants.{Exit, Ran}
 use Rattle.scp_commands.specs.declared.fault.CommandFault.TheVariants.{Console, OutOfMemory, NoFile, FileTooLong, FileFailed}
 use Rattle.scp_commands.specs.declared.fault.CommandFault.TheVariants.{LoadTruncated, LoadSum, PastMemory}
-use Rattle.scp_commands.specs.Live.{Live, Standing, standing, CommandState, Around, around, live_in}
+use Rattle.scp_commands.specs.Live.{Live, Standing, standing, CommandState, Beyond, beyond, live_in}
 use Rattle.scp_commands.specs.Nature.{Telling, nature}
 use Rattle.scp_commands.specs.Nature.Telling.{Nothing, Attached, Named}
 use Rattle.scp_commands.specs.Remains.{Remains, AreLeft}
@@ -240,13 +240,13 @@ IsExitAnswer (Ok (Exit status)) = status ≤ 99
 IsExitAnswer answer = Unit {0}
 
 -- what a command that runs promises: what it is told of comes whatever the record of the lines comes to in the end
-pub record RunDone (reply : List LineAnswer → List CommandNote → Reply) (answer : Answer) (old new : CommandState) (files files' : FileState) (lines lines' : LineState)
+pub record RunDone (reply : List LineAnswer → List CommandNote → Reply) (answer : Answer) (old new : CommandState) (files files' : FileState) (ports ports' : LineState)
     (named line_tells tells : Bool) (before after : List ℕ) (sink sink_now : ℕ) : Type 0 where
-  pub told : AreTold named old.machine.slots → AreLinesTold line_tells lines old.machine.lines
-      → (whole : List LineAnswer) → IsFirst (record_in lines'.told) whole
-      → Did (reply whole) old.command answer (live_in new (around files'.files lines' whole)) tells (output before lines.sent) (output after lines'.sent)
+  pub told : AreTold named old.machine.slots → AreLinesTold line_tells ports old.machine.lines
+      → (whole : List LineAnswer) → IsFirst (record_in ports'.told) whole
+      → Did (reply whole) old.command answer (live_in new (beyond files'.files ports' whole)) tells (output before ports.sent) (output after ports'.sent)
       (notes_said old.notes) (notes_said new.notes)
-  pub lines : LinesGoOn line_tells lines old.machine.lines lines' new.machine.lines
+  pub lines : LinesGoOn line_tells ports old.machine.lines ports' new.machine.lines
   pub keeps : Keeps old.command new.machine.time named answer old.notes new.notes files files'
   pub whose : AreOwn old.machine.slots new.machine.slots old.notes new.notes files files'
   pub keys : new.keys ≡ old.keys
@@ -292,7 +292,7 @@ pub record IsUndone (flushes : Bool) (reads : Option Subject) (says : Bool) (old
   pub written : after ≡ before
   pub lines : new.machine.lines ≡ old.machine.lines
   pub live : IsTrue says → (lines : LineState) (whole : List LineAnswer)
-      → Remains flushes (live_in old (around files.files lines whole)) (live_in new (around files'.files lines whole))
+      → Remains flushes (live_in old (beyond files.files lines whole)) (live_in new (beyond files'.files lines whole))
 
 -- ---- the end of the input
 

@@ -47,14 +47,14 @@ pub record CommandState : Type 0 where
 
 -- what stands around a session: all files by their names; the ports and connections of the outside, and what the record
 -- of the answers that it gives on lines comes to in the end
-pub record Around : Type 0 where
+pub record Beyond : Type 0 where
   pub files : List NamedBytes
   pub lines : LineState
   pub whole : List Answer
 
-abbrev pub around : List NamedBytes → LineState → List Answer → Around
-around files lines whole = record { files = files; lines = lines; whole = whole }
+abbrev pub beyond : List NamedBytes → LineState → List Answer → Beyond
+beyond files lines whole = record { files = files; lines = lines; whole = whole }
 
 -- what its commands work on
-abbrev pub live_in : CommandState → Around → Live
+abbrev pub live_in : CommandState → Beyond → Live
 live_in s a = seen (beside s.watch s.keys a.files a.lines) a.whole s.machine

@@ -10,7 +10,7 @@ ghost use Rattle.host_lines.specs.Traffic.{Answer as LineAnswer};
 ghost use Rattle.host_lines.specs.State.{LineState};
 ghost use Rattle.nova_machine.specs.Comes.{Output};
 ghost use Rattle.scp_commands.specs.declared.fault.CommandFault.TheVariants.{OutOfMemory};
-ghost use Rattle.scp_commands.specs.Live.{live_in, around};
+ghost use Rattle.scp_commands.specs.Live.{live_in, beyond};
 ghost use Rattle.scp_commands.specs.WholeCalls.{write_calls, written_answer};
 ghost use Rattle.scp_commands.specs.TapeEffects.{can_dump, dump_after, dump_reply};
 ghost use Rattle.scp_parser.specs.Command.{Dump};
@@ -52,8 +52,8 @@ pub fn dump_file<U: Unit, F: Files>(
     ensures refused { IsRefused result
         → (session.new.machine ≡ session.old.machine) × (session.new.watch ≡ session.old.watch) }
     ensures told { (lines : LineState) (whole : List LineAnswer) (tells : Bool) (text : Output) → IsTrue F.tells
-        → Did (λ notes. dump_reply notes (live_in session.old (around (F.state files.old).files lines whole)) from to name.now)
-        session.old.command result (live_in session.new (around (F.state files.new).files lines whole)) tells text text
+        → Did (λ notes. dump_reply notes (live_in session.old (beyond (F.state files.old).files lines whole)) from to name.now)
+        session.old.command result (live_in session.new (beyond (F.state files.new).files lines whole)) tells text text
         (notes_said session.old.notes) (notes_said session.new.notes) }
     ensures undone { (text : List ℕ) → result ≡ Err OutOfMemory
         → IsUndone false None true session.old session.new text text (F.state files.old) (F.state files.new) }
@@ -119,8 +119,8 @@ fn write_tape<U: Unit, F: Files>(
         → (session.new.machine ≡ session.old.machine) × (session.new.watch ≡ session.old.watch) }
     ensures told { (lines : LineState) (whole : List LineAnswer) (tells : Bool) (text : Output) → IsTrue F.tells
         → Did (λ notes. dump_after (write_act (write_calls of_dump session.old.machine.time notes) name.now tape.now
-        (F.state files.old).files) (live_in session.old (around (F.state files.old).files lines whole)))
-        session.old.command result (live_in session.new (around (F.state files.new).files lines whole)) tells text text
+        (F.state files.old).files) (live_in session.old (beyond (F.state files.old).files lines whole)))
+        session.old.command result (live_in session.new (beyond (F.state files.new).files lines whole)) tells text text
         (notes_said session.old.notes) (notes_said session.new.notes) }
     ensures undone { (text : List ℕ) → result ≡ Err OutOfMemory
         → IsUndone false None true session.old session.new text text (F.state files.old) (F.state files.new) }

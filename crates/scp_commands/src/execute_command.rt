@@ -11,7 +11,7 @@ ghost use Rattle.nova_machine.specs.Comes.{output};
 ghost use Rattle.nova_machine.specs.LineChanges.{LinesGoOn};
 ghost use Rattle.scp_commands.specs.declared.next.Next.TheVariants.{Ran};
 ghost use Rattle.scp_commands.specs.declared.fault.CommandFault.TheVariants.{OutOfMemory};
-ghost use Rattle.scp_commands.specs.Live.{live_in, around};
+ghost use Rattle.scp_commands.specs.Live.{live_in, beyond};
 ghost use Rattle.scp_commands.specs.Effect.{effect};
 ghost use Rattle.scp_commands.specs.Nature.{nature, plain, Nothing};
 ghost use Rattle.scp_commands.specs.Remains.{AreLeft};
@@ -63,8 +63,8 @@ pub fn execute<U: Unit, F: Files, L: Lines, S: Sink>(
     ensures told { IsTold F.tells session.old.machine.slots L.tells (L.state lines.old) session.old.machine.lines
         command.now → (whole : List LineAnswer) → IsFirst (record_in (L.state lines.new).told) whole
         → Did (λ notes. effect session.old.limit notes
-        (live_in session.old (around (F.state files.old).files (L.state lines.old) whole)) command.now)
-        session.old.command result (live_in session.new (around (F.state files.new).files (L.state lines.new) whole))
+        (live_in session.old (beyond (F.state files.old).files (L.state lines.old) whole)) command.now)
+        session.old.command result (live_in session.new (beyond (F.state files.new).files (L.state lines.new) whole))
         S.tells (output (S.written out.old) (L.state lines.old).sent) (output (S.written out.new) (L.state lines.new).sent)
         (notes_said session.old.notes) (notes_said session.new.notes) }
     ensures lines { LinesGoOn L.tells (L.state lines.old) session.old.machine.lines (L.state lines.new)
@@ -120,8 +120,8 @@ fn obey<U: Unit, F: Files, L: Lines, S: Sink>(
     ensures told { IsTold F.tells session.old.machine.slots L.tells (L.state lines.old) session.old.machine.lines
         command.now → (whole : List LineAnswer) → IsFirst (record_in (L.state lines.new).told) whole
         → Did (λ notes. effect session.old.limit notes
-        (live_in session.old (around (F.state files.old).files (L.state lines.old) whole)) command.now)
-        session.old.command result (live_in session.new (around (F.state files.new).files (L.state lines.new) whole))
+        (live_in session.old (beyond (F.state files.old).files (L.state lines.old) whole)) command.now)
+        session.old.command result (live_in session.new (beyond (F.state files.new).files (L.state lines.new) whole))
         S.tells (output (S.written out.old) (L.state lines.old).sent) (output (S.written out.new) (L.state lines.new).sent)
         (notes_said session.old.notes) (notes_said session.new.notes) }
     ensures lines { LinesGoOn L.tells (L.state lines.old) session.old.machine.lines (L.state lines.new)
@@ -189,8 +189,8 @@ fn obey_untold<U: Unit, F: Files, S: Sink>(
         → AreLeft (nature command.now).flushes session.old session.new }
     ensures told { (lines : LineState) (whole : List LineAnswer) (heard : Heard)
         → Did (λ notes. effect session.old.limit notes
-        (live_in session.old (around (F.state files.old).files lines whole)) command.now)
-        session.old.command result (live_in session.new (around (F.state files.new).files lines whole)) S.tells
+        (live_in session.old (beyond (F.state files.old).files lines whole)) command.now)
+        session.old.command result (live_in session.new (beyond (F.state files.new).files lines whole)) S.tells
         (output (S.written out.old) heard) (output (S.written out.new) heard) (notes_said session.old.notes)
         (notes_said session.new.notes) }
     ensures terminals { session.new.machine.lines ≡ session.old.machine.lines }
@@ -246,8 +246,8 @@ fn obey_plain<U: Unit, F: Files, S: Sink>(
         → AreLeft (nature command.now).flushes session.old session.new }
     ensures told { (lines : LineState) (whole : List LineAnswer) (heard : Heard)
         → Did (λ notes. effect session.old.limit notes
-        (live_in session.old (around (F.state files.now).files lines whole)) command.now)
-        session.old.command result (live_in session.new (around (F.state files.now).files lines whole)) S.tells
+        (live_in session.old (beyond (F.state files.now).files lines whole)) command.now)
+        session.old.command result (live_in session.new (beyond (F.state files.now).files lines whole)) S.tells
         (output (S.written out.old) heard) (output (S.written out.new) heard) (notes_said session.old.notes)
         (notes_said session.new.notes) }
     ensures terminals { session.new.machine.lines ≡ session.old.machine.lines }

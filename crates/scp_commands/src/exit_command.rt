@@ -7,7 +7,7 @@ ghost use Rattle.file_commands.specs.Notes.{notes_said};
 ghost use Rattle.host_lines.specs.Traffic.{Answer as LineAnswer};
 ghost use Rattle.host_lines.specs.State.{LineState};
 ghost use Rattle.nova_machine.specs.Comes.{Output};
-ghost use Rattle.scp_commands.specs.Live.{live_in, around};
+ghost use Rattle.scp_commands.specs.Live.{live_in, beyond};
 ghost use Rattle.scp_commands.specs.ExitEffects.{exit_reply};
 ghost use Rattle.scp_commands.specs.Doing.{Did, Keeps, IsPlain, IsExitAnswer, IsKept};
 
@@ -31,8 +31,8 @@ pub fn exit<U: Unit, F: Files>(
     ensures refused { IsKept result
         → (session.new.machine ≡ session.old.machine) × (session.new.watch ≡ session.old.watch) }
     ensures told { (lines : LineState) (whole : List LineAnswer) (tells : Bool) (text : Output)
-        → Did (λ notes. exit_reply notes (live_in session.old (around (F.state files.old).files lines whole)) status)
-        session.old.command result (live_in session.new (around (F.state files.new).files lines whole)) tells text text
+        → Did (λ notes. exit_reply notes (live_in session.old (beyond (F.state files.old).files lines whole)) status)
+        session.old.command result (live_in session.new (beyond (F.state files.new).files lines whole)) tells text text
         (notes_said session.old.notes) (notes_said session.new.notes) }
     ensures keeps { Keeps session.old.command session.new.machine.time F.tells result session.old.notes
         session.new.notes (F.state files.old) (F.state files.new) }

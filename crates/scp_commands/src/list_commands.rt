@@ -2,7 +2,7 @@
 ghost use Rattle.std.specs.Prelude.{◌≡◌, ℕ, Bool, List, []};
 ghost use Rattle.host_lines.specs.Told.{Heard};
 ghost use Rattle.nova_machine.specs.Comes.{Output, output};
-ghost use Rattle.scp_commands.specs.Live.{standing, live_in, Around};
+ghost use Rattle.scp_commands.specs.Live.{standing, live_in, Beyond};
 ghost use Rattle.scp_commands.specs.ListEffects.{lacks_device, examine_reply, handed, deposit_reply};
 ghost use Rattle.scp_commands.specs.Doing.{Does, ConsoleCounts, IsShown, IsPlain, IsExitAnswer, IsRefused};
 
@@ -22,7 +22,7 @@ pub fn examine_list<U: Unit, S: Sink>(
     listing: &Listing,
     out: &mut S,
 ) -> Result<Next, CommandFault>
-    ensures told { (files : Around) (heard : Heard) → Does (examine_reply (live_in session.now files) listing.now) result
+    ensures told { (files : Beyond) (heard : Heard) → Does (examine_reply (live_in session.now files) listing.now) result
         (standing 0 (live_in session.now files)) S.tells (output (S.written out.old) heard)
         (output (S.written out.new) heard) }
     ensures counts { ConsoleCounts result (S.fault_count out.old) (S.fault_count out.new) }
@@ -46,7 +46,7 @@ pub fn deposit_list<U: Unit>(
 ) -> Result<Next, CommandFault>
     ensures refused { IsRefused result
         → (session.new.machine ≡ session.old.machine) × (session.new.watch ≡ session.old.watch) }
-    ensures told { (files : Around) (tells : Bool) (text : Output)
+    ensures told { (files : Beyond) (tells : Bool) (text : Output)
         → Does (deposit_reply (live_in session.old files) listing.now value) result
         (standing 0 (live_in session.new files)) tells text text }
     ensures own { IsPlain result }
@@ -64,14 +64,14 @@ fn fill_list<U: Unit>(
     listing: &Listing,
     value: u64,
 ) -> Result<Next, CommandFault>
-    ensures answer { (files : Around)
+    ensures answer { (files : Beyond)
         → result ≡ (deposit_reply (live_in session.old files) listing.now value).answer }
-    ensures after { (files : Around) → standing 0 (live_in session.new files)
+    ensures after { (files : Beyond) → standing 0 (live_in session.new files)
         ≡ (deposit_reply (live_in session.old files) listing.now value).after }
     ensures exit { IsExitAnswer result }
     ensures refused { IsRefused result
         → (session.new.machine ≡ session.old.machine) × (session.new.watch ≡ session.old.watch) }
-    ensures silent { (files : Around)
+    ensures silent { (files : Beyond)
         → (deposit_reply (live_in session.old files) listing.now value).made ≡ [] }
     ensures rest { session.new ≡ record session.old { machine = session.new.machine } }
     ensures slots { session.new.machine.slots ≡ session.old.machine.slots }

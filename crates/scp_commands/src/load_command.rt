@@ -9,7 +9,7 @@ ghost use Rattle.host_lines.specs.Traffic.{Answer as LineAnswer};
 ghost use Rattle.host_lines.specs.State.{LineState};
 ghost use Rattle.nova_machine.specs.Comes.{Output};
 ghost use Rattle.scp_commands.specs.declared.fault.CommandFault.TheVariants.{OutOfMemory};
-ghost use Rattle.scp_commands.specs.Live.{live_in, around};
+ghost use Rattle.scp_commands.specs.Live.{live_in, beyond};
 ghost use Rattle.scp_commands.specs.RunEffects.{starting_at};
 ghost use Rattle.scp_commands.specs.WholeCalls.{whole_answer};
 ghost use Rattle.scp_commands.specs.Refusals.{UnreadCause};
@@ -48,8 +48,8 @@ pub fn load_file<U: Unit, F: Files>(
     ensures refused { IsRefused result
         → (session.new.machine ≡ session.old.machine) × (session.new.watch ≡ session.old.watch) }
     ensures told { (lines : LineState) (whole : List LineAnswer) (tells : Bool) (text : Output) → IsTrue F.tells
-        → Did (λ notes. load_reply notes (live_in session.old (around (F.state files.old).files lines whole)) name.now)
-        session.old.command result (live_in session.new (around (F.state files.new).files lines whole)) tells text text
+        → Did (λ notes. load_reply notes (live_in session.old (beyond (F.state files.old).files lines whole)) name.now)
+        session.old.command result (live_in session.new (beyond (F.state files.new).files lines whole)) tells text text
         (notes_said session.old.notes) (notes_said session.new.notes) }
     ensures undone { (text : List ℕ) → result ≡ Err OutOfMemory
         → IsUndone false (Some of_load) F.tells session.old session.new text text (F.state files.old)

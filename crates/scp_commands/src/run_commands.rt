@@ -7,7 +7,7 @@ ghost use Rattle.nova_machine.specs.Run.{run};
 ghost use Rattle.nova_machine.specs.declared.machine.Stop.TheVariants.{ConsoleFault};
 ghost use Rattle.nova_machine.specs.Machine.{reset_machine};
 ghost use Rattle.nova_machine.specs.Comes.{Output};
-ghost use Rattle.scp_commands.specs.Live.{live_in, standing, Around, around};
+ghost use Rattle.scp_commands.specs.Live.{live_in, standing, Beyond, beyond};
 ghost use Rattle.scp_commands.specs.RunEffects.{address_fits, starting_at, reset_where, running, run_from};
 ghost use Rattle.scp_commands.specs.RunEffects.{stepped, step_of, run_failure, ran, reset_reply};
 ghost use Rattle.scp_commands.specs.Doing.{Does, IsRefused};
@@ -45,7 +45,7 @@ pub fn run_from<U: Unit, F: Files, L: Lines, S: Sink>(
     ensures refused { IsRefused result
         → (session.new.machine ≡ session.old.machine) × (session.new.watch ≡ session.old.watch) }
     ensures done { RunDone
-        (λ whole notes. run_from session.old.limit notes resets address (live_in session.old (around (F.state files.old).files (L.state lines.old) whole)))
+        (λ whole notes. run_from session.old.limit notes resets address (live_in session.old (beyond (F.state files.old).files (L.state lines.old) whole)))
         result session.old session.new (F.state files.old) (F.state files.new) (L.state lines.old) (L.state lines.new)
         F.tells L.tells S.tells (S.written out.old)
         (S.written out.new) (S.fault_count out.old) (S.fault_count out.new) }
@@ -110,7 +110,7 @@ pub fn run<U: Unit, F: Files, L: Lines, S: Sink>(
     requires open { AllOpen session.old.machine.slots (F.state files.old).opened }
     ensures never { IsRefused result → ⊥ }
     ensures done { RunDone
-        (λ whole notes. running session.old.limit notes (live_in session.old (around (F.state files.old).files (L.state lines.old) whole))) result
+        (λ whole notes. running session.old.limit notes (live_in session.old (beyond (F.state files.old).files (L.state lines.old) whole))) result
         session.old session.new (F.state files.old) (F.state files.new) (L.state lines.old) (L.state lines.new)
         F.tells L.tells S.tells (S.written out.old)
         (S.written out.new) (S.fault_count out.old) (S.fault_count out.new) }
@@ -139,7 +139,7 @@ pub fn step<U: Unit, F: Files, L: Lines, S: Sink>(
     ensures refused { IsRefused result
         → (session.new.machine ≡ session.old.machine) × (session.new.watch ≡ session.old.watch) }
     ensures done { RunDone
-        (λ whole notes. step_of session.old.limit notes count (live_in session.old (around (F.state files.old).files (L.state lines.old) whole))) result
+        (λ whole notes. step_of session.old.limit notes count (live_in session.old (beyond (F.state files.old).files (L.state lines.old) whole))) result
         session.old session.new (F.state files.old) (F.state files.new) (L.state lines.old) (L.state lines.new)
         F.tells L.tells S.tells (S.written out.old)
         (S.written out.new) (S.fault_count out.old) (S.fault_count out.new) }
@@ -165,7 +165,7 @@ fn step_by<U: Unit, F: Files, L: Lines, S: Sink>(
     requires open { AllOpen session.old.machine.slots (F.state files.old).opened }
     ensures never { IsRefused result → ⊥ }
     ensures done { RunDone
-        (λ whole notes. stepped session.old.limit notes count (live_in session.old (around (F.state files.old).files (L.state lines.old) whole))) result
+        (λ whole notes. stepped session.old.limit notes count (live_in session.old (beyond (F.state files.old).files (L.state lines.old) whole))) result
         session.old session.new (F.state files.old) (F.state files.new) (L.state lines.old) (L.state lines.new)
         F.tells L.tells S.tells (S.written out.old)
         (S.written out.new) (S.fault_count out.old) (S.fault_count out.new) }
@@ -193,7 +193,7 @@ fn run_up_to<U: Unit, F: Files, L: Lines, S: Sink>(
     ensures never { IsRefused result → ⊥ }
     ensures done { RunDone
         (λ whole notes. ran
-        (run (run_failure notes) limit.step limit.count (live_in session.old (around (F.state files.old).files (L.state lines.old) whole))))
+        (run (run_failure notes) limit.step limit.count (live_in session.old (beyond (F.state files.old).files (L.state lines.old) whole))))
         result session.old session.new (F.state files.old) (F.state files.new) (L.state lines.old) (L.state lines.new)
         F.tells L.tells S.tells (S.written out.old)
         (S.written out.new) (S.fault_count out.old) (S.fault_count out.new) }
@@ -238,7 +238,7 @@ fn is_console_fault(stop: Stop) -> bool
 /// RESET resets the machine. It prints nothing.
 #[tactic(auto, unfolding(crate::specs::RunEffects::reset_reply))]
 pub fn reset<U: Unit>(session: &mut Session<U>) -> Result<Next, CommandFault>
-    ensures told { (files : Around) (tells : Bool) (text : Output)
+    ensures told { (files : Beyond) (tells : Bool) (text : Output)
         → Does (reset_reply (live_in session.old files)) result (standing 0 (live_in session.new files)) tells text text }
     ensures never { IsRefused result → ⊥ }
     ensures own { IsPlain result }

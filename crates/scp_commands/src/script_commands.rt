@@ -5,7 +5,7 @@ ghost use Rattle.host_files.specs.Streams.{Puts};
 ghost use Rattle.operand_forms.specs.Forms.{IsTested};
 ghost use Rattle.host_lines.specs.Told.{Heard};
 ghost use Rattle.nova_machine.specs.Comes.{Output, output};
-ghost use Rattle.scp_commands.specs.Live.{Live, standing, live_in, Around};
+ghost use Rattle.scp_commands.specs.Live.{Live, standing, live_in, Beyond};
 ghost use Rattle.scp_commands.specs.ScriptEffects.{echo_reply, assert_answer, assert_reply};
 ghost use Rattle.scp_commands.specs.Doing.{Does, ConsoleCounts, IsShown, IsPlain, IsExitAnswer};
 
@@ -43,7 +43,7 @@ fn put_line<S: Sink>(text: &[u8], out: &mut S) -> Result<(), Failed>
 /// condition, and `NotBuilt` where the machine has no unit of its device. It prints nothing, and changes nothing.
 pub fn assert_condition<U: Unit>(session: &Session<U>, what: &Test) -> Result<Next, CommandFault>
     requires { IsTested what.now.item }
-    ensures told { (files : Around) (tells : Bool) (text : Output)
+    ensures told { (files : Beyond) (tells : Bool) (text : Output)
         → Does (assert_reply (live_in session.now files) what.now) result (standing 0 (live_in session.now files))
         tells text text }
     ensures own { IsPlain result }

@@ -35,7 +35,7 @@ impl<U: Unit> Model for Session<U> {
     ghost use Rattle.std.specs.Prelude.{◌-◌, vec_len, vec_capacity};
 ghost use Rattle.host_lines.specs.Traffic.{Answer as LineAnswer};
 ghost use Rattle.host_lines.specs.State.{LineState};
-    ghost use Rattle.scp_commands.specs.Live.{CommandState, around};
+    ghost use Rattle.scp_commands.specs.Live.{CommandState, beyond};
 
     ghost Value = { CommandState };
 
@@ -105,8 +105,8 @@ impl<U: Unit> Session<U> {
         requires room { 12 ≤ self.old.spare }
         requires open { AllOpen self.old.machine.slots (F.state files.old).opened }
         ensures closes { (lines : LineState) (whole : List LineAnswer)
-            → Closes self.old.command (live_in self.old (around (F.state files.old).files lines whole))
-            (live_in self.new (around (F.state files.new).files lines whole)) (keeper result) (notes_said self.old.notes)
+            → Closes self.old.command (live_in self.old (beyond (F.state files.old).files lines whole))
+            (live_in self.new (beyond (F.state files.new).files lines whole)) (keeper result) (notes_said self.old.notes)
             (notes_said self.new.notes) }
         ensures keeps { Keeps self.old.command self.new.machine.time F.tells (kept_answer (keeper result) Go)
             self.old.notes self.new.notes (F.state files.old) (F.state files.new) }

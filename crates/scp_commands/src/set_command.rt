@@ -2,7 +2,7 @@
 ghost use Rattle.std.specs.Prelude.{◌≡◌, ◌*◌, ℕ, Bool, List};
 ghost use Rattle.nova_memory.specs.Memory.{IsSize};
 ghost use Rattle.nova_machine.specs.Comes.{Output};
-ghost use Rattle.scp_commands.specs.Live.{standing, live_in, Around};
+ghost use Rattle.scp_commands.specs.Live.{standing, live_in, Beyond};
 ghost use Rattle.scp_commands.specs.SetEffects.{sized, set_size_reply};
 ghost use Rattle.scp_commands.specs.Doing.{Does, IsPlain, IsExitAnswer, IsRefused};
 
@@ -18,7 +18,7 @@ use unit_trait::Unit;
 pub fn set_size<U: Unit>(session: &mut Session<U>, k: u64) -> Result<Next, CommandFault>
     ensures refused { IsRefused result
         → (session.new.machine ≡ session.old.machine) × (session.new.watch ≡ session.old.watch) }
-    ensures told { (files : Around) (tells : Bool) (text : Output)
+    ensures told { (files : Beyond) (tells : Bool) (text : Output)
         → Does (set_size_reply (live_in session.old files) k) result (standing 0 (live_in session.new files)) tells
         text text }
     ensures own { IsPlain result }

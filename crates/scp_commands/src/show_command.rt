@@ -11,7 +11,7 @@ ghost use Rattle.scp_parser.specs.Command.{ShowsUnit};
 ghost use Rattle.scp_parser.specs.declared.command.Shown.TheVariants.{Unit as AUnit};
 ghost use Rattle.host_lines.specs.Told.{Heard};
 ghost use Rattle.nova_machine.specs.Comes.{output};
-ghost use Rattle.scp_commands.specs.Live.{standing, live_in, Around};
+ghost use Rattle.scp_commands.specs.Live.{standing, live_in, Beyond};
 ghost use Rattle.scp_commands.specs.FileEffects.{attachment_text, unit_line};
 ghost use Rattle.scp_commands.specs.ShowEffects.{time_text, cpu_text, version_text, event_line, queue_text, show_reply};
 ghost use Rattle.scp_commands.specs.Doing.{Does, ConsoleCounts, IsShown, IsExitAnswer};
@@ -38,7 +38,7 @@ pub fn show<U: Unit, S: Sink>(
     out: &mut S,
 ) -> Result<Next, CommandFault>
     requires { ShowsUnit subject }
-    ensures told { (files : Around) (heard : Heard) → Does (show_reply (live_in session.now files) subject) result
+    ensures told { (files : Beyond) (heard : Heard) → Does (show_reply (live_in session.now files) subject) result
         (standing 0 (live_in session.now files)) S.tells (output (S.written out.old) heard)
         (output (S.written out.new) heard) }
     ensures counts { ConsoleCounts result (S.fault_count out.old) (S.fault_count out.new) }
@@ -85,7 +85,7 @@ fn show_unit<U: Unit, S: Sink>(
     out: &mut S,
 ) -> Result<Next, CommandFault>
     requires { unit.unit < units_of unit.kind }
-    ensures told { (watch : WatchState) (keys : List (ℕ × ℕ)) (files : Around) (heard : Heard)
+    ensures told { (watch : WatchState) (keys : List (ℕ × ℕ)) (files : Beyond) (heard : Heard)
         → Does (show_reply (seen (beside watch keys files.files files.lines) files.whole machine.now) (AUnit unit)) result
         (standing 0 (seen (beside watch keys files.files files.lines) files.whole machine.now)) S.tells
         (output (S.written out.old) heard) (output (S.written out.new) heard) }

@@ -11,7 +11,7 @@ ghost use Rattle.host_lines.specs.Traffic.{Answer as LineAnswer};
 ghost use Rattle.host_lines.specs.State.{LineState};
 ghost use Rattle.nova_machine.specs.Comes.{Output};
 ghost use Rattle.scp_commands.specs.declared.fault.CommandFault.TheVariants.{OutOfMemory};
-ghost use Rattle.scp_commands.specs.Live.{live_in, around};
+ghost use Rattle.scp_commands.specs.Live.{live_in, beyond};
 ghost use Rattle.scp_commands.specs.FileEffects.{lacks_unit, mode_of, first_place, positioned};
 ghost use Rattle.scp_commands.specs.FileEffects.{attach_reply, detach_reply, detach_all_reply, detach_one_or_all};
 ghost use Rattle.scp_parser.specs.Command.{Attach, Detach};
@@ -45,8 +45,8 @@ pub fn attach<U: Unit, F: Files>(
     ensures refused { IsRefused result
         → (session.new.machine ≡ session.old.machine) × (session.new.watch ≡ session.old.watch) }
     ensures told { (lines : LineState) (whole : List LineAnswer) (tells : Bool) (text : Output) → IsTrue F.tells
-        → Did (λ notes. attach_reply notes (live_in session.old (around (F.state files.old).files lines whole)) option unit name.now)
-        session.old.command result (live_in session.new (around (F.state files.new).files lines whole)) tells text text
+        → Did (λ notes. attach_reply notes (live_in session.old (beyond (F.state files.old).files lines whole)) option unit name.now)
+        session.old.command result (live_in session.new (beyond (F.state files.new).files lines whole)) tells text text
         (notes_said session.old.notes) (notes_said session.new.notes) }
     ensures undone { (text : List ℕ) → result ≡ Err OutOfMemory
         → IsUndone false None true session.old session.new text text (F.state files.old) (F.state files.new) }
@@ -105,8 +105,8 @@ pub fn detach_one_or_every<U: Unit, F: Files>(
     ensures refused { IsRefusal (Detach unit) result
         → (session.new.machine ≡ session.old.machine) × (session.new.watch ≡ session.old.watch) }
     ensures told { (lines : LineState) (whole : List LineAnswer) (tells : Bool) (text : Output)
-        → Did (λ notes. detach_one_or_all notes (live_in session.old (around (F.state files.old).files lines whole)) unit)
-        session.old.command result (live_in session.new (around (F.state files.new).files lines whole)) tells text text
+        → Did (λ notes. detach_one_or_all notes (live_in session.old (beyond (F.state files.old).files lines whole)) unit)
+        session.old.command result (live_in session.new (beyond (F.state files.new).files lines whole)) tells text text
         (notes_said session.old.notes) (notes_said session.new.notes) }
     ensures keeps { Keeps session.old.command session.new.machine.time F.tells result session.old.notes
         session.new.notes (F.state files.old) (F.state files.new) }
@@ -142,8 +142,8 @@ fn detach<U: Unit, F: Files>(
     ensures refused { IsRefused result
         → (session.new.machine ≡ session.old.machine) × (session.new.watch ≡ session.old.watch) }
     ensures told { (lines : LineState) (whole : List LineAnswer) (tells : Bool) (text : Output)
-        → Did (λ notes. detach_reply notes (live_in session.old (around (F.state files.old).files lines whole)) unit)
-        session.old.command result (live_in session.new (around (F.state files.new).files lines whole)) tells text text
+        → Did (λ notes. detach_reply notes (live_in session.old (beyond (F.state files.old).files lines whole)) unit)
+        session.old.command result (live_in session.new (beyond (F.state files.new).files lines whole)) tells text text
         (notes_said session.old.notes) (notes_said session.new.notes) }
     ensures keeps { Keeps session.old.command session.new.machine.time F.tells result session.old.notes
         session.new.notes (F.state files.old) (F.state files.new) }
@@ -187,8 +187,8 @@ fn detach_every<U: Unit, F: Files>(
     ensures refused { IsKept result
         → (session.new.machine ≡ session.old.machine) × (session.new.watch ≡ session.old.watch) }
     ensures told { (lines : LineState) (whole : List LineAnswer) (tells : Bool) (text : Output)
-        → Did (λ notes. detach_all_reply notes (live_in session.old (around (F.state files.old).files lines whole)))
-        session.old.command result (live_in session.new (around (F.state files.new).files lines whole)) tells text text
+        → Did (λ notes. detach_all_reply notes (live_in session.old (beyond (F.state files.old).files lines whole)))
+        session.old.command result (live_in session.new (beyond (F.state files.new).files lines whole)) tells text text
         (notes_said session.old.notes) (notes_said session.new.notes) }
     ensures keeps { Keeps session.old.command session.new.machine.time F.tells result session.old.notes
         session.new.notes (F.state files.old) (F.state files.new) }

@@ -2,7 +2,7 @@
 ghost use Rattle.std.specs.Prelude.{◌≡◌, ◌≤◌, ◌&&◌, nat_le, take, length, ℕ, Bool, List, Err};
 ghost use Rattle.nova_machine.specs.Comes.{Output};
 ghost use Rattle.scp_commands.specs.declared.fault.CommandFault.TheVariants.{OutOfMemory};
-ghost use Rattle.scp_commands.specs.Live.{standing, live_in, Around};
+ghost use Rattle.scp_commands.specs.Live.{standing, live_in, Beyond};
 ghost use Rattle.scp_commands.specs.RunEffects.{last_address};
 ghost use Rattle.scp_commands.specs.WatchEffects.{largest_count, text_of_quoted, added_answer, can_be_expected};
 ghost use Rattle.scp_commands.specs.WatchEffects.{break_reply, no_break_reply, expect_reply, no_expect_reply, send_reply, no_send_reply};
@@ -41,7 +41,7 @@ pub fn add_break<U: Unit>(
     requires { length actions.now ≤ 512 }
     ensures refused { IsRefused result
         → (session.new.machine ≡ session.old.machine) × (session.new.watch ≡ session.old.watch) }
-    ensures told { (files : Around) (tells : Bool) (text : Output)
+    ensures told { (files : Beyond) (tells : Bool) (text : Output)
         → Does (break_reply (live_in session.old files) at count actions.now) result
         (standing 0 (live_in session.new files)) tells text text }
     ensures unrefused { result ≡ Err OutOfMemory
@@ -92,7 +92,7 @@ pub fn remove_breaks<U: Unit>(
 ) -> Result<Next, CommandFault>
     ensures refused { IsRefused result
         → (session.new.machine ≡ session.old.machine) × (session.new.watch ≡ session.old.watch) }
-    ensures told { (files : Around) (tells : Bool) (text : Output)
+    ensures told { (files : Beyond) (tells : Bool) (text : Output)
         → Does (no_break_reply (live_in session.old files) at) result (standing 0 (live_in session.new files)) tells
         text text }
     ensures own { IsPlain result }
@@ -126,7 +126,7 @@ pub fn add_expect<U: Unit>(
     requires actions { length actions.now ≤ 512 }
     ensures refused { IsRefused result
         → (session.new.machine ≡ session.old.machine) × (session.new.watch ≡ session.old.watch) }
-    ensures told { (files : Around) (tells : Bool) (text : Output)
+    ensures told { (files : Beyond) (tells : Bool) (text : Output)
         → Does (expect_reply (live_in session.old files) count quoted.now actions.now) result
         (standing 0 (live_in session.new files)) tells text text }
     ensures unrefused { result ≡ Err OutOfMemory
@@ -169,7 +169,7 @@ fn read_text(quoted: &[u8], out: &mut [u8; LONGEST_LINE]) -> usize
 pub fn remove_expects<U: Unit>(session: &mut Session<U>) -> Result<Next, CommandFault>
     ensures refused { IsRefused result
         → (session.new.machine ≡ session.old.machine) × (session.new.watch ≡ session.old.watch) }
-    ensures told { (files : Around) (tells : Bool) (text : Output)
+    ensures told { (files : Beyond) (tells : Bool) (text : Output)
         → Does (no_expect_reply (live_in session.old files)) result (standing 0 (live_in session.new files)) tells
         text text }
     ensures own { IsPlain result }
@@ -195,7 +195,7 @@ pub fn send<U: Unit>(
     requires { length quoted.now ≤ 512 }
     ensures refused { IsRefused result
         → (session.new.machine ≡ session.old.machine) × (session.new.watch ≡ session.old.watch) }
-    ensures told { (files : Around) (tells : Bool) (text : Output)
+    ensures told { (files : Beyond) (tells : Bool) (text : Output)
         → Does (send_reply (live_in session.old files) after delay quoted.now) result
         (standing 0 (live_in session.new files)) tells text text }
     ensures own { IsPlain result }
@@ -223,7 +223,7 @@ pub fn send<U: Unit>(
 pub fn remove_sends<U: Unit>(session: &mut Session<U>) -> Result<Next, CommandFault>
     ensures refused { IsRefused result
         → (session.new.machine ≡ session.old.machine) × (session.new.watch ≡ session.old.watch) }
-    ensures told { (files : Around) (tells : Bool) (text : Output)
+    ensures told { (files : Beyond) (tells : Bool) (text : Output)
         → Does (no_send_reply (live_in session.old files)) result (standing 0 (live_in session.new files)) tells
         text text }
     ensures own { IsPlain result }

@@ -12,7 +12,7 @@ use Rattle.scp_commands.proofs.OwnFileLemmas.{whole-own}
 use Rattle.scp_commands.proofs.do_command.do_script.Goals as goal
 
 pub returns-clause-told : goal.returns-clause-told
-returns-clause-told g c = λ tells text told.
+returns-clause-told g c = λ lines whole tells text told.
     let s = c.session.inside in
     let before = g.F.Files.state c.args.files.now in
     let after = g.F.Files.state c.read_file-whole.new.files in

@@ -6,7 +6,7 @@ use Rattle.whole_files.specs.Writing.{write_act}
 use Rattle.binary_load.specs.Dump.{dumped}
 use Rattle.binary_load.proofs.DumpLemmas.{dumped-length}
 use Rattle.scp_commands.specs.declared.fault.CommandFault.TheVariants.{OutOfRange, OutOfMemory}
-use Rattle.scp_commands.specs.Live.{CommandState, live_in}
+use Rattle.scp_commands.specs.Live.{CommandState, live_in, beyond}
 use Rattle.scp_commands.specs.Reply.{refused}
 use Rattle.scp_commands.specs.TapeEffects.{can_dump, dump_of, dump_after, dump_reply}
 use Rattle.scp_commands.specs.WholeCalls.{write_calls}
@@ -16,7 +16,7 @@ use Rattle.scp_commands.proofs.TapeLemmas.{dump-fits, dump-refused}
 use Rattle.scp_commands.proofs.dump_command.dump_file.Goals as goal
 
 pub returns-then-not-can_dump-clause-told : goal.returns-then-not-can_dump-clause-told
-returns-then-not-can_dump-clause-told g c = λ tells text told.
+returns-then-not-can_dump-clause-told g c = λ lines whole tells text told.
     let s = c.args.session.now in
     let live = live_in s (g.F.Files.state c.args.files.now).files in
     did-of (λ own. dump_reply own live c.args.from c.args.to c.args.name.now) (refused OutOfRange live) s.command (Err OutOfRange) live tells
@@ -31,7 +31,7 @@ returns-then-not-can_dump-clause-keeps g c =
     keeps-none s.command s.machine.time g.F.Files.tells (Err OutOfRange) s.notes s.notes (g.F.Files.state c.args.files.now) refl tt
 
 pub returns-in-Ok-clause-told : goal.returns-in-Ok-clause-told
-returns-in-Ok-clause-told g c = λ tells text told.
+returns-in-Ok-clause-told g c = λ lines whole tells text told.
     let s = c.args.session.now in
     let new = c.write_tape.new.session in
     let files = (g.F.Files.state c.args.files.now).files in
@@ -43,13 +43,13 @@ returns-in-Ok-clause-told g c = λ tells text told.
     ∙ ap (λ (x : CommandState). dump_of x.machine c.args.from c.args.to) c.session.view_is in
     did-as (λ own. dump_reply own live c.args.from c.args.to name)
     (λ own. dump_after (write_act (write_calls subject.Dump s.machine.time own) name piece files) live) s.command c.write_tape.result
-    (live_in new (g.F.Files.state c.write_tape.new.files).files) tells text text (notes_said s.notes) (notes_said new.notes)
+    (live_in new (beyond (g.F.Files.state c.write_tape.new.files).files lines whole)) tells text text (notes_said s.notes) (notes_said new.notes)
     (λ own. dump-fits own live c.args.from c.args.to name piece
     (ap (λ (x : CommandState). can_dump x.machine c.args.from c.args.to) (sym c.session.view_is) ∙ sym c.can_dump.ensures.test ∙ c.if-not-can_dump.false) same)
     (c.write_tape.ensures.told tells text told)
 
 pub returns-in-Err-clause-told : goal.returns-in-Err-clause-told
-returns-in-Err-clause-told g c = λ tells text told.
+returns-in-Err-clause-told g c = λ lines whole tells text told.
     let s = c.args.session.now in
     let live = live_in s (g.F.Files.state c.args.files.now).files in
     did-want (λ own. dump_reply own live c.args.from c.args.to c.args.name.now) s.command live tells text text (notes_said s.notes)

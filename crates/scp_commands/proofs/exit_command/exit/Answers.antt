@@ -4,30 +4,30 @@ use Rattle.scp_commands.specs.Reply.{Answer}
 use Rattle.scp_commands.specs.ExitEffects.{exit_reply}
 use Rattle.scp_commands.specs.Doing.{Did}
 use Rattle.file_commands.specs.Notes.{notes_said}
-use Rattle.scp_commands.specs.Live.{live_in}
+use Rattle.scp_commands.specs.Live.{live_in, beyond}
 use Rattle.scp_commands.proofs.ExitLemmas.{exit-did, exit-refused}
 use Rattle.scp_commands.proofs.exit_command.exit.Goals as goal
 
 pub returns-in_default-clause-told : goal.returns-in_default-clause-told
-returns-in_default-clause-told g c = λ tells text.
+returns-in_default-clause-told g c = λ lines whole tells text.
     let before = c.args.session.now in
-    exit-refused c.args.status c.unwrap_or.result before.command (live_in before (g.F.Files.state c.args.files.now).files) tells text
+    exit-refused c.args.status c.unwrap_or.result before.command (live_in before (beyond (g.F.Files.state c.args.files.now).files lines whole)) tells text
     (notes_said before.notes) c.unwrap_or.ensures (omega arith)
 
 pub returns-in-Ok-clause-told : goal.returns-in-Ok-clause-told
-returns-in-Ok-clause-told g c = λ tells text.
+returns-in-Ok-clause-told g c = λ lines whole tells text.
     let after = c.detach_files.new in
     let before = c.args.session.now in
-    exit-did c.args.status c.unwrap_or.result before.command (live_in before (g.F.Files.state c.args.files.now).files)
-    (live_in after.self (g.F.Files.state after.files).files) None tells text (notes_said before.notes) (notes_said after.self.notes)
+    exit-did c.args.status c.unwrap_or.result before.command (live_in before (beyond (g.F.Files.state c.args.files.now).files lines whole))
+    (live_in after.self (beyond (g.F.Files.state after.files).files lines whole)) None tells text (notes_said before.notes) (notes_said after.self.notes)
     c.unwrap_or.ensures (omega arith) c.in-Ok.ensures.closes
 
 pub returns-in-Err-clause-told : goal.returns-in-Err-clause-told
-returns-in-Err-clause-told g c = λ tells text.
+returns-in-Err-clause-told g c = λ lines whole tells text.
     let after = c.detach_files.new in
     let before = c.args.session.now in
-    subst (λ (a : Answer). Did (λ (notes : List CommandNote). exit_reply notes (live_in before (g.F.Files.state c.args.files.now).files) c.args.status) before.command a
-    (live_in after.self (g.F.Files.state after.files).files) tells text text (notes_said before.notes) (notes_said after.self.notes)) (sym (ap Err c.of_detach.ensures))
-    (exit-did c.args.status c.unwrap_or.result before.command (live_in before (g.F.Files.state c.args.files.now).files)
-    (live_in after.self (g.F.Files.state after.files).files) (Some c.in-Err.fault.unit) tells text (notes_said before.notes) (notes_said after.self.notes)
+    subst (λ (a : Answer). Did (λ (notes : List CommandNote). exit_reply notes (live_in before (beyond (g.F.Files.state c.args.files.now).files lines whole)) c.args.status) before.command a
+    (live_in after.self (beyond (g.F.Files.state after.files).files lines whole)) tells text text (notes_said before.notes) (notes_said after.self.notes)) (sym (ap Err c.of_detach.ensures))
+    (exit-did c.args.status c.unwrap_or.result before.command (live_in before (beyond (g.F.Files.state c.args.files.now).files lines whole))
+    (live_in after.self (beyond (g.F.Files.state after.files).files lines whole)) (Some c.in-Err.fault.unit) tells text (notes_said before.notes) (notes_said after.self.notes)
     c.unwrap_or.ensures (omega arith) c.in-Err.ensures.closes)

@@ -15,7 +15,7 @@ use Rattle.scp_commands.proofs.OwnFileLemmas.{whole-own}
 use Rattle.scp_commands.proofs.load_command.load_file.Goals as goal
 
 pub returns-clause-told : goal.returns-clause-told
-returns-clause-told g c = λ tells text told.
+returns-clause-told g c = λ lines whole tells text told.
     let s = c.session.inside in
     let before = g.F.Files.state c.args.files.now in
     let after = g.F.Files.state c.read_file-whole.new.files in

@@ -12,7 +12,7 @@ use Rattle.scp_commands.proofs.AttachLemmas.{begins-within, attach-not-built, at
 use Rattle.scp_commands.proofs.unit_commands.attach.Goals as goal
 
 pub returns-then-lacks_unit-clause-told : goal.returns-then-lacks_unit-clause-told
-returns-then-lacks_unit-clause-told g c = λ tells text told.
+returns-then-lacks_unit-clause-told g c = λ lines whole tells text told.
     let s = c.session.inside in
     rw (← c.session.view_is)
     (attach-not-built s.command (seen (beside s.watch s.keys (g.F.Files.state c.args.files.now).files) s.machine) c.args.option c.args.unit c.args.name.now tells text
@@ -24,7 +24,7 @@ set_position-requires-clause-place g c =
     (begins-within c.session.inside.machine c.args.unit c.in-Ok.count (sym c.lacks_unit.ensures ∙ c.if-lacks_unit.false) c.in-Ok.ensures.bound)
 
 pub returns-in-Ok-clause-told : goal.returns-in-Ok-clause-told
-returns-in-Ok-clause-told g c = λ tells text told.
+returns-in-Ok-clause-told g c = λ lines whole tells text told.
     let s = c.session.inside in
     let before = g.F.Files.state c.args.files.now in
     let after = g.F.Files.state c.attach_unit.new.files in
@@ -45,7 +45,7 @@ returns-in-Ok-clause-told g c = λ tells text told.
     }))
 
 pub returns-in-Err-clause-told : goal.returns-in-Err-clause-told
-returns-in-Err-clause-told g c = λ tells text told.
+returns-in-Err-clause-told g c = λ lines whole tells text told.
     let s = c.session.inside in
     let before = g.F.Files.state c.args.files.now in
     let after = g.F.Files.state c.attach_unit.new.files in

@@ -11,13 +11,13 @@ use Rattle.scp_commands.proofs.unit_commands.detach.Goals as goal
 use Rattle.scp_commands.proofs.unit_commands.detach.Goals.{in-Ok, in-Err}
 
 pub returns-then-lacks_unit-clause-told : goal.returns-then-lacks_unit-clause-told
-returns-then-lacks_unit-clause-told g c = λ tells text.
+returns-then-lacks_unit-clause-told g c = λ lines whole tells text.
     rw (← c.session.view_is)
     (detach-not-built c.session.inside.command (seen (beside c.session.inside.watch c.session.inside.keys (g.F.Files.state c.args.files.now).files) c.session.inside.machine) c.args.unit tells text
     (notes_said c.session.inside.notes.items) (sym c.lacks_unit.ensures ∙ c.if-lacks_unit.true))
 
 pub returns-clause-told : goal.returns-clause-told
-returns-clause-told g c = λ tells text.
+returns-clause-told g c = λ lines whole tells text.
     let answered : c.match-detach_unit.result ≡ detach_result c.detach_unit.result = elim c.match-detach_unit.branch [
       | in-Ok w ↦ w.result-is ∙ sym (ap detach_result w.in-Ok.is)
       | in-Err w ↦ w.result-is ∙ ap Err w.of_detach.ensures ∙ sym (ap detach_result w.in-Err.is)

@@ -2,7 +2,7 @@ use Rattle.std.proofs.Common.{Some, None, Err, List, refl, ap, sym, subst}
 use Rattle.file_commands.specs.Notes.{notes_said}
 use Rattle.file_commands.specs.Notes.{CommandNote}
 use Rattle.scp_commands.specs.declared.next.Next.TheVariants.{Go}
-use Rattle.scp_commands.specs.Live.{live_in}
+use Rattle.scp_commands.specs.Live.{live_in, beyond}
 use Rattle.scp_commands.specs.Reply.{Answer}
 use Rattle.scp_commands.specs.FileEffects.{detach_all_reply}
 use Rattle.scp_commands.specs.Doing.{Did}
@@ -11,18 +11,18 @@ use Rattle.scp_commands.proofs.unit_commands.detach_every.Goals as goal
 
 pub returns-in-Ok-clause-told : goal.returns-in-Ok-clause-told
 unfolding detach_all_reply
-returns-in-Ok-clause-told g c = λ tells text.
+returns-in-Ok-clause-told g c = λ lines whole tells text.
     let after = c.detach_files.new in
     let before = c.args.session.now in
-    all-did Go before.command (live_in before (g.F.Files.state c.args.files.now).files) (live_in after.self (g.F.Files.state after.files).files) None tells text
+    all-did Go before.command (live_in before (beyond (g.F.Files.state c.args.files.now).files lines whole)) (live_in after.self (beyond (g.F.Files.state after.files).files lines whole)) None tells text
     (notes_said before.notes) (notes_said after.self.notes) refl (λ at reply both. both) c.in-Ok.ensures.closes
 
 pub returns-in-Err-clause-told : goal.returns-in-Err-clause-told
 unfolding detach_all_reply
-returns-in-Err-clause-told g c = λ tells text.
+returns-in-Err-clause-told g c = λ lines whole tells text.
     let after = c.detach_files.new in
     let before = c.args.session.now in
-    subst (λ (a : Answer). Did (λ (notes : List CommandNote). detach_all_reply notes (live_in before (g.F.Files.state c.args.files.now).files)) before.command a
-    (live_in after.self (g.F.Files.state after.files).files) tells text text (notes_said before.notes) (notes_said after.self.notes)) (sym (ap Err c.of_detach.ensures))
-    (all-did Go before.command (live_in before (g.F.Files.state c.args.files.now).files) (live_in after.self (g.F.Files.state after.files).files) (Some c.in-Err.fault.unit) tells text
+    subst (λ (a : Answer). Did (λ (notes : List CommandNote). detach_all_reply notes (live_in before (beyond (g.F.Files.state c.args.files.now).files lines whole))) before.command a
+    (live_in after.self (beyond (g.F.Files.state after.files).files lines whole)) tells text text (notes_said before.notes) (notes_said after.self.notes)) (sym (ap Err c.of_detach.ensures))
+    (all-did Go before.command (live_in before (beyond (g.F.Files.state c.args.files.now).files lines whole)) (live_in after.self (beyond (g.F.Files.state after.files).files lines whole)) (Some c.in-Err.fault.unit) tells text
     (notes_said before.notes) (notes_said after.self.notes) refl (λ at reply both. both) c.in-Err.ensures.closes)
