@@ -2,6 +2,7 @@
 use Rattle.std.proofs.Common.{◌≡◌, ℕ, Bool, List, [], Err, refl, sym, subst, ◌∙◌, append-nil}
 use Rattle.file_commands.specs.Notes.{CommandNote, Note}
 use Rattle.nova_machine.specs.Comes.{Output}
+use Rattle.nova_machine.proofs.Hearing.{heard-nothing}
 use Rattle.scp_commands.specs.declared.fault.CommandFault.{CommandFault}
 use Rattle.scp_commands.specs.declared.fault.CommandFault.TheVariants.{Console, OutOfMemory}
 use Rattle.scp_commands.specs.Live.{Live, standing}
@@ -22,7 +23,7 @@ pub refused-does : (fault : CommandFault) (live : Live) (tells : Bool) (text : O
     → Does (refused fault live) (Err fault) (standing 0 live) tells text text
 refused-does Console live tells text plain = absurd plain
 refused-does OutOfMemory live tells text plain = absurd plain
-refused-does fault live tells text plain = (refl, record { after_is = refl; written = λ _. sym (append-nil text) })
+refused-does fault live tells text plain = (refl, record { after_is = refl; written = λ _. sym (append-nil text.console); heard = sym (heard-nothing text.heard) })
 
 pub refused-did : (reply : List CommandNote → Reply) (fault : CommandFault) (number : ℕ) (live : Live) (tells : Bool) (text : Output) (notes : List Note)
     → IsPlain (Err fault) → ((own : List CommandNote) → reply own ≡ refused fault live) → Did reply number (Err fault) live tells text text notes notes
