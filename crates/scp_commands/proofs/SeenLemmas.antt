@@ -3,11 +3,13 @@ use Rattle.std.proofs.Common.{◌≡◌, ℕ, List, [], ◌∷◌, map, Option, 
 use Rattle.host_files.specs.Lists.{NamedBytes}
 use Rattle.host_lines.specs.Traffic.{Answer}
 use Rattle.host_lines.specs.State.{LineState}
+use Rattle.host_lines.specs.Told.{ahead_of}
+use Rattle.telnet_lines.specs.Joined.{seen_line}
 use Rattle.unit_files.specs.Attachments.{Attachment, Held, attachments_of}
 use Rattle.unit_files.specs.Buffer.{Buffer, AttachedFiles}
 use Rattle.expect_actions.specs.Watch.{WatchState}
 use Rattle.nova_machine.specs.Machine.{MachineState, attached_files, with_attached_files}
-use Rattle.nova_machine.specs.Seen.{unnumbered, erased, seen, beside, attached_in}
+use Rattle.nova_machine.specs.Seen.{unnumbered, erased, seen, Beside, beside, attached_in, with_machine}
 use Rattle.scp_commands.specs.Live.{numberless, with_attached}
 use Rattle.nova_machine.proofs.Serving.{erased-attached as attached-unnumbered}
 
@@ -44,3 +46,7 @@ seen-with watch keys after lines whole m a attached disk are holds =
 -- what is attached to a machine is given back to it
 pub same-with : (m : MachineState) (a held : AttachedFiles) → held ≡ attached_files m → a ≡ held → with_attached_files m a ≡ m
 same-with m a held was stays = ap (λ (x : AttachedFiles). with_attached_files m x) (stays ∙ was)
+
+-- a machine that has the lines of another one
+pub seen-machine : (b : Beside) (whole : List Answer) (m m' : MachineState) → m'.lines ≡ m.lines → seen b whole m' ≡ with_machine (seen b whole m) (erased m')
+seen-machine b whole m m' same = λ i. record { machine = erased m'; watch = b.watch; keys = b.keys; files = b.files; lines = map (seen_line b.lines) (same i); ahead = ahead_of b.lines.told whole }
