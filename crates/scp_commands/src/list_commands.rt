@@ -54,6 +54,7 @@ pub fn deposit_list<U: Unit>(
     ensures rest { session.new ≡ record session.old { machine = session.new.machine } }
     ensures slots { session.new.machine.slots ≡ session.old.machine.slots }
     ensures time { session.new.machine.time ≡ session.old.machine.time }
+    ensures terminals { session.new.machine.lines ≡ session.old.machine.lines }
 {
     fill_list(session, listing, value)
 }
@@ -76,6 +77,7 @@ fn fill_list<U: Unit>(
     ensures rest { session.new ≡ record session.old { machine = session.new.machine } }
     ensures slots { session.new.machine.slots ≡ session.old.machine.slots }
     ensures time { session.new.machine.time ≡ session.old.machine.time }
+    ensures terminals { session.new.machine.lines ≡ session.old.machine.lines }
 {
     if lacks_device(&session.machine, listing.device) {
         return Err(CommandFault::NotBuilt);

@@ -33,9 +33,7 @@ pub struct Session<U: Unit> {
 
 impl<U: Unit> Model for Session<U> {
     ghost use Rattle.std.specs.Prelude.{◌-◌, vec_len, vec_capacity};
-ghost use Rattle.host_lines.specs.Traffic.{Answer as LineAnswer};
-ghost use Rattle.host_lines.specs.State.{LineState};
-    ghost use Rattle.scp_commands.specs.Live.{CommandState, beyond};
+    ghost use Rattle.scp_commands.specs.Live.{CommandState};
 
     ghost Value = { CommandState };
 
@@ -51,7 +49,9 @@ ghost use Rattle.host_lines.specs.State.{LineState};
 }
 
 impl<U: Unit> Session<U> {
-    ghost use Rattle.scp_commands.specs.Live.{CommandState, live_in};
+    ghost use Rattle.host_lines.specs.Traffic.{Answer as LineAnswer};
+    ghost use Rattle.host_lines.specs.State.{LineState};
+    ghost use Rattle.scp_commands.specs.Live.{CommandState, live_in, beyond};
     ghost use Rattle.scp_commands.specs.FileEffects.{kept_answer};
     ghost use Rattle.file_commands.specs.AllUnits.{keeper, IsUnwritten};
     ghost use Rattle.file_commands.specs.OwnFiles.{AreOwn};
