@@ -84,7 +84,7 @@ fair-if false live x y first second = second
 fair-goes : {W : CommandFault → Type 0} (before live : Live) → Fair false W before (goes live)
 fair-goes before live = record { reads = refl; exit = tt; untouched = λ fault h. absurd (cc); all = λ fault h none. absurd (cc) }
 
-fair-says : {W : CommandFault → Type 0} (text : Output) (before live : Live) → Fair false W before (says text live)
+fair-says : {W : CommandFault → Type 0} (text : List ℕ) (before live : Live) → Fair false W before (says text live)
 fair-says text before live = record { reads = refl; exit = tt; untouched = λ fault h. absurd (cc); all = λ fault h none. absurd (cc) }
 
 fair-refused : {W : CommandFault → Type 0} (fault : CommandFault) (live : Live) → Fair false W live (refused fault live)
@@ -318,7 +318,7 @@ fair-no_send live = fair-goes live _
 
 -- ---- ECHO and ASSERT
 
-fair-echo : {W : CommandFault → Type 0} (live : Live) (text : Output) → Fair false W live (echo_reply live text)
+fair-echo : {W : CommandFault → Type 0} (live : Live) (text : List ℕ) → Fair false W live (echo_reply live text)
 unfolding echo_reply
 fair-echo live text = fair-says _ live live
 

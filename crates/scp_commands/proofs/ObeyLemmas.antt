@@ -25,7 +25,7 @@ use Rattle.nova_machine.specs.Comes.{Output}
 use Rattle.scp_commands.specs.declared.next.Next.TheVariants.{Go, Goto, Ran}
 use Rattle.scp_commands.specs.declared.fault.CommandFault.TheVariants.{Console, OutOfMemory, NoFile, FileTooLong, FileFailed, NotBuilt}
 use Rattle.scp_commands.specs.declared.fault.CommandFault.TheVariants.{LoadTruncated, LoadSum, PastMemory}
-use Rattle.scp_commands.specs.Live.{Live, Standing, standing}
+use Rattle.scp_commands.specs.Live.{Live, Standing, standing, Beyond, beyond}
 use Rattle.scp_commands.specs.Reply.{Answer, Reply, goes, refused}
 use Rattle.scp_commands.specs.RunEffects.{reset_reply}
 use Rattle.scp_commands.specs.ListEffects.{lacks_device, examine_after, examine_reply, handed, deposit_after, deposit_reply}
@@ -42,7 +42,36 @@ use Rattle.scp_commands.specs.Nature.{Telling, Nothing, Attached, Nature, of_nat
 use Rattle.file_commands.specs.declared.stamp.Stamp.{Stamp}
 use Rattle.scp_commands.specs.Refusals.{IsMeasured}
 use Rattle.scp_commands.specs.Doing.{Does, Did, FileCause, Keeps, MayWant, AttachNote}
+use Rattle.host_files.specs.Lists.{NamedBytes}
+use Rattle.host_lines.specs.Traffic.{Gone}
+use Rattle.host_lines.specs.Told.{Heard, Named, Records}
+use Rattle.host_lines.specs.State.{LineState}
+use Rattle.telnet_lines.specs.Line.{LineOf}
+use Rattle.nova_machine.specs.LineChanges.{LinesGoOn}
+use Rattle.nova_machine.proofs.LineSteps.{lines-stay}
+use Rattle.nova_machine.proofs.Hearing.{heard-nothing}
+use Rattle.scp_commands.proofs.ReplyLemmas.{goes-said}
 use Rattle.scp_commands.proofs.DidLemmas.{did-of}
+
+-- files without any ports beside them, and callers that have heard nothing
+abbrev pub alone : List NamedBytes → Beyond
+alone files =
+    beyond files (record {
+      listens = λ port. false;
+      stands = λ conn. false;
+      faults = 0;
+      given = λ conn. false;
+      peers = λ conn. Gone;
+      told = Records [];
+      sent = Named [];
+    }) []
+
+abbrev pub unheard : Heard
+unheard = Named []
+
+-- a command does nothing to the lines
+pub lines-kept : (tells : Bool) (s : LineState) (before after : List (LineOf ℕ)) → after ≡ before → LinesGoOn tells s before s after
+lines-kept tells s before after same = subst (λ (ls : List (LineOf ℕ)). LinesGoOn tells s before s ls) (sym same) (lines-stay tells s before)
 
 -- a request that keeps no note
 pub plain-did : (limit number : ℕ) (live new : Live) (request other : Request) (r : Reply) (answer : Answer) (tells : Bool) (before after : Output) (notes notes' : List Note)
@@ -81,7 +110,7 @@ dump-named line v from to file r name read is named =
     asks ∙ ap (Dump from to) (sym (named ∙ ap file_name_of asks))
 
 -- a BREAK, an EXPECT and a SEND, by the texts that they give
-pub break-given : (line : List ℕ) (v : Verb) (at count : ℕ) (actions : Piece) (r : Request) (text : Output) → r ≡ request_of line v → v ≡ verb.Break at count actions
+pub break-given : (line : List ℕ) (v : Verb) (at count : ℕ) (actions : Piece) (r : Request) (text : List ℕ) → r ≡ request_of line v → v ≡ verb.Break at count actions
     → text ≡ given_text r → r ≡ Break at count text
 break-given line v at count actions r text read is gives =
     let asks = read ∙ ap (request_of line) is in
@@ -93,7 +122,7 @@ expect-given line v count quoted actions r text behind read is quotes gives =
     let asks = read ∙ ap (request_of line) is in
     asks ∙ ap (λ (t : List ℕ). Expect count t (piece_of line actions)) (sym (quotes ∙ ap given_quoted asks)) ∙ ap (Expect count text) (sym (gives ∙ ap given_text asks))
 
-pub send-given : (line : List ℕ) (v : Verb) (after delay : ℕ) (quoted : Piece) (r : Request) (text : Output) → r ≡ request_of line v → v ≡ verb.Send after delay quoted
+pub send-given : (line : List ℕ) (v : Verb) (after delay : ℕ) (quoted : Piece) (r : Request) (text : List ℕ) → r ≡ request_of line v → v ≡ verb.Send after delay quoted
     → text ≡ given_quoted r → r ≡ Send after delay text
 send-given line v after delay quoted r text read is quotes =
     let asks = read ∙ ap (request_of line) is in
@@ -101,10 +130,10 @@ send-given line v after delay quoted r text read is quotes =
 
 -- nothing is done
 pub goes-does : (live : Live) (tells : Bool) (text : Output) → Does (goes live) (Ok Go) (standing 0 live) tells text text
-goes-does live tells text = (refl, record { after_is = refl; written = λ _. sym (append-nil text) })
+goes-does live tells text = (refl, goes-said live tells text)
 
 pub goto-does : (live : Live) (tells : Bool) (text : Output) → Does (goto_reply live) (Ok Goto) (standing 0 live) tells text text
-goto-does live tells text = (refl, record { after_is = refl; written = λ _. sym (append-nil text) })
+goto-does live tells text = (refl, record { after_is = refl; written = λ _. sym (append-nil text.console); heard = sym (heard-nothing text.heard) })
 
 -- ---- an answer that speaks of no file
 
@@ -220,7 +249,7 @@ pub set_size-no-file : (live : Live) (k : ℕ) → IsOfNoFile (set_size_reply li
 unfolding set_size_reply
 set_size-no-file live k = no-file-if (fits_size k) _ _ tt tt
 
-pub echo-no-file : (live : Live) (text : Output) → IsOfNoFile (echo_reply live text).answer
+pub echo-no-file : (live : Live) (text : List ℕ) → IsOfNoFile (echo_reply live text).answer
 unfolding echo_reply
 echo-no-file live text = tt
 

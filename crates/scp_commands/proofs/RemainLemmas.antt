@@ -1,12 +1,11 @@
 -- What remains where nothing was changed, for every command.
 use Rattle.std.proofs.Common.{◌≡◌, ℕ, Bool, true, false, IsTrue, List, [], Option, Some, None, refl, ap, sym, ◌∙◌, subst, inl, append-nil}
-use Rattle.host_files.specs.Lists.{NamedBytes}
 use Rattle.host_files.specs.State.{FileState}
 use Rattle.file_commands.specs.declared.note.Subject.{Subject}
 use Rattle.file_commands.specs.declared.note.FaultNote.{FaultNote}
 use Rattle.expect_actions.specs.Watch.{WatchState}
 use Rattle.nova_machine.specs.Machine.{MachineState}
-use Rattle.scp_commands.specs.Live.{Live, CommandState, live_in}
+use Rattle.scp_commands.specs.Live.{Live, CommandState, Beyond, beyond, live_in}
 use Rattle.scp_commands.specs.Remains.{MachineRemains, Remains, AreLeft}
 use Rattle.scp_commands.specs.Doing.{NotesRemain, IsUndone}
 
@@ -26,13 +25,13 @@ all-left flushes old new left = record { machine = machine-remains flushes old.m
 pub leaves : (flushes : Bool) (old new : CommandState) → new.machine ≡ old.machine → new.watch ≡ old.watch → AreLeft flushes old new
 leaves flushes old new machine watch = record { machine = machine-remains flushes old.machine new.machine machine; watch = watch }
 
-pub same-live : (old new : CommandState) (files files' : List NamedBytes) → new.machine ≡ old.machine → new.watch ≡ old.watch → new.keys ≡ old.keys
+pub same-live : (old new : CommandState) (files files' : Beyond) → new.machine ≡ old.machine → new.watch ≡ old.watch → new.keys ≡ old.keys
     → files' ≡ files → live_in new files' ≡ live_in old files
 same-live old new files files' machine watch keys same =
     ap (λ (m : MachineState). live_in (record new { machine = m }) files') machine
     ∙ ap (λ (w : WatchState). live_in (record new { machine = old.machine; watch = w }) files') watch
     ∙ ap (λ (k : List (ℕ × ℕ)). live_in (record old { keys = k }) files') keys
-    ∙ ap (λ (l : List NamedBytes). live_in old l) same
+    ∙ ap (λ (l : Beyond). live_in old l) same
 
 pub notes-remain : (reads : Option Subject) (number time : ℕ) (notes notes' : List FaultNote) → notes' ≡ notes → NotesRemain reads number time notes notes'
 notes-remain None number time notes notes' same = same
@@ -45,7 +44,10 @@ undone-none flushes reads says old new text files machine watch keys notes = rec
   left = leaves flushes old new machine watch;
   notes = notes-remain reads old.command old.machine.time old.notes new.notes notes;
   written = refl;
-  live = λ told. remains flushes (live_in old files.files) (live_in new files.files) (same-live old new files.files files.files machine watch keys refl);
+  lines = ap (λ (m : MachineState). m.lines) machine;
+  live = λ told lines whole.
+      let around = beyond files.files lines whole in
+      remains flushes (live_in old around) (live_in new around) (same-live old new around around machine watch keys refl);
 }
 
 -- the same of a command that does not flush, where less is said
@@ -55,5 +57,7 @@ undone-as flushes reads now says less old new before after files files' same few
   left = all-left flushes old new undone.left;
   notes = subst (λ (r : Option Subject). NotesRemain r old.command old.machine.time old.notes new.notes) (sym same) undone.notes;
   written = undone.written;
-  live = λ told. remains flushes (live_in old files.files) (live_in new files'.files) (undone.live (fewer told));
+  lines = undone.lines;
+  live = λ told lines whole.
+      remains flushes (live_in old (beyond files.files lines whole)) (live_in new (beyond files'.files lines whole)) (undone.live (fewer told) lines whole);
 }

@@ -1,14 +1,16 @@
 -- What stands before a run, and RESET.
-use Rattle.std.proofs.Common.{◌≡◌, ◌∙◌, ℕ, ◌&&◌, ◌^◌, nat_le, Bool, true, false, List, Option, Some, None, Ok, refl, ap, sym, subst, if◌then◌else◌}
+use Rattle.std.proofs.Common.{map, ◌≡◌, ◌∙◌, ℕ, ◌&&◌, ◌^◌, nat_le, Bool, true, false, List, Option, Some, None, Ok, refl, ap, sym, subst, if◌then◌else◌}
 use Rattle.host_files.specs.Lists.{NamedBytes}
 use Rattle.file_commands.specs.Notes.{CommandNote, Note, notes_said}
 use Rattle.expect_actions.specs.Watch.{WatchState}
+use Rattle.telnet_lines.specs.Line.{LineOf}
+use Rattle.telnet_lines.specs.Joined.{seen_line}
 use Rattle.nova_machine.specs.Machine.{MachineState, reset_machine, reset_devices}
 use Rattle.nova_machine.specs.Seen.{erased, seen, beside}
 use Rattle.nova_machine.specs.Comes.{Output}
 use Rattle.scp_commands.specs.declared.next.Next.TheVariants.{Go}
 use Rattle.scp_commands.specs.declared.fault.CommandFault.TheVariants.{OutOfRange}
-use Rattle.scp_commands.specs.Live.{Live, standing, CommandState, live_in, Beyond}
+use Rattle.scp_commands.specs.Live.{Live, with_machine, standing, CommandState, live_in, Beyond}
 use Rattle.scp_commands.specs.Reply.{Answer, goes, refused}
 use Rattle.scp_commands.specs.RunEffects.{running, address_fits, starting_at, reset_where, started, run_from, stepped, step_of, reset_reply}
 use Rattle.scp_commands.specs.Doing.{Does, Did}
@@ -39,13 +41,30 @@ starting-slots (Some a) m = refl
 pub started-slots : (resets : Bool) (address : Option ℕ) (m : MachineState) → (starting_at address (reset_where resets m)).slots ≡ m.slots
 started-slots resets address m = starting-slots address (reset_where resets m) ∙ reset-slots resets m
 
+reset-lines : (resets : Bool) (m : MachineState) → (reset_where resets m).lines ≡ m.lines
+unfolding reset_machine reset_devices
+reset-lines true m = refl
+reset-lines false m = refl
+
+starting-lines : (address : Option ℕ) (m : MachineState) → (starting_at address m).lines ≡ m.lines
+starting-lines None m = refl
+starting-lines (Some a) m = refl
+
+-- and so do the lines
+pub started-lines : (resets : Bool) (address : Option ℕ) (m : MachineState) → (starting_at address (reset_where resets m)).lines ≡ m.lines
+started-lines resets address m = starting-lines address (reset_where resets m) ∙ reset-lines resets m
+
 -- RESET prints nothing
 pub reset-does : (watch : WatchState) (keys : List (ℕ × ℕ)) (files : Beyond) (m new : MachineState) (tells : Bool) (text : Output) → new ≡ reset_machine m
     → Does (reset_reply (seen (beside watch keys files.files files.lines) files.whole m)) (Ok Go) (standing 0 (seen (beside watch keys files.files files.lines) files.whole new)) tells text text
 unfolding reset_reply
 reset-does watch keys files m new tells text is =
-    subst (λ (x : MachineState). Does (goes (record { machine = x; watch = watch; keys = keys; files = files })) (Ok Go) (standing 0 (seen (beside watch keys files.files files.lines) files.whole new)) tells text text)
-    (ap erased is ∙ sym (erased-reset_machine m)) (refl, goes-said (seen (beside watch keys files.files files.lines) files.whole new) tells text)
+    let s = seen (beside watch keys files.files files.lines) files.whole m in
+    let left : seen (beside watch keys files.files files.lines) files.whole new ≡ with_machine s (reset_machine (erased m)) =
+    ap (λ (x : MachineState). seen (beside watch keys files.files files.lines) files.whole x) is
+    ∙ ap (λ (ls : List (LineOf ℕ)). record s { machine = erased (reset_machine m); lines = map (seen_line files.lines) ls }) (reset-lines true m)
+    ∙ ap (λ (x : MachineState). with_machine s x) (sym (erased-reset_machine m)) in
+    subst (λ (x : Live). Does (reset_reply s) (Ok Go) (standing 0 x) tells text text) (sym left) (refl, goes-said (with_machine s (reset_machine (erased m))) tells text)
 
 -- ---- an address, and a count, that is out of range
 
@@ -65,8 +84,10 @@ run_from-runs : (limit : ℕ) (resets : Bool) (address : Option ℕ) (watch : Wa
 unfolding run_from
 run_from-runs limit resets address watch keys files m fits given =
     ap (λ (b : Bool). if b then running limit given (started resets address (seen (beside watch keys files.files files.lines) files.whole m)) else refused OutOfRange (seen (beside watch keys files.files files.lines) files.whole m)) fits
-    ∙ ap (λ (x : MachineState). running limit given (record { machine = starting_at address x; watch = watch; keys = keys; files = files })) (erased-reset_where resets m)
-    ∙ ap (λ (x : MachineState). running limit given (record { machine = x; watch = watch; keys = keys; files = files })) (erased-starting address (reset_where resets m))
+    ∙ ap (λ (x : MachineState). running limit given (record (seen (beside watch keys files.files files.lines) files.whole m) { machine = starting_at address x })) (erased-reset_where resets m)
+    ∙ ap (λ (x : MachineState). running limit given (record (seen (beside watch keys files.files files.lines) files.whole m) { machine = x })) (erased-starting address (reset_where resets m))
+    ∙ ap (λ (ls : List (LineOf ℕ)). running limit given (record (seen (beside watch keys files.files files.lines) files.whole (starting_at address (reset_where resets m))) { lines = map (seen_line files.lines) ls }))
+    (sym (started-lines resets address m))
 
 -- a run of the machine that was readied
 pub started-did : (old at : CommandState) (resets : Bool) (address : Option ℕ) (files : Beyond) (answer : Answer) (new : Live) (tells : Bool) (before after : Output) (notes' : List Note)

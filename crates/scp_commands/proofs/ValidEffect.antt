@@ -82,7 +82,7 @@ pub record Stands (live : Live) (reply : Reply) : Type 0 where
 
 -- another machine at the same time, with other watch tables and files
 changed-live : (live : Live) (m : MachineState) (w : WatchState) (files : List NamedBytes) → ValidLive live → ValidMachine m → m.taken ≡ live.machine.taken → m.time ≡ live.machine.time → ValidWatch w → AreFiles files
-    → ValidLive (record { machine = m; watch = w; keys = live.keys; files = files })
+    → ValidLive (record live { machine = m; watch = w; files = files })
 changed-live live m w files is machine taken time watch all = record {
   valid = record {
     machine = machine;
@@ -90,6 +90,8 @@ changed-live live m w files is machine taken time watch all = record {
     taken = subst (λ (n : ℕ). n ≤ length live.keys) (sym taken) is.valid.taken;
     keys = is.valid.keys;
     files = all;
+    lines = is.valid.lines;
+    ahead = is.valid.ahead;
   };
   time = subst (λ (n : ℕ). n ≤ last_time) (sym time) is.time;
 }
@@ -109,7 +111,7 @@ stands-if false live x y first second = second refl
 stands-goes : (before live : Live) → ValidLive live → live.machine.slots ≡ before.machine.slots → live.machine.disk ≡ before.machine.disk → Stands before (goes live)
 stands-goes before live is slots disk = record { valid = record { after = is; made = λ at h. absurd h; script = tt }; copy = copy-same before live slots disk }
 
-stands-says : (text : Output) (live : Live) → ValidLive live → Stands live (says text live)
+stands-says : (text : List ℕ) (live : Live) → ValidLive live → Stands live (says text live)
 stands-says text live is = record {
   valid = record {
     after = is;
@@ -407,7 +409,7 @@ stands-show live shown.Send is = stands-says _ live is
 stands-show live shown.Version is = stands-says _ live is
 stands-show live (shown.Unit unit) is = stands-if (lacks_unit live.machine unit) live _ _ (λ _. stands-refused _ live is) (λ _. stands-says _ live is)
 
-stands-echo : (live : Live) (text : Output) → ValidLive live → Stands live (echo_reply live text)
+stands-echo : (live : Live) (text : List ℕ) → ValidLive live → Stands live (echo_reply live text)
 unfolding echo_reply
 stands-echo live text is = stands-says _ live is
 

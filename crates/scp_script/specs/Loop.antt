@@ -1,5 +1,5 @@
--- What the calls of the loop over texts come to, for a console that had and has these bytes and an input that let so many
--- reads through.
+-- What the calls of the loop over texts come to, for a console that had and has these bytes, callers of lines that had and
+-- have heard these, and an input that let so many reads through.
 use Rattle.std.specs.Prelude.{◌≡◌, ◌≢◌, ◌⊎◌, ℕ, ◌+◌, ◌^◌, ◌<◌, ◌≤◌, Bool, IsTrue, List, [], ◌++◌, length, Option, Some, None, Ok}
 use Rattle.std.specs.List.{AllByRecursion}
 use Rattle.fault_counts.specs.Faults.{raised}
@@ -8,8 +8,8 @@ use Rattle.host_files.specs.Streams.{AddsPart}
 use Rattle.observations.specs.declared.exit_status.ExitStatus.{ExitStatus}
 use Rattle.observations.specs.declared.exit_status.ExitStatus.TheVariants as exits
 use Rattle.observations.specs.Status.{number_of}
-use Rattle.observations.specs.Observations.{Trace, text_of, reads_of}
-use Rattle.observations.specs.Cut.{ends, cut_trace}
+use Rattle.observations.specs.Observations.{Trace, text_of, reads_of, sent_of}
+use Rattle.observations.specs.Cut.{ends, cut_trace, sent_until}
 use Rattle.file_commands.specs.AllUnits.{IsUnwritten}
 use Rattle.scp_parser.specs.Command.{Request, Do}
 use Rattle.scp_commands.specs.declared.next.Next.{Next}
@@ -17,14 +17,15 @@ use Rattle.scp_commands.specs.declared.next.Next.TheVariants.{Exit as ExitNext}
 use Rattle.scp_commands.specs.declared.next.Next.TheVariants as next
 use Rattle.scp_commands.specs.declared.fault.CommandFault.{CommandFault}
 use Rattle.scp_commands.specs.declared.fault.CommandFault.TheVariants as fault
-use Rattle.host_files.specs.Lists.{NamedBytes}
 use Rattle.host_files.specs.State.{FileState}
 use Rattle.unit_files.specs.Attachments.{Held}
 use Rattle.file_commands.specs.declared.note.Subject.{Subject}
 use Rattle.file_commands.specs.declared.note.FaultNote.{FaultNote}
 use Rattle.file_commands.specs.Notes.{CommandNote, Note, numbered, Follow}
 use Rattle.file_commands.specs.Counts.{AreCounted}
-use Rattle.scp_commands.specs.Live.{Live, Standing, CommandState, live_in}
+use Rattle.scp_commands.specs.Live.{Live, Standing, CommandState, Beyond, live_in}
+use Rattle.nova_machine.specs.Comes.{Output}
+use Rattle.nova_machine.specs.LineChanges.{heard_with}
 use Rattle.scp_commands.specs.Reply.{Answer, Reply}
 use Rattle.scp_commands.specs.FaultText.{fault_text}
 use Rattle.scp_commands.specs.Effect.{Asked, asked}
@@ -49,9 +50,9 @@ abbrev pub coming : HeldTexts → Texts
 coming t = texts_of t.actions t.scripts
 
 -- the session that the loop stands in, to which these failing calls are still to come
-abbrev pub session_of : CommandState → List NamedBytes → CommandLoop → List ℕ → List Note → Session
-session_of state files l input notes = record {
-  live = live_in state files;
+abbrev pub session_of : CommandState → Beyond → CommandLoop → List ℕ → List Note → Session
+session_of state beyond l input notes = record {
+  live = live_in state beyond;
   notes = notes;
   spent = state.command;
   limit = state.limit;
@@ -71,7 +72,7 @@ exit_of answer = None
 -- What a text comes to on the console: it was done and what it prints was printed, or a byte of that was refused. Where
 -- the session goes on, these texts are still to come, which are those behind it. Where memory ran out, another clause says
 -- what stands.
-abbrev pub IsAnswer : Reply → (Answer → WatchState → Texts) → Progress → Texts → Standing → Bool → List ℕ → List ℕ → Type 0
+abbrev pub IsAnswer : Reply → (Answer → WatchState → Texts) → Progress → Texts → Standing → Bool → Output → Output → Type 0
 IsAnswer reply behind GoesOn texts at tells before after =
     (exit_of reply.answer ≡ None) × (texts ≡ behind reply.answer reply.after.live.watch) × IsSaid reply at tells before after
 IsAnswer reply behind (IsOver (Exit status)) texts at tells before after = (exit_of reply.answer ≡ Some status) × IsSaid reply at tells before after
@@ -84,7 +85,7 @@ IsAnswer reply behind (IsOver Input) texts at tells before after = ⊥
 
 -- A text was answered where these were still to come, with the notes that were kept in it: it has used all of them and no
 -- others, whatever comes behind.
-pub record Answers (limit : ℕ) (old : Live) (texts : Texts) (what : Asked) (number : ℕ) (result : Progress) (new : Live) (texts' : Texts) (tells : Bool) (before after : List ℕ) (notes notes' : List Note) : Type 0 where
+pub record Answers (limit : ℕ) (old : Live) (texts : Texts) (what : Asked) (number : ℕ) (result : Progress) (new : Live) (texts' : Texts) (tells : Bool) (before after : Output) (notes notes' : List Note) : Type 0 where
   pub own : List CommandNote
   pub kept : notes' ≡ notes ++ numbered number own
   pub answers : (behind : List CommandNote) → ComeBehind new behind
@@ -101,9 +102,9 @@ HasRoom scripts other = Unit {0}
 
 -- what comes to be of a command that was done, has left the watch tables so, and has that to say, where its bytes are
 -- written
-abbrev pub Follows : WatchState → Next → Request → Progress → Texts → Texts → Bool → List ℕ → List ℕ → Type 0
+abbrev pub Follows : WatchState → Next → Request → Progress → Texts → Texts → Bool → Output → Output → Type 0
 Follows watch next request result texts texts' tells written after =
-    (reply : Reply) (at : Standing) (before : List ℕ) → at.live.watch ≡ watch → HasRoom texts.scripts next → Does reply (Ok next) at tells before written
+    (reply : Reply) (at : Standing) (before : Output) → at.live.watch ≡ watch → HasRoom texts.scripts next → Does reply (Ok next) at tells before written
     → IsAnswer (with_complaint texts.actions (settled texts.scripts (Ok request) reply)) (texts_behind texts (Ok request)) result texts' at tells before after
 
 -- the text of a fault was printed, or a byte of it was refused
@@ -165,7 +166,7 @@ AreClosings (Some who) number notes =
 
 -- Where memory ran out at a text, nothing was done, but that one that flushes the disk may have done so, and one that
 -- was reading a file has closed it, with these notes.
-abbrev pub IsShort : Asked → ℕ → Progress → Live → Live → List Note → List ℕ → List ℕ → Type 0
+abbrev pub IsShort : Asked → ℕ → Progress → Live → Live → List Note → Output → Output → Type 0
 IsShort what number (IsOver OutOfMemory) old new own before after =
     Remains (flushes_of what) old new × AreClosings (reader_of what) number own × (after ≡ before)
 IsShort what number result old new own before after = Unit {0}
@@ -180,14 +181,15 @@ abbrev pub LetsThrough : Finish → ℕ → ℕ → ℕ → Type 0
 LetsThrough Input gives made all = gives ≡ made
 LetsThrough finish gives made all = gives ≡ all
 
--- The trace comes to that end on the console, which had and has these bytes.
-pub record EndsAs (t : Trace State) (status gives made : ℕ) (before after : List ℕ) (state : State) : Type 0 where
+-- The trace comes to that end on the console, which had and has these bytes; up to it was sent what callers have heard.
+pub record EndsAs (t : Trace State) (status gives made : ℕ) (before after : Output) (state : State) : Type 0 where
   pub taken : List ℕ
-  pub written : after ≡ before ++ taken
+  pub written : after.console ≡ before.console ++ taken
   pub outcome : cut_trace (length taken) gives t ≡ ends status taken made state
+  pub heard : after.heard ≡ heard_with before.heard (sent_until (length taken) gives t.made)
 
 -- the session is over
-pub record Finishes (old : Session) (finish : Finish) (new : Session) (before after : List ℕ) : Type 0 where
+pub record Finishes (old : Session) (finish : Finish) (new : Session) (before after : Output) : Type 0 where
   pub gives : ℕ
   pub made : ℕ
   pub lets_through : LetsThrough finish gives made (reads_left old.open_ old.input)
@@ -196,9 +198,10 @@ pub record Finishes (old : Session) (finish : Finish) (new : Session) (before af
   pub named : NamesEnd finish (course old).end
 
 -- the session goes on behind its next text, all of whose observations were made; the actions of a stop are let go of then
-pub record GoesPast (old new : Session) (before after : List ℕ) : Type 0 where
+pub record GoesPast (old new : Session) (before after : Output) : Type 0 where
   pub next : (step old).next ≡ Going (rested new)
-  pub written : after ≡ before ++ text_of (step old).made
+  pub written : after.console ≡ before.console ++ text_of (step old).made
+  pub heard : after.heard ≡ heard_with before.heard (sent_of (step old).made)
   pub reads : AreRead (reads_of (step old).made) old.open_ old.input new.open_ new.input
 
 -- the notes that are left where memory ran out at the next text, or before it
@@ -208,20 +211,21 @@ AreShort (Comes text behind) notes = AreClosings (reader_of (asked text)) behind
 
 -- A session for which memory ran out before its next text, or at it: nothing of the text was done, but that one that
 -- flushes the disk may have done so, and one that was reading a file has closed it; the notes that are left are of that
--- closing. Of what is printed before the text is done comes all or nothing.
-pub record StopsShort (old : Session) (live : Live) (before after : List ℕ) : Type 0 where
+-- closing. Of what is printed before the text is done comes all or nothing, and nothing was sent.
+pub record StopsShort (old : Session) (live : Live) (before after : Output) : Type 0 where
   pub live_is : Remains (flushes_next old) old.live live
   pub notes : AreShort (upcoming old) old.notes
-  pub written : (after ≡ before) ⊎ (after ≡ before ++ text_of (asking old))
+  pub written : (after.console ≡ before.console) ⊎ (after.console ≡ before.console ++ text_of (asking old))
+  pub heard : after.heard ≡ before.heard
 
 -- the same, with the reads that were made of its line
-pub record RunsOut (old new : Session) (before after : List ℕ) : Type 0 where
+pub record RunsOut (old new : Session) (before after : Output) : Type 0 where
   pub short : StopsShort old new.live before after
   pub made : ℕ
   pub few : made ≤ reads_of (asking old)
   pub reads : AreRead made old.open_ old.input new.open_ new.input
 
-abbrev pub Progresses : Session → Progress → Session → List ℕ → List ℕ → Type 0
+abbrev pub Progresses : Session → Progress → Session → Output → Output → Type 0
 Progresses old GoesOn new before after = GoesPast old new before after
 Progresses old (IsOver OutOfMemory) new before after = RunsOut old new before after
 Progresses old (IsOver finish) new before after = Finishes old finish new before after
@@ -247,7 +251,7 @@ NumbersSuffice spent budget = spent + budget < 2 ^ 64
 
 -- The next text was done, with the notes that were kept in it: with these before any that may follow, the session goes on to
 -- where those are left.
-pub record Stepped (old : List Note → Session) (p : Progress) (new : List Note → Session) (before after : List ℕ) (notes notes' : List Note) : Type 0 where
+pub record Stepped (old : List Note → Session) (p : Progress) (new : List Note → Session) (before after : Output) (notes notes' : List Note) : Type 0 where
   pub own : List Note
   pub kept : notes' ≡ notes ++ own
   pub first : (more : List Note) → MayCome p (new []).spent (new []).live more → MayFollow (old []).spent (old []).live (own ++ more)

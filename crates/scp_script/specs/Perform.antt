@@ -1,8 +1,9 @@
 -- What a whole session comes to, from its opening on.
 use Rattle.std.specs.Prelude.{◌≡◌, ℕ, ◌≤◌, Bool, true, List, [], ◌++◌, ◌+◌, drop}
-use Rattle.host_files.specs.Lists.{NamedBytes}
 use Rattle.file_commands.specs.Notes.{Note}
-use Rattle.scp_commands.specs.Live.{Live, CommandState, live_in}
+use Rattle.scp_commands.specs.Live.{Live, CommandState, Beyond, live_in}
+use Rattle.nova_machine.specs.Comes.{Output}
+use Rattle.nova_machine.specs.LineChanges.{heard_with}
 use Rattle.scp_script.specs.declared.perform_session.Opening.{Opening}
 use Rattle.scp_script.specs.declared.progress.Finish.{Finish}
 use Rattle.scp_script.specs.declared.progress.Finish.TheVariants.{OutOfMemory}
@@ -11,12 +12,12 @@ use Rattle.scp_script.specs.Scripts.{Script, first_script}
 use Rattle.scp_script.specs.Actions.{texts_of}
 use Rattle.scp_script.specs.Session.{State, Session, spent_more, asking, course, trace, ComesTo}
 use Rattle.scp_script.specs.Loop.{EndsAs, LetsThrough, NamesEnd, status_of, StopsShort, MayFollow}
-use Rattle.observations.specs.Observations.{Observation, text_of, reads_of}
+use Rattle.observations.specs.Observations.{Observation, text_of, reads_of, sent_of}
 
 -- a session before its first text, with those scripts and no action, in which these calls on files fail
-unfoldable pub beginning_with : CommandState → List NamedBytes → Bool → Bool → ℕ → List Script → List ℕ → List Note → Session
-beginning_with state files reads prompt budget scripts input notes = record {
-  live = live_in state files;
+unfoldable pub beginning_with : CommandState → Beyond → Bool → Bool → ℕ → List Script → List ℕ → List Note → Session
+beginning_with state beyond reads prompt budget scripts input notes = record {
+  live = live_in state beyond;
   notes = notes;
   spent = state.command;
   limit = state.limit;
@@ -29,15 +30,15 @@ beginning_with state files reads prompt budget scripts input notes = record {
 }
 
 -- the same of an opening
-unfoldable pub beginning : CommandState → List NamedBytes → Opening → List ℕ → List Note → Session
-beginning state files opening input notes = beginning_with state files opening.reads opening.prompt opening.budget (first_script opening.script opening.arguments.items) input notes
+unfoldable pub beginning : CommandState → Beyond → Opening → List ℕ → List Note → Session
+beginning state beyond opening input notes = beginning_with state beyond opening.reads opening.prompt opening.budget (first_script opening.script opening.arguments.items) input notes
 
 -- so many units of the budget were spent, and the number of the last command rose by them, up to where it stands still
 abbrev pub SpendsOf : ℕ → ℕ → ℕ → Type 0
 SpendsOf budget spent now = (paid : ℕ) × (paid ≤ budget) × (now ≡ spent_more spent paid)
 
 -- The whole session, which took the first bytes of the input and left the others. It has used every note.
-pub record IsSession (start : Session) (finish : Finish) (live : Live) (left before after : List ℕ) : Type 0 where
+pub record IsSession (start : Session) (finish : Finish) (live : Live) (left : List ℕ) (before after : Output) : Type 0 where
   pub gives : ℕ
   pub made : ℕ
   pub lets_through : LetsThrough finish gives made (reads_left start.open_ start.input)
@@ -47,24 +48,25 @@ pub record IsSession (start : Session) (finish : Finish) (live : Live) (left bef
 
 -- A session for which memory ran out: it had come to a session in so many texts, and that one stopped short, so that what
 -- the commands that were done have left stands.
-pub record RunsShort (start : Session) (live : Live) (left before after : List ℕ) : Type 0 where
+pub record RunsShort (start : Session) (live : Live) (left : List ℕ) (before after : Output) : Type 0 where
   pub count : ℕ
   pub done : List (Observation State)
   pub reached : Session
   pub comes : ComesTo count start done reached
-  pub mid : List ℕ
-  pub written : mid ≡ before ++ text_of done
+  pub mid : Output
+  pub written : mid.console ≡ before.console ++ text_of done
+  pub heard : mid.heard ≡ heard_with before.heard (sent_of done)
   pub made : ℕ
   pub few : made ≤ reads_of (asking reached)
   pub rest : left ≡ drop (reads_of done + made) start.input
   pub short : StopsShort reached live mid after
 
-abbrev pub IsPerformed : Session → Finish → Live → List ℕ → List ℕ → List ℕ → Type 0
+abbrev pub IsPerformed : Session → Finish → Live → List ℕ → Output → Output → Type 0
 IsPerformed start OutOfMemory live left before after = RunsShort start live left before after
 IsPerformed start finish live left before after = IsSession start finish live left before after
 
 -- The session with exactly the notes that were kept.
-pub record Performed (start : List Note → Session) (finish : Finish) (live : Live) (left before after : List ℕ) (notes notes' : List Note) : Type 0 where
+pub record Performed (start : List Note → Session) (finish : Finish) (live : Live) (left : List ℕ) (before after : Output) (notes notes' : List Note) : Type 0 where
   pub own : List Note
   pub kept : notes' ≡ notes ++ own
   pub first : MayFollow (start []).spent (start []).live own

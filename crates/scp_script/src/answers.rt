@@ -1,10 +1,13 @@
 ghost use Rattle.std.specs.Prelude.{◌≡◌, ◌≢◌, ◌≤◌, ◌++◌, List, length, IsTrue, true, false, Ok, Err, IfOk};
-ghost use Rattle.host_files.specs.Lists.{NamedBytes};
 ghost use Rattle.host_files.specs.State.{Opened};
 ghost use Rattle.unit_files.specs.Open.{AllOpen, Around};
 ghost use Rattle.file_commands.specs.OwnFiles.{AreOwn};
 ghost use Rattle.file_commands.specs.Notes.{CommandNote, Note, notes_said};
-ghost use Rattle.scp_commands.specs.Live.{live_in, standing};
+ghost use Rattle.host_lines.specs.Traffic.{Answer as LineAnswer};
+ghost use Rattle.host_lines.specs.Told.{Heard, IsFirst, record_in};
+ghost use Rattle.nova_machine.specs.Comes.{output};
+ghost use Rattle.nova_machine.specs.LineChanges.{AreLinesTold, LinesGoOn};
+ghost use Rattle.scp_commands.specs.Live.{live_in, standing, Beyond, beyond};
 ghost use Rattle.scp_commands.specs.Effect.{Asked, asked};
 ghost use Rattle.scp_commands.specs.Doing.{IsExitAnswer};
 ghost use Rattle.scp_commands.specs.FaultText.{fault_text};
@@ -24,6 +27,7 @@ use crate::script_stack::ScriptStack;
 use crate::texts::Texts;
 use expect_actions::{Full, Watch};
 use host_files::{Failed, Files, Sink};
+use host_lines::Lines;
 use nova_machine::Stop;
 use scp_commands::{CommandFault, Next, Session, execute, is_built};
 use scp_parser::{Command, Verb, read_command};
@@ -32,23 +36,30 @@ use std::alloc::{AllocError, Global};
 use unit_trait::Unit;
 
 /// Does the command of a text, or answers its fault, and says whether the session goes on.
-pub fn answer<U: Unit, F: Files, S: Sink>(
+pub fn answer<U: Unit, F: Files, L: Lines, S: Sink>(
     alloc: Global,
     session: &mut Session<U>,
     line: &[u8],
     texts: &mut Texts,
     files: &mut F,
+    lines: &mut L,
     out: &mut S,
 ) -> Progress
     requires open { AllOpen session.old.machine.slots (F.state files.old).opened }
-    ensures told { IsTrue F.tells → Answers session.old.limit (live_in session.old (F.state files.old).files)
-        (coming texts.old) (asked line.now) session.old.command result (live_in session.new (F.state files.new).files)
-        (coming texts.new) S.tells (S.written out.old) (S.written out.new) (notes_said session.old.notes)
+    ensures told { IsTrue F.tells → AreLinesTold L.tells (L.state lines.old) session.old.machine.lines
+        → (whole : List LineAnswer) → IsFirst (record_in (L.state lines.new).told) whole
+        → Answers session.old.limit (live_in session.old (beyond (F.state files.old).files (L.state lines.old) whole))
+        (coming texts.old) (asked line.now) session.old.command result (live_in session.new (beyond (F.state files.new).files (L.state lines.new) whole))
+        (coming texts.new) S.tells (output (S.written out.old) (L.state lines.old).sent)
+        (output (S.written out.new) (L.state lines.new).sent) (notes_said session.old.notes)
         (notes_said session.new.notes) }
-    ensures short { IsTrue F.tells → (own : List Note)
+    ensures short { IsTrue F.tells → (whole : List LineAnswer) (own : List Note)
         → notes_said session.new.notes ≡ notes_said session.old.notes ++ own
-        → IsShort (asked line.now) session.old.command result (live_in session.old (F.state files.old).files)
-        (live_in session.new (F.state files.new).files) own (S.written out.old) (S.written out.new) }
+        → IsShort (asked line.now) session.old.command result (live_in session.old (beyond (F.state files.old).files (L.state lines.old) whole))
+        (live_in session.new (beyond (F.state files.new).files (L.state lines.new) whole)) own (output (S.written out.old) (L.state lines.old).sent)
+        (output (S.written out.new) (L.state lines.new).sent) }
+    ensures lines { LinesGoOn L.tells (L.state lines.old) session.old.machine.lines (L.state lines.new)
+        session.new.machine.lines }
     ensures counts { AnswerCounts result (S.fault_count out.old) (S.fault_count out.new) }
     ensures exit { HasExitStatus result }
     ensures command { session.new.command ≡ session.old.command }
@@ -66,30 +77,37 @@ pub fn answer<U: Unit, F: Files, S: Sink>(
     }
     let mut command = Command::new();
     match read_command(line, &mut command) {
-        Ok(()) => obey(alloc, session, &command, texts, files, out),
+        Ok(()) => obey(alloc, session, &command, texts, files, lines, out),
         Err(fault) => deny_line(session, CommandFault::of_line(fault), texts, out),
     }
 }
 
 /// Does a command, and prints the text of its fault where it is refused. A DO is refused where no more scripts can be
 /// open; the memory for its arguments is taken before its file is read.
-fn obey<U: Unit, F: Files, S: Sink>(
+fn obey<U: Unit, F: Files, L: Lines, S: Sink>(
     alloc: Global,
     session: &mut Session<U>,
     command: &Command,
     texts: &mut Texts,
     files: &mut F,
+    lines: &mut L,
     out: &mut S,
 ) -> Progress
     requires open { AllOpen session.old.machine.slots (F.state files.old).opened }
-    ensures told { IsTrue F.tells → Answers session.old.limit (live_in session.old (F.state files.old).files)
-        (coming texts.old) (Ok command.now) session.old.command result (live_in session.new (F.state files.new).files)
-        (coming texts.new) S.tells (S.written out.old) (S.written out.new) (notes_said session.old.notes)
+    ensures told { IsTrue F.tells → AreLinesTold L.tells (L.state lines.old) session.old.machine.lines
+        → (whole : List LineAnswer) → IsFirst (record_in (L.state lines.new).told) whole
+        → Answers session.old.limit (live_in session.old (beyond (F.state files.old).files (L.state lines.old) whole))
+        (coming texts.old) (Ok command.now) session.old.command result (live_in session.new (beyond (F.state files.new).files (L.state lines.new) whole))
+        (coming texts.new) S.tells (output (S.written out.old) (L.state lines.old).sent)
+        (output (S.written out.new) (L.state lines.new).sent) (notes_said session.old.notes)
         (notes_said session.new.notes) }
-    ensures short { IsTrue F.tells → (own : List Note)
+    ensures short { IsTrue F.tells → (whole : List LineAnswer) (own : List Note)
         → notes_said session.new.notes ≡ notes_said session.old.notes ++ own
-        → IsShort (Ok command.now) session.old.command result (live_in session.old (F.state files.old).files)
-        (live_in session.new (F.state files.new).files) own (S.written out.old) (S.written out.new) }
+        → IsShort (Ok command.now) session.old.command result (live_in session.old (beyond (F.state files.old).files (L.state lines.old) whole))
+        (live_in session.new (beyond (F.state files.new).files (L.state lines.new) whole)) own (output (S.written out.old) (L.state lines.old).sent)
+        (output (S.written out.new) (L.state lines.new).sent) }
+    ensures lines { LinesGoOn L.tells (L.state lines.old) session.old.machine.lines (L.state lines.new)
+        session.new.machine.lines }
     ensures counts { AnswerCounts result (S.fault_count out.old) (S.fault_count out.new) }
     ensures exit { HasExitStatus result }
     ensures command { session.new.command ≡ session.old.command }
@@ -108,7 +126,7 @@ fn obey<U: Unit, F: Files, S: Sink>(
     let Ok(arguments) = script_arguments(alloc, command) else {
         return Progress::IsOver(Finish::OutOfMemory);
     };
-    let next = match execute(alloc, session, command, files, out) {
+    let next = match execute(alloc, session, command, files, lines, out) {
         Ok(next) => next,
         Err(fault) => return refuse(fault, texts, out),
     };
@@ -160,8 +178,8 @@ fn follow<S: Sink>(
 ) -> Progress
     requires arguments { arguments ≡ arguments_of (Ok command.now) }
     requires exit { IsExitAnswer (Ok next) }
-    ensures told { Follows watch.now next command.now result (coming texts.old) (coming texts.new) S.tells (S.written out.old)
-        (S.written out.new) }
+    ensures told { (heard : Heard) → Follows watch.now next command.now result (coming texts.old) (coming texts.new) S.tells
+        (output (S.written out.old) heard) (output (S.written out.new) heard) }
     ensures counts { AnswerCounts result (S.fault_count out.old) (S.fault_count out.new) }
     ensures exit { HasExitStatus result }
     ensures memory { result ≢ IsOver OutOfMemory }
@@ -253,11 +271,11 @@ pub fn deny_line<U: Unit, S: Sink>(
     texts: &mut Texts,
     out: &mut S,
 ) -> Progress
-    ensures told { (files : List NamedBytes) (notes : List CommandNote) (what : Asked)
+    ensures told { (files : Beyond) (heard : Heard) (notes : List CommandNote) (what : Asked)
         → checked texts.old.scripts what ≡ Err fault
         → IsAnswer (text_reply session.now.limit (coming texts.old) notes (live_in session.now files) what)
         (texts_behind (coming texts.old) what) result (coming texts.new) (standing 0 (live_in session.now files)) S.tells
-        (S.written out.old) (S.written out.new) }
+        (output (S.written out.old) heard) (output (S.written out.new) heard) }
     ensures memory { result ≢ IsOver OutOfMemory }
     ensures counts { AnswerCounts result (S.fault_count out.old) (S.fault_count out.new) }
     ensures exit { HasExitStatus result }

@@ -5,6 +5,11 @@ ghost use Rattle.host_files.specs.Streams.{Puts};
 ghost use Rattle.unit_files.specs.Open.{AllOpen, Around};
 ghost use Rattle.file_commands.specs.OwnFiles.{AreOwn};
 ghost use Rattle.file_commands.specs.Notes.{notes_said};
+ghost use Rattle.host_lines.specs.Traffic.{Answer as LineAnswer};
+ghost use Rattle.host_lines.specs.Told.{IsFirst, record_in};
+ghost use Rattle.nova_machine.specs.Comes.{output};
+ghost use Rattle.nova_machine.specs.LineChanges.{AreLinesTold, LinesGoOn};
+ghost use Rattle.scp_commands.specs.Live.{beyond};
 ghost use Rattle.scp_script.specs.Reading.{IsReading, Pays};
 ghost use Rattle.scp_script.specs.Scripts.{cost_of_line};
 ghost use Rattle.scp_script.specs.Session.{prompt_text, spent_more};
@@ -16,6 +21,7 @@ use crate::line_reader::Reading;
 use crate::open_script::OpenScript;
 use crate::progress::{CommandLoop, Finish, Progress};
 use host_files::{Failed, Files, Sink, Source, put_all};
+use host_lines::Lines;
 use scp_commands::{CommandFault, Session};
 use scp_parser::ParseFault;
 use std::alloc::Global;
@@ -26,20 +32,25 @@ const TOO_LONG: CommandFault = CommandFault::Parse(ParseFault::TooLong);
 
 /// Does the next text of a session: the action that waits first, or else the next line of the innermost script that has
 /// one, or else one of the input, where that is read. First it takes memory for the notes of a command.
-pub fn next_line<U: Unit, C: Source, F: Files, S: Sink>(
+pub fn next_line<U: Unit, C: Source, F: Files, L: Lines, S: Sink>(
     alloc: Global,
     session: &mut Session<U>,
     lines: &mut CommandLoop,
     input: &mut C,
     files: &mut F,
+    ports: &mut L,
     out: &mut S,
 ) -> Progress
     requires open { AllOpen session.old.machine.slots (F.state files.old).opened }
     ensures told { NumbersSuffice session.old.command lines.old.budget → (lines.old.reads ≡ true → IsTrue C.tells)
-        → IsTrue F.tells → IsTrue S.tells
-        → Stepped (session_of session.old (F.state files.old).files lines.old (C.left input.old)) result
-        (session_of session.new (F.state files.new).files lines.new (C.left input.new)) (S.written out.old)
-        (S.written out.new) (notes_said session.old.notes) (notes_said session.new.notes) }
+        → IsTrue F.tells
+        → AreLinesTold L.tells (L.state ports.old) session.old.machine.lines → IsTrue S.tells
+        → (whole : List LineAnswer) → IsFirst (record_in (L.state ports.new).told) whole
+        → Stepped (session_of session.old (beyond (F.state files.old).files (L.state ports.old) whole) lines.old (C.left input.old)) result
+        (session_of session.new (beyond (F.state files.new).files (L.state ports.new) whole) lines.new (C.left input.new)) (output (S.written out.old) (L.state ports.old).sent)
+        (output (S.written out.new) (L.state ports.new).sent) (notes_said session.old.notes) (notes_said session.new.notes) }
+    ensures ports { LinesGoOn L.tells (L.state ports.old) session.old.machine.lines (L.state ports.new)
+        session.new.machine.lines }
     ensures cause { ProgressCause result (S.fault_count out.old) (S.fault_count out.new) (C.fault_count input.old)
         (C.fault_count input.new) }
     ensures pays { PaysFor lines.old.budget result lines.new.budget }
@@ -61,29 +72,35 @@ pub fn next_line<U: Unit, C: Source, F: Files, S: Sink>(
         return Progress::IsOver(Finish::OutOfMemory);
     }
     if !lines.texts.actions.is_empty() {
-        return action(alloc, session, lines, files, out);
+        return action(alloc, session, lines, files, ports, out);
     }
     match lines.texts.scripts.pop_open() {
-        Some(script) => script_line(alloc, session, lines, script, files, out),
-        None if lines.reads => input_line(alloc, session, lines, input, files, out),
+        Some(script) => script_line(alloc, session, lines, script, files, ports, out),
+        None if lines.reads => input_line(alloc, session, lines, input, files, ports, out),
         None => Progress::IsOver(Finish::Exit(0)),
     }
 }
 
 /// Does the action that waits first: it costs a unit, and nothing is printed before it.
-fn action<U: Unit, F: Files, S: Sink>(
+fn action<U: Unit, F: Files, L: Lines, S: Sink>(
     alloc: Global,
     session: &mut Session<U>,
     lines: &mut CommandLoop,
     files: &mut F,
+    ports: &mut L,
     out: &mut S,
 ) -> Progress
     requires some { lines.old.texts.actions ≢ [] }
     requires open { AllOpen session.old.machine.slots (F.state files.old).opened }
-    ensures told { NumbersSuffice session.old.command lines.old.budget → IsTrue F.tells → IsTrue S.tells
-        → (input : List ℕ) → Stepped (session_of session.old (F.state files.old).files lines.old input) result
-        (session_of session.new (F.state files.new).files lines.new input) (S.written out.old) (S.written out.new)
+    ensures told { NumbersSuffice session.old.command lines.old.budget → IsTrue F.tells
+        → AreLinesTold L.tells (L.state ports.old) session.old.machine.lines → IsTrue S.tells
+        → (whole : List LineAnswer) → IsFirst (record_in (L.state ports.new).told) whole
+        → (input : List ℕ) → Stepped (session_of session.old (beyond (F.state files.old).files (L.state ports.old) whole) lines.old input) result
+        (session_of session.new (beyond (F.state files.new).files (L.state ports.new) whole) lines.new input) (output (S.written out.old) (L.state ports.old).sent)
+        (output (S.written out.new) (L.state ports.new).sent)
         (notes_said session.old.notes) (notes_said session.new.notes) }
+    ensures ports { LinesGoOn L.tells (L.state ports.old) session.old.machine.lines (L.state ports.new)
+        session.new.machine.lines }
     ensures cause { (source : ℕ) → ProgressCause result (S.fault_count out.old) (S.fault_count out.new) source source }
     ensures pays { PaysFor lines.old.budget result lines.new.budget }
     ensures command { session.new.command
@@ -110,6 +127,7 @@ fn action<U: Unit, F: Files, S: Sink>(
             &text[..length],
             &mut lines.texts,
             files,
+            ports,
             out,
         ),
         None => Progress::GoesOn,
@@ -118,12 +136,13 @@ fn action<U: Unit, F: Files, S: Sink>(
 
 /// Does the next line of the input, where no script is open and there is room for notes: the prompt comes first where
 /// it is on, then the reading, and the command. Where the input has ended, all files are closed.
-fn input_line<U: Unit, C: Source, F: Files, S: Sink>(
+fn input_line<U: Unit, C: Source, F: Files, L: Lines, S: Sink>(
     alloc: Global,
     session: &mut Session<U>,
     lines: &mut CommandLoop,
     input: &mut C,
     files: &mut F,
+    ports: &mut L,
     out: &mut S,
 ) -> Progress
     requires actions { lines.old.texts.actions ≡ [] }
@@ -132,10 +151,13 @@ fn input_line<U: Unit, C: Source, F: Files, S: Sink>(
     requires room { 16 ≤ session.old.spare }
     requires open { AllOpen session.old.machine.slots (F.state files.old).opened }
     ensures told { NumbersSuffice session.old.command lines.old.budget → IsTrue C.tells → IsTrue F.tells
-        → IsTrue S.tells
-        → Stepped (session_of session.old (F.state files.old).files lines.old (C.left input.old)) result
-        (session_of session.new (F.state files.new).files lines.new (C.left input.new)) (S.written out.old)
-        (S.written out.new) (notes_said session.old.notes) (notes_said session.new.notes) }
+        → AreLinesTold L.tells (L.state ports.old) session.old.machine.lines → IsTrue S.tells
+        → (whole : List LineAnswer) → IsFirst (record_in (L.state ports.new).told) whole
+        → Stepped (session_of session.old (beyond (F.state files.old).files (L.state ports.old) whole) lines.old (C.left input.old)) result
+        (session_of session.new (beyond (F.state files.new).files (L.state ports.new) whole) lines.new (C.left input.new)) (output (S.written out.old) (L.state ports.old).sent)
+        (output (S.written out.new) (L.state ports.new).sent) (notes_said session.old.notes) (notes_said session.new.notes) }
+    ensures ports { LinesGoOn L.tells (L.state ports.old) session.old.machine.lines (L.state ports.new)
+        session.new.machine.lines }
     ensures cause { ProgressCause result (S.fault_count out.old) (S.fault_count out.new) (C.fault_count input.old)
         (C.fault_count input.new) }
     ensures pays { PaysFor lines.old.budget result lines.new.budget }
@@ -163,6 +185,7 @@ fn input_line<U: Unit, C: Source, F: Files, S: Sink>(
             lines.reader.line(),
             &mut lines.texts,
             files,
+            ports,
             out,
         ),
         Reading::TooLong => deny_line(session, TOO_LONG, &mut lines.texts, out),
@@ -179,23 +202,29 @@ fn input_line<U: Unit, C: Source, F: Files, S: Sink>(
 
 /// Does the next line of a script, within which none is open: it is paid for, and then printed where the script's lines
 /// are printed.
-fn script_line<U: Unit, F: Files, S: Sink>(
+fn script_line<U: Unit, F: Files, L: Lines, S: Sink>(
     alloc: Global,
     session: &mut Session<U>,
     lines: &mut CommandLoop,
     mut script: OpenScript,
     files: &mut F,
+    ports: &mut L,
     out: &mut S,
 ) -> Progress
     requires line { script.place < length script.text }
     requires actions { lines.old.texts.actions ≡ [] }
     requires scripts { length lines.old.texts.scripts < 10 }
     requires open { AllOpen session.old.machine.slots (F.state files.old).opened }
-    ensures told { NumbersSuffice session.old.command lines.old.budget → IsTrue F.tells → IsTrue S.tells
-        → (input : List ℕ) → Stepped (session_of session.old (F.state files.old).files
+    ensures told { NumbersSuffice session.old.command lines.old.budget → IsTrue F.tells
+        → AreLinesTold L.tells (L.state ports.old) session.old.machine.lines → IsTrue S.tells
+        → (whole : List LineAnswer) → IsFirst (record_in (L.state ports.new).told) whole
+        → (input : List ℕ) → Stepped (session_of session.old (beyond (F.state files.old).files (L.state ports.old) whole)
         (record lines.old { texts = record lines.old.texts { scripts = script ∷ lines.old.texts.scripts } }) input) result
-        (session_of session.new (F.state files.new).files lines.new input) (S.written out.old) (S.written out.new)
+        (session_of session.new (beyond (F.state files.new).files (L.state ports.new) whole) lines.new input) (output (S.written out.old) (L.state ports.old).sent)
+        (output (S.written out.new) (L.state ports.new).sent)
         (notes_said session.old.notes) (notes_said session.new.notes) }
+    ensures ports { LinesGoOn L.tells (L.state ports.old) session.old.machine.lines (L.state ports.new)
+        session.new.machine.lines }
     ensures cause { (source : ℕ) → ProgressCause result (S.fault_count out.old) (S.fault_count out.new) source source }
     ensures pays { PaysFor lines.old.budget result lines.new.budget }
     ensures command { session.new.command
@@ -227,6 +256,7 @@ fn script_line<U: Unit, F: Files, S: Sink>(
             text.as_slice(),
             &mut lines.texts,
             files,
+            ports,
             out,
         ),
         None => deny_line(session, TOO_LONG, &mut lines.texts, out),

@@ -4,7 +4,11 @@ ghost use Rattle.unit_files.specs.Open.{AllOpen, Around};
 ghost use Rattle.expect_actions.specs.Watch.{forgotten};
 ghost use Rattle.file_commands.specs.OwnFiles.{AreOwn};
 ghost use Rattle.file_commands.specs.Notes.{notes_said};
-ghost use Rattle.scp_commands.specs.Live.{live_in};
+ghost use Rattle.host_lines.specs.Traffic.{Answer as LineAnswer};
+ghost use Rattle.host_lines.specs.Told.{IsFirst, record_in};
+ghost use Rattle.nova_machine.specs.Comes.{output};
+ghost use Rattle.nova_machine.specs.LineChanges.{AreLinesTold, LinesGoOn};
+ghost use Rattle.scp_commands.specs.Live.{live_in, beyond};
 ghost use Rattle.scp_script.specs.Loop.{NumbersSuffice, FinishCause, AreKept, KeptCause};
 ghost use Rattle.scp_script.specs.Scripts.{first_script};
 ghost use Rattle.scp_script.specs.Perform.{beginning, SpendsOf, Performed};
@@ -15,6 +19,7 @@ use crate::open_script::OpenScript;
 use crate::progress::{CommandLoop, Finish, Progress};
 use crate::texts::Texts;
 use host_files::{Files, Sink, Source};
+use host_lines::Lines;
 use scp_commands::{DoFile, ScriptText, Session};
 use script_text::Arguments;
 use std::alloc::{AllocError, Global};
@@ -43,21 +48,27 @@ pub struct Opening {
 ///
 /// The notes that it keeps are those of the calls on files that failed in it, one for each, but for the closing that a
 /// refused ATTACH makes. Memory is taken for those of a command before its line is read.
-pub fn perform<U: Unit, C: Source, F: Files, S: Sink>(
+pub fn perform<U: Unit, C: Source, F: Files, L: Lines, S: Sink>(
     alloc: Global,
     session: &mut Session<U>,
     opening: &Opening,
     input: &mut C,
     files: &mut F,
+    lines: &mut L,
     out: &mut S,
 ) -> Finish
     requires open { AllOpen session.old.machine.slots (F.state files.old).opened }
     ensures told { NumbersSuffice session.old.command opening.now.budget → (opening.now.reads ≡ true → IsTrue C.tells)
-        → IsTrue F.tells → IsTrue S.tells
+        → IsTrue F.tells → AreLinesTold L.tells (L.state lines.old) session.old.machine.lines → IsTrue S.tells
+        → (whole : List LineAnswer) → IsFirst (record_in (L.state lines.new).told) whole
         → Performed
-        (λ notes. beginning session.old (F.state files.old).files opening.now (C.left input.old) notes) result
-        (live_in session.new (F.state files.new).files) (C.left input.new) (S.written out.old) (S.written out.new)
+        (λ notes. beginning session.old (beyond (F.state files.old).files (L.state lines.old) whole) opening.now
+        (C.left input.old) notes) result (live_in session.new (beyond (F.state files.new).files (L.state lines.new) whole))
+        (C.left input.new) (output (S.written out.old) (L.state lines.old).sent)
+        (output (S.written out.new) (L.state lines.new).sent)
         (notes_said session.old.notes) (notes_said session.new.notes) }
+    ensures lines { LinesGoOn L.tells (L.state lines.old) session.old.machine.lines (L.state lines.new)
+        session.new.machine.lines }
     ensures command { SpendsOf opening.now.budget session.old.command session.new.command }
     ensures cause { FinishCause result (S.fault_count out.old) (S.fault_count out.new) (C.fault_count input.old)
         (C.fault_count input.new) }
@@ -72,11 +83,11 @@ pub fn perform<U: Unit, C: Source, F: Files, S: Sink>(
     ensures around { (base : List Opened) → Around session.old.machine.slots base (F.state files.old).opened
         → Around session.new.machine.slots base (F.state files.new).opened }
 {
-    let Ok(mut lines) = begin(alloc, opening) else {
+    let Ok(mut texts) = begin(alloc, opening) else {
         return Finish::OutOfMemory;
     };
     'lines: loop {
-        match next_line(alloc, session, &mut lines, input, files, out) {
+        match next_line(alloc, session, &mut texts, input, files, lines, out) {
             // The actions of a stop wait now, or were refused.
             Progress::GoesOn => rest(session),
             Progress::IsOver(finish) => return finish,

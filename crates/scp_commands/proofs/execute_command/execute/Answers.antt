@@ -1,17 +1,19 @@
 use Rattle.std.proofs.Common.{ap}
 use Rattle.file_commands.specs.Notes.{notes_said}
-use Rattle.scp_commands.specs.Live.{CommandState, live_in}
+use Rattle.scp_commands.specs.Live.{CommandState, live_in, beyond}
+use Rattle.nova_machine.specs.Comes.{output}
 use Rattle.scp_commands.specs.Effect.{effect}
 use Rattle.scp_commands.proofs.DidLemmas.{did-want}
-use Rattle.scp_commands.proofs.ObeyLemmas.{may-want, none-measured}
+use Rattle.scp_commands.proofs.ObeyLemmas.{lines-kept, may-want, none-measured}
 use Rattle.scp_commands.proofs.execute_command.execute.Goals as goal
 
 pub returns-in-Err-clause-told : goal.returns-in-Err-clause-told
-returns-in-Err-clause-told g c = λ told.
+returns-in-Err-clause-told g c = λ told whole first.
     let s = c.args.session.now in
     let new = c.take_room.new.self in
-    let files = (g.F.Files.state c.args.files.now).files in
-    let text = g.S.Sink.written c.args.out.now in
+    let ports = g.L.Lines.state c.args.lines.now in
+    let files = beyond (g.F.Files.state c.args.files.now).files ports whole in
+    let text = output (g.S.Sink.written c.args.out.now) ports.sent in
     did-want (λ own. effect s.limit own (live_in s files) c.args.command.now) s.command (live_in new files) g.S.Sink.tells text text (notes_said s.notes) (notes_said new.notes)
     (ap (λ (x : CommandState). notes_said x.notes) c.in-Err.ensures.rest)
 
@@ -20,3 +22,8 @@ returns-in-Err-clause-want g c = λ is. may-want c.args.session.now.spare c.args
 
 pub returns-in-Err-clause-measured : goal.returns-in-Err-clause-measured
 returns-in-Err-clause-measured g c = none-measured g.F.Files.tells c.args.command.now (g.F.Files.state c.args.files.now)
+
+pub returns-in-Err-clause-lines : goal.returns-in-Err-clause-lines
+returns-in-Err-clause-lines g c =
+    lines-kept g.L.Lines.tells (g.L.Lines.state c.args.lines.now) c.args.session.now.machine.lines c.take_room.new.self.machine.lines
+    (ap (λ (x : CommandState). x.machine.lines) c.in-Err.ensures.rest)

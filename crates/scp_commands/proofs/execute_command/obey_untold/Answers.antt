@@ -1,9 +1,10 @@
 use Rattle.std.proofs.Common.{refl, ap, sym, ◌∙◌, subst, ◌≡◌}
 use Rattle.file_commands.specs.Notes.{notes_said}
 use Rattle.scp_parser.specs.Command.{request_of, Break, Expect, Request, Detach, Exit}
-use Rattle.scp_commands.specs.Live.{CommandState, live_in}
+use Rattle.scp_commands.specs.Live.{CommandState, live_in, beyond}
+use Rattle.nova_machine.specs.Comes.{output}
 use Rattle.scp_commands.specs.Effect.{effect}
-use Rattle.scp_commands.proofs.ObeyLemmas.{plain-did, keeps-none, does-of-no-file, break-given, expect-given, break-no-file, expect-no-file, noted-did, IsNoWatchOrClosing, is-plain}
+use Rattle.scp_commands.proofs.ObeyLemmas.{alone, unheard, plain-did, keeps-none, does-of-no-file, break-given, expect-given, break-no-file, expect-no-file, noted-did, IsNoWatchOrClosing, is-plain}
 use Rattle.unit_files.specs.Open.{AllOpen, Around}
 use Rattle.scp_commands.specs.WatchEffects.{break_reply, expect_reply}
 use Rattle.scp_commands.specs.Nature.{Nothing, plain, nature}
@@ -15,12 +16,12 @@ use Rattle.scp_commands.proofs.execute_command.obey_untold.Goals as goal
 
 pub returns-in-Break-clause-told : goal.returns-in-Break-clause-told
 unfolding effect
-returns-in-Break-clause-told g c = λ told.
+returns-in-Break-clause-told g c = λ lines whole heard.
     let s = c.args.session.now in
     let new = c.add_break.new.session in
-    let files = (g.F.Files.state c.args.files.now).files in
+    let files = beyond (g.F.Files.state c.args.files.now).files lines whole in
     let live = live_in s files in
-    let text = g.S.Sink.written c.args.out.now in
+    let text = output (g.S.Sink.written c.args.out.now) heard in
     let what = c.in-Break in
     let actions = c.text.result.now in
     plain-did s.limit s.command live (live_in new files) c.args.command.now (Break what.at what.count actions) (break_reply live what.at what.count actions) c.add_break.result g.S.Sink.tells
@@ -39,12 +40,12 @@ returns-in-Break-clause-keeps g c =
     let s = c.args.session.now in
     let new = c.add_break.new.session in
     let state = g.F.Files.state c.args.files.now in
-    let live = live_in s state.files in
-    let text = g.S.Sink.written c.args.out.now in
+    let live = live_in s (alone state.files) in
+    let text = output (g.S.Sink.written c.args.out.now) unheard in
     let what = c.in-Break in
     let actions = c.text.result.now in
     keeps-none s.command new.machine.time g.F.Files.tells c.add_break.result s.notes new.notes state (ap (λ (x : CommandState). x.notes) c.add_break.ensures.rest)
-    (does-of-no-file (break_reply live what.at what.count actions) c.add_break.result _ _ _ _ (c.add_break.ensures.told state.files g.S.Sink.tells text) (break-no-file live what.at what.count actions))
+    (does-of-no-file (break_reply live what.at what.count actions) c.add_break.result _ _ _ _ (c.add_break.ensures.told (alone state.files) g.S.Sink.tells text) (break-no-file live what.at what.count actions))
 
 pub returns-in-Break-clause-open : goal.returns-in-Break-clause-open
 returns-in-Break-clause-open g c =
@@ -56,12 +57,12 @@ returns-in-Break-clause-around g c = λ base around.
 
 pub returns-in-Expect-clause-told : goal.returns-in-Expect-clause-told
 unfolding effect
-returns-in-Expect-clause-told g c = λ told.
+returns-in-Expect-clause-told g c = λ lines whole heard.
     let s = c.args.session.now in
     let new = c.add_expect.new.session in
-    let files = (g.F.Files.state c.args.files.now).files in
+    let files = beyond (g.F.Files.state c.args.files.now).files lines whole in
     let live = live_in s files in
-    let text = g.S.Sink.written c.args.out.now in
+    let text = output (g.S.Sink.written c.args.out.now) heard in
     let what = c.in-Expect in
     let quoted = c.quoted.result.now in
     let actions = c.text-in-Expect.result.now in
@@ -81,13 +82,13 @@ returns-in-Expect-clause-keeps g c =
     let s = c.args.session.now in
     let new = c.add_expect.new.session in
     let state = g.F.Files.state c.args.files.now in
-    let live = live_in s state.files in
-    let text = g.S.Sink.written c.args.out.now in
+    let live = live_in s (alone state.files) in
+    let text = output (g.S.Sink.written c.args.out.now) unheard in
     let what = c.in-Expect in
     let quoted = c.quoted.result.now in
     let actions = c.text-in-Expect.result.now in
     keeps-none s.command new.machine.time g.F.Files.tells c.add_expect.result s.notes new.notes state (ap (λ (x : CommandState). x.notes) c.add_expect.ensures.rest)
-    (does-of-no-file (expect_reply live what.count quoted actions) c.add_expect.result _ _ _ _ (c.add_expect.ensures.told state.files g.S.Sink.tells text) (expect-no-file live what.count quoted actions))
+    (does-of-no-file (expect_reply live what.count quoted actions) c.add_expect.result _ _ _ _ (c.add_expect.ensures.told (alone state.files) g.S.Sink.tells text) (expect-no-file live what.count quoted actions))
 
 pub returns-in-Expect-clause-open : goal.returns-in-Expect-clause-open
 returns-in-Expect-clause-open g c =
@@ -99,25 +100,25 @@ returns-in-Expect-clause-around g c = λ base around.
 
 pub returns-in-Detach-clause-told : goal.returns-in-Detach-clause-told
 unfolding effect
-returns-in-Detach-clause-told g c = λ told.
+returns-in-Detach-clause-told g c = λ lines whole heard.
     let s = c.args.session.now in
     let new = c.detach_one_or_every.new.session in
-    let live = live_in s (g.F.Files.state c.args.files.now).files in
-    let text = g.S.Sink.written c.args.out.now in
-    noted-did s.limit s.command live (live_in new (g.F.Files.state c.detach_one_or_every.new.files).files) c.args.command.now (Detach c.in-Detach.unit)
+    let live = live_in s (beyond (g.F.Files.state c.args.files.now).files lines whole) in
+    let text = output (g.S.Sink.written c.args.out.now) heard in
+    noted-did s.limit s.command live (live_in new (beyond (g.F.Files.state c.detach_one_or_every.new.files).files lines whole)) c.args.command.now (Detach c.in-Detach.unit)
     (λ own. detach_one_or_all own live c.in-Detach.unit) c.detach_one_or_every.result g.S.Sink.tells text text (notes_said s.notes) (notes_said new.notes)
-    (sym c.command.view_is ∙ ap (request_of _) c.in-Detach.is) (λ own. refl) (c.detach_one_or_every.ensures.told g.S.Sink.tells text)
+    (sym c.command.view_is ∙ ap (request_of _) c.in-Detach.is) (λ own. refl) (c.detach_one_or_every.ensures.told lines whole g.S.Sink.tells text)
 
 pub returns-in-Exit-clause-told : goal.returns-in-Exit-clause-told
 unfolding effect
-returns-in-Exit-clause-told g c = λ told.
+returns-in-Exit-clause-told g c = λ lines whole heard.
     let s = c.args.session.now in
     let new = c.exit.new.session in
-    let live = live_in s (g.F.Files.state c.args.files.now).files in
-    let text = g.S.Sink.written c.args.out.now in
-    noted-did s.limit s.command live (live_in new (g.F.Files.state c.exit.new.files).files) c.args.command.now (Exit c.in-Exit.status)
+    let live = live_in s (beyond (g.F.Files.state c.args.files.now).files lines whole) in
+    let text = output (g.S.Sink.written c.args.out.now) heard in
+    noted-did s.limit s.command live (live_in new (beyond (g.F.Files.state c.exit.new.files).files lines whole)) c.args.command.now (Exit c.in-Exit.status)
     (λ own. exit_reply own live c.in-Exit.status) c.exit.result g.S.Sink.tells text text (notes_said s.notes) (notes_said new.notes)
-    (sym c.command.view_is ∙ ap (request_of _) c.in-Exit.is) (λ own. refl) (c.exit.ensures.told g.S.Sink.tells text)
+    (sym c.command.view_is ∙ ap (request_of _) c.in-Exit.is) (λ own. refl) (c.exit.ensures.told lines whole g.S.Sink.tells text)
 
 pub obey_plain-requires : goal.obey_plain-requires
 obey_plain-requires g c =

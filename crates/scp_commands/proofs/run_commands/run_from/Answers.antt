@@ -8,26 +8,31 @@ use Rattle.file_commands.proofs.OwnFiles.{unused}
 use Rattle.expect_actions.specs.Watch.{WatchState}
 use Rattle.nova_machine.specs.Machine.{MachineState}
 use Rattle.nova_machine.specs.StopCauses.{moment_of}
-use Rattle.nova_machine.specs.Comes.{AreTold}
+use Rattle.nova_machine.specs.Comes.{AreTold, output}
+use Rattle.telnet_lines.specs.Line.{LineOf}
+use Rattle.nova_machine.specs.LineChanges.{AreLinesTold, LinesGoOn}
+use Rattle.nova_machine.proofs.LineSteps.{lines-stay}
 use Rattle.scp_commands.specs.declared.fault.CommandFault.TheVariants.{OutOfRange}
-use Rattle.scp_commands.specs.Live.{CommandState, live_in}
+use Rattle.scp_commands.specs.Live.{CommandState, live_in, beyond}
 use Rattle.scp_commands.specs.Reply.{refused}
 use Rattle.scp_commands.specs.Doing.{RunCause}
 use Rattle.scp_commands.specs.RunEffects.{run_from}
 use Rattle.scp_commands.specs.RunStops.{RunStops}
 use Rattle.scp_commands.proofs.RunStopLemmas.{started-moment, started-stops}
 use Rattle.scp_commands.proofs.ReplyLemmas.{did-without, refused-said}
-use Rattle.scp_commands.proofs.StartLemmas.{started-slots, started-did, run_from-refused}
+use Rattle.scp_commands.proofs.StartLemmas.{started-slots, started-lines, started-did, run_from-refused}
 use Rattle.scp_commands.proofs.run_commands.run_from.Goals as goal
 
 pub returns-then-not-address_fits-clause-done : goal.returns-then-not-address_fits-clause-done
 returns-then-not-address_fits-clause-done g c = record {
-  told = (λ told.
+  told = (λ told lt whole first.
       let s = c.args.session.now in
-      let live = live_in s (g.F.Files.state c.args.files.now).files in
-      let text = g.S.Sink.written c.args.out.now in
+      let ports = g.L.Lines.state c.args.lines.now in
+      let live = live_in s (beyond (g.F.Files.state c.args.files.now).files ports whole) in
+      let text = output (g.S.Sink.written c.args.out.now) ports.sent in
       did-without (λ given. run_from s.limit given c.args.resets c.args.address live) (refused OutOfRange live) s.command (Err OutOfRange) live g.S.Sink.tells text text (notes_said s.notes)
       (run_from-refused s.limit c.args.resets c.args.address live (sym c.address_fits.ensures ∙ c.if-not-address_fits.true)) (refl, refused-said OutOfRange live g.S.Sink.tells text));
+  lines = lines-stay g.L.Lines.tells (g.L.Lines.state c.args.lines.now) c.args.session.now.machine.lines;
   keeps = search rules;
   whose = unused c.args.session.now.machine.slots c.args.session.now.machine.slots c.args.session.now.notes c.args.session.now.notes (g.F.Files.state c.args.files.now) refl refl;
   keys = search rules;
@@ -48,13 +53,22 @@ run-requires-clause-open g c =
 
 pub returns-clause-done : goal.returns-clause-done
 returns-clause-done g c = record {
-  told = (λ told.
+  told = (λ told lt whole first.
       let s = c.args.session.now in
+      let ports = g.L.Lines.state c.args.lines.now in
+      let ports' = g.L.Lines.state c.run.new.lines in
+      let lines_are = ap (λ (s : CommandState). s.machine.lines) c.start.ensures ∙ started-lines c.args.resets c.args.address s.machine in
       let slots_are = ap (λ (s : CommandState). s.machine.slots) c.start.ensures ∙ started-slots c.args.resets c.args.address s.machine in
-      started-did s c.start.new.session c.args.resets c.args.address (g.F.Files.state c.args.files.now).files c.run.result (live_in c.run.new.session (g.F.Files.state c.run.new.files).files)
-      g.S.Sink.tells (g.S.Sink.written c.args.out.now) (g.S.Sink.written c.run.new.out) (notes_said c.run.new.session.notes) c.start.ensures
+      started-did s c.start.new.session c.args.resets c.args.address (beyond (g.F.Files.state c.args.files.now).files ports whole) c.run.result
+      (live_in c.run.new.session (beyond (g.F.Files.state c.run.new.files).files ports' whole))
+      g.S.Sink.tells (output (g.S.Sink.written c.args.out.now) ports.sent) (output (g.S.Sink.written c.run.new.out) ports'.sent) (notes_said c.run.new.session.notes) c.start.ensures
       (sym c.address_fits.ensures ∙ c.if-not-address_fits.false)
-      (c.run.ensures.done.told (subst (λ (slots : List (Option Held)). AreTold g.F.Files.tells slots) (sym slots_are) told)));
+      (c.run.ensures.done.told (subst (λ (slots : List (Option Held)). AreTold g.F.Files.tells slots) (sym slots_are) told)
+      (subst (λ (ls : List (LineOf ℕ)). AreLinesTold g.L.Lines.tells ports ls) (sym lines_are) lt) whole first));
+  lines =
+      let lines_are = ap (λ (s : CommandState). s.machine.lines) c.start.ensures ∙ started-lines c.args.resets c.args.address c.args.session.now.machine in
+      subst (λ (ls : List (LineOf ℕ)). LinesGoOn g.L.Lines.tells (g.L.Lines.state c.args.lines.now) ls (g.L.Lines.state c.run.new.lines) c.run.new.session.machine.lines) lines_are
+      c.run.ensures.done.lines;
   slots = (c.run.ensures.done.slots ∙ ap (λ (s : CommandState). s.machine.slots) c.start.ensures ∙ started-slots c.args.resets c.args.address c.args.session.now.machine);
   ran = (let slots_are = ap (λ (s : CommandState). s.machine.slots) c.start.ensures ∙ started-slots c.args.resets c.args.address c.args.session.now.machine in
       subst (λ (slots : List (Option Held)). RunCause c.run.result slots (g.F.Files.state c.args.files.now) (g.F.Files.state c.run.new.files)) slots_are c.run.ensures.done.ran);
@@ -91,3 +105,6 @@ returns-clause-stopped g c =
     ap (λ (w : WatchState). moment_of w began.machine) watch_is ∙ ap (λ (m : MachineState). moment_of s.watch m) machine_is ∙ started-moment s.watch c.args.resets c.args.address s.machine in
     started-stops c.run.result false s.limit s began c.run.new.session g.S.Sink.tells (g.S.Sink.written c.args.out.now) (g.S.Sink.written c.run.new.out) keys_are moment
     (subst (λ (n : ℕ). RunStops false n c.run.result began c.run.new.session g.S.Sink.tells (g.S.Sink.written c.args.out.now) (g.S.Sink.written c.run.new.out)) limit_is c.run.ensures.stopped)
+
+pub returns-clause-unasked : goal.returns-clause-unasked
+returns-clause-unasked g c = λ is. absurd (c.run.ensures.never is)

@@ -2,13 +2,15 @@ use Rattle.std.proofs.Common.{rules, Some, refl, ◌≡◌, ◌∙◌, ℕ, List
 use Rattle.host_files.specs.Streams.{Puts}
 use Rattle.file_commands.specs.Notes.{notes_said}
 use Rattle.nova_machine.specs.declared.machine.Stop.{Stop}
-use Rattle.nova_machine.specs.Comes.{FileCause as StopCause}
+use Rattle.nova_machine.specs.Comes.{output, FileCause as StopCause}
+use Rattle.telnet_lines.specs.Line.{LineOf}
+use Rattle.nova_machine.specs.LineChanges.{LinesGoOn}
 use Rattle.expect_actions.specs.Watch.{WatchState}
 use Rattle.nova_machine.specs.Machine.{MachineState}
 use Rattle.nova_machine.specs.StopCauses.{moment_of, Watches, RunCause}
 use Rattle.nova_machine.specs.Run.{run}
-use Rattle.nova_machine.specs.Seen.{seen, beside}
-use Rattle.scp_commands.specs.Live.{Live, CommandState, live_in}
+use Rattle.nova_machine.specs.Seen.{seen, beside, erased}
+use Rattle.scp_commands.specs.Live.{Live, CommandState, live_in, beyond}
 use Rattle.scp_commands.specs.RunEffects.{run_failure, ran, stop_text}
 use Rattle.scp_commands.specs.Doing.{Did, Keeps}
 use Rattle.scp_commands.proofs.OwnFileLemmas.{quiet-own, stop-own}
@@ -21,11 +23,15 @@ returns-then-is_console_fault-clause-done g c = record {
   told = (let watch = c.session.inside.watch in
       let keys = c.session.inside.keys in
       let m = c.run-stop.new.self in
-      let old = seen (beside watch keys (g.F.Files.state c.args.files.now).files) c.session.inside.machine in
-      let new = seen (beside c.run-stop.new.watch keys (g.F.Files.state c.run-stop.new.files).files) m in
-      rw (← c.session.view_is) (λ told.
-      cut-did c.args.limit.step c.args.limit.count old new m.time c.run-stop.result c.session.inside.command g.S.Sink.tells (g.S.Sink.written c.args.out.now) (g.S.Sink.written c.run-stop.new.out)
-      (notes_said c.session.inside.notes.items) (c.is_console_fault.ensures.yes c.if-is_console_fault.true) (c.run-stop.ensures.told told)));
+      let ports = g.L.Lines.state c.args.lines.now in
+      let ports' = g.L.Lines.state c.run-stop.new.lines in
+      rw (← c.session.view_is) (λ told lt whole first.
+      let old = seen (beside watch keys (g.F.Files.state c.args.files.now).files ports) whole c.session.inside.machine in
+      let new = seen (beside c.run-stop.new.watch keys (g.F.Files.state c.run-stop.new.files).files ports') whole m in
+      cut-did c.args.limit.step c.args.limit.count old new m.time c.run-stop.result c.session.inside.command g.S.Sink.tells (output (g.S.Sink.written c.args.out.now) ports.sent)
+      (output (g.S.Sink.written c.run-stop.new.out) ports'.sent)
+      (notes_said c.session.inside.notes.items) (c.is_console_fault.ensures.yes c.if-is_console_fault.true) (c.run-stop.ensures.told told lt whole first)));
+  lines = rw (← c.session.view_is) c.run-stop.ensures.lines;
   keeps = (rw (← c.session.view_is)
       (cut-keeps c.session.inside.command c.run-stop.new.self.time g.F.Files.tells c.run-stop.result c.session.inside.machine.slots c.session.inside.notes.items
       (g.F.Files.state c.args.files.now) (g.F.Files.state c.run-stop.new.files) (c.is_console_fault.ensures.yes c.if-is_console_fault.true) c.run-stop.ensures.file_cause));
@@ -57,20 +63,29 @@ returns-clause-done g c = record {
       let after = g.S.Sink.written c.put_stop-printed.new.out in
       let m = c.run-stop.new.self in
       let stop = c.run-stop.result in
-      let old = seen (beside watch keys (g.F.Files.state c.args.files.now).files) c.session.inside.machine in
-      let new = seen (beside c.run-stop.new.watch keys files) m in
+      let ports = g.L.Lines.state c.args.lines.now in
+      let ports' = g.L.Lines.state c.run-stop.new.lines in
       let number = c.session.inside.command in
       let notes = c.session.inside.notes.items in
-      let new_is : live_in c.note_stop.new.session files ≡ new = ap (λ (s : CommandState). live_in s files) c.note_stop.ensures.rest in
       let machine_is : c.session-2.inside.machine ≡ m = ap (λ (s : CommandState). s.machine) (c.session-2.view_is ∙ c.note_stop.ensures.rest) in
-      let text_is : stop_text stop c.session-2.inside.machine ≡ stop_text stop new.machine = ap (stop_text stop) machine_is ∙ sym (erased-text stop m) in
+      let text_is : stop_text stop c.session-2.inside.machine ≡ stop_text stop (erased m) = ap (stop_text stop) machine_is ∙ sym (erased-text stop m) in
       let kept = ap notes_said c.note_stop.ensures.notes ∙ said-more notes number m.time stop in
-      rw (← c.session.view_is) (λ told.
-      subst (λ (x : Live). Did (λ given. ran (run (run_failure given) c.args.limit.step c.args.limit.count old)) number c.told_or_console.result x g.S.Sink.tells before after
-      (notes_said notes) (notes_said c.note_stop.new.session.notes)) (sym new_is)
-      (run-did c.args.limit.step c.args.limit.count old new m.time stop c.put_stop-printed.result c.told_or_console.result number g.S.Sink.tells before mid after (notes_said notes)
-      (notes_said c.note_stop.new.session.notes) (c.is_console_fault.ensures.no c.if-is_console_fault.false) c.run-stop.ensures.unit (c.run-stop.ensures.told told)
-      (λ t. subst (λ (text : List ℕ). Puts mid text c.put_stop-printed.result after) text_is (c.put_stop-printed.ensures.told t)) c.told_or_console.ensures kept)));
+      rw (← c.session.view_is) (λ told lt whole first.
+      let old = seen (beside watch keys (g.F.Files.state c.args.files.now).files ports) whole c.session.inside.machine in
+      let new = seen (beside c.run-stop.new.watch keys files ports') whole m in
+      let new_is : live_in c.note_stop.new.session (beyond files ports' whole) ≡ new = ap (λ (s : CommandState). live_in s (beyond files ports' whole)) c.note_stop.ensures.rest in
+      subst (λ (x : Live). Did (λ given. ran (run (run_failure given) c.args.limit.step c.args.limit.count old)) number c.told_or_console.result x g.S.Sink.tells (output before ports.sent)
+      (output after ports'.sent) (notes_said notes) (notes_said c.note_stop.new.session.notes)) (sym new_is)
+      (run-did c.args.limit.step c.args.limit.count old new m.time stop c.put_stop-printed.result c.told_or_console.result number g.S.Sink.tells (output before ports.sent) (output mid ports'.sent)
+      (output after ports'.sent) (notes_said notes)
+      (notes_said c.note_stop.new.session.notes) (c.is_console_fault.ensures.no c.if-is_console_fault.false) c.run-stop.ensures.unit (c.run-stop.ensures.told told lt whole first)
+      (λ t. subst (λ (text : List ℕ). Puts mid text c.put_stop-printed.result after) text_is (c.put_stop-printed.ensures.told t)) refl c.told_or_console.ensures kept)));
+  lines =
+      let ports = g.L.Lines.state c.args.lines.now in
+      let ports' = g.L.Lines.state c.run-stop.new.lines in
+      let same : c.note_stop.new.session.machine.lines ≡ c.run-stop.new.self.lines = ap (λ (s : CommandState). s.machine.lines) c.note_stop.ensures.rest in
+      rw (← c.session.view_is)
+      (subst (λ (ls : List (LineOf ℕ)). LinesGoOn g.L.Lines.tells ports c.session.inside.machine.lines ports' ls) (sym same) c.run-stop.ensures.lines);
   keeps = (let m = c.run-stop.new.self in
       let stop = c.run-stop.result in
       let old = g.F.Files.state c.args.files.now in
