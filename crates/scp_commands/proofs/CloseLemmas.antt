@@ -578,7 +578,8 @@ all-did next number live new k tells text notes notes' plain does closes = recor
       subst (λ (x : Emptied). Does (emptied_reply next x live) (kept_answer k next) (standing (length closes.own) new) tells text text) (sym same)
       (by-keeper k (sym (ap (λ (x : Option UnitName). kept_answer x next) closes.keeps)) (record {
         after_is = λ i. standing (sym closes.used i) (closes.after i);
-        written = λ _. sym (append-nil text.console); heard = sym (heard-nothing text.heard);
+        written = λ _. sym (append-nil text.console);
+        heard = sym (heard-nothing text.heard);
       }));
 }
   where

@@ -2,12 +2,12 @@
 use Rattle.std.proofs.Common.{◌≡◌, ℕ, Bool, List, [], Err, refl, sym, subst, ◌∙◌, append-nil}
 use Rattle.file_commands.specs.Notes.{CommandNote, Note}
 use Rattle.nova_machine.specs.Comes.{Output}
-use Rattle.nova_machine.proofs.Hearing.{heard-nothing}
 use Rattle.scp_commands.specs.declared.fault.CommandFault.{CommandFault}
 use Rattle.scp_commands.specs.declared.fault.CommandFault.TheVariants.{Console, OutOfMemory}
 use Rattle.scp_commands.specs.Live.{Live, standing}
 use Rattle.scp_commands.specs.Reply.{Answer, Reply, refused}
 use Rattle.scp_commands.specs.Doing.{Does, Did, IsPlain}
+use Rattle.scp_commands.proofs.ReplyLemmas.{refused-said}
 
 pub did-of : (reply : List CommandNote → Reply) (r : Reply) (number : ℕ) (answer : Answer) (new : Live) (tells : Bool) (before after : Output) (notes notes' : List Note)
     → ((own : List CommandNote) → reply own ≡ r) → notes' ≡ notes → Does r answer (standing 0 new) tells before after
@@ -23,7 +23,7 @@ pub refused-does : (fault : CommandFault) (live : Live) (tells : Bool) (text : O
     → Does (refused fault live) (Err fault) (standing 0 live) tells text text
 refused-does Console live tells text plain = absurd plain
 refused-does OutOfMemory live tells text plain = absurd plain
-refused-does fault live tells text plain = (refl, record { after_is = refl; written = λ _. sym (append-nil text.console); heard = sym (heard-nothing text.heard) })
+refused-does fault live tells text plain = (refl, refused-said fault live tells text)
 
 pub refused-did : (reply : List CommandNote → Reply) (fault : CommandFault) (number : ℕ) (live : Live) (tells : Bool) (text : Output) (notes : List Note)
     → IsPlain (Err fault) → ((own : List CommandNote) → reply own ≡ refused fault live) → Did reply number (Err fault) live tells text text notes notes

@@ -1,7 +1,6 @@
 -- SHOW speaks of no file's number.
 use Rattle.std.proofs.Common.{◌≡◌, ◌∙◌, ℕ, Bool, true, false, IsTrue, List, [], ◌∷◌, ◌++◌, codes, option_map, append_assoc, Option, Some, None, Result, Err, refl, ap, sym, subst, if◌then◌else◌}
 use Rattle.std.proofs.Math.ListN.{get_or-map}
-use Rattle.host_files.specs.Lists.{NamedBytes}
 use Rattle.host_files.specs.Streams.{Puts}
 use Rattle.unit_trait.specs.declared.kind.UnitName.{UnitName}
 use Rattle.unit_files.specs.Attachments.{Attachment, Held, file_place, held_at, read_only_of, read_only_at, attachments_of, attachment_at}

@@ -106,11 +106,12 @@ impl<U: Unit> Session<U> {
         requires open { AllOpen self.old.machine.slots (F.state files.old).opened }
         ensures closes { (lines : LineState) (whole : List LineAnswer)
             → Closes self.old.command (live_in self.old (beyond (F.state files.old).files lines whole))
-            (live_in self.new (beyond (F.state files.new).files lines whole)) (keeper result) (notes_said self.old.notes)
-            (notes_said self.new.notes) }
+            (live_in self.new (beyond (F.state files.new).files lines whole)) (keeper result)
+            (notes_said self.old.notes) (notes_said self.new.notes) }
         ensures keeps { Keeps self.old.command self.new.machine.time F.tells (kept_answer (keeper result) Go)
             self.old.notes self.new.notes (F.state files.old) (F.state files.new) }
-        ensures cause { OnErr result (IsUnwritten self.new.machine.slots self.new.notes (F.state files.old) (F.state files.new)) }
+        ensures cause { OnErr result
+            (IsUnwritten self.new.machine.slots self.new.notes (F.state files.old) (F.state files.new)) }
         ensures whose { AreOwn self.old.machine.slots self.new.machine.slots self.old.notes self.new.notes
             (F.state files.old) (F.state files.new) }
         ensures watch { self.new.watch ≡ self.old.watch }

@@ -1,5 +1,5 @@
 // SET CPU.
-ghost use Rattle.std.specs.Prelude.{◌≡◌, ◌*◌, ℕ, Bool, List};
+ghost use Rattle.std.specs.Prelude.{◌≡◌, ◌*◌, Bool};
 ghost use Rattle.nova_memory.specs.Memory.{IsSize};
 ghost use Rattle.nova_machine.specs.Comes.{Output};
 ghost use Rattle.scp_commands.specs.Live.{standing, live_in, Beyond};
