@@ -232,6 +232,8 @@ class Specs:
     def __init__(self, text, is_outer_constructor):
         """`is_outer_constructor` tells of a path and a name there whether the name is a constructor."""
         text = re.sub(r"^(pub )?use [^{}\n]*\{[^{}]*\}", lambda use: use[0].replace("\n", " "), text, flags=re.M)
+        # Definitions that use one another stand further in.
+        text = re.sub(r"^(?:unfoldable )?mutual\n((?:(?:  .*)?\n)+)", lambda block: textwrap.dedent(block[1]), text, flags=re.M)
         self.scope = scope_of(without_comments(text, "--"))
         self.definitions = {}
         self.constructors = {}  # constructor: name of its type

@@ -6,6 +6,7 @@ use crate::places::{held, put};
 use crate::row::{Row, check, cut, decimal, text};
 use expect_actions::{Keys, Watch};
 use host_files::{Files, Sink};
+use host_lines::Lines;
 use nova_machine::{Machine, RunLimit, Stop, Turn};
 use std::alloc::Global;
 use std::process::Abort;
@@ -58,28 +59,30 @@ fn is_length(said: Result<u64, AttachFault>, wanted: u64) -> bool {
     }
 }
 
-pub fn act_all<U: Unit, F: Files, S: Sink>(
+pub fn act_all<U: Unit, F: Files, L: Lines, S: Sink>(
     rt: &impl Abort,
     machine: &mut Machine<U>,
     watch: &mut Watch,
     keys: &Keys,
     files: &mut F,
+    lines: &mut L,
     out: &mut S,
     row: Row<'_>,
 )
     requires { AllOpen machine.old.slots (F.state files.old).opened }
 {
     for word in text(row, "do").split_whitespace() {
-        act(rt, machine, watch, keys, files, out, word);
+        act(rt, machine, watch, keys, files, lines, out, word);
     }
 }
 
-fn act<U: Unit, F: Files, S: Sink>(
+fn act<U: Unit, F: Files, L: Lines, S: Sink>(
     rt: &impl Abort,
     machine: &mut Machine<U>,
     watch: &mut Watch,
     keys: &Keys,
     files: &mut F,
+    lines: &mut L,
     out: &mut S,
     word: &str,
 )
@@ -89,11 +92,11 @@ fn act<U: Unit, F: Files, S: Sink>(
     let (verb, how) = cut(word, '=');
     match verb {
         "run" | "step" => {
-            let stop = run(machine, limit_of(word), watch, keys, files, out);
+            let stop = run(machine, limit_of(word), watch, keys, files, lines, out);
             check(rt, stop_is(stop, how), word);
         }
         "turn" => {
-            let turn = turn(machine, true, watch, keys, files, out);
+            let turn = turn(machine, true, watch, keys, files, lines, out);
             check(rt, turn_is(turn, how), word);
         }
         _ => act_apart(rt, machine, files, word),
@@ -132,27 +135,29 @@ fn stop_is(stop: Stop, how: &str) -> bool {
 }
 
 /// A run.
-pub fn run<U: Unit, F: Files, S: Sink>(
+pub fn run<U: Unit, F: Files, L: Lines, S: Sink>(
     machine: &mut Machine<U>,
     limit: RunLimit,
     watch: &mut Watch,
     keys: &Keys,
     files: &mut F,
+    lines: &mut L,
     out: &mut S,
 ) -> Stop
     requires { AllOpen machine.old.slots (F.state files.old).opened }
     ensures { AllOpen machine.new.slots (F.state files.new).opened }
 {
-    machine.run(limit, watch, keys, files, out)
+    machine.run(limit, watch, keys, files, lines, out)
 }
 
 /// A turn; none at the end of time.
-pub fn turn<U: Unit, F: Files, S: Sink>(
+pub fn turn<U: Unit, F: Files, L: Lines, S: Sink>(
     machine: &mut Machine<U>,
     first: bool,
     watch: &mut Watch,
     keys: &Keys,
     files: &mut F,
+    lines: &mut L,
     out: &mut S,
 ) -> Option<Turn>
     requires { AllOpen machine.old.slots (F.state files.old).opened }
@@ -161,7 +166,7 @@ pub fn turn<U: Unit, F: Files, S: Sink>(
     if machine.time() >= 1 << 60 {
         return None;
     }
-    Some(machine.turn(first, watch, keys, files, out))
+    Some(machine.turn(first, watch, keys, files, lines, out))
 }
 
 fn turn_is(turn: Option<Turn>, how: &str) -> bool {

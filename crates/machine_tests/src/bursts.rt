@@ -7,11 +7,13 @@ ghost use Rattle.unit_files.specs.Open.{AllOpen};
 
 use crate::acts::{run, turn};
 use crate::chance::set;
+use crate::lines::no_lines;
 use crate::machines::console_units;
 use crate::places::{REGISTERS, held};
 use event_queue::Events;
 use expect_actions::{Keys, Watch};
 use host_files::{ByteSink, Files, MemFiles, Sink};
+use host_lines::Lines;
 use nova_machine::{Machine, RunLimit, Stop, Turn};
 use nova_memory::Memory;
 use nova_word::{Addr, Word};
@@ -154,31 +156,42 @@ fn goes<U: Unit, S: Sink>(
 ) -> Result<Stop, AllocError> {
     *machine.attached_mut() = Attached::new(alloc)?;
     let mut files = MemFiles::with_room(alloc, 0)?;
-    with_files(alloc, machine, way, u64::from(seed) * 3, &mut files, out)
+    let mut lines = no_lines(alloc)?;
+    with_files(
+        alloc,
+        machine,
+        way,
+        u64::from(seed) * 3,
+        &mut files,
+        &mut lines,
+        out,
+    )
 }
 
-fn with_files<U: Unit, F: Files, S: Sink>(
+fn with_files<U: Unit, F: Files, L: Lines, S: Sink>(
     alloc: Global,
     machine: &mut Machine<U>,
     way: Way,
     count: u64,
     files: &mut F,
+    lines: &mut L,
     out: &mut S,
 ) -> Result<Stop, AllocError>
     requires { AllOpen machine.old.slots (F.state files.old).opened }
 {
     let mut watch = Watch::new(alloc)?;
     let keys = Keys::none(alloc);
-    Ok(with_watch(machine, way, count, &mut watch, &keys, files, out))
+    Ok(with_watch(machine, way, count, &mut watch, &keys, files, lines, out))
 }
 
-fn with_watch<U: Unit, F: Files, S: Sink>(
+fn with_watch<U: Unit, F: Files, L: Lines, S: Sink>(
     machine: &mut Machine<U>,
     way: Way,
     count: u64,
     watch: &mut Watch,
     keys: &Keys,
     files: &mut F,
+    lines: &mut L,
     out: &mut S,
 ) -> Stop
     requires { AllOpen machine.old.slots (F.state files.old).opened }
@@ -186,25 +199,26 @@ fn with_watch<U: Unit, F: Files, S: Sink>(
     match way {
         Way::Run => {
             let limit = RunLimit { count, step: true };
-            run(machine, limit, watch, keys, files, out)
+            run(machine, limit, watch, keys, files, lines, out)
         }
-        Way::Turns => turns(machine, count, watch, keys, files, out),
+        Way::Turns => turns(machine, count, watch, keys, files, lines, out),
     }
 }
 
 /// As many turns as that, up to one that stops.
-fn turns<U: Unit, F: Files, S: Sink>(
+fn turns<U: Unit, F: Files, L: Lines, S: Sink>(
     machine: &mut Machine<U>,
     count: u64,
     watch: &mut Watch,
     keys: &Keys,
     files: &mut F,
+    lines: &mut L,
     out: &mut S,
 ) -> Stop
     requires { AllOpen machine.old.slots (F.state files.old).opened }
 {
     for done in 0..count {
-        match turn(machine, done == 0, watch, keys, files, out) {
+        match turn(machine, done == 0, watch, keys, files, lines, out) {
             Some(Turn::Executed) => (),
             Some(Turn::Stopped(stop)) => return stop,
             None => return Stop::Limit,

@@ -8,6 +8,8 @@ mod bursts;
 #[cfg(test)]
 mod chance;
 #[cfg(test)]
+mod lines;
+#[cfg(test)]
 mod machines;
 #[cfg(test)]
 mod names;
@@ -27,6 +29,8 @@ mod runs;
 mod stands;
 #[cfg(test)]
 mod tapes;
+#[cfg(test)]
+mod teletypes;
 #[cfg(test)]
 mod turns;
 #[cfg(test)]

@@ -2,6 +2,7 @@
 ghost use Rattle.std.specs.Prelude.{◌≡◌, ◌∷◌, [], map, IfOk};
 ghost use Rattle.unit_trait.specs.declared.kind.Kind.TheVariants.{Mta as drives, Lpt as line_printer, Ptr as reader};
 ghost use Rattle.unit_trait.specs.declared.kind.Kind.TheVariants.{Ptp as punch, Clk as clock, Tti as keyboard, Tto as printer};
+ghost use Rattle.unit_trait.specs.declared.kind.Kind.TheVariants.{Tti1 as second_keyboard, Tto1 as second_printer};
 ghost use Rattle.unit_trait.specs.Row.{initial_unit};
 
 use crate::play::play;
@@ -13,7 +14,7 @@ use std::alloc::{AllocError, Global};
 use std::process::Abort;
 use std::test::Fail;
 use tape_unit::Mta;
-use tty_units::{Tti, Tto};
+use tty_units::{Tti, Tti1, Tto, Tto1};
 use unit_trait::Unit;
 
 /// The units of a machine.
@@ -25,6 +26,8 @@ pub enum Units {
     Paper,
     /// Magnetic tape alone.
     Tape,
+    /// The second teletype, on terminal line 0.
+    Teletype,
 }
 
 /// Plays each line of a table on a new machine, but comments, which begin with a semicolon.
@@ -48,6 +51,7 @@ fn comes(rt: &impl Abort, alloc: Global, units: Units, row: Row<'_>) -> Result<(
         Units::Console => console(rt, alloc, row),
         Units::Paper => paper(rt, alloc, row),
         Units::Tape => tape(rt, alloc, row),
+        Units::Teletype => teletype(rt, alloc, row),
     }
 }
 
@@ -118,6 +122,25 @@ fn with_tape<U: Unit>(
     row: Row<'_>,
 ) -> Result<(), AllocError>
     requires { map U.unit_state units.items ≡ map initial_unit (drives ∷ []) }
+{
+    let mut machine = Machine::new(alloc, units)?;
+    play(rt, alloc, &mut machine, row)
+}
+
+fn teletype(rt: &impl Abort, alloc: Global, row: Row<'_>) -> Result<(), AllocError> {
+    let mut units: Vec<Box<dyn Unit>> = Vec::new(alloc);
+    units.push(Box::new(alloc, Tti1::new())?)?;
+    units.push(Box::new(alloc, Tto1::new())?)?;
+    with_teletype(rt, alloc, units, row)
+}
+
+fn with_teletype<U: Unit>(
+    rt: &impl Abort,
+    alloc: Global,
+    units: Vec<U>,
+    row: Row<'_>,
+) -> Result<(), AllocError>
+    requires { map U.unit_state units.items ≡ map initial_unit (second_keyboard ∷ second_printer ∷ []) }
 {
     let mut machine = Machine::new(alloc, units)?;
     play(rt, alloc, &mut machine, row)

@@ -58,6 +58,8 @@ pub fn kind_of(name: &str) -> Option<Kind> {
         "CLK" => Some(Kind::Clk),
         "TTI" => Some(Kind::Tti),
         "TTO" => Some(Kind::Tto),
+        "TTI1" => Some(Kind::Tti1),
+        "TTO1" => Some(Kind::Tto1),
         _ => None,
     }
 }

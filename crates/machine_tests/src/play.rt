@@ -7,6 +7,9 @@
 //              what is watched: `100:2`, a break and its count; `2:OK`, a text and its count; `0:1000:Y`, the AFTER, DELAY
 //              and bytes of what is sent at time 0; and the lines of a keys file
 //   room       how many bytes the console takes
+//   types      what a caller of terminal line 0 types, who connects to its port at time 0; `hangs`, when this caller hangs
+//              up; `takes`, how many bytes all callers are sent at the most; `refuses`, the calls on the lines that fail
+//   port       whether line 0 has its port: `given`
 //   do         what is done, in this order: `run=9:Halt` and `step=9:Stepped`, runs and their ends; `turn=Executed`;
 //              `reset`; `detach=PTR`; a value that is put; `AC0?101`, `time?300` and `taken?1`, what then is to be
 // and what there is to be then, each compared where it is named:
@@ -17,16 +20,20 @@
 //   prints     what the console has, and `faults`, how often it has refused a byte
 //   counts matches waiting
 //              the counts of breaks and of texts that are left, and how many bytes wait for the keyboard
+//   sent       `nothing`, or the opening and these bytes, to that caller; `lost`, how many calls on the lines have failed
+//   line       `none`, where line 0 is not there; `free`, where it has no connection; else the connection
 //   left       what is in files; any other of `files` is as before
 ghost use Rattle.unit_files.specs.Open.{AllOpen};
 
 use crate::acts::{act_all, attach_all};
+use crate::lines::{gives_port, lines_of, lines_stand};
 use crate::places::{load, put_all, registers};
 use crate::row::{Row, bytes, check, cut, decimal, small, text};
 use crate::stands::{files_stand, prints, stands};
 use crate::watched::{watch_all, watch_stands};
 use expect_actions::{Keys, Watch};
 use host_files::{ByteSink, Files, MemFiles};
+use host_lines::Lines;
 use nova_machine::Machine;
 use std::alloc::{AllocError, Global};
 use std::process::Abort;
@@ -131,24 +138,28 @@ fn with_watch<U: Unit, F: Files>(
     requires { AllOpen machine.old.slots (F.state files.old).opened }
 {
     watch_all(rt, watch, row);
-    with_keys(rt, alloc, machine, watch, files, row)?;
+    let mut lines = lines_of(alloc, row)?;
+    gives_port(rt, alloc, machine, &mut lines, row);
+    with_keys(rt, alloc, machine, watch, files, &mut lines, row)?;
+    lines_stand(rt, machine, &lines, row);
     watch_stands(rt, watch, row);
     Ok(())
 }
 
-fn with_keys<U: Unit, F: Files>(
+fn with_keys<U: Unit, F: Files, L: Lines>(
     rt: &impl Abort,
     alloc: Global,
     machine: &mut Machine<U>,
     watch: &mut Watch,
     files: &mut F,
+    lines: &mut L,
     row: Row<'_>,
 ) -> Result<(), AllocError>
     requires { AllOpen machine.old.slots (F.state files.old).opened }
 {
     let keys = keys_of(rt, alloc, text(row, "keys"))?;
     let mut console = ByteSink::with_room(alloc, small(text(row, "room")))?;
-    act_all(rt, machine, watch, &keys, files, &mut console, row);
+    act_all(rt, machine, watch, &keys, files, lines, &mut console, row);
     prints(rt, &console, row);
     Ok(())
 }

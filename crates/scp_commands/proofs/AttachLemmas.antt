@@ -5,6 +5,8 @@ use Rattle.std.specs.List.{AllByRecursion}
 use Rattle.std.proofs.Math.Path.{subst₃}
 use Rattle.host_files.specs.Lists.{NamedBytes, bytes_of}
 use Rattle.host_files.specs.State.{FileState}
+use Rattle.host_lines.specs.Traffic.{Answer as LineAnswer}
+use Rattle.host_lines.specs.State.{LineState}
 use Rattle.host_files.specs.declared.files.FileCall.{FileCall}
 use Rattle.host_files.specs.declared.files.FileCall.TheVariants.{Opening, Length, Read, Write, SetLength, Closing}
 use Rattle.unit_trait.specs.declared.kind.Kind.{Kind}
@@ -32,9 +34,10 @@ use Rattle.expect_actions.specs.Watch.{WatchState}
 use Rattle.nova_machine.specs.Machine.{MachineState, attached_files, with_attached_files}
 use Rattle.nova_machine.specs.Seen.{erased, seen, beside, attached_in}
 use Rattle.nova_machine.specs.Comes.{Output}
+use Rattle.nova_machine.proofs.Hearing.{heard-nothing}
 use Rattle.scp_commands.specs.declared.next.Next.TheVariants.{Go}
 use Rattle.scp_commands.specs.declared.fault.CommandFault.TheVariants.{AlreadyAttached, ReadOnly, NoFile, FileTooLong, NotBuilt, FileFailed}
-use Rattle.scp_commands.specs.Live.{Live, standing, Beyond}
+use Rattle.scp_commands.specs.Live.{Live, standing}
 use Rattle.scp_commands.specs.Reply.{Answer, Reply, refused}
 use Rattle.scp_commands.specs.FaultText.{attach_fault}
 use Rattle.scp_commands.specs.FileEffects.{has_files, lacks_unit, mode_of, attach_answer, attach_used, first_place, positioned, attached_machine, attach_with, attach_reply}
@@ -68,7 +71,7 @@ record IsNoFailure (f : Option Failure) : Type 0 where
   measuring : failure_at Length f ≡ None
   reading : failure_at Read f ≡ None
 
-said-same : (f : Option Failure) (mode : AttachMode) (unit : UnitName) (name : List ℕ) (attached : List (Option Attachment)) (files : Beyond) → IsNoFailure f
+said-same : (f : Option Failure) (mode : AttachMode) (unit : UnitName) (name : List ℕ) (attached : List (Option Attachment)) (files : List NamedBytes) → IsNoFailure f
     → attach_said f mode unit name attached files ≡ attach_said None mode unit name attached files
 unfolding attach_said
 said-same f mode unit name attached files clear = unless (refused_first (attachment_at attached unit) unit mode)
@@ -90,7 +93,7 @@ said-same f mode unit name attached files clear = unless (refused_first (attachm
     unless (Some refusal) = refl
     unless None = ap (λ (x : Option Failure). opening_said x f mode unit name files) clear.opening ∙ opened (opened_files mode name files)
 
-files-same : (f : Option Failure) (mode : AttachMode) (unit : UnitName) (name : List ℕ) (attached : List (Option Attachment)) (files : Beyond) → IsNoFailure f
+files-same : (f : Option Failure) (mode : AttachMode) (unit : UnitName) (name : List ℕ) (attached : List (Option Attachment)) (files : List NamedBytes) → IsNoFailure f
     → attach_files f mode unit name attached files ≡ attach_files None mode unit name attached files
 unfolding attach_files
 files-same f mode unit name attached files clear = unless (refused_first (attachment_at attached unit) unit mode)
@@ -124,7 +127,7 @@ said_reply said mode unit name files live = record {
   after = standing (attach_used said) (record live { machine = attached_machine said mode unit name (bytes_of files name) live.machine; files = files });
 }
 
-reply-is : (notes : List CommandNote) (live : Live) (option : ℕ) (unit : UnitName) (name : List ℕ) (said : AttachSaid) (files : Beyond) → lacks_unit live.machine unit ≡ false
+reply-is : (notes : List CommandNote) (live : Live) (option : ℕ) (unit : UnitName) (name : List ℕ) (said : AttachSaid) (files : List NamedBytes) → lacks_unit live.machine unit ≡ false
     → said ≡ attach_said (failure_now live.machine.time (subject.Unit unit) notes) (mode_of option) unit name (attached_in live.machine) live.files
     → files ≡ attach_files (failure_now live.machine.time (subject.Unit unit) notes) (mode_of option) unit name (attached_in live.machine) live.files
     → attach_reply notes live option unit name ≡ said_reply said (mode_of option) unit name files live
@@ -174,7 +177,7 @@ attach-did number live new option unit name r tells text notes notes' has said l
 
     said-at : (said : AttachSaid) (used : ℕ) → used ≡ attach_used said → Becomes live new (mode_of option) unit name said
         → IsSaid (said_reply said (mode_of option) unit name new.files live) (standing used new) tells text text
-    said-at said used uses after = record { after_is = λ i. standing (uses i) (after i); written = λ _. sym (append-nil text) }
+    said-at said used uses after = record { after_is = λ i. standing (uses i) (after i); written = λ _. sym (append-nil text.console); heard = sym (heard-nothing text.heard) }
 
     by-answer : (r : Result ℕ AttachFault) → IfSome (said_of_attach r) (λ said. Says live (mode_of option) unit name (fault_of_attach r) said)
         → IfSome (said_of_attach r) (λ said. Leaves live (mode_of option) unit name (fault_of_attach r) new.files)
@@ -225,29 +228,29 @@ attach-done number stamp mode live new held option unit name r answer tells text
 
 -- ---- the machine that is left
 
-pub becomes-attached : (watch : WatchState) (keys : List (ℕ × ℕ)) (files files' : List NamedBytes) (m m' : MachineState) (a held : AttachedFiles) (mode : AttachMode) (unit : UnitName) (name : List ℕ) (count place : ℕ)
+pub becomes-attached : (watch : WatchState) (keys : List (ℕ × ℕ)) (files files' : List NamedBytes) (lines : LineState) (whole : List LineAnswer) (m m' : MachineState) (a held : AttachedFiles) (mode : AttachMode) (unit : UnitName) (name : List ℕ) (count place : ℕ)
     → held ≡ attached_files m → attachments_of a.slots ≡ attached_by (Attached count) mode unit name (attachments_of held.slots)
     → a.disk ≡ buffer_by (Attached count) unit (bytes_of files' name) held.disk → place ≡ first_place unit.kind count
     → m' ≡ record (with_attached_files m a) { units = positioned unit place m.units }
-    → Becomes (seen (beside watch keys files.files files.lines) files.whole m) (seen (beside watch keys files') m') mode unit name (Attached count)
-becomes-attached watch keys files files' m m' a held mode unit name count place was are copied begins is =
+    → Becomes (seen (beside watch keys files lines) whole m) (seen (beside watch keys files' lines) whole m') mode unit name (Attached count)
+becomes-attached watch keys files files' lines whole m m' a held mode unit name count place was are copied begins is =
     let attached = attached_by (Attached count) mode unit name (attached_in (erased m)) in
     let disk = buffer_by (Attached count) unit (bytes_of files' name) m.disk in
-    ap (λ (x : MachineState). seen (beside watch keys files') x) is
-    ∙ ap (λ (p : ℕ). seen (beside watch keys files') (record (with_attached_files m a) { units = positioned unit p m.units })) begins
-    ∙ ap (λ (x : MachineState). record { machine = record x { units = positioned unit (first_place unit.kind count) m.units }; watch = watch; keys = keys; files = files' })
+    ap (λ (x : MachineState). seen (beside watch keys files' lines) whole x) is
+    ∙ ap (λ (p : ℕ). seen (beside watch keys files' lines) whole (record (with_attached_files m a) { units = positioned unit p m.units })) begins
+    ∙ ap (λ (x : MachineState). record (seen (beside watch keys files' lines) whole m) { machine = record x { units = positioned unit (first_place unit.kind count) m.units } })
     (erased-with m a attached disk
     (are ∙ ap (λ (l : List (Option Attachment)). attached_by (Attached count) mode unit name l) (ap (λ (x : AttachedFiles). attachments_of x.slots) was ∙ sym (attached-erased m)))
     (copied ∙ ap (λ (x : AttachedFiles). buffer_by (Attached count) unit (bytes_of files' name) x.disk) was))
 
-pub becomes-refused : (watch : WatchState) (keys : List (ℕ × ℕ)) (files files' : List NamedBytes) (m : MachineState) (a held : AttachedFiles) (mode : AttachMode) (unit : UnitName) (name : List ℕ) (fault : AttachFault)
-    → held ≡ attached_files m → a ≡ held → IfSome (said_of_attach (Err fault)) (λ said. Becomes (seen (beside watch keys files.files files.lines) files.whole m) (seen (beside watch keys files') (with_attached_files m a)) mode unit name said)
-becomes-refused watch keys files files' m a held mode unit name fault was stays = by-fault fault
+pub becomes-refused : (watch : WatchState) (keys : List (ℕ × ℕ)) (files files' : List NamedBytes) (lines : LineState) (whole : List LineAnswer) (m : MachineState) (a held : AttachedFiles) (mode : AttachMode) (unit : UnitName) (name : List ℕ) (fault : AttachFault)
+    → held ≡ attached_files m → a ≡ held → IfSome (said_of_attach (Err fault)) (λ said. Becomes (seen (beside watch keys files lines) whole m) (seen (beside watch keys files' lines) whole (with_attached_files m a)) mode unit name said)
+becomes-refused watch keys files files' lines whole m a held mode unit name fault was stays = by-fault fault
   where
-    same : seen (beside watch keys files') (with_attached_files m a) ≡ seen (beside watch keys files') m
-    same = ap (λ (x : MachineState). seen (beside watch keys files') x) (same-with m a held was stays)
+    same : seen (beside watch keys files' lines) whole (with_attached_files m a) ≡ seen (beside watch keys files' lines) whole m
+    same = ap (λ (x : MachineState). seen (beside watch keys files' lines) whole x) (same-with m a held was stays)
 
-    by-fault : (fault : AttachFault) → IfSome (said_of_attach (Err fault)) (λ said. Becomes (seen (beside watch keys files.files files.lines) files.whole m) (seen (beside watch keys files') (with_attached_files m a)) mode unit name said)
+    by-fault : (fault : AttachFault) → IfSome (said_of_attach (Err fault)) (λ said. Becomes (seen (beside watch keys files lines) whole m) (seen (beside watch keys files' lines) whole (with_attached_files m a)) mode unit name said)
     by-fault attach.AlreadyAttached = same
     by-fault attach.ReadOnly = same
     by-fault attach.NoFile = same

@@ -7,6 +7,8 @@ use Rattle.std.proofs.lemmas.Bool.Decides.{nat_tests}
 use Rattle.host_files.specs.declared.files.FileCall.{FileCall}
 use Rattle.host_files.specs.declared.files.FileCall.TheVariants.{Opening, Length, Read, Write, SetLength, Closing}
 use Rattle.host_files.specs.State.{FileState}
+use Rattle.host_lines.specs.Traffic.{Answer as LineAnswer}
+use Rattle.host_lines.specs.State.{LineState}
 use Rattle.unit_trait.specs.declared.kind.Kind.{Kind}
 use Rattle.unit_trait.specs.declared.kind.Kind.TheVariants.{Lpt, Ptr, Ptp, Mta}
 use Rattle.unit_trait.specs.declared.kind.UnitName.{UnitName}
@@ -26,6 +28,7 @@ use Rattle.nova_machine.specs.Machine.{MachineState, attached_files, with_attach
 use Rattle.host_files.specs.Lists.{NamedBytes}
 use Rattle.nova_machine.specs.Seen.{attached_in, erased, seen, beside}
 use Rattle.nova_machine.specs.Comes.{Output}
+use Rattle.nova_machine.proofs.Hearing.{heard-nothing}
 use Rattle.scp_commands.specs.declared.next.Next.{Next}
 use Rattle.scp_commands.specs.declared.next.Next.TheVariants.{Go, Exit}
 use Rattle.scp_commands.specs.Live.{Live, Standing, standing, with_attached, numberless}
@@ -488,16 +491,16 @@ kept-left number time from to u before after old now e =
 
 -- a machine with what is attached to it
 same-attached : (m : MachineState) → with_attached (erased m) (attached_in (erased m)) ≡ erased m
-same-attached m = ap (λ (l : List (Option Held)). record m { slots = l }) (ap numberless (attached-erased m) ∙ sym (unnumbered-is m.slots))
+same-attached m = ap (λ (l : List (Option Held)). record (erased m) { slots = l }) (ap numberless (attached-erased m) ∙ sym (unnumbered-is m.slots))
 
-pub left-is : (number time : ℕ) (watch : WatchState) (keys : List (ℕ × ℕ)) (files files' : List NamedBytes) (m : MachineState) (a held : AttachedFiles) (k : Option UnitName) (before after : List FaultNote) (old now : FileState)
+pub left-is : (number time : ℕ) (watch : WatchState) (keys : List (ℕ × ℕ)) (files files' : List NamedBytes) (lines : LineState) (whole : List LineAnswer) (m : MachineState) (a held : AttachedFiles) (k : Option UnitName) (before after : List FaultNote) (old now : FileState)
     → held ≡ attached_files m → Empties number time attachable (filed_of held files) (filed_of a files') k before after old now
-    → seen (beside watch keys files') (with_attached_files m a) ≡ left_by k (filed_of a files') (seen (beside watch keys files.files files.lines) files.whole m)
-left-is number time watch keys files files' m a held None before after old now was e = seen-with watch keys files' m a (attachments_of a.slots) a.disk refl refl
-left-is number time watch keys files files' m a held (Some u) before after old now was e =
+    → seen (beside watch keys files' lines) whole (with_attached_files m a) ≡ left_by k (filed_of a files') (seen (beside watch keys files lines) whole m)
+left-is number time watch keys files files' lines whole m a held None before after old now was e = seen-with watch keys files' lines whole m a (attachments_of a.slots) a.disk refl refl
+left-is number time watch keys files files' lines whole m a held (Some u) before after old now was e =
     let same = kept-left number time (filed_of held files) (filed_of a files') u before after old now e in
-    seen-with watch keys files' m a (attached_in (erased m)) m.disk (same.0 ∙ ap (λ (x : AttachedFiles). attachments_of x.slots) was ∙ sym (attached-erased m)) (same.1 ∙ ap (λ (x : AttachedFiles). x.disk) was)
-    ∙ ap (λ (x : MachineState). record { machine = x; watch = watch; keys = keys; files = files' }) (same-attached m)
+    seen-with watch keys files' lines whole m a (attached_in (erased m)) m.disk (same.0 ∙ ap (λ (x : AttachedFiles). attachments_of x.slots) was ∙ sym (attached-erased m)) (same.1 ∙ ap (λ (x : AttachedFiles). x.disk) was)
+    ∙ ap (λ (x : MachineState). record (seen (beside watch keys files' lines) whole m) { machine = x }) (same-attached m)
 
 -- the notes that are kept
 pub keeps-of : (number time now : ℕ) (tells : Bool) (from to : Filed) (k : Option UnitName) (before after : List FaultNote) (old new : FileState)
@@ -575,7 +578,8 @@ all-did next number live new k tells text notes notes' plain does closes = recor
       subst (λ (x : Emptied). Does (emptied_reply next x live) (kept_answer k next) (standing (length closes.own) new) tells text text) (sym same)
       (by-keeper k (sym (ap (λ (x : Option UnitName). kept_answer x next) closes.keeps)) (record {
         after_is = λ i. standing (sym closes.used i) (closes.after i);
-        written = λ _. sym (append-nil text);
+        written = λ _. sym (append-nil text.console);
+        heard = sym (heard-nothing text.heard);
       }));
 }
   where

@@ -6,6 +6,8 @@ use Rattle.std.proofs.Math.Path.{subst₃}
 use Rattle.host_files.specs.declared.files.FileCall.{FileCall}
 use Rattle.host_files.specs.declared.files.FileCall.TheVariants.{Opening, Length, Read, Write, SetLength, Closing}
 use Rattle.host_files.specs.State.{FileState}
+use Rattle.host_lines.specs.Traffic.{Answer as LineAnswer}
+use Rattle.host_lines.specs.State.{LineState}
 use Rattle.unit_trait.specs.Kinds.{same_unit}
 use Rattle.file_commands.specs.Counts.{AreCounted}
 use Rattle.host_files.specs.Lists.{NamedBytes}
@@ -27,6 +29,7 @@ use Rattle.expect_actions.specs.Watch.{WatchState}
 use Rattle.nova_machine.specs.Machine.{MachineState, attached_files, with_attached_files}
 use Rattle.nova_machine.specs.Seen.{erased, seen, beside, attached_in}
 use Rattle.nova_machine.specs.Comes.{Output}
+use Rattle.nova_machine.proofs.Hearing.{heard-nothing}
 use Rattle.scp_commands.specs.declared.next.Next.TheVariants.{Go}
 use Rattle.scp_commands.specs.declared.fault.CommandFault.TheVariants.{NotBuilt, FileFailed}
 use Rattle.scp_commands.specs.Live.{Live, standing}
@@ -48,21 +51,21 @@ detach_result (Err fault) = Err (detach_fault fault)
 
 -- ---- what is left behind it
 
-pub detached-live : (watch : WatchState) (keys : List (ℕ × ℕ)) (after : List NamedBytes) (m : MachineState) (a held : AttachedFiles) (unit : UnitName) (r : Result (Option UnitFault) DetachFault)
+pub detached-live : (watch : WatchState) (keys : List (ℕ × ℕ)) (after : List NamedBytes) (lines : LineState) (whole : List LineAnswer) (m : MachineState) (a held : AttachedFiles) (unit : UnitName) (r : Result (Option UnitFault) DetachFault)
     → held ≡ attached_files m → attachments_of a.slots ≡ detached_by (said_of_detach r) unit (attachments_of held.slots) → a.disk ≡ buffer_left (said_of_detach r) unit held.disk
-    → OnErr r (a ≡ held) → seen (beside watch keys after) (with_attached_files m a) ≡ record { machine = detached_machine (said_of_detach r) unit (erased m); watch = watch; keys = keys; files = after }
-detached-live watch keys after m a held unit (Ok fault) was are holds refused =
+    → OnErr r (a ≡ held) → seen (beside watch keys after lines) whole (with_attached_files m a) ≡ record (seen (beside watch keys after lines) whole m) { machine = detached_machine (said_of_detach r) unit (erased m) }
+detached-live watch keys after lines whole m a held unit (Ok fault) was are holds refused =
     let said = said_of_detach (Ok fault) in
-    seen-with watch keys after m a (detached unit (attached_in (erased m))) (buffer_left said unit m.disk)
+    seen-with watch keys after lines whole m a (detached unit (attached_in (erased m))) (buffer_left said unit m.disk)
     (are ∙ ap (λ (l : List (Option Attachment)). detached unit l) (ap (λ (x : AttachedFiles). attachments_of x.slots) was ∙ sym (attached-erased m)))
     (holds ∙ ap (λ (x : AttachedFiles). buffer_left said unit x.disk) was)
-detached-live watch keys after m a held unit (Err fault) was are holds refused = by-fault fault
+detached-live watch keys after lines whole m a held unit (Err fault) was are holds refused = by-fault fault
   where
-    kept : seen (beside watch keys after) (with_attached_files m a) ≡ seen (beside watch keys after) m
-    kept = ap (λ (x : MachineState). seen (beside watch keys after) x) (same-with m a held was refused)
+    kept : seen (beside watch keys after lines) whole (with_attached_files m a) ≡ seen (beside watch keys after lines) whole m
+    kept = ap (λ (x : MachineState). seen (beside watch keys after lines) whole x) (same-with m a held was refused)
 
     by-fault : (fault : DetachFault)
-        → seen (beside watch keys after) (with_attached_files m a) ≡ record { machine = detached_machine (said_of_detach (Err fault)) unit (erased m); watch = watch; keys = keys; files = after }
+        → seen (beside watch keys after lines) whole (with_attached_files m a) ≡ record (seen (beside watch keys after lines) whole m) { machine = detached_machine (said_of_detach (Err fault)) unit (erased m) }
     by-fault detach.NotAttached = kept
     by-fault (detach.Failed f) = kept
 
@@ -140,15 +143,15 @@ detach-did number live new unit r tells text notes notes' has said left after of
         → (behind : List CommandNote) → ComeBehind new behind
         → Does (detach_reply (own_of time (fault_of_detach r) ++ behind) live unit) (detach_result r) (standing (length (own_of time (fault_of_detach r))) new) tells text text
     by-answer (Ok None) said left after of_unit behind come =
-        does-handed (Ok None) behind (Ok Go) (quiet (Ok None) behind (emptied None) after come) said left (refl, record { after_is = ap (standing 0) after; written = λ _. sym (append-nil text) })
+        does-handed (Ok None) behind (Ok Go) (quiet (Ok None) behind (emptied None) after come) said left (refl, record { after_is = ap (standing 0) after; written = λ _. sym (append-nil text.console); heard = sym (heard-nothing text.heard) })
     by-answer (Ok (Some f)) said left after of_unit behind come =
-        does-handed (Ok (Some f)) behind (Ok Go) (quiet (Ok (Some f)) behind (emptied (Some f)) after come) said left (refl, record { after_is = ap (standing 1) after; written = λ _. sym (append-nil text) })
+        does-handed (Ok (Some f)) behind (Ok Go) (quiet (Ok (Some f)) behind (emptied (Some f)) after come) said left (refl, record { after_is = ap (standing 1) after; written = λ _. sym (append-nil text.console); heard = sym (heard-nothing text.heard) })
     by-answer (Err detach.NotAttached) said left after of_unit behind come =
         does-handed (Err detach.NotAttached) behind (detach_result (Err detach.NotAttached)) (quiet (Err detach.NotAttached) behind (had-none (failure_now time (subject.Unit unit) (own_of time None)) unit (attachment_at (attached_in live.machine) unit) live.machine.disk said) after come) said left
-        (refl, record { after_is = ap (standing 0) after; written = λ _. sym (append-nil text) })
+        (refl, record { after_is = ap (standing 0) after; written = λ _. sym (append-nil text.console); heard = sym (heard-nothing text.heard) })
     by-answer (Err (detach.Failed f)) said left after of_unit behind come =
         does-handed (Err (detach.Failed f)) behind (detach_result (Err (detach.Failed f))) refl said left
-        (ap (λ (u : UnitName). Err (FileFailed (subject.Unit u))) of_unit, record { after_is = ap (standing 1) after; written = λ _. sym (append-nil text) })
+        (ap (λ (u : UnitName). Err (FileFailed (subject.Unit u))) of_unit, record { after_is = ap (standing 1) after; written = λ _. sym (append-nil text.console); heard = sym (heard-nothing text.heard) })
 
 -- there is no such unit
 pub detach-not-built : (number : ℕ) (live : Live) (unit : UnitName) (tells : Bool) (text : Output) (notes : List Note) → lacks_unit live.machine unit ≡ true

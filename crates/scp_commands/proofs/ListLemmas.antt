@@ -1,6 +1,5 @@
 -- EXAMINE and DEPOSIT speak of no file's number.
 use Rattle.std.proofs.Common.{◌≡◌, ℕ, Bool, false, List, [], ◌∷◌, ◌++◌, Option, Some, None, Result, Ok, Err, OnOk, IfErr, IsTrue, refl, ap, sym, ◌∙◌, subst, append-nil, if◌then◌else◌}
-use Rattle.host_files.specs.Lists.{NamedBytes}
 use Rattle.host_files.specs.Streams.{AddsPart}
 use Rattle.unit_trait.specs.declared.processor.CpuReg.{CpuReg}
 use Rattle.unit_trait.specs.declared.processor.CpuReg.TheVariants.{Ac0, Ac1, Ac2, Ac3, C, Pc, Ion, Hold, Mask, Sr, StopDev, Size}
@@ -18,6 +17,7 @@ use Rattle.scp_examine.specs.Shape.{shape_of}
 use Rattle.scp_examine.specs.Places.{Place, Cell, Register, UnitRegister, value_at, value_text, place_name, place_text, line_of, is_chosen}
 use Rattle.scp_examine.specs.Effect.{all_places, listed, examined, examine_fault, with_value, filled, deposited, fault_of_deposit, Examines, FaultIs}
 use Rattle.nova_machine.specs.Comes.{Output}
+use Rattle.nova_machine.proofs.Hearing.{heard-nothing}
 use Rattle.scp_commands.specs.declared.next.Next.TheVariants.{Go}
 use Rattle.scp_commands.specs.declared.fault.CommandFault.TheVariants.{NotBuilt}
 use Rattle.scp_commands.specs.Live.{Live, standing, with_machine, Beyond}
@@ -25,6 +25,7 @@ use Rattle.scp_commands.specs.Reply.{Answer, Reply, refused}
 use Rattle.scp_commands.specs.FaultText.{list_fault}
 use Rattle.scp_commands.specs.ListEffects.{lacks_device, examine_after, examine_reply, handed, deposit_after, deposit_reply}
 use Rattle.scp_commands.specs.Doing.{Does, IsBrokenOff}
+use Rattle.scp_commands.proofs.SeenLemmas.{seen-machine}
 use Rattle.scp_commands.proofs.ReplyLemmas.{text-said, text-refused}
 
 pub erased-lacks : (m : MachineState) (name : Name) → lacks_device (erased m) name ≡ lacks_device m name
@@ -83,33 +84,33 @@ list_answer (Ok x) = Ok Go
 list_answer (Err fault) = Err (list_fault fault)
 
 after-does : {T : Type 0} (m : MachineState) (l : Listing) (live : Live) (r : Result T ExamineFault) (tells : Bool) (before after : Output)
-    → examined live.machine l ≡ examined m l → FaultIs (examine_fault m l) r → (IsTrue tells → Examines m l r before after)
+    → examined live.machine l ≡ examined m l → FaultIs (examine_fault m l) r → (IsTrue tells → Examines m l r before.console after.console) → after.heard ≡ before.heard
     → Does (examine_after (examine_fault m l) live l) (list_answer r) (standing 0 live) tells before after
-after-does {T} m l live (Ok x) tells before after same fault told =
+after-does {T} m l live (Ok x) tells before after same fault told quiet =
     subst (λ (o : Option ExamineFault). Does (examine_after o live l) (Ok Go) (standing 0 live) tells before after) (sym fault)
-    (refl, text-said (examined live.machine l) (Ok Go) (standing 0 live) tells before after (λ t. (told t).1 ∙ ap (λ (text : Output). before ++ text) (sym same)))
-after-does {T} m l live (Err list.Console) tells before after same fault told =
+    (refl, text-said (examined live.machine l) (Ok Go) (standing 0 live) tells before after (λ t. (told t).1 ∙ ap (λ (text : List ℕ). before.console ++ text) (sym same)) quiet)
+after-does {T} m l live (Err list.Console) tells before after same fault told quiet =
     subst (λ (o : Option ExamineFault). IsBrokenOff (examine_after o live l) (standing 0 live) tells before after) (sym fault)
-    (text-refused (examined live.machine l) (Ok Go) (standing 0 live) tells before after (λ t. subst (λ (text : Output). AddsPart before text after) (sym same) (told t).1))
-after-does {T} m l live (Err list.NoSuchName) tells before after same fault told =
+    (text-refused (examined live.machine l) (Ok Go) (standing 0 live) tells before after (λ t. subst (λ (text : List ℕ). AddsPart before.console text after.console) (sym same) (told t).1) quiet)
+after-does {T} m l live (Err list.NoSuchName) tells before after same fault told quiet =
     subst (λ (o : Option ExamineFault). Does (examine_after o live l) (Err (list_fault list.NoSuchName)) (standing 0 live) tells before after) (sym fault)
-    (refl, record { after_is = refl; written = λ t. (told t).1 ∙ sym (append-nil before) })
-after-does {T} m l live (Err list.OutOfRange) tells before after same fault told =
+    (refl, record { after_is = refl; written = λ t. (told t).1 ∙ sym (append-nil before.console); heard = quiet ∙ sym (heard-nothing before.heard) })
+after-does {T} m l live (Err list.OutOfRange) tells before after same fault told quiet =
     subst (λ (o : Option ExamineFault). Does (examine_after o live l) (Err (list_fault list.OutOfRange)) (standing 0 live) tells before after) (sym fault)
-    (refl, record { after_is = refl; written = λ t. (told t).1 ∙ sym (append-nil before) })
-after-does {T} m l live (Err list.ReadOnlyName) tells before after same fault told = absurd fault
+    (refl, record { after_is = refl; written = λ t. (told t).1 ∙ sym (append-nil before.console); heard = quiet ∙ sym (heard-nothing before.heard) })
+after-does {T} m l live (Err list.ReadOnlyName) tells before after same fault told quiet = absurd fault
 
 -- what EXAMINE comes to, where the machine has the device
 pub examine-does : {T : Type 0} (m : MachineState) (watch : WatchState) (keys : List (ℕ × ℕ)) (files : Beyond) (l : Listing) (r : Result T ExamineFault) (tells : Bool) (before after : Output)
-    → lacks_device m l.device ≡ false → FaultIs (examine_fault m l) r → (IsTrue tells → Examines m l r before after)
+    → lacks_device m l.device ≡ false → FaultIs (examine_fault m l) r → (IsTrue tells → Examines m l r before.console after.console) → after.heard ≡ before.heard
     → Does (examine_reply (seen (beside watch keys files.files files.lines) files.whole m) l) (list_answer r) (standing 0 (seen (beside watch keys files.files files.lines) files.whole m)) tells before after
 unfolding examine_reply
-examine-does m watch keys files l r tells before after there fault told =
+examine-does m watch keys files l r tells before after there fault told quiet =
     let live = seen (beside watch keys files.files files.lines) files.whole m in
     subst (λ (b : Bool). Does (if b then refused NotBuilt live else examine_after (examine_fault (erased m) l) live l) (list_answer r) (standing 0 live) tells before after)
     (sym (erased-lacks m l.device ∙ there))
     (subst (λ (o : Option ExamineFault). Does (examine_after o live l) (list_answer r) (standing 0 live) tells before after) (sym (erased-fault m l))
-    (after-does m l live r tells before after (erased-examined m l) fault told))
+    (after-does m l live r tells before after (erased-examined m l) fault told quiet))
 
 -- ---- DEPOSIT
 
@@ -145,33 +146,34 @@ erased-deposited m l v = erased-filled v m (all_places (shape_of m) l.device l.i
 pub record Frame (old new : MachineState) : Type 0 where
   pub slots : new.slots ≡ old.slots
   pub time : new.time ≡ old.time
+  pub lines : new.lines ≡ old.lines
 
 register-frame : (m : MachineState) (r : CpuReg) (v : ℕ) → Frame m (with_register m r v)
-register-frame m Ac0 v = record { slots = refl; time = refl }
-register-frame m Ac1 v = record { slots = refl; time = refl }
-register-frame m Ac2 v = record { slots = refl; time = refl }
-register-frame m Ac3 v = record { slots = refl; time = refl }
-register-frame m C v = record { slots = refl; time = refl }
-register-frame m Pc v = record { slots = refl; time = refl }
-register-frame m Ion v = record { slots = refl; time = refl }
-register-frame m Hold v = record { slots = refl; time = refl }
-register-frame m Mask v = record { slots = refl; time = refl }
-register-frame m Sr v = record { slots = refl; time = refl }
-register-frame m StopDev v = record { slots = refl; time = refl }
-register-frame m Size v = record { slots = refl; time = refl }
+register-frame m Ac0 v = record { slots = refl; time = refl; lines = refl }
+register-frame m Ac1 v = record { slots = refl; time = refl; lines = refl }
+register-frame m Ac2 v = record { slots = refl; time = refl; lines = refl }
+register-frame m Ac3 v = record { slots = refl; time = refl; lines = refl }
+register-frame m C v = record { slots = refl; time = refl; lines = refl }
+register-frame m Pc v = record { slots = refl; time = refl; lines = refl }
+register-frame m Ion v = record { slots = refl; time = refl; lines = refl }
+register-frame m Hold v = record { slots = refl; time = refl; lines = refl }
+register-frame m Mask v = record { slots = refl; time = refl; lines = refl }
+register-frame m Sr v = record { slots = refl; time = refl; lines = refl }
+register-frame m StopDev v = record { slots = refl; time = refl; lines = refl }
+register-frame m Size v = record { slots = refl; time = refl; lines = refl }
 
 value-frame : (v : ℕ) (m : MachineState) (p : Place) → Frame m (with_value v m p)
-value-frame v m (Cell a) = record { slots = refl; time = refl }
+value-frame v m (Cell a) = record { slots = refl; time = refl; lines = refl }
 value-frame v m (Register r) = register-frame m r v
-value-frame v m (UnitRegister kind i) = record { slots = refl; time = refl }
+value-frame v m (UnitRegister kind i) = record { slots = refl; time = refl; lines = refl }
 
 filled-frame : (v : ℕ) (m : MachineState) (places : List Place) → Frame m (filled v m places)
 unfolding filled
-filled-frame v m [] = record { slots = refl; time = refl }
+filled-frame v m [] = record { slots = refl; time = refl; lines = refl }
 filled-frame v m (p ∷ more) =
     let first = value-frame v m p in
     let rest = filled-frame v (with_value v m p) more in
-    record { slots = rest.slots ∙ first.slots; time = rest.time ∙ first.time }
+    record { slots = rest.slots ∙ first.slots; time = rest.time ∙ first.time; lines = rest.lines ∙ first.lines }
 
 pub deposited-frame : (m : MachineState) (l : Listing) (v : ℕ) → Frame m (deposited m l v)
 unfolding deposited
@@ -194,7 +196,10 @@ after-silent m new watch keys files l v (Ok x) done =
     subst (λ (o : Option ExamineFault). IsSilent (deposit_after o (seen (beside watch keys files.files files.lines) files.whole m) l v) (Ok Go) (seen (beside watch keys files.files files.lines) files.whole new)) (sym done.0)
     (record {
       answer_is = refl;
-      after_is = ap (λ (x : MachineState). standing 0 (seen (beside watch keys files.files files.lines) files.whole x)) done.1 ∙ ap (λ (x : MachineState). standing 0 (with_machine (seen (beside watch keys files.files files.lines) files.whole m) x)) (sym (erased-deposited m l v));
+      after_is =
+          ap (λ (x : MachineState). standing 0 (seen (beside watch keys files.files files.lines) files.whole x)) done.1
+          ∙ ap (standing 0) (seen-machine (beside watch keys files.files files.lines) files.whole m (deposited m l v) (deposited-frame m l v).lines)
+          ∙ ap (λ (x : MachineState). standing 0 (with_machine (seen (beside watch keys files.files files.lines) files.whole m) x)) (sym (erased-deposited m l v));
       silent = refl;
     })
 after-silent m new watch keys files l v (Err fault) done =
@@ -216,10 +221,10 @@ deposit-silent m new watch keys files l value r there deposits =
     (subst (λ (o : Option ExamineFault). IsSilent (deposit_after o live l (handed value)) (list_answer r) (seen (beside watch keys files.files files.lines) files.whole new)) (sym (erased-deposit_fault m l (handed value)))
     (after-silent m new watch keys files l (handed value) r deposits))
 
--- what is attached and the time stand
+-- what is attached, the time and the lines stand
 pub deposit-frame : {T : Type 0} (m new : MachineState) (l : Listing) (v : ℕ) (r : Result T ExamineFault) → Deposits m l v r new → Frame m new
 deposit-frame m new l v (Ok x) done = subst (λ (x : MachineState). Frame m x) (sym done.1) (deposited-frame m l v)
-deposit-frame m new l v (Err fault) done = subst (λ (x : MachineState). Frame m x) (sym done.1) (record { slots = refl; time = refl })
+deposit-frame m new l v (Err fault) done = subst (λ (x : MachineState). Frame m x) (sym done.1) (record { slots = refl; time = refl; lines = refl })
 
 pub deposits-of : {T : Type 0} (m new : MachineState) (l : Listing) (v : ℕ) (r : Result T ExamineFault) → OnOk r ((fault_of_deposit m l v ≡ None) × (new ≡ deposited m l v))
     → IfErr r (λ fault. (fault_of_deposit m l v ≡ Some fault) × (new ≡ m)) → Deposits m l v r new

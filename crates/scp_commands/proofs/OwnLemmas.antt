@@ -12,7 +12,9 @@ use Rattle.scp_examine.specs.Shape.{Shape, shape_of}
 use Rattle.scp_examine.specs.Places.{Place, Cell, Register, UnitRegister, places_of}
 use Rattle.scp_examine.specs.Checks.{or_fault, out_of_range_unless, memory_fault, no_such_name_unless, item_fault, items_fault, value_fault, values_fault, deposit_fault}
 use Rattle.scp_examine.specs.Effect.{fault_of_deposit}
-use Rattle.scp_commands.specs.Live.{Live}
+use Rattle.host_lines.specs.Traffic.{Gone}
+use Rattle.host_lines.specs.Told.{Records, Named}
+use Rattle.scp_commands.specs.Live.{Live, Beyond}
 use Rattle.scp_commands.specs.Reply.{Reply}
 use Rattle.scp_commands.specs.ListEffects.{lacks_device, handed, deposit_after, deposit_reply}
 use Rattle.scp_commands.specs.Doing.{IsPlain}
@@ -86,3 +88,19 @@ deposit-own live l value =
     own-if (lacks_device live.machine l.device) _ _ tt
     (own-after (fault_of_deposit live.machine l (handed value)) live l (handed value)
     (own-items (deposit_fault (shape_of live.machine) l.device (handed value)) (own-deposit (shape_of live.machine) l.device (handed value)) l.items))
+
+-- an outside with no file, no port and no connection
+pub no_outside : Beyond
+no_outside = record {
+  files = [];
+  lines = record {
+    listens = λ _. false;
+    stands = λ _. false;
+    faults = 0;
+    given = λ _. false;
+    peers = λ _. Gone;
+    told = Records [];
+    sent = Named [];
+  };
+  whole = [];
+}

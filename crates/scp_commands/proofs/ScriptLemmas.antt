@@ -1,6 +1,5 @@
 -- ECHO and ASSERT: ASSERT speaks of no file's number, and never answers for the console.
 use Rattle.std.proofs.Common.{◌≡◌, ◌∙◌, ℕ, Bool, true, false, IsTrue, List, [], ◌∷◌, ◌++◌, Option, Some, None, Result, Ok, Err, refl, ap, sym, if◌then◌else◌}
-use Rattle.host_files.specs.Lists.{NamedBytes}
 use Rattle.host_files.specs.Streams.{Puts}
 use Rattle.expect_actions.specs.Watch.{WatchState}
 use Rattle.nova_machine.specs.Machine.{MachineState}
@@ -25,10 +24,10 @@ use Rattle.scp_commands.proofs.ReplyLemmas.{says-does, silent-does}
 use Rattle.scp_commands.proofs.ListLemmas.{erased-lacks, erased-value}
 use Rattle.scp_commands.proofs.OwnLemmas.{IsListsOwn, own-item}
 
-pub echo-does : {T E : Type 0} (live : Live) (text : Output) (printed : Result T E) (answer : Answer) (tells : Bool) (before after : Output) → answer ≡ told_or_console printed Go
-    → (IsTrue tells → Puts before (text ++ 10 ∷ []) printed after) → Does (echo_reply live text) answer (standing 0 live) tells before after
+pub echo-does : {T E : Type 0} (live : Live) (text : List ℕ) (printed : Result T E) (answer : Answer) (tells : Bool) (before after : Output) → answer ≡ told_or_console printed Go
+    → (IsTrue tells → Puts before.console (text ++ 10 ∷ []) printed after.console) → after.heard ≡ before.heard → Does (echo_reply live text) answer (standing 0 live) tells before after
 unfolding echo_reply
-echo-does live text printed answer tells before after is puts = says-does (text ++ 10 ∷ []) live printed answer tells before after is puts
+echo-does live text printed answer tells before after is puts quiet = says-does (text ++ 10 ∷ []) live printed answer tells before after is puts quiet
 
 -- ---- ASSERT
 

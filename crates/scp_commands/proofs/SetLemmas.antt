@@ -3,7 +3,6 @@ use Rattle.std.proofs.Common.{◌≡◌, ◌∙◌, ℕ, ◌-◌, ◌*◌, ◌^�
 use Rattle.std.proofs.Common.{Ok, Err, refl, ap, sym, subst, if◌then◌else◌, arith}
 use Rattle.std.proofs.lemmas.Bool.{and_parts, leb-true, ltb-false, lt-ltb, le-ltb}
 use Rattle.std.proofs.lemmas.List.{length-take-le, get_or-take, get_or_append_left}
-use Rattle.host_files.specs.Lists.{NamedBytes}
 use Rattle.nova_memory.specs.Memory.{MemoryState, IsMemory, fits_size, get, resized}
 use Rattle.file_commands.specs.Notes.{CommandNote}
 use Rattle.expect_actions.specs.Watch.{WatchState}

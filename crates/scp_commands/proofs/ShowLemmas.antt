@@ -1,7 +1,6 @@
 -- SHOW speaks of no file's number.
 use Rattle.std.proofs.Common.{◌≡◌, ◌∙◌, ℕ, Bool, true, false, IsTrue, List, [], ◌∷◌, ◌++◌, codes, option_map, append_assoc, Option, Some, None, Result, Err, refl, ap, sym, subst, if◌then◌else◌}
 use Rattle.std.proofs.Math.ListN.{get_or-map}
-use Rattle.host_files.specs.Lists.{NamedBytes}
 use Rattle.host_files.specs.Streams.{Puts}
 use Rattle.unit_trait.specs.declared.kind.UnitName.{UnitName}
 use Rattle.unit_files.specs.Attachments.{Attachment, Held, file_place, held_at, read_only_of, read_only_at, attachments_of, attachment_at}
@@ -44,49 +43,49 @@ read_only-line name file =
     ∙ sym (append_assoc name (words ++ (file ++ end)) (10 ∷ []))
 
 pub time-does : {T E : Type 0} (m : MachineState) (watch : WatchState) (keys : List (ℕ × ℕ)) (files : Beyond) (printed : Result T E) (answer : Answer) (tells : Bool) (before after : Output)
-    → answer ≡ told_or_console printed Go → (IsTrue tells → Puts before (time_text m) printed after)
+    → answer ≡ told_or_console printed Go → (IsTrue tells → Puts before.console (time_text m) printed after.console) → after.heard ≡ before.heard
     → Does (show_reply (seen (beside watch keys files.files files.lines) files.whole m) Time) answer (standing 0 (seen (beside watch keys files.files files.lines) files.whole m)) tells before after
 unfolding show_reply
-time-does m watch keys files printed answer tells before after is puts = says-does (time_text m) (seen (beside watch keys files.files files.lines) files.whole m) printed answer tells before after is puts
+time-does m watch keys files printed answer tells before after is puts quiet = says-does (time_text m) (seen (beside watch keys files.files files.lines) files.whole m) printed answer tells before after is puts quiet
 
 pub cpu-does : {T E : Type 0} (m : MachineState) (watch : WatchState) (keys : List (ℕ × ℕ)) (files : Beyond) (printed : Result T E) (answer : Answer) (tells : Bool) (before after : Output)
-    → answer ≡ told_or_console printed Go → (IsTrue tells → Puts before (cpu_text m) printed after)
+    → answer ≡ told_or_console printed Go → (IsTrue tells → Puts before.console (cpu_text m) printed after.console) → after.heard ≡ before.heard
     → Does (show_reply (seen (beside watch keys files.files files.lines) files.whole m) Cpu) answer (standing 0 (seen (beside watch keys files.files files.lines) files.whole m)) tells before after
 unfolding show_reply
-cpu-does m watch keys files printed answer tells before after is puts = says-does (cpu_text m) (seen (beside watch keys files.files files.lines) files.whole m) printed answer tells before after is puts
+cpu-does m watch keys files printed answer tells before after is puts quiet = says-does (cpu_text m) (seen (beside watch keys files.files files.lines) files.whole m) printed answer tells before after is puts quiet
 
 pub version-does : {T E : Type 0} (m : MachineState) (watch : WatchState) (keys : List (ℕ × ℕ)) (files : Beyond) (printed : Result T E) (answer : Answer) (tells : Bool) (before after : Output)
-    → answer ≡ told_or_console printed Go → (IsTrue tells → Puts before version_text printed after)
+    → answer ≡ told_or_console printed Go → (IsTrue tells → Puts before.console version_text printed after.console) → after.heard ≡ before.heard
     → Does (show_reply (seen (beside watch keys files.files files.lines) files.whole m) Version) answer (standing 0 (seen (beside watch keys files.files files.lines) files.whole m)) tells before after
 unfolding show_reply
-version-does m watch keys files printed answer tells before after is puts = says-does version_text (seen (beside watch keys files.files files.lines) files.whole m) printed answer tells before after is puts
+version-does m watch keys files printed answer tells before after is puts quiet = says-does version_text (seen (beside watch keys files.files files.lines) files.whole m) printed answer tells before after is puts quiet
 
 pub queue-does : {T E : Type 0} (m : MachineState) (watch : WatchState) (keys : List (ℕ × ℕ)) (files : Beyond) (printed : Result T E) (answer : Answer) (tells : Bool) (before after : Output)
-    → answer ≡ told_or_console printed Go → (IsTrue tells → Puts before (queue_text m.events) printed after)
+    → answer ≡ told_or_console printed Go → (IsTrue tells → Puts before.console (queue_text m.events) printed after.console) → after.heard ≡ before.heard
     → Does (show_reply (seen (beside watch keys files.files files.lines) files.whole m) Queue) answer (standing 0 (seen (beside watch keys files.files files.lines) files.whole m)) tells before after
 unfolding show_reply
-queue-does m watch keys files printed answer tells before after is puts = says-does (queue_text m.events) (seen (beside watch keys files.files files.lines) files.whole m) printed answer tells before after is puts
+queue-does m watch keys files printed answer tells before after is puts quiet = says-does (queue_text m.events) (seen (beside watch keys files.files files.lines) files.whole m) printed answer tells before after is puts quiet
 
 pub breaks-does : {T E : Type 0} (m : MachineState) (watch : WatchState) (keys : List (ℕ × ℕ)) (files : Beyond) (printed : Result T E) (answer : Answer) (tells : Bool) (before after : Output)
-    → answer ≡ told_or_console printed Go → (IsTrue tells → Puts before (breaks_text watch.breaks.list) printed after)
+    → answer ≡ told_or_console printed Go → (IsTrue tells → Puts before.console (breaks_text watch.breaks.list) printed after.console) → after.heard ≡ before.heard
     → Does (show_reply (seen (beside watch keys files.files files.lines) files.whole m) Break) answer (standing 0 (seen (beside watch keys files.files files.lines) files.whole m)) tells before after
 unfolding show_reply
-breaks-does m watch keys files printed answer tells before after is puts =
-    says-does (breaks_text watch.breaks.list) (seen (beside watch keys files.files files.lines) files.whole m) printed answer tells before after is puts
+breaks-does m watch keys files printed answer tells before after is puts quiet =
+    says-does (breaks_text watch.breaks.list) (seen (beside watch keys files.files files.lines) files.whole m) printed answer tells before after is puts quiet
 
 pub expects-does : {T E : Type 0} (m : MachineState) (watch : WatchState) (keys : List (ℕ × ℕ)) (files : Beyond) (printed : Result T E) (answer : Answer) (tells : Bool) (before after : Output)
-    → answer ≡ told_or_console printed Go → (IsTrue tells → Puts before (expects_text watch.expects.list) printed after)
+    → answer ≡ told_or_console printed Go → (IsTrue tells → Puts before.console (expects_text watch.expects.list) printed after.console) → after.heard ≡ before.heard
     → Does (show_reply (seen (beside watch keys files.files files.lines) files.whole m) Expect) answer (standing 0 (seen (beside watch keys files.files files.lines) files.whole m)) tells before after
 unfolding show_reply
-expects-does m watch keys files printed answer tells before after is puts =
-    says-does (expects_text watch.expects.list) (seen (beside watch keys files.files files.lines) files.whole m) printed answer tells before after is puts
+expects-does m watch keys files printed answer tells before after is puts quiet =
+    says-does (expects_text watch.expects.list) (seen (beside watch keys files.files files.lines) files.whole m) printed answer tells before after is puts quiet
 
 pub sends-does : {T E : Type 0} (m : MachineState) (watch : WatchState) (keys : List (ℕ × ℕ)) (files : Beyond) (printed : Result T E) (answer : Answer) (tells : Bool) (before after : Output)
-    → answer ≡ told_or_console printed Go → (IsTrue tells → Puts before (sends_text watch.sends) printed after)
+    → answer ≡ told_or_console printed Go → (IsTrue tells → Puts before.console (sends_text watch.sends) printed after.console) → after.heard ≡ before.heard
     → Does (show_reply (seen (beside watch keys files.files files.lines) files.whole m) Send) answer (standing 0 (seen (beside watch keys files.files files.lines) files.whole m)) tells before after
 unfolding show_reply
-sends-does m watch keys files printed answer tells before after is puts =
-    says-does (sends_text watch.sends) (seen (beside watch keys files.files files.lines) files.whole m) printed answer tells before after is puts
+sends-does m watch keys files printed answer tells before after is puts quiet =
+    says-does (sends_text watch.sends) (seen (beside watch keys files.files files.lines) files.whole m) printed answer tells before after is puts quiet
 
 -- a unit that can have no file here
 pub unit-refused : (m : MachineState) (watch : WatchState) (keys : List (ℕ × ℕ)) (files : Beyond) (unit : UnitName) (tells : Bool) (text : Output) → lacks_unit m unit ≡ true
@@ -98,11 +97,11 @@ unit-refused m watch keys files unit tells text lacks =
     (sym lacks) (refl, refused-said NotBuilt live tells text)
 
 pub unit-does : {T E : Type 0} (m : MachineState) (watch : WatchState) (keys : List (ℕ × ℕ)) (files : Beyond) (unit : UnitName) (printed : Result T E) (answer : Answer) (tells : Bool) (before after : Output)
-    → lacks_unit m unit ≡ false → answer ≡ told_or_console printed Go → (IsTrue tells → Puts before (unit_line unit (attachment_at (attachments_of m.slots) unit)) printed after)
+    → lacks_unit m unit ≡ false → answer ≡ told_or_console printed Go → (IsTrue tells → Puts before.console (unit_line unit (attachment_at (attachments_of m.slots) unit)) printed after.console) → after.heard ≡ before.heard
     → Does (show_reply (seen (beside watch keys files.files files.lines) files.whole m) (AUnit unit)) answer (standing 0 (seen (beside watch keys files.files files.lines) files.whole m)) tells before after
 unfolding show_reply
-unit-does m watch keys files unit printed answer tells before after has is puts =
+unit-does m watch keys files unit printed answer tells before after has is puts quiet =
     let live = seen (beside watch keys files.files files.lines) files.whole m in
     subst (λ (b : Bool). Does (if b then refused NotBuilt live else says (unit_text live.machine unit) live) answer (standing 0 live) tells before after) (sym has)
     (subst (λ (l : List (Option Attachment)). Does (says (unit_line unit (attachment_at l unit)) live) answer (standing 0 live) tells before after) (sym (unnumbered-attachments m.slots))
-    (says-does (unit_line unit (attachment_at (attachments_of m.slots) unit)) live printed answer tells before after is puts))
+    (says-does (unit_line unit (attachment_at (attachments_of m.slots) unit)) live printed answer tells before after is puts quiet))

@@ -3,6 +3,8 @@ use Rattle.std.proofs.Common.{◌≡◌, ℕ, Bool, true, false, List, ◌++◌,
 use Rattle.std.specs.Global.{Vec}
 use Rattle.host_files.specs.Lists.{NamedBytes}
 use Rattle.host_files.specs.State.{FileState}
+use Rattle.host_lines.specs.Traffic.{Answer as LineAnswer}
+use Rattle.host_lines.specs.State.{LineState}
 use Rattle.file_commands.specs.declared.note.Subject.TheVariants as subject
 use Rattle.file_commands.specs.declared.note.FaultNote.{FaultNote}
 use Rattle.file_commands.specs.Notes.{CommandNote, notes_said}
@@ -24,7 +26,7 @@ use Rattle.nova_machine.specs.Turn.{with_memory}
 use Rattle.nova_machine.specs.Comes.{Output}
 use Rattle.scp_commands.specs.declared.next.Next.TheVariants.{Go}
 use Rattle.scp_commands.specs.declared.fault.CommandFault.TheVariants.{OutOfRange, OutOfMemory}
-use Rattle.scp_commands.specs.Live.{Live, with_machine, Beyond}
+use Rattle.scp_commands.specs.Live.{Live, with_machine}
 use Rattle.scp_commands.specs.Reply.{Answer, Reply, refused}
 use Rattle.scp_commands.specs.RunEffects.{starting_at}
 use Rattle.scp_commands.specs.FaultText.{tape_fault}
@@ -33,6 +35,7 @@ use Rattle.scp_commands.specs.TapeEffects.{can_dump, dump_of, dump_after, dump_r
 use Rattle.scp_commands.specs.WholeCalls.{whole_answer, write_calls, read_notes}
 use Rattle.scp_commands.specs.Refusals.{UnreadCause}
 use Rattle.scp_commands.specs.Doing.{Did, AllClosings, FileCause, IsPlain, IsOwn, IsExitAnswer}
+use Rattle.scp_commands.proofs.SeenLemmas.{seen-machine}
 use Rattle.scp_commands.proofs.WholeLemmas.{load-is, read-did, TakesClosings}
 
 -- ---- what a tape comes to
@@ -110,6 +113,10 @@ started-time : (start : Option ℕ) (m : MachineState) → (starting_at start m)
 started-time None m = refl
 started-time (Some at) m = refl
 
+started-lines : (start : Option ℕ) (m : MachineState) → (starting_at start m).lines ≡ m.lines
+started-lines None m = refl
+started-lines (Some at) m = refl
+
 tape-erased : (r : Result Tape LoadFault) (m : MachineState) → erased (tape_machine r m) ≡ tape_machine r (erased m)
 tape-erased (Ok says) m = started-erased says.start _
 tape-erased (Err fault) m = refl
@@ -121,6 +128,14 @@ tape-slots (Err fault) m = refl
 tape-time : (r : Result Tape LoadFault) (m : MachineState) → (tape_machine r m).time ≡ m.time
 tape-time (Ok says) m = started-time says.start _
 tape-time (Err fault) m = refl
+
+tape-lines : (r : Result Tape LoadFault) (m : MachineState) → (tape_machine r m).lines ≡ m.lines
+tape-lines (Ok says) m = started-lines says.start _
+tape-lines (Err fault) m = refl
+
+pub read-lines : (bytes : Result (Vec ℕ) WholeFault) (m : MachineState) → (read_machine bytes m).lines ≡ m.lines
+read-lines (Ok v) m = tape-lines (tape_in m v.items) m
+read-lines (Err why) m = refl
 
 pub read-slots : (bytes : Result (Vec ℕ) WholeFault) (m : MachineState) → (read_machine bytes m).slots ≡ m.slots
 read-slots (Ok v) m = tape-slots (tape_in m v.items) m
@@ -138,29 +153,30 @@ read-none (Err why) m is = refl
 
 -- ---- LOAD
 
-loaded-live : (watch : WatchState) (keys : List (ℕ × ℕ)) (m : MachineState) (files : Beyond) (bytes : Result (Vec ℕ) WholeFault)
+loaded-live : (watch : WatchState) (keys : List (ℕ × ℕ)) (m : MachineState) (files : List NamedBytes) (lines : LineState) (whole : List LineAnswer) (bytes : Result (Vec ℕ) WholeFault)
     → IfSome (said_of_bytes bytes) (λ (said : WholeSaid).
-    seen (beside watch keys files.files files.lines) files.whole (read_machine bytes m) ≡ with_machine (seen (beside watch keys files.files files.lines) files.whole m) (loaded_machine said (erased m)))
-loaded-live watch keys m files (Ok v) =
-    ap (λ (x : MachineState). record { machine = x; watch = watch; keys = keys; files = files }) (tape-erased (tape_in m v.items) m)
-loaded-live watch keys m files (Err fault.NoFile) = refl
-loaded-live watch keys m files (Err fault.TooLong) = refl
-loaded-live watch keys m files (Err fault.Failed) = refl
-loaded-live watch keys m files (Err fault.OutOfMemory) = tt
+    seen (beside watch keys files lines) whole (read_machine bytes m) ≡ with_machine (seen (beside watch keys files lines) whole m) (loaded_machine said (erased m)))
+loaded-live watch keys m files lines whole (Ok v) =
+    seen-machine (beside watch keys files lines) whole m (tape_machine (tape_in m v.items) m) (tape-lines (tape_in m v.items) m)
+    ∙ ap (with_machine (seen (beside watch keys files lines) whole m)) (tape-erased (tape_in m v.items) m)
+loaded-live watch keys m files lines whole (Err fault.NoFile) = refl
+loaded-live watch keys m files lines whole (Err fault.TooLong) = refl
+loaded-live watch keys m files lines whole (Err fault.Failed) = refl
+loaded-live watch keys m files lines whole (Err fault.OutOfMemory) = tt
 
-pub load-did : (number : ℕ) (watch : WatchState) (keys : List (ℕ × ℕ)) (m new : MachineState) (files files' : List NamedBytes) (name : List ℕ) (w : Whole)
+pub load-did : (number : ℕ) (watch : WatchState) (keys : List (ℕ × ℕ)) (m new : MachineState) (files files' : List NamedBytes) (lines : LineState) (whole : List LineAnswer) (name : List ℕ) (w : Whole)
     (answer : Answer) (tells : Bool) (text : Output) (notes notes' : List FaultNote)
     → answer ≡ whole_answer subject.Load (tape_comes m) w.bytes → new ≡ read_machine w.bytes m → files' ≡ files
     → IfSome (said_of w) (λ (said : WholeSaid). whole_act (claimed w) name files ≡ (said, length (claimed w)))
     → notes' ≡ notes ++ read_notes subject.Load (record { command = number; time = m.time }) w
-    → Did (λ (own : List CommandNote). load_reply own (seen (beside watch keys files.files files.lines) files.whole m) name) number answer (seen (beside watch keys files') new) tells text text
+    → Did (λ (own : List CommandNote). load_reply own (seen (beside watch keys files lines) whole m) name) number answer (seen (beside watch keys files' lines) whole new) tells text text
     (notes_said notes) (notes_said notes')
 unfolding load_reply
-load-did number watch keys m new files files' name w answer tells text notes notes' answered is same told noted =
-    read-did subject.Load (tape_comes m) (λ (said : WholeSaid). with_machine (seen (beside watch keys files.files files.lines) files.whole m) (loaded_machine said (erased m)))
-    number m.time (seen (beside watch keys files') new) name files w answer tells text notes notes' load-is (tape-plain m) answered
-    (subst (λ (live : Live). IfSome (said_of w) (λ (said : WholeSaid). live ≡ with_machine (seen (beside watch keys files.files files.lines) files.whole m) (loaded_machine said (erased m))))
-    (λ i. seen (beside watch keys (sym same i)) (sym is i)) (loaded-live watch keys m files w.bytes)) told noted
+load-did number watch keys m new files files' lines whole name w answer tells text notes notes' answered is same told noted =
+    read-did subject.Load (tape_comes m) (λ (said : WholeSaid). with_machine (seen (beside watch keys files lines) whole m) (loaded_machine said (erased m)))
+    number m.time (seen (beside watch keys files' lines) whole new) name files w answer tells text notes notes' load-is (tape-plain m) answered
+    (subst (λ (live : Live). IfSome (said_of w) (λ (said : WholeSaid). live ≡ with_machine (seen (beside watch keys files lines) whole m) (loaded_machine said (erased m))))
+    (λ i. seen (beside watch keys (sym same i) lines) whole (sym is i)) (loaded-live watch keys m files lines whole w.bytes)) told noted
 
 -- ---- DUMP
 

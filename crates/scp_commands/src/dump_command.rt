@@ -52,8 +52,9 @@ pub fn dump_file<U: Unit, F: Files>(
     ensures refused { IsRefused result
         → (session.new.machine ≡ session.old.machine) × (session.new.watch ≡ session.old.watch) }
     ensures told { (lines : LineState) (whole : List LineAnswer) (tells : Bool) (text : Output) → IsTrue F.tells
-        → Did (λ notes. dump_reply notes (live_in session.old (beyond (F.state files.old).files lines whole)) from to name.now)
-        session.old.command result (live_in session.new (beyond (F.state files.new).files lines whole)) tells text text
+        → Did (λ notes. dump_reply notes (live_in session.old (beyond (F.state files.old).files lines whole))
+        from to name.now) session.old.command result
+        (live_in session.new (beyond (F.state files.new).files lines whole)) tells text text
         (notes_said session.old.notes) (notes_said session.new.notes) }
     ensures undone { (text : List ℕ) → result ≡ Err OutOfMemory
         → IsUndone false None true session.old session.new text text (F.state files.old) (F.state files.new) }

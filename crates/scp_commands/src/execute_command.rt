@@ -17,7 +17,7 @@ ghost use Rattle.scp_commands.specs.Nature.{nature, plain, Nothing};
 ghost use Rattle.scp_commands.specs.Remains.{AreLeft};
 ghost use Rattle.scp_commands.specs.Refusals.{IsUnrefused, IsMeasured};
 ghost use Rattle.scp_commands.specs.RunStops.{RunStops, IsNoStop, run_count, is_step};
-ghost use Rattle.scp_commands.specs.Doing.{Did, IsTold, Keeps, ConsoleCounts, MayWant, IsUndone, says_files, IsExitAnswer, RunCause, IsRefusal, AttachNote};
+ghost use Rattle.scp_commands.specs.Doing.{Did, IsTold, IsRefused, Keeps, ConsoleCounts, MayWant, IsUndone, says_files, IsExitAnswer, RunCause, IsRefusal, AttachNote};
 
 use crate::do_command::do_script;
 use crate::dump_command::dump_file;

@@ -1,5 +1,5 @@
 // EXAMINE and DEPOSIT.
-ghost use Rattle.std.specs.Prelude.{◌≡◌, ℕ, Bool, List, []};
+ghost use Rattle.std.specs.Prelude.{◌≡◌, Bool, []};
 ghost use Rattle.host_lines.specs.Told.{Heard};
 ghost use Rattle.nova_machine.specs.Comes.{Output, output};
 ghost use Rattle.scp_commands.specs.Live.{standing, live_in, Beyond};
@@ -22,9 +22,9 @@ pub fn examine_list<U: Unit, S: Sink>(
     listing: &Listing,
     out: &mut S,
 ) -> Result<Next, CommandFault>
-    ensures told { (files : Beyond) (heard : Heard) → Does (examine_reply (live_in session.now files) listing.now) result
-        (standing 0 (live_in session.now files)) S.tells (output (S.written out.old) heard)
-        (output (S.written out.new) heard) }
+    ensures told { (files : Beyond) (heard : Heard)
+        → Does (examine_reply (live_in session.now files) listing.now) result (standing 0 (live_in session.now files))
+        S.tells (output (S.written out.old) heard) (output (S.written out.new) heard) }
     ensures counts { ConsoleCounts result (S.fault_count out.old) (S.fault_count out.new) }
     ensures own { IsShown result }
     ensures exit { IsExitAnswer result }
@@ -54,6 +54,7 @@ pub fn deposit_list<U: Unit>(
     ensures rest { session.new ≡ record session.old { machine = session.new.machine } }
     ensures slots { session.new.machine.slots ≡ session.old.machine.slots }
     ensures time { session.new.machine.time ≡ session.old.machine.time }
+    ensures terminals { session.new.machine.lines ≡ session.old.machine.lines }
 {
     fill_list(session, listing, value)
 }
@@ -76,6 +77,7 @@ fn fill_list<U: Unit>(
     ensures rest { session.new ≡ record session.old { machine = session.new.machine } }
     ensures slots { session.new.machine.slots ≡ session.old.machine.slots }
     ensures time { session.new.machine.time ≡ session.old.machine.time }
+    ensures terminals { session.new.machine.lines ≡ session.old.machine.lines }
 {
     if lacks_device(&session.machine, listing.device) {
         return Err(CommandFault::NotBuilt);

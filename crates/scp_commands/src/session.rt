@@ -33,9 +33,7 @@ pub struct Session<U: Unit> {
 
 impl<U: Unit> Model for Session<U> {
     ghost use Rattle.std.specs.Prelude.{◌-◌, vec_len, vec_capacity};
-ghost use Rattle.host_lines.specs.Traffic.{Answer as LineAnswer};
-ghost use Rattle.host_lines.specs.State.{LineState};
-    ghost use Rattle.scp_commands.specs.Live.{CommandState, beyond};
+    ghost use Rattle.scp_commands.specs.Live.{CommandState};
 
     ghost Value = { CommandState };
 
@@ -51,7 +49,9 @@ ghost use Rattle.host_lines.specs.State.{LineState};
 }
 
 impl<U: Unit> Session<U> {
-    ghost use Rattle.scp_commands.specs.Live.{CommandState, live_in};
+    ghost use Rattle.host_lines.specs.Traffic.{Answer as LineAnswer};
+    ghost use Rattle.host_lines.specs.State.{LineState};
+    ghost use Rattle.scp_commands.specs.Live.{CommandState, live_in, beyond};
     ghost use Rattle.scp_commands.specs.FileEffects.{kept_answer};
     ghost use Rattle.file_commands.specs.AllUnits.{keeper, IsUnwritten};
     ghost use Rattle.file_commands.specs.OwnFiles.{AreOwn};
@@ -106,11 +106,12 @@ impl<U: Unit> Session<U> {
         requires open { AllOpen self.old.machine.slots (F.state files.old).opened }
         ensures closes { (lines : LineState) (whole : List LineAnswer)
             → Closes self.old.command (live_in self.old (beyond (F.state files.old).files lines whole))
-            (live_in self.new (beyond (F.state files.new).files lines whole)) (keeper result) (notes_said self.old.notes)
-            (notes_said self.new.notes) }
+            (live_in self.new (beyond (F.state files.new).files lines whole)) (keeper result)
+            (notes_said self.old.notes) (notes_said self.new.notes) }
         ensures keeps { Keeps self.old.command self.new.machine.time F.tells (kept_answer (keeper result) Go)
             self.old.notes self.new.notes (F.state files.old) (F.state files.new) }
-        ensures cause { OnErr result (IsUnwritten self.new.machine.slots self.new.notes (F.state files.old) (F.state files.new)) }
+        ensures cause { OnErr result
+            (IsUnwritten self.new.machine.slots self.new.notes (F.state files.old) (F.state files.new)) }
         ensures whose { AreOwn self.old.machine.slots self.new.machine.slots self.old.notes self.new.notes
             (F.state files.old) (F.state files.new) }
         ensures watch { self.new.watch ≡ self.old.watch }

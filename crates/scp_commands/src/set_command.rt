@@ -1,5 +1,5 @@
 // SET CPU.
-ghost use Rattle.std.specs.Prelude.{◌≡◌, ◌*◌, ℕ, Bool, List};
+ghost use Rattle.std.specs.Prelude.{◌≡◌, ◌*◌, Bool};
 ghost use Rattle.nova_memory.specs.Memory.{IsSize};
 ghost use Rattle.nova_machine.specs.Comes.{Output};
 ghost use Rattle.scp_commands.specs.Live.{standing, live_in, Beyond};
@@ -26,6 +26,7 @@ pub fn set_size<U: Unit>(session: &mut Session<U>, k: u64) -> Result<Next, Comma
     ensures rest { session.new ≡ record session.old { machine = session.new.machine } }
     ensures slots { session.new.machine.slots ≡ session.old.machine.slots }
     ensures time { session.new.machine.time ≡ session.old.machine.time }
+    ensures terminals { session.new.machine.lines ≡ session.old.machine.lines }
 {
     if !is_size(k) {
         return Err(CommandFault::OutOfRange);

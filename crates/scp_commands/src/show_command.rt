@@ -86,8 +86,8 @@ fn show_unit<U: Unit, S: Sink>(
 ) -> Result<Next, CommandFault>
     requires { unit.unit < units_of unit.kind }
     ensures told { (watch : WatchState) (keys : List (ℕ × ℕ)) (files : Beyond) (heard : Heard)
-        → Does (show_reply (seen (beside watch keys files.files files.lines) files.whole machine.now) (AUnit unit)) result
-        (standing 0 (seen (beside watch keys files.files files.lines) files.whole machine.now)) S.tells
+        → Does (show_reply (seen (beside watch keys files.files files.lines) files.whole machine.now) (AUnit unit))
+        result (standing 0 (seen (beside watch keys files.files files.lines) files.whole machine.now)) S.tells
         (output (S.written out.old) heard) (output (S.written out.new) heard) }
     ensures counts { ConsoleCounts result (S.fault_count out.old) (S.fault_count out.new) }
     ensures own { IsShown result }

@@ -45,8 +45,9 @@ pub fn attach<U: Unit, F: Files>(
     ensures refused { IsRefused result
         → (session.new.machine ≡ session.old.machine) × (session.new.watch ≡ session.old.watch) }
     ensures told { (lines : LineState) (whole : List LineAnswer) (tells : Bool) (text : Output) → IsTrue F.tells
-        → Did (λ notes. attach_reply notes (live_in session.old (beyond (F.state files.old).files lines whole)) option unit name.now)
-        session.old.command result (live_in session.new (beyond (F.state files.new).files lines whole)) tells text text
+        → Did (λ notes. attach_reply notes (live_in session.old (beyond (F.state files.old).files lines whole))
+        option unit name.now) session.old.command result
+        (live_in session.new (beyond (F.state files.new).files lines whole)) tells text text
         (notes_said session.old.notes) (notes_said session.new.notes) }
     ensures undone { (text : List ℕ) → result ≡ Err OutOfMemory
         → IsUndone false None true session.old session.new text text (F.state files.old) (F.state files.new) }
@@ -105,8 +106,9 @@ pub fn detach_one_or_every<U: Unit, F: Files>(
     ensures refused { IsRefusal (Detach unit) result
         → (session.new.machine ≡ session.old.machine) × (session.new.watch ≡ session.old.watch) }
     ensures told { (lines : LineState) (whole : List LineAnswer) (tells : Bool) (text : Output)
-        → Did (λ notes. detach_one_or_all notes (live_in session.old (beyond (F.state files.old).files lines whole)) unit)
-        session.old.command result (live_in session.new (beyond (F.state files.new).files lines whole)) tells text text
+        → Did (λ notes. detach_one_or_all notes (live_in session.old (beyond (F.state files.old).files lines whole))
+        unit) session.old.command result
+        (live_in session.new (beyond (F.state files.new).files lines whole)) tells text text
         (notes_said session.old.notes) (notes_said session.new.notes) }
     ensures keeps { Keeps session.old.command session.new.machine.time F.tells result session.old.notes
         session.new.notes (F.state files.old) (F.state files.new) }

@@ -1,5 +1,5 @@
 // BREAK, NOBREAK, EXPECT, NOEXPECT, SEND and NOSEND.
-ghost use Rattle.std.specs.Prelude.{◌≡◌, ◌≤◌, ◌&&◌, nat_le, take, length, ℕ, Bool, List, Err};
+ghost use Rattle.std.specs.Prelude.{◌≡◌, ◌≤◌, ◌&&◌, nat_le, take, length, Bool, Err};
 ghost use Rattle.nova_machine.specs.Comes.{Output};
 ghost use Rattle.scp_commands.specs.declared.fault.CommandFault.TheVariants.{OutOfMemory};
 ghost use Rattle.scp_commands.specs.Live.{standing, live_in, Beyond};

@@ -18,8 +18,8 @@ returns-clause-told g c = λ lines whole tells text told.
     let after = g.F.Files.state c.read_file-whole.new.files in
     let stamped = c.stamp_of-stamp.ensures ∙ ap stamp_in (sym c.session.view_is) in
     rw (← c.session.view_is)
-    (do-did s.command (seen (beside s.watch s.keys before.files) s.machine) (seen (beside s.watch s.keys after.files) s.machine) c.args.echo c.args.strict c.args.name.now c.read_file-whole.result c.script_answer.result tells text
-    s.notes.items c.note_reading.new.notes.items c.script_answer.ensures (ap (λ (l : List NamedBytes). seen (beside s.watch s.keys l) s.machine) (c.read_file-whole.ensures.files told)) (c.read_file-whole.ensures.said told)
+    (do-did s.command (seen (beside s.watch s.keys before.files lines) whole s.machine) (seen (beside s.watch s.keys after.files lines) whole s.machine) c.args.echo c.args.strict c.args.name.now c.read_file-whole.result c.script_answer.result tells text
+    s.notes.items c.note_reading.new.notes.items c.script_answer.ensures (ap (λ (l : List NamedBytes). seen (beside s.watch s.keys l lines) whole s.machine) (c.read_file-whole.ensures.files told)) (c.read_file-whole.ensures.said told)
     (c.note_reading.ensures.notes ∙ ap (λ (t : Stamp). s.notes.items ++ read_notes subject.Script t c.read_file-whole.result) stamped))
 
 pub returns-clause-keeps : goal.returns-clause-keeps
@@ -45,7 +45,8 @@ returns-clause-undone g c = λ text is.
           (λ bytes. tt) (sym c.script_answer.ensures ∙ is) read.shape
           (c.note_reading.ensures.notes ∙ ap (λ (t : Stamp). s.notes.items ++ read_notes subject.Script t c.read_file-whole.result) stamped);
       written = refl;
-      live = λ told. ap (λ (l : List NamedBytes). seen (beside s.watch s.keys l) s.machine) (read.files told);
+      lines = refl;
+      live = λ told lines whole. ap (λ (l : List NamedBytes). seen (beside s.watch s.keys l lines) whole s.machine) (read.files told);
     })
 
 pub returns-clause-own : goal.returns-clause-own

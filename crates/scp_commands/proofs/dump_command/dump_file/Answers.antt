@@ -18,7 +18,7 @@ use Rattle.scp_commands.proofs.dump_command.dump_file.Goals as goal
 pub returns-then-not-can_dump-clause-told : goal.returns-then-not-can_dump-clause-told
 returns-then-not-can_dump-clause-told g c = λ lines whole tells text told.
     let s = c.args.session.now in
-    let live = live_in s (g.F.Files.state c.args.files.now).files in
+    let live = live_in s (beyond (g.F.Files.state c.args.files.now).files lines whole) in
     did-of (λ own. dump_reply own live c.args.from c.args.to c.args.name.now) (refused OutOfRange live) s.command (Err OutOfRange) live tells
     text text (notes_said s.notes) (notes_said s.notes)
     (λ own. dump-refused own live c.args.from c.args.to c.args.name.now
@@ -35,7 +35,7 @@ returns-in-Ok-clause-told g c = λ lines whole tells text told.
     let s = c.args.session.now in
     let new = c.write_tape.new.session in
     let files = (g.F.Files.state c.args.files.now).files in
-    let live = live_in s files in
+    let live = live_in s (beyond files lines whole) in
     let name = c.args.name.now in
     let piece = c.as_slice.result.now in
     let same : piece ≡ dump_of live.machine c.args.from c.args.to =
@@ -46,12 +46,12 @@ returns-in-Ok-clause-told g c = λ lines whole tells text told.
     (live_in new (beyond (g.F.Files.state c.write_tape.new.files).files lines whole)) tells text text (notes_said s.notes) (notes_said new.notes)
     (λ own. dump-fits own live c.args.from c.args.to name piece
     (ap (λ (x : CommandState). can_dump x.machine c.args.from c.args.to) (sym c.session.view_is) ∙ sym c.can_dump.ensures.test ∙ c.if-not-can_dump.false) same)
-    (c.write_tape.ensures.told tells text told)
+    (c.write_tape.ensures.told lines whole tells text told)
 
 pub returns-in-Err-clause-told : goal.returns-in-Err-clause-told
 returns-in-Err-clause-told g c = λ lines whole tells text told.
     let s = c.args.session.now in
-    let live = live_in s (g.F.Files.state c.args.files.now).files in
+    let live = live_in s (beyond (g.F.Files.state c.args.files.now).files lines whole) in
     did-want (λ own. dump_reply own live c.args.from c.args.to c.args.name.now) s.command live tells text text (notes_said s.notes)
     (notes_said s.notes) refl
 

@@ -17,10 +17,10 @@ returns-clause-told g c = λ lines whole tells text told.
     let after = g.F.Files.state c.write_file-written.new.files in
     let w = c.write_file-written.result in
     let write = c.write_file-written.ensures in
-    let live = seen (beside s.watch s.keys before.files) s.machine in
+    let live = seen (beside s.watch s.keys before.files lines) whole s.machine in
     let stamped = c.stamp_of-stamp.ensures ∙ ap stamp_in (sym c.session.view_is) in
     rw (← c.session.view_is)
-    (write-did subject.Dump (λ (l : List NamedBytes). record live { files = l }) s.command s.machine.time (seen (beside s.watch s.keys after.files) s.machine)
+    (write-did subject.Dump (λ (l : List NamedBytes). record live { files = l }) s.command s.machine.time (seen (beside s.watch s.keys after.files lines) whole s.machine)
     c.args.name.now c.args.tape.now before.files after.files w c.written_answer.result tells text s.notes.items c.note_writing.new.notes.items
     dump-is c.written_answer.ensures refl (write.made told) write.shape.fits (write.said told)
     (c.note_writing.ensures.notes ∙ ap (λ (t : Stamp). s.notes.items ++ write_notes subject.Dump t w) stamped))
@@ -50,7 +50,8 @@ returns-clause-undone g c = λ text is.
       left = record { machine = refl; watch = refl };
       notes = kept;
       written = refl;
-      live = λ _. ap (λ (l : List NamedBytes). seen (beside s.watch s.keys l) s.machine) (write.unmade none.1);
+      lines = refl;
+      live = λ _ lines whole. ap (λ (l : List NamedBytes). seen (beside s.watch s.keys l lines) whole s.machine) (write.unmade none.1);
     })
 
 pub returns-clause-own : goal.returns-clause-own

@@ -20,7 +20,7 @@ returns-in-Ok-clause-told g c = λ lines whole tells text.
     let before = c.args.session.now in
     exit-did c.args.status c.unwrap_or.result before.command (live_in before (beyond (g.F.Files.state c.args.files.now).files lines whole))
     (live_in after.self (beyond (g.F.Files.state after.files).files lines whole)) None tells text (notes_said before.notes) (notes_said after.self.notes)
-    c.unwrap_or.ensures (omega arith) c.in-Ok.ensures.closes
+    c.unwrap_or.ensures (omega arith) (c.in-Ok.ensures.closes lines whole)
 
 pub returns-in-Err-clause-told : goal.returns-in-Err-clause-told
 returns-in-Err-clause-told g c = λ lines whole tells text.
@@ -30,4 +30,4 @@ returns-in-Err-clause-told g c = λ lines whole tells text.
     (live_in after.self (beyond (g.F.Files.state after.files).files lines whole)) tells text text (notes_said before.notes) (notes_said after.self.notes)) (sym (ap Err c.of_detach.ensures))
     (exit-did c.args.status c.unwrap_or.result before.command (live_in before (beyond (g.F.Files.state c.args.files.now).files lines whole))
     (live_in after.self (beyond (g.F.Files.state after.files).files lines whole)) (Some c.in-Err.fault.unit) tells text (notes_said before.notes) (notes_said after.self.notes)
-    c.unwrap_or.ensures (omega arith) c.in-Err.ensures.closes)
+    c.unwrap_or.ensures (omega arith) (c.in-Err.ensures.closes lines whole))

@@ -1,10 +1,10 @@
-use Rattle.std.proofs.Common.{[], sym, subst}
+use Rattle.std.proofs.Common.{sym, subst}
 use Rattle.scp_commands.specs.Live.{live_in, standing}
 use Rattle.scp_commands.specs.Reply.{Answer}
 use Rattle.scp_commands.specs.Doing.{IsPlain}
 use Rattle.scp_commands.specs.ListEffects.{deposit_reply}
 use Rattle.scp_commands.proofs.ReplyLemmas.{silent-does}
-use Rattle.scp_commands.proofs.OwnLemmas.{deposit-own}
+use Rattle.scp_commands.proofs.OwnLemmas.{deposit-own, no_outside}
 use Rattle.scp_commands.proofs.list_commands.deposit_list.Goals as goal
 
 pub returns-clause-told : goal.returns-clause-told
@@ -14,4 +14,4 @@ returns-clause-told g c = λ files tells text.
 
 pub returns-clause-own : goal.returns-clause-own
 returns-clause-own g c =
-    subst (λ (a : Answer). IsPlain a) (sym (c.fill_list.ensures.answer [])) (deposit-own (live_in c.args.session.now []) c.args.listing.now c.args.value)
+    subst (λ (a : Answer). IsPlain a) (sym (c.fill_list.ensures.answer no_outside)) (deposit-own (live_in c.args.session.now no_outside) c.args.listing.now c.args.value)

@@ -48,3 +48,12 @@ returns-clause-time g c =
     let r = c.deposit.result in
     let deposits : Deposits m l c.handed.result r new = deposits-of m new l c.handed.result r c.deposit.ensures.done c.deposit.ensures.refused in
     rw (← c.session.view_is) (deposit-frame m new l c.handed.result r deposits).time
+
+pub returns-clause-terminals : goal.returns-clause-terminals
+returns-clause-terminals g c =
+    let m = c.session.inside.machine in
+    let new = c.deposit.new.machine in
+    let l = c.args.listing.now in
+    let r = c.deposit.result in
+    let deposits : Deposits m l c.handed.result r new = deposits-of m new l c.handed.result r c.deposit.ensures.done c.deposit.ensures.refused in
+    rw (← c.session.view_is) (deposit-frame m new l c.handed.result r deposits).lines

@@ -10,7 +10,7 @@ use Rattle.scp_commands.specs.WholeCalls.{read_notes}
 use Rattle.scp_commands.specs.Doing.{Keeps}
 use Rattle.scp_commands.proofs.BehindLemmas.{stamp_in}
 use Rattle.scp_commands.proofs.WholeLemmas.{read-claims, read-keeps, short-read, read-own, unread-cause}
-use Rattle.scp_commands.proofs.TapeLemmas.{tape_comes, tape-plain, tape-own, tape-cause, tape-closings, read-slots, read-time, read-none, load-did}
+use Rattle.scp_commands.proofs.TapeLemmas.{tape_comes, tape-plain, tape-own, tape-cause, tape-closings, read-slots, read-lines, read-time, read-none, load-did}
 use Rattle.scp_commands.proofs.OwnFileLemmas.{whole-own}
 use Rattle.scp_commands.proofs.load_command.load_file.Goals as goal
 
@@ -19,13 +19,13 @@ returns-clause-told g c = λ lines whole tells text told.
     let s = c.session.inside in
     let before = g.F.Files.state c.args.files.now in
     let after = g.F.Files.state c.read_file-whole.new.files in
-    let whole = c.read_file-whole.result in
+    let read = c.read_file-whole.result in
     let stamped = c.stamp_of-stamp.ensures ∙ ap stamp_in (sym c.session.view_is) in
     rw (← c.session.view_is)
-    (load-did s.command s.watch s.keys s.machine c.load_bytes.new.machine before.files after.files c.args.name.now whole c.load_bytes.result tells text
+    (load-did s.command s.watch s.keys s.machine c.load_bytes.new.machine before.files after.files lines whole c.args.name.now read c.load_bytes.result tells text
     s.notes.items c.note_reading.new.notes.items c.load_bytes.ensures.answer c.load_bytes.ensures.machine (c.read_file-whole.ensures.files told)
     (c.read_file-whole.ensures.said told)
-    (c.note_reading.ensures.notes ∙ ap (λ (t : Stamp). s.notes.items ++ read_notes subject.Load t whole) stamped))
+    (c.note_reading.ensures.notes ∙ ap (λ (t : Stamp). s.notes.items ++ read_notes subject.Load t read) stamped))
 
 pub returns-clause-keeps : goal.returns-clause-keeps
 returns-clause-keeps g c =
@@ -59,7 +59,8 @@ returns-clause-undone g c = λ text is.
       notes = short-read subject.Load s.command s.machine.time (tape_comes s.machine) whole s.notes.items c.note_reading.new.notes.items (tape-plain s.machine) want read.shape
           (c.note_reading.ensures.notes ∙ ap (λ (t : Stamp). s.notes.items ++ read_notes subject.Load t whole) stamped);
       written = refl;
-      live = λ told. (λ i. seen (beside s.watch s.keys (read.files told i)) (same i));
+      lines = ap (λ (m : MachineState). m.lines) same;
+      live = λ told lines whole. (λ i. seen (beside s.watch s.keys (read.files told i) lines) whole (same i));
     })
 
 pub returns-clause-own : goal.returns-clause-own
@@ -104,6 +105,11 @@ returns-clause-whose g c =
     rw (← c.session.view_is)
     (whole-own subject.Load c.stamp_of-stamp.result 0 w.failed w.closing s.machine.slots c.load_bytes.new.machine.slots s.notes.items c.note_reading.new.notes.items
     (g.F.Files.state c.args.files.now) (g.F.Files.state c.read_file-whole.new.files) slots (read-claims w read.shape) read.failed read.closing read.ids c.note_reading.ensures.notes)
+
+pub returns-clause-terminals : goal.returns-clause-terminals
+returns-clause-terminals g c =
+    let s = c.session.inside in
+    rw (← c.session.view_is) (ap (λ (m : MachineState). m.lines) c.load_bytes.ensures.machine ∙ read-lines c.read_file-whole.result.bytes s.machine)
 
 pub returns-clause-whole : goal.returns-clause-whole
 returns-clause-whole g c =

@@ -15,7 +15,7 @@ pub returns-then-lacks_unit-clause-told : goal.returns-then-lacks_unit-clause-to
 returns-then-lacks_unit-clause-told g c = λ lines whole tells text told.
     let s = c.session.inside in
     rw (← c.session.view_is)
-    (attach-not-built s.command (seen (beside s.watch s.keys (g.F.Files.state c.args.files.now).files) s.machine) c.args.option c.args.unit c.args.name.now tells text
+    (attach-not-built s.command (seen (beside s.watch s.keys (g.F.Files.state c.args.files.now).files lines) whole s.machine) c.args.option c.args.unit c.args.name.now tells text
     (notes_said s.notes.items) (sym c.lacks_unit.ensures ∙ c.if-lacks_unit.true))
 
 pub set_position-requires-clause-place : goal.set_position-requires-clause-place
@@ -32,14 +32,14 @@ returns-in-Ok-clause-told g c = λ lines whole tells text told.
     let held = c.attached_mut.result.now in
     let done = c.in-Ok.ensures in
     rw (← c.session.view_is)
-    (attach-done s.command c.stamp_of-stamp.result c.mode_of-mode.result (seen (beside s.watch s.keys before.files) s.machine) (seen (beside s.watch s.keys after.files) c.set_position.new.machine) (attachments_of held.slots)
+    (attach-done s.command c.stamp_of-stamp.result c.mode_of-mode.result (seen (beside s.watch s.keys before.files lines) whole s.machine) (seen (beside s.watch s.keys after.files lines) whole c.set_position.new.machine) (attachments_of held.slots)
     c.args.option c.args.unit c.args.name.now (Ok c.in-Ok.count) (Ok Go) tells text s.notes.items new.notes.items
     (c.stamp_of-stamp.ensures ∙ ap stamp_in (sym c.session.view_is)) c.mode_of-mode.ensures (ap (λ (a : AttachedFiles). attachments_of a.slots) c.attached_mut.ensures.value ∙ sym (attached-erased s.machine))
     refl (sym c.lacks_unit.ensures ∙ c.if-lacks_unit.false) tt
     (record {
       said = done.said told;
       left = done.files told;
-      becomes = becomes-attached s.watch s.keys before.files after.files s.machine c.set_position.new.machine new.attached held c.mode_of-mode.result c.args.unit c.args.name.now c.in-Ok.count c.first_place.result
+      becomes = becomes-attached s.watch s.keys before.files after.files lines whole s.machine c.set_position.new.machine new.attached held c.mode_of-mode.result c.args.unit c.args.name.now c.in-Ok.count c.first_place.result
           c.attached_mut.ensures.value done.attached (done.disk told) c.first_place.ensures.place c.set_position.ensures;
       noted = done.notes;
     }))
@@ -53,14 +53,14 @@ returns-in-Err-clause-told g c = λ lines whole tells text told.
     let held = c.attached_mut.result.now in
     let done = c.in-Err.ensures in
     rw (← c.session.view_is)
-    (attach-done s.command c.stamp_of-stamp.result c.mode_of-mode.result (seen (beside s.watch s.keys before.files) s.machine) (seen (beside s.watch s.keys after.files) (with_attached_files s.machine new.attached)) (attachments_of held.slots)
+    (attach-done s.command c.stamp_of-stamp.result c.mode_of-mode.result (seen (beside s.watch s.keys before.files lines) whole s.machine) (seen (beside s.watch s.keys after.files lines) whole (with_attached_files s.machine new.attached)) (attachments_of held.slots)
     c.args.option c.args.unit c.args.name.now (Err c.in-Err.fault) (Err c.of_attach.result) tells text s.notes.items new.notes.items
     (c.stamp_of-stamp.ensures ∙ ap stamp_in (sym c.session.view_is)) c.mode_of-mode.ensures (ap (λ (a : AttachedFiles). attachments_of a.slots) c.attached_mut.ensures.value ∙ sym (attached-erased s.machine))
     (ap Err c.of_attach.ensures) (sym c.lacks_unit.ensures ∙ c.if-lacks_unit.false) done.own
     (record {
       said = done.said told;
       left = done.files told;
-      becomes = becomes-refused s.watch s.keys before.files after.files s.machine new.attached held c.mode_of-mode.result c.args.unit c.args.name.now c.in-Err.fault
+      becomes = becomes-refused s.watch s.keys before.files after.files lines whole s.machine new.attached held c.mode_of-mode.result c.args.unit c.args.name.now c.in-Err.fault
           c.attached_mut.ensures.value done.refused;
       noted = done.notes;
     }))

@@ -13,7 +13,7 @@ use Rattle.scp_commands.proofs.unit_commands.detach.Goals.{in-Ok, in-Err}
 pub returns-then-lacks_unit-clause-told : goal.returns-then-lacks_unit-clause-told
 returns-then-lacks_unit-clause-told g c = λ lines whole tells text.
     rw (← c.session.view_is)
-    (detach-not-built c.session.inside.command (seen (beside c.session.inside.watch c.session.inside.keys (g.F.Files.state c.args.files.now).files) c.session.inside.machine) c.args.unit tells text
+    (detach-not-built c.session.inside.command (seen (beside c.session.inside.watch c.session.inside.keys (g.F.Files.state c.args.files.now).files lines) whole c.session.inside.machine) c.args.unit tells text
     (notes_said c.session.inside.notes.items) (sym c.lacks_unit.ensures ∙ c.if-lacks_unit.true))
 
 pub returns-clause-told : goal.returns-clause-told
@@ -29,11 +29,11 @@ returns-clause-told g c = λ lines whole tells text.
     let held = c.attached_mut.result.now in
     let are = ap (λ (a : AttachedFiles). attachments_of a.slots) c.attached_mut.ensures.value ∙ sym (attached-erased s.machine) in
     rw (← c.session.view_is)
-    (detach-done s.command c.stamp_of-stamp.result (seen (beside s.watch s.keys before.files) s.machine) (seen (beside s.watch s.keys after.files) (with_attached_files s.machine new.attached)) (attachments_of held.slots) held.disk
+    (detach-done s.command c.stamp_of-stamp.result (seen (beside s.watch s.keys before.files lines) whole s.machine) (seen (beside s.watch s.keys after.files lines) whole (with_attached_files s.machine new.attached)) (attachments_of held.slots) held.disk
     c.args.unit c.detach_unit.result c.match-detach_unit.result tells text s.notes.items new.notes.items
     (c.stamp_of-stamp.ensures ∙ ap stamp_in (sym c.session.view_is)) are (ap (λ (a : AttachedFiles). a.disk) c.attached_mut.ensures.value) answered (sym c.lacks_unit.ensures ∙ c.if-lacks_unit.false)
     (record { said = c.detach_unit.ensures.said; left = c.detach_unit.ensures.files; noted = c.detach_unit.ensures.notes })
-    (detached-live s.watch s.keys after.files s.machine new.attached held c.args.unit c.detach_unit.result c.attached_mut.ensures.value
+    (detached-live s.watch s.keys after.files lines whole s.machine new.attached held c.args.unit c.detach_unit.result c.attached_mut.ensures.value
     c.detach_unit.ensures.attached c.detach_unit.ensures.disk c.detach_unit.ensures.refused)
     c.detach_unit.ensures.own)
 

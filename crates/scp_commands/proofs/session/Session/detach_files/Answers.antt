@@ -17,7 +17,8 @@ returns-clause-closes g c =
     let was = c.attached_mut.ensures.value in
     let before = c.self.inside.notes.items in
     let after = c.detach_all.new.notes.items in
-    let live = seen (beside c.self.inside.watch c.self.inside.keys old.files) m in
+    λ lines whole.
+    let live = seen (beside c.self.inside.watch c.self.inside.keys old.files lines) whole m in
     rw (← c.self.view_is)
     (closes-of c.self.inside.command c.time.result live (filed_of held old.files) (filed_of c.detach_all.new.attached new.files) k before after old new c.time.ensures.time
     (λ i. record {
@@ -26,7 +27,7 @@ returns-clause-closes g c =
       files = old.files;
     })
     c.detach_all.ensures.empties _
-    (left-is c.self.inside.command c.time.result c.self.inside.watch c.self.inside.keys old.files new.files m c.detach_all.new.attached held k before after old new was c.detach_all.ensures.empties))
+    (left-is c.self.inside.command c.time.result c.self.inside.watch c.self.inside.keys old.files new.files lines whole m c.detach_all.new.attached held k before after old new was c.detach_all.ensures.empties))
 
 pub returns-clause-keeps : goal.returns-clause-keeps
 returns-clause-keeps g c =
