@@ -41,7 +41,8 @@ starting-slots (Some a) m = refl
 pub started-slots : (resets : Bool) (address : Option ℕ) (m : MachineState) → (starting_at address (reset_where resets m)).slots ≡ m.slots
 started-slots resets address m = starting-slots address (reset_where resets m) ∙ reset-slots resets m
 
-reset-lines : (resets : Bool) (m : MachineState) → (reset_where resets m).lines ≡ m.lines
+-- the lines stand where a machine is reset, or not
+pub reset-lines : (resets : Bool) (m : MachineState) → (reset_where resets m).lines ≡ m.lines
 unfolding reset_machine reset_devices
 reset-lines true m = refl
 reset-lines false m = refl

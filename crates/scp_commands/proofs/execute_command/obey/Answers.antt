@@ -1,4 +1,4 @@
-use Rattle.std.proofs.Common.{refl, ap, sym, ◌∙◌, subst, ◌≡◌, true, false, unwrap_or, Some, None}
+use Rattle.std.proofs.Common.{ℕ, refl, ap, sym, ◌∙◌, subst, ◌≡◌, true, false, Some, None}
 use Rattle.file_commands.specs.Notes.{notes_said}
 use Rattle.scp_parser.specs.Command.{request_of, Request, Run, Go, Cont, Step, Attach, Do, Load, Dump, file_name_of}
 use Rattle.scp_commands.specs.Live.{live_in, beyond}
@@ -188,8 +188,8 @@ returns-in-Step-clause-told g c = λ told whole first.
     let is : c.args.command.now ≡ Step c.in-Step.count = sym c.command.view_is ∙ ap (request_of _) c.in-Step.is in
     let both = subst (λ (r : Request). IsTold g.F.Files.tells s.machine.slots g.L.Lines.tells ports s.machine.lines r) is told in
     noted-did s.limit s.command live (live_in new (beyond (g.F.Files.state c.step.new.files).files ports' whole)) c.args.command.now (Step c.in-Step.count)
-    (λ own. step_of s.limit own (unwrap_or c.in-Step.count 1) live) c.step.result g.S.Sink.tells (output (g.S.Sink.written c.args.out.now) ports.sent) (output (g.S.Sink.written c.step.new.out) ports'.sent)
-    (notes_said s.notes) (notes_said new.notes) is (λ own. refl) (c.step.ensures.done.told both.0 both.1 whole first)
+    (λ own. step_of s.limit own c.unwrap_or.result live) c.step.result g.S.Sink.tells (output (g.S.Sink.written c.args.out.now) ports.sent) (output (g.S.Sink.written c.step.new.out) ports'.sent)
+    (notes_said s.notes) (notes_said new.notes) is (λ own. ap (λ (k : ℕ). step_of s.limit own k live) (sym c.unwrap_or.ensures)) (c.step.ensures.done.told both.0 both.1 whole first)
 
 pub returns-in_default-clause-told : goal.returns-in_default-clause-told
 returns-in_default-clause-told g c = λ told whole first.

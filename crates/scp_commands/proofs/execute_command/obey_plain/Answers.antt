@@ -1,4 +1,4 @@
-use Rattle.std.proofs.Common.{refl, ap, sym, ◌∙◌, subst, Ok, ◌≡◌, Err}
+use Rattle.std.proofs.Common.{refl, ap, sym, true, ◌∙◌, subst, Ok, ◌≡◌, Err}
 use Rattle.file_commands.specs.Notes.{notes_said}
 use Rattle.scp_parser.specs.Command.{Examine, Deposit, request_of, Nothing, Reset, SetSize, Show, Assert, Echo, given_text, NoBreak, NoExpect, Send, NoSend, Request}
 use Rattle.scp_commands.specs.Live.{CommandState, live_in, beyond}
@@ -6,6 +6,7 @@ use Rattle.nova_machine.specs.Comes.{output}
 use Rattle.scp_commands.specs.ListEffects.{examine_reply, deposit_reply}
 use Rattle.scp_commands.specs.Effect.{effect}
 use Rattle.scp_commands.proofs.ObeyLemmas.{alone, unheard, plain-did, keeps-none, does-of-no-file, examine-no-file, deposit-no-file, goes-does, goto-does, show-no-file, set_size-no-file, echo-no-file, assert-no-file, reset-no-file, reset-slots, send-given, no_break-no-file, no_expect-no-file, send-no-file, no_send-no-file, IsNoPlain, other-is, no-note, not-measured}
+use Rattle.scp_commands.proofs.StartLemmas.{reset-lines}
 use Rattle.unit_files.specs.Open.{AllOpen, Around}
 use Rattle.file_commands.proofs.OwnFiles.{unused}
 use Rattle.scp_commands.specs.declared.next.Next.TheVariants.{Go}
@@ -84,6 +85,10 @@ returns-in-Reset-clause-told g c = λ lines whole heard.
     plain-did s.limit s.command live (live_in new files) c.args.command.now Reset (reset_reply live) c.reset.result g.S.Sink.tells
     text text (notes_said s.notes) (notes_said new.notes)
     (sym c.command.view_is ∙ ap (request_of _) c.in-Reset.is) (λ own. refl) (ap (λ (x : CommandState). notes_said x.notes) c.reset.ensures.rest) (c.reset.ensures.told files g.S.Sink.tells text)
+
+pub returns-in-Reset-clause-terminals : goal.returns-in-Reset-clause-terminals
+returns-in-Reset-clause-terminals g c =
+    ap (λ (x : CommandState). x.machine.lines) c.reset.ensures.rest ∙ reset-lines true c.args.session.now.machine
 
 pub returns-in-Reset-clause-keeps : goal.returns-in-Reset-clause-keeps
 returns-in-Reset-clause-keeps g c =
