@@ -63,19 +63,22 @@ text-refused words status text old input n gives short =
     cut-refused text left [] (record { status = status; state = left }) n gives short
 
 -- nothing is sent with it
-none-sent : (b : Bool) → (if b then [] {A = ℕ × ℕ} else []) ≡ []
-none-sent true = refl
-none-sent false = refl
+either-same : (sent : List (ℕ × ℕ)) (b : Bool) → (if b then sent else sent) ≡ sent
+either-same sent true = refl
+either-same sent false = refl
 
 refusal-sent : (words : List (List ℕ)) (status : ℕ) (text : List ℕ) (old : Beyond) (input : List ℕ) (n gives : ℕ)
     → sent_until n gives (trace_from words (Refused status text) old.files (ahead_of old.lines.told old.whole) input []).made ≡ []
-refusal-sent words status text old input n gives = none-sent (nat_le (length text) n)
+refusal-sent words status text old input n gives = either-same [] (nat_le (length text) n)
+
+abbrev no_bytes : List ℕ
+no_bytes = []
 
 heard-none : (h : Heard) → heard_with h [] ≡ h
 heard-none (Named sent) = ap (λ (l : List Sent). Named l) (append-nil sent)
 heard-none (Unnamed room bytes) = ap (λ (l : List ℕ). Unnamed room l) (ap (λ (l : List ℕ). bytes ++ l) (take-nil (room - length bytes)) ∙ append-nil bytes)
   where
-    take-nil : (n : ℕ) → take n ([] {A = ℕ}) ≡ []
+    take-nil : (n : ℕ) → take n no_bytes ≡ no_bytes
     take-nil zero = refl
     take-nil (suc n) = refl
 
