@@ -58,8 +58,8 @@ pub struct Ending<U: Unit> {
     pub faults: Vec<FaultNote>,
 }
 
-/// The whole program, over the words, the units, the input, the console, the files and the terminal lines that are handed
-/// in. The units are the standard ones (`is_standard`); the program is the same over whichever types they have, so they
+/// The whole program, over the words, the units, the input, the console, the files and the terminal lines that are
+/// handed in. The units are the standard ones (`is_standard`); the program is the same over whichever types they have, so they
 /// may be boxes.
 ///
 /// The keys file of `-k` and then the script are read before the session begins. With `-g` the workload of its number
