@@ -9,9 +9,7 @@ use Rattle.scp_script.specs.Session.{Session}
 use Rattle.scp_script.specs.declared.progress.CommandLoop.{CommandLoop}
 use Rattle.scp_script.specs.Scripts.{first_script}
 use Rattle.scp_script.specs.Perform.{beginning, beginning_with}
-use Rattle.host_lines.specs.Traffic.{Answer}
 use Rattle.host_lines.specs.Told.{record_in}
-use Rattle.telnet_lines.specs.Line.{LineOf}
 use Rattle.nova_machine.specs.Comes.{output}
 use Rattle.nova_machine.specs.LineChanges.{LinesGoOn}
 use Rattle.nova_machine.proofs.LineSteps.{first-through, lines-stay, lines-then}
