@@ -5,6 +5,7 @@ ghost use Rattle.unit_files.specs.Open.{AllOpen};
 use crate::answers::is_wanted;
 use crate::checked::check;
 use host_files::{ByteSink, Files, Sink};
+use host_lines::{Lines, MemLines};
 use nova_word::read_decimal;
 use scp_commands::{CommandFault, Next, Session, execute};
 use scp_parser::{Command, read_command};
@@ -61,26 +62,33 @@ fn does<U: Unit, F: Files>(
 {
     let mut command = Command::new();
     reads(rt, &mut command, row.line);
-    answers(rt, alloc, session, &command, files, row)
+    let mut lines = no_lines(alloc)?;
+    answers(rt, alloc, session, &command, files, &mut lines, row)
+}
+
+/// Lines on which nothing comes and nothing is sent.
+fn no_lines(alloc: Global) -> Result<MemLines, AllocError> {
+    MemLines::with_room(alloc, 0)
 }
 
 fn reads(rt: &impl Abort, command: &mut Command, line: &str) {
     check(rt, read_command(line.as_bytes(), command).is_ok(), line);
 }
 
-fn answers<U: Unit, F: Files>(
+fn answers<U: Unit, F: Files, L: Lines>(
     rt: &impl Abort,
     alloc: Global,
     session: &mut Session<U>,
     command: &Command,
     files: &mut F,
+    lines: &mut L,
     row: Row,
 ) -> Result<(), AllocError>
     requires open { AllOpen session.old.machine.slots (F.state files.old).opened }
     ensures open { AllOpen session.new.machine.slots (F.state files.new).opened }
 {
     let mut out = ByteSink::with_room(alloc, row.room)?;
-    let answer = execute(alloc, session, command, files, &mut out);
+    let answer = execute(alloc, session, command, files, lines, &mut out);
     answered(rt, &answer, row);
     printed(rt, &out, row);
     Ok(())

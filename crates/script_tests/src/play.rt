@@ -11,6 +11,7 @@ use crate::row::{Row, bytes, decimal, number, text};
 use clock_unit::Clk;
 use expect_actions::Keys;
 use host_files::{ByteSink, ByteSource, Files, MemFiles, Sink, Source};
+use host_lines::MemLines;
 use scp_commands::{DoFile, ScriptText, Session};
 use scp_script::{Finish, Opening, perform};
 use std::alloc::{AllocError, Global};
@@ -139,7 +140,13 @@ fn finish_of<U: Unit, C: Source, F: Files, S: Sink>(
     requires { AllOpen session.old.machine.slots (F.state files.old).opened }
 {
     let opening = opening_of(alloc, row)?;
-    Ok(perform(alloc, session, &opening, input, files, console))
+    let mut lines = no_lines(alloc)?;
+    Ok(perform(alloc, session, &opening, input, files, &mut lines, console))
+}
+
+/// Lines on which nothing comes and nothing is sent.
+fn no_lines(alloc: Global) -> Result<MemLines, AllocError> {
+    MemLines::with_room(alloc, 0)
 }
 
 fn opening_of(alloc: Global, row: Row<'_>) -> Result<Opening, AllocError> {
