@@ -147,9 +147,10 @@ one-goes-on tells i old lines before new after step =
       told = λ told. elim told [
         | inl apart ↦ (inl (apart.0, (stand_apart i old new lines before after at apart.1 (step.parties apart.0)).apart), step.grows apart.0)
         | inr none ↦
-            let still = none-left none in
-            (inr (no-ports-same lines (slice_set lines i after) (ports-set i lines before after at step.port) none),
-            subst (λ (x : LineState). IsFirst (record_in old.told) (record_in x.told)) (sym still.0) (first-same (record_in old.told)))
+            let still = none-left none in (
+              inr (no-ports-same lines (slice_set lines i after) (ports-set i lines before after at step.port) none),
+              subst (λ (x : LineState). IsFirst (record_in old.told) (record_in x.told)) (sym still.0) (first-same (record_in old.told)),
+            )
       ];
     }
 
@@ -258,9 +259,9 @@ put-seen-parts s byte port (Some c) keys output rest = elim (nat_le full_output 
     ((if b then seen_line s (line_of port (Some c) keys output rest) else put_on byte (seen_line s (line_of port (Some c) keys output rest)))
     ≡ seen_line s (if b then line_of port (Some c) keys output rest else put_on byte (line_of port (Some c) keys output rest)))
     × ((if b then got.LineFull else got.Done) ≡ (if b then got.LineFull else got.Done))) [
-  | true ↦ (refl, refl)
-  | false ↦ (refl, refl)
-]
+      | true ↦ (refl, refl)
+      | false ↦ (refl, refl)
+    ]
 
 put-connection : (byte : ℕ) (line : LineOf ℕ) → (put_line byte line).connection ≡ line.connection
 put-connection byte line = elim (is_full line) as (λ b. (if b then line else put_on byte line).connection ≡ line.connection) [

@@ -382,10 +382,10 @@ broken-console : (w : Want) (s : Seen) (p : Part) (tells : Bool) (b a : Output) 
 broken-console (want.Console byte) s p tells b a console same heard = record {
   stands = inl refl;
   told = λ told. record {
-      taken = [];
-      written = same told;
-      breaks = breaks-here (byte ∷ []) s p.made 0 (omega arith);
-      heard = heard ∙ sym (ap (heard_with b.heard) (here-sent (byte ∷ []) s p.made 0 (omega arith)) ∙ heard-nothing b.heard);
+    taken = [];
+    written = same told;
+    breaks = breaks-here (byte ∷ []) s p.made 0 (omega arith);
+    heard = heard ∙ sym (ap (heard_with b.heard) (here-sent (byte ∷ []) s p.made 0 (omega arith)) ∙ heard-nothing b.heard);
   };
 }
 broken-console w s p tells b a console same heard = absurd console

@@ -34,7 +34,7 @@ abbrev pub erased : MachineState → MachineState
 erased m = record m { slots = map unnumbered m.slots; lines = [] }
 
 -- What stands beside the machine: the watch tables, the timed keys, all files, and the ports and connections of the
--- outside. What joins a session later is one part more of it, and no parameter.
+-- outside.
 pub record Beside : Type 0 where
   -- breaks, texts that are waited for on the console, and bytes that were sent to its keyboard
   pub watch : WatchState

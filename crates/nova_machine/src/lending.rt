@@ -23,8 +23,8 @@ impl<U: Unit> Machine<U> {
         &mut self.processor.memory
     }
 
-    /// The terminal line with that number, where it is there, to be given a port or none as a person at the console does.
-    /// It takes no time.
+    /// The terminal line with that number, where it is there, to be given a port or none as a person at the console
+    /// does. It takes no time.
     pub fn line(&mut self, number: u8) -> Option<&mut Line>
         ensures* writes_back { sem 𝓛 (LendsIf (the_row U.row U.Unit) line_row self.entry result
             (with_line self.old number) self.old) }

@@ -268,16 +268,13 @@ impl<U: Unit> Machine<U> {
 }
 
 /// The lines of a machine with those units: line 0, where one of them works on it.
-fn lines_of<U: Unit>(
-    alloc: Global,
-    places: &Places,
-    units: &[U],
-) -> Result<Vec<Line>, AllocError>
+fn lines_of<U: Unit>(alloc: Global, places: &Places, units: &[U]) -> Result<Vec<Line>, AllocError>
     requires { places.now ≡ places_in (kinds_of (map U.unit_state units.now)) }
     ensures { IfOk result (λ lines. lines.items ≡ lines_for (map U.unit_state units.now)) }
 {
     let mut lines = Vec::new(alloc);
-    if has_unit(places, units, code_of(Kind::Tti1)) || has_unit(places, units, code_of(Kind::Tto1))
+    if has_unit(places, units, code_of(Kind::Tti1))
+        || has_unit(places, units, code_of(Kind::Tto1))
     {
         lines.push(Line::new(alloc)?)?;
     }

@@ -24,7 +24,7 @@ impl<U: Unit> Machine<U> {
         ensures told { AreLinesTold L.tells (L.state lines.old) self.old.lines
             → (whole : List Answer) → IsFirst (record_in (L.state lines.new).told) whole
             → DoneOnLine (lined self.old.time want (map (seen_line (L.state lines.old)) self.old.lines)
-                (ahead_of (L.state lines.old).told whole)) result whole (L.state lines.old) (L.state lines.new) self.new.lines }
+            (ahead_of (L.state lines.old).told whole)) result whole (L.state lines.old) (L.state lines.new) self.new.lines }
         ensures none { result ≡ None → (self.new ≡ self.old) × (lines.new ≡ lines.old) }
         ensures below { IfSome result (λ got. IsBelowEnd want got) }
         ensures of { IfSome result IsOfLine }
@@ -37,7 +37,11 @@ impl<U: Unit> Machine<U> {
             | Want::Console(_)
             | Want::ReadByte { place: _ }
             | Want::WriteByte { place: _, byte: _ }
-            | Want::Sector { write: _, sector: _, address: _ }
+            | Want::Sector {
+                write: _,
+                sector: _,
+                address: _,
+            }
             | Want::Tape(_) => None,
         }
     }
@@ -49,7 +53,7 @@ impl<U: Unit> Machine<U> {
         ensures told { AreLinesTold L.tells (L.state lines.old) self.old.lines
             → (whole : List Answer) → IsFirst (record_in (L.state lines.new).told) whole
             → DoneOnLine (lined self.old.time (wants.LineKey number) (map (seen_line (L.state lines.old)) self.old.lines)
-                (ahead_of (L.state lines.old).told whole)) result whole (L.state lines.old) (L.state lines.new) self.new.lines }
+            (ahead_of (L.state lines.old).told whole)) result whole (L.state lines.old) (L.state lines.new) self.new.lines }
         ensures none { result ≡ None → (self.new ≡ self.old) × (lines.new ≡ lines.old) }
         ensures below { IfSome result (λ got. IsBelowEnd (wants.LineKey number) got) }
         ensures of { IfSome result IsOfLine }
@@ -68,7 +72,7 @@ impl<U: Unit> Machine<U> {
         ensures lines { (tells : Bool) (s : LineState) → LinesGoOn tells s self.old.lines s self.new.lines }
         ensures told { (s : LineState) (whole : List Answer)
             → DoneOnLine (lined self.old.time (wants.LinePut number byte) (map (seen_line s) self.old.lines) (ahead_of s.told whole))
-                result whole s s self.new.lines }
+            result whole s s self.new.lines }
         ensures none { result ≡ None → self.new ≡ self.old }
         ensures below { IfSome result (λ got. IsBelowEnd (wants.LinePut number byte) got) }
         ensures of { IfSome result IsOfLine }

@@ -1,59 +1,100 @@
 -- The whole program against its outcome.
-use Rattle.std.proofs.Common.{◌≡◌, ◌≢◌, inl, inr, ℕ, ◌+◌, ◌<◌, ◌≤◌, List, [], ◌++◌, length, take, drop, refl, ap, sym, ◌∙◌, arith, append-nil, length-take-le, Option, Some, None}
+use Rattle.std.proofs.Common.{◌≡◌, ◌≢◌, inl, inr, ℕ, zero, suc, ◌+◌, ◌-◌, nat_le, Bool, true, false, if◌then◌else◌, ◌<◌, ◌≤◌, List, [], ◌++◌, length, take, drop, refl, ap, sym, ◌∙◌, arith, append-nil, length-take-le, Option, Some, None}
 use Rattle.host_files.specs.Lists.{NamedBytes}
 use Rattle.observations.specs.Observations.{text_of, Trace}
-use Rattle.observations.specs.Cut.{ends, cut_trace, map_outcome}
-use Rattle.observations.proofs.CutLemmas.{cut-printed, cut-refused, cut-map, more-room, first-part, whole}
+use Rattle.observations.specs.Cut.{ends, cut_trace, sent_until, map_outcome}
+use Rattle.observations.proofs.CutLemmas.{cut-printed, cut-refused, cut-map, sent-map, more-room, sent-more-room, first-part, whole, all-sent}
 use Rattle.file_commands.specs.Notes.{Note}
 use Rattle.expect_actions.specs.KeysFile.{Key}
 use Rattle.nova_machine.specs.Machine.{MachineState}
+use Rattle.host_lines.specs.declared.lines.Sent.{Sent}
+use Rattle.host_lines.specs.Traffic.{Ahead}
+use Rattle.host_lines.specs.Told.{ahead_of, Heard, Named, Unnamed}
 use Rattle.nova_machine.specs.Seen.{seen, beside}
+use Rattle.nova_machine.specs.Comes.{output}
+use Rattle.nova_machine.specs.LineChanges.{heard_with}
+use Rattle.scp_commands.specs.Live.{Beyond}
 use Rattle.scp_script.specs.declared.progress.Finish.{Finish}
 use Rattle.scp_script.specs.declared.progress.Finish.TheVariants.{Exit, EndOfInput, FlushFailed, Commands, Console, Input, OutOfMemory}
 use Rattle.scp_script.specs.Lines.{reads_left}
 use Rattle.scp_script.specs.Session.{State, trace}
 use Rattle.scp_script.specs.Loop.{IsExitStatus, LetsThrough, status_of}
-use Rattle.scp_script.specs.Perform.{beginning_with, IsSession}
+use Rattle.scp_script.specs.Perform.{IsSession}
 use Rattle.nova_top.specs.declared.options.Options.{Options}
 use Rattle.nova_top.specs.Words.{options_of}
 use Rattle.expect_actions.specs.Watch.{WatchState}
-use Rattle.nova_top.specs.Outside.{Outside, Left, left_by, Start, Refused, Begins, start_of, session_with, opening, trace_from, whole_trace, outcome}
-use Rattle.nova_top.specs.Ends.{IsOutcome, IsComplete, machine_left}
+use Rattle.nova_top.specs.Outside.{Outside, Left, left_by, Start, Refused, Begins, start_of, session_with, opening, trace_from, whole_trace, trace_of, outcome, sent_by}
+use Rattle.nova_top.specs.Ends.{IsOutcome, IsComplete, left_at, handed_in}
 use Rattle.nova_top.specs.Program.{IsRefused}
 use Rattle.nova_top.specs.Laws.{IsWholeOutcome}
 
--- the outcome by how it starts
-outcome-start : (words : List (List ℕ)) (input : List ℕ) (files : List NamedBytes) (notes : List Note) (takes gives : ℕ) (start : Start) (used : ℕ) (own : List Note)
-    → start_of (options_of words) words files notes ≡ (start, used) → drop used notes ≡ own
-    → outcome (record { words = words; input = input; files = files; notes = notes; takes = takes; gives = gives }) ≡ cut_trace takes gives (trace_from words start files input own)
+-- the outcome by how it starts, and what was sent
+outcome-start : (words : List (List ℕ)) (input : List ℕ) (old : Beyond) (notes : List Note) (takes gives : ℕ) (start : Start) (used : ℕ) (own : List Note)
+    → start_of (options_of words) words old.files notes ≡ (start, used) → drop used notes ≡ own
+    → outcome (handed_in words input old notes takes gives) ≡ cut_trace takes gives (trace_from words start old.files (ahead_of old.lines.told old.whole) input own)
 unfolding outcome whole_trace
-outcome-start words input files notes takes gives start used own is rest =
-    ap (λ (p : Start × ℕ). cut_trace takes gives (trace_from words p.0 files input (drop p.1 notes))) is
-    ∙ ap (λ (n : List Note). cut_trace takes gives (trace_from words start files input n)) rest
+outcome-start words input old notes takes gives start used own is rest =
+    let ahead = ahead_of old.lines.told old.whole in
+    ap (λ (p : Start × ℕ). cut_trace takes gives (trace_from words p.0 old.files ahead input (drop p.1 notes))) is
+    ∙ ap (λ (n : List Note). cut_trace takes gives (trace_from words start old.files ahead input n)) rest
+
+sent-start : (words : List (List ℕ)) (input : List ℕ) (old : Beyond) (notes : List Note) (takes gives : ℕ) (start : Start) (used : ℕ) (own : List Note)
+    → start_of (options_of words) words old.files notes ≡ (start, used) → drop used notes ≡ own
+    → sent_by (handed_in words input old notes takes gives) ≡ sent_until takes gives (trace_from words start old.files (ahead_of old.lines.told old.whole) input own).made
+unfolding sent_by whole_trace
+sent-start words input old notes takes gives start used own is rest =
+    let ahead = ahead_of old.lines.told old.whole in
+    ap (λ (p : Start × ℕ). sent_until takes gives (trace_from words p.0 old.files ahead input (drop p.1 notes)).made) is
+    ∙ ap (λ (n : List Note). sent_until takes gives (trace_from words start old.files ahead input n).made) rest
 
 -- ---- a text that refuses
 
-text-cut : (words : List (List ℕ)) (status : ℕ) (text : List ℕ) (files : List NamedBytes) (input : List ℕ) (gives : ℕ)
-    → cut_trace (length text) gives (trace_from words (Refused status text) files input []) ≡ ends status text 0 (record { machine = None; files = files; notes = [] })
-text-cut words status text files input gives =
-    let left : Left = record { machine = None; files = files; notes = [] } in
+text-cut : (words : List (List ℕ)) (status : ℕ) (text : List ℕ) (old : Beyond) (input : List ℕ) (gives : ℕ)
+    → cut_trace (length text) gives (trace_from words (Refused status text) old.files (ahead_of old.lines.told old.whole) input []) ≡ ends status text 0 (left_at None old)
+text-cut words status text old input gives =
+    let left : Left = left_at None old in
     cut-printed text left [] (record { status = status; state = left }) (length text) gives (omega arith)
     ∙ ap (λ (t : List ℕ). ends status t 0 left) (append-nil text)
 
-text-refused : (words : List (List ℕ)) (status : ℕ) (text : List ℕ) (files : List NamedBytes) (input : List ℕ) (n gives : ℕ) → n < length text
-    → cut_trace n gives (trace_from words (Refused status text) files input []) ≡ ends 102 (take n text) 0 (record { machine = None; files = files; notes = [] })
-text-refused words status text files input n gives short =
-    let left : Left = record { machine = None; files = files; notes = [] } in
+text-refused : (words : List (List ℕ)) (status : ℕ) (text : List ℕ) (old : Beyond) (input : List ℕ) (n gives : ℕ) → n < length text
+    → cut_trace n gives (trace_from words (Refused status text) old.files (ahead_of old.lines.told old.whole) input []) ≡ ends 102 (take n text) 0 (left_at None old)
+text-refused words status text old input n gives short =
+    let left : Left = left_at None old in
     cut-refused text left [] (record { status = status; state = left }) n gives short
 
-left-same : (files files' : List NamedBytes) (machine : Option MachineState) (status : ℕ) (text : List ℕ) → machine ≡ None → files' ≡ files
-    → ends {S = Left} status text 0 (record { machine = None; files = files; notes = [] }) ≡ ends {S = Left} status text 0 (record { machine = machine_left machine; files = files'; notes = [] })
-left-same files files' machine status text none same = sym (λ i. ends {S = Left} status text 0 (record { machine = machine_left (none i); files = same i; notes = [] }))
+-- nothing is sent with it
+none-sent : (b : Bool) → (if b then [] {A = ℕ × ℕ} else []) ≡ []
+none-sent true = refl
+none-sent false = refl
 
-pub refused-outcome : (words : List (List ℕ)) (input before after : List ℕ) (files files' : List NamedBytes) (status_there status : ℕ) (text : List ℕ) (machine : Option MachineState) (notes : List Note) (used : ℕ)
-    → start_of (options_of words) words files notes ≡ (Refused status_there text, used) → drop used notes ≡ [] → machine ≡ None → files' ≡ files → status_there ≢ 106
-    → IsRefused status_there text status before after → IsOutcome words input input before after files files' status machine notes
-refused-outcome words input before after files files' status_there status text machine notes used start rest none same other (inl h) =
+refusal-sent : (words : List (List ℕ)) (status : ℕ) (text : List ℕ) (old : Beyond) (input : List ℕ) (n gives : ℕ)
+    → sent_until n gives (trace_from words (Refused status text) old.files (ahead_of old.lines.told old.whole) input []).made ≡ []
+refusal-sent words status text old input n gives = none-sent (nat_le (length text) n)
+
+heard-none : (h : Heard) → heard_with h [] ≡ h
+heard-none (Named sent) = ap (λ (l : List Sent). Named l) (append-nil sent)
+heard-none (Unnamed room bytes) = ap (λ (l : List ℕ). Unnamed room l) (ap (λ (l : List ℕ). bytes ++ l) (take-nil (room - length bytes)) ∙ append-nil bytes)
+  where
+    take-nil : (n : ℕ) → take n ([] {A = ℕ}) ≡ []
+    take-nil zero = refl
+    take-nil (suc n) = refl
+
+left-same : (old new : Beyond) (machine : Option MachineState) (status : ℕ) (text : List ℕ) → machine ≡ None → new ≡ old
+    → ends {S = Left} status text 0 (left_at None old) ≡ ends {S = Left} status text 0 (left_at machine new)
+left-same old new machine status text none same = sym (λ i. ends {S = Left} status text 0 (left_at (none i) (same i)))
+
+-- callers have heard nothing more
+heard-same : (words : List (List ℕ)) (input : List ℕ) (old new : Beyond) (notes : List Note) (takes gives status : ℕ) (text : List ℕ) (used : ℕ)
+    → start_of (options_of words) words old.files notes ≡ (Refused status text, used) → drop used notes ≡ [] → new ≡ old
+    → new.lines.sent ≡ heard_with old.lines.sent (sent_by (handed_in words input old notes takes gives))
+heard-same words input old new notes takes gives status text used start rest same =
+    ap (λ (b : Beyond). b.lines.sent) same ∙ sym (heard-none old.lines.sent)
+    ∙ ap (heard_with old.lines.sent) (sym (sent-start words input old notes takes gives (Refused status text) used [] start rest ∙ refusal-sent words status text old input takes gives))
+
+pub refused-outcome : (words : List (List ℕ)) (input before after : List ℕ) (old new : Beyond) (status_there status : ℕ) (text : List ℕ) (machine : Option MachineState) (notes : List Note) (used : ℕ)
+    → start_of (options_of words) words old.files notes ≡ (Refused status_there text, used) → drop used notes ≡ [] → machine ≡ None → new ≡ old → status_there ≢ 106
+    → IsRefused status_there text status before after → IsOutcome words input input before after old new status machine notes
+refused-outcome words input before after old new status_there status text machine notes used start rest none same other (inl h) =
     record {
       taken = text;
       gives = length input + 1;
@@ -62,12 +103,13 @@ refused-outcome words input before after files files' status_there status text m
       no_failed_read = λ _. refl;
       written = h.1;
       rest = refl;
-      is = outcome-start words input files notes (length text) (length input + 1) (Refused status_there text) used [] start rest
-          ∙ text-cut words status_there text files input (length input + 1)
-          ∙ left-same files files' machine status_there text none same
-          ∙ ap (λ (s : ℕ). ends {S = Left} s text 0 (record { machine = machine_left machine; files = files'; notes = [] })) (sym h.0);
+      is = outcome-start words input old notes (length text) (length input + 1) (Refused status_there text) used [] start rest
+          ∙ text-cut words status_there text old input (length input + 1)
+          ∙ left-same old new machine status_there text none same
+          ∙ ap (λ (s : ℕ). ends {S = Left} s text 0 (left_at machine new)) (sym h.0);
+      heard = heard-same words input old new notes (length text) (length input + 1) status_there text used start rest same;
     }
-refused-outcome words input before after files files' status_there status text machine notes used start rest none same other (inr h) =
+refused-outcome words input before after old new status_there status text machine notes used start rest none same other (inr h) =
     let n = h.1.0 in
     record {
       taken = take n text;
@@ -77,21 +119,22 @@ refused-outcome words input before after files files' status_there status text m
       no_failed_read = λ _. refl;
       written = h.1.2;
       rest = refl;
-      is = outcome-start words input files notes (length (take n text)) (length input + 1) (Refused status_there text) used [] start rest
-          ∙ ap (λ (k : ℕ). cut_trace k (length input + 1) (trace_from words (Refused status_there text) files input [])) (length-take-le n text (omega (arith, h.1.1)))
-          ∙ text-refused words status_there text files input n (length input + 1) h.1.1
-          ∙ left-same files files' machine 102 (take n text) none same
-          ∙ ap (λ (s : ℕ). ends {S = Left} s (take n text) 0 (record { machine = machine_left machine; files = files'; notes = [] })) (sym h.0);
+      is = outcome-start words input old notes (length (take n text)) (length input + 1) (Refused status_there text) used [] start rest
+          ∙ ap (λ (k : ℕ). cut_trace k (length input + 1) (trace_from words (Refused status_there text) old.files (ahead_of old.lines.told old.whole) input [])) (length-take-le n text (omega (arith, h.1.1)))
+          ∙ text-refused words status_there text old input n (length input + 1) h.1.1
+          ∙ left-same old new machine 102 (take n text) none same
+          ∙ ap (λ (s : ℕ). ends {S = Left} s (take n text) 0 (left_at machine new)) (sym h.0);
+      heard = heard-same words input old new notes (length (take n text)) (length input + 1) status_there text used start rest same;
     }
 
 -- ---- a session
 
--- a session's cut, with what is left in each place
-session-cut : (words : List (List ℕ)) (options : Options) (keys : List Key) (script : Option (List ℕ)) (files : List NamedBytes) (input : List ℕ) (own : List Note) (takes gives status made : ℕ) (taken : List ℕ) (state : State)
-    → cut_trace takes gives (trace (opening words options keys script files input own)) ≡ ends status taken made state
-    → cut_trace takes gives (trace_from words (Begins options keys script) files input own) ≡ ends status taken made (left_by state)
-session-cut words options keys script files input own takes gives status made taken state e =
-    let t : Trace State = trace (opening words options keys script files input own) in
+-- a session's cut, with what is left in each place, and what is sent until then
+session-cut : (words : List (List ℕ)) (options : Options) (keys : List Key) (script : Option (List ℕ)) (files : List NamedBytes) (ahead : Ahead) (input : List ℕ) (own : List Note) (takes gives status made : ℕ) (taken : List ℕ) (state : State)
+    → cut_trace takes gives (trace (opening words options keys script files ahead input own)) ≡ ends status taken made state
+    → cut_trace takes gives (trace_from words (Begins options keys script) files ahead input own) ≡ ends status taken made (left_by state)
+session-cut words options keys script files ahead input own takes gives status made taken state e =
+    let t : Trace State = trace (opening words options keys script files ahead input own) in
     cut-map left_by t.made t.ended takes gives ∙ ap (map_outcome left_by) e
 
 failed-lets : (finish : Finish) (gives made all : ℕ) → LetsThrough finish gives made all → IsExitStatus finish → status_of finish ≡ 106 → gives ≡ made
@@ -112,63 +155,74 @@ other-lets Console gives made all h s = h
 other-lets Input gives made all h s = absurd (s refl)
 other-lets OutOfMemory gives made all h s = h
 
-opening-input : (words : List (List ℕ)) (options : Options) (keys : List Key) (script : Option (List ℕ)) (files : List NamedBytes) (input : List ℕ) (own : List Note) → (opening words options keys script files input own).input ≡ input
-unfolding session_with beginning_with
-opening-input words options keys script files input own = refl
+opening-input : (words : List (List ℕ)) (options : Options) (keys : List Key) (script : Option (List ℕ)) (files : List NamedBytes) (ahead : Ahead) (input : List ℕ) (own : List Note)
+    → (opening words options keys script files ahead input own).input ≡ input
+unfolding session_with
+opening-input words options keys script files ahead input own = refl
 
-opening-reads : (words : List (List ℕ)) (options : Options) (keys : List Key) (script : Option (List ℕ)) (files : List NamedBytes) (input : List ℕ) (own : List Note)
-    → reads_left (opening words options keys script files input own).open_ (opening words options keys script files input own).input ≡ length input + 1
-unfolding session_with beginning_with
-opening-reads words options keys script files input own = refl
+opening-reads : (words : List (List ℕ)) (options : Options) (keys : List Key) (script : Option (List ℕ)) (files : List NamedBytes) (ahead : Ahead) (input : List ℕ) (own : List Note)
+    → reads_left (opening words options keys script files ahead input own).open_ (opening words options keys script files ahead input own).input ≡ length input + 1
+unfolding session_with
+opening-reads words options keys script files ahead input own = refl
 
-pub session-outcome : (words : List (List ℕ)) (options : Options) (keys keys' : List Key) (script : Option (List ℕ)) (input left before after : List ℕ) (files files' : List NamedBytes) (finish : Finish) (watch : WatchState) (now : MachineState) (notes own : List Note) (used : ℕ)
-    → start_of (options_of words) words files notes ≡ (Begins options keys script, used) → drop used notes ≡ own → IsExitStatus finish
-    → IsSession (opening words options keys script files input own) finish (seen (beside watch keys' files') now) left before after → IsOutcome words input left before after files files' (status_of finish) (Some now) notes
-session-outcome words options keys keys' script input left before after files files' finish watch now notes own used start rest small s =
+pub session-outcome : (words : List (List ℕ)) (options : Options) (keys keys' : List Key) (script : Option (List ℕ)) (input left before after : List ℕ) (old new : Beyond) (finish : Finish) (watch : WatchState) (now : MachineState) (notes own : List Note) (used : ℕ)
+    → start_of (options_of words) words old.files notes ≡ (Begins options keys script, used) → drop used notes ≡ own → IsExitStatus finish
+    → IsSession (opening words options keys script old.files (ahead_of old.lines.told old.whole) input own) finish (seen (beside watch keys' new.files new.lines) new.whole now) left
+    (output before old.lines.sent) (output after new.lines.sent) → IsOutcome words input left before after old new (status_of finish) (Some now) notes
+session-outcome words options keys keys' script input left before after old new finish watch now notes own used start rest small s =
+    let ahead = ahead_of old.lines.told old.whole in
+    let t : Trace State = trace (opening words options keys script old.files ahead input own) in
     record {
       taken = s.end.taken;
       gives = s.gives;
       made = s.made;
       failed_read = failed-lets finish s.gives s.made _ s.lets_through small;
-      no_failed_read = λ other. other-lets finish s.gives s.made _ s.lets_through other ∙ opening-reads words options keys script files input own;
+      no_failed_read = λ other. other-lets finish s.gives s.made _ s.lets_through other ∙ opening-reads words options keys script old.files ahead input own;
       written = s.end.written;
-      rest = s.rest ∙ ap (drop s.made) (opening-input words options keys script files input own);
-      is = outcome-start words input files notes (length s.end.taken) s.gives (Begins options keys script) used own start rest
-          ∙ session-cut words options keys script files input own (length s.end.taken) s.gives (status_of finish) s.made s.end.taken (record { live = seen (beside watch keys' files') now; notes = [] }) s.end.outcome;
+      rest = s.rest ∙ ap (drop s.made) (opening-input words options keys script old.files ahead input own);
+      is = outcome-start words input old notes (length s.end.taken) s.gives (Begins options keys script) used own start rest
+          ∙ session-cut words options keys script old.files ahead input own (length s.end.taken) s.gives (status_of finish) s.made s.end.taken
+          (record { live = seen (beside watch keys' new.files new.lines) new.whole now; notes = [] }) s.end.outcome;
+      heard = s.end.heard
+          ∙ ap (heard_with old.lines.sent) (sym (sent-start words input old notes (length s.end.taken) s.gives (Begins options keys script) used own start rest
+          ∙ sent-map left_by t.made (length s.end.taken) s.gives));
     }
 
 -- ---- the laws, at the outcome
 
-pub more-room-outcome : (o : Outside) (more : ℕ) → o.takes ≤ more → (outcome o).status ≢ 102 → outcome (record o { takes = more }) ≡ outcome o
-unfolding outcome
+pub more-room-outcome : (o : Outside) (more : ℕ) → o.takes ≤ more → (outcome o).status ≢ 102
+    → (outcome (record o { takes = more }) ≡ outcome o) × (sent_by (record o { takes = more }) ≡ sent_by o)
+unfolding outcome sent_by
 more-room-outcome o more h s =
-    let t : Trace Left = whole_trace o.words o.input o.files o.notes in
-    more-room t.made t.ended o.takes more o.gives h s
+    let t : Trace Left = trace_of o in (
+      more-room t.made t.ended o.takes more o.gives h s,
+      sent-more-room t.made t.ended o.takes more o.gives h s,
+    )
 
-pub first-part-outcome : (o : Outside) → (rest : List ℕ) × (text_of (whole_trace o.words o.input o.files o.notes).made ≡ (outcome o).console ++ rest)
+pub first-part-outcome : (o : Outside) → (rest : List ℕ) × (text_of (trace_of o).made ≡ (outcome o).console ++ rest)
 unfolding outcome
 first-part-outcome o =
-    let t : Trace Left = whole_trace o.words o.input o.files o.notes in
+    let t : Trace Left = trace_of o in
     first-part t.made t.ended o.takes o.gives
 
 pub whole-outcome : (o : Outside) → (outcome o).status ≢ 102 → (outcome o).status ≢ 106 → IsWholeOutcome o
-unfolding outcome
+unfolding outcome sent_by
 whole-outcome o p r =
-    let t : Trace Left = whole_trace o.words o.input o.files o.notes in
+    let t : Trace Left = trace_of o in
     let w = whole t.made t.ended o.takes o.gives p r in
-    record { status = w.status; console = w.console; reads = w.reads; state = w.state }
+    record { status = w.status; console = w.console; reads = w.reads; state = w.state; sent = all-sent t.made t.ended o.takes o.gives p r }
 
 -- without faults the program comes to the end of the whole trace
-pub complete : (words : List (List ℕ)) (input left before after : List ℕ) (files files' : List NamedBytes) (status : ℕ) (machine : Option MachineState) → status ≢ 102 → status ≢ 106
-    → IsOutcome words input left before after files files' status machine [] → IsComplete words input left before after files files' status machine
-complete words input left before after files files' status machine console read o =
+pub complete : (words : List (List ℕ)) (input left before after : List ℕ) (old new : Beyond) (status : ℕ) (machine : Option MachineState) → status ≢ 102 → status ≢ 106
+    → IsOutcome words input left before after old new status machine [] → IsComplete words input left before after old new status machine
+complete words input left before after old new status machine console read o =
     let is = o.is in
     let same = ap (λ o. o.status) is in
-    let w = whole-outcome (record { words = words; input = input; files = files; notes = []; takes = length o.taken; gives = o.gives }) (λ e. console (sym same ∙ e)) (λ e. read (sym same ∙ e)) in
+    let w = whole-outcome (handed_in words input old [] (length o.taken) o.gives) (λ e. console (sym same ∙ e)) (λ e. read (sym same ∙ e)) in
     record {
       status_is = sym same ∙ w.status;
-      machine_is = ap (λ o. o.state.machine) (sym is) ∙ ap (λ (s : Left). s.machine) w.state;
-      files_are = ap (λ o. o.state.files) (sym is) ∙ ap (λ (s : Left). s.files) w.state;
+      is = ap (λ o. o.state) (sym is) ∙ w.state;
       printed = o.written ∙ ap (λ (t : List ℕ). before ++ t) (sym (ap (λ o. o.console) is) ∙ w.console);
       rest = o.rest ∙ ap (λ (n : ℕ). drop n input) (sym (ap (λ o. o.reads) is) ∙ w.reads);
+      heard = o.heard ∙ ap (heard_with old.lines.sent) w.sent;
     }

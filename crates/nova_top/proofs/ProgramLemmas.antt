@@ -1,5 +1,5 @@
 -- How the program starts and what its session comes to.
-use Rattle.std.proofs.Common.{◌≡◌, ◌≢◌, ◌⊎◌, inl, inr, ℕ, zero, suc, ◌<◌, ◌≤◌, Bool, true, false, IsTrue, List, [], ◌∷◌, ◌++◌, length, get_or, replicate, refl, ap, sym, ◌∙◌, subst, arith, append-nil, Option, Some, None, IfSome, IsSome, is_some, is_none, string_bytes, String, Global, Result, Ok, Err}
+use Rattle.std.proofs.Common.{◌≡◌, ◌≢◌, ◌⊎◌, inl, inr, ℕ, zero, suc, ◌<◌, ◌≤◌, Bool, true, false, IsTrue, List, [], ◌∷◌, ◌++◌, length, get_or, map, replicate, refl, ap, sym, ◌∙◌, subst, arith, append-nil, Option, Some, None, IfSome, IsSome, is_some, is_none, string_bytes, String, Global, Result, Ok, Err}
 use Rattle.std.proofs.lemmas.List.{length-map}
 use Rattle.std.proofs.Math.Seq.{drop-append_seam, drop-length}
 use Rattle.std.proofs.lemmas.Bool.{eq-eqb}
@@ -9,6 +9,11 @@ use Rattle.host_files.specs.Lists.{NamedBytes}
 use Rattle.host_files.specs.Streams.{Puts}
 use Rattle.host_files.specs.State.{FileState, Opened}
 use Rattle.host_files.specs.declared.files.FileId.{FileId}
+use Rattle.host_lines.specs.Traffic.{Gone, Ahead, Answer as LineAnswer}
+use Rattle.host_lines.specs.Told.{ahead_of}
+use Rattle.host_lines.specs.State.{LineState}
+use Rattle.telnet_lines.specs.Line.{renamed}
+use Rattle.telnet_lines.specs.Joined.{seen_line}
 use Rattle.unit_trait.specs.declared.kind.UnitName.{UnitName}
 use Rattle.unit_trait.specs.Calls.{UnitState}
 use Rattle.unit_files.specs.Attachments.{Attachment, Held, attachment_at, file_place, file_units, no_files}
@@ -23,7 +28,9 @@ use Rattle.expect_actions.specs.KeysFile.{Key}
 use Rattle.expect_actions.specs.Watch.{WatchState, empty_watch}
 use Rattle.nova_machine.specs.Machine.{MachineState, new_machine, reset_machine, reset_devices}
 use Rattle.nova_machine.specs.Seen.{seen, beside, erased, attached_in}
-use Rattle.scp_commands.specs.Live.{Live, CommandState, live_in}
+use Rattle.nova_machine.specs.Comes.{Output, output}
+use Rattle.nova_machine.specs.LineChanges.{HaveNoPort}
+use Rattle.scp_commands.specs.Live.{Live, CommandState, Beyond, beyond, live_in}
 use Rattle.scp_commands.specs.Doing.{IsLate, ComeBehind}
 use Rattle.scp_script.specs.declared.progress.Finish.{Finish}
 use Rattle.scp_script.specs.declared.progress.Finish.TheVariants.{Exit, EndOfInput, FlushFailed, Commands, Console, Input, OutOfMemory}
@@ -73,11 +80,11 @@ no-behind workload units live [] new come = refl
 no-behind workload units live (n ∷ behind) new come = absurd (no-closing workload units live n new come.0)
 
 -- so no closing comes behind its start, and the notes are those of its commands
-pub follows : (words : List (List ℕ)) (options : Options) (keys : List Key) (script : Option (List ℕ)) (files : List NamedBytes) (input : List ℕ) (own : List Note)
-    → MayFollow (opening words options keys script files input []).spent (opening words options keys script files input []).live own → Follow 0 own
-unfolding session_with beginning_with
-follows words options keys script files input own h =
-    let none = no-behind options.workload standard_units (opening words options keys script files input []).live h.behind refl h.closings in
+pub follows : (words : List (List ℕ)) (options : Options) (keys : List Key) (script : Option (List ℕ)) (files : List NamedBytes) (ahead : Ahead) (input : List ℕ) (own : List Note)
+    → MayFollow (opening words options keys script files ahead input []).spent (opening words options keys script files ahead input []).live own → Follow 0 own
+unfolding session_with
+follows words options keys script files ahead input own h =
+    let none = no-behind options.workload standard_units (opening words options keys script files ahead input []).live h.behind refl h.closings in
     subst (λ (n : List Note). Follow 0 n) (sym (h.are ∙ ap (λ (b : List CommandNote). numbered 0 b ++ h.later) none)) h.follows
 
 -- ---- what stands before the first line
@@ -135,36 +142,60 @@ begun-files tells words options units i s m keys o notes spare old new made same
 
 -- ---- a session from where it begins
 
-same-start : (tells : Bool) (words : List (List ℕ)) (options : Options) (s : CommandState) (o : Opening) (old mid : FileState) (input : List ℕ) (notes : List Note)
-    → Begun tells words options s o old mid → IsTrue tells → beginning s mid.files o input notes ≡ opening words options s.keys (script_text o) old.files input notes
+-- nobody is behind a line of a new machine, which has no port
+first-lines : (workload : Option ℕ) (s : LineState) → map (seen_line s) (with_workload workload (new_machine standard_units)).lines ≡ map (renamed (λ _. Gone)) (with_workload workload (new_machine standard_units)).lines
+unfolding new_machine reset_machine reset_devices
+first-lines None s = refl
+first-lines (Some number) s = refl
+
+first-portless : (workload : Option ℕ) → HaveNoPort (with_workload workload (new_machine standard_units)).lines
+unfolding new_machine reset_machine reset_devices
+first-portless None = (refl, tt)
+first-portless (Some number) = (refl, tt)
+
+pub begun-portless : (tells : Bool) (words : List (List ℕ)) (options : Options) (s : CommandState) (o : Opening) (old mid : FileState) → Begun tells words options s o old mid → HaveNoPort s.machine.lines
+begun-portless tells words options s o old mid begun = subst (λ (m : MachineState). HaveNoPort m.lines) (sym begun.machine) (first-portless options.workload)
+
+same-start : (tells : Bool) (words : List (List ℕ)) (options : Options) (s : CommandState) (o : Opening) (old mid : FileState) (lines : LineState) (whole : List LineAnswer) (input : List ℕ) (notes : List Note)
+    → Begun tells words options s o old mid → IsTrue tells
+    → beginning s (beyond mid.files lines whole) o input notes ≡ opening words options s.keys (script_text o) old.files (ahead_of lines.told whole) input notes
 unfolding beginning beginning_with session_with
-same-start tells words options s o old mid input notes begun told = λ i. record {
-  live = record { machine = erased (begun.machine i); watch = begun.watch i; keys = s.keys; files = begun.files told i };
-  notes = notes;
-  spent = begun.command i;
-  limit = begun.limit i;
-  budget = begun.opens.budget i;
-  texts = waiting_texts [] (begun.opens.scripts i);
-  reads = begun.opens.reads i;
-  prompt = begun.opens.prompt i;
-  input = input;
-  open_ = true;
-}
+same-start tells words options s o old mid lines whole input notes begun told =
+    let seen_lines = ap (λ (m : MachineState). map (seen_line lines) m.lines) begun.machine ∙ first-lines options.workload lines in
+    λ i. record {
+      live = record {
+        machine = erased (begun.machine i);
+        watch = begun.watch i;
+        keys = s.keys;
+        files = begun.files told i;
+        lines = seen_lines i;
+        ahead = ahead_of lines.told whole;
+      };
+      notes = notes;
+      spent = begun.command i;
+      limit = begun.limit i;
+      budget = begun.opens.budget i;
+      texts = waiting_texts [] (begun.opens.scripts i);
+      reads = begun.opens.reads i;
+      prompt = begun.opens.prompt i;
+      input = input;
+      open_ = true;
+    }
 
 -- what came of a session, seen (beside as the program) lets it go
-pub lines-told : (s t v : CommandState) (o : Opening) (files files' : List NamedBytes) (input left before after : List ℕ) (finish : Finish) → v ≡ t → t.keys ≡ s.keys
-    → Performed (λ (n : List Note). beginning s files o input n) finish (live_in t files') left before after (notes_said s.notes) (notes_said t.notes)
-    → Performed (λ (n : List Note). beginning s files o input n) finish (seen (beside v.watch s.keys files') v.machine) left before after (notes_said s.notes) (notes_said v.notes)
-lines-told s t v o files files' input left before after finish view keys p =
+pub lines-told : (s t v : CommandState) (o : Opening) (old new : Beyond) (input left : List ℕ) (before after : Output) (finish : Finish) → v ≡ t → t.keys ≡ s.keys
+    → Performed (λ (n : List Note). beginning s old o input n) finish (live_in t new) left before after (notes_said s.notes) (notes_said t.notes)
+    → Performed (λ (n : List Note). beginning s old o input n) finish (seen (beside v.watch s.keys new.files new.lines) new.whole v.machine) left before after (notes_said s.notes) (notes_said v.notes)
+lines-told s t v o old new input left before after finish view keys p =
     let left_off : CommandState → Type 0 =
-    λ u. Performed (λ (n : List Note). beginning s files o input n) finish (live_in u files') left before after (notes_said s.notes) (notes_said u.notes) in
+    λ u. Performed (λ (n : List Note). beginning s old o input n) finish (live_in u new) left before after (notes_said s.notes) (notes_said u.notes) in
     let seen_keys : List Key → Type 0 =
-    λ k. Performed (λ (n : List Note). beginning s files o input n) finish (seen (beside v.watch k files') v.machine) left before after (notes_said s.notes) (notes_said v.notes) in
+    λ k. Performed (λ (n : List Note). beginning s old o input n) finish (seen (beside v.watch k new.files new.lines) new.whole v.machine) left before after (notes_said s.notes) (notes_said v.notes) in
     subst seen_keys (ap (λ (u : CommandState). u.keys) view ∙ keys) (subst left_off (sym view) p)
 
 -- ---- what the session comes to
 
-performed-session : (start : Session) (finish : Finish) (live : Live) (left before after : List ℕ) → status_of finish ≢ 103 → IsPerformed start finish live left before after
+performed-session : (start : Session) (finish : Finish) (live : Live) (left : List ℕ) (before after : Output) → status_of finish ≢ 103 → IsPerformed start finish live left before after
     → IsSession start finish live left before after
 performed-session start (Exit status) live left before after s h = h
 performed-session start EndOfInput live left before after s h = h
@@ -174,7 +205,7 @@ performed-session start Console live left before after s h = h
 performed-session start Input live left before after s h = h
 performed-session start OutOfMemory live left before after s h = absurd (s refl)
 
-performed-short : (start : Session) (finish : Finish) (live : Live) (left before after : List ℕ) → IsExitStatus finish → status_of finish ≡ 103 → IsPerformed start finish live left before after
+performed-short : (start : Session) (finish : Finish) (live : Live) (left : List ℕ) (before after : Output) → IsExitStatus finish → status_of finish ≡ 103 → IsPerformed start finish live left before after
     → RunsShort start live left before after
 performed-short start (Exit status) live left before after small s h = absurd (omega (arith, small, s))
 performed-short start EndOfInput live left before after small s h = absurd (omega (arith, s))
@@ -185,36 +216,48 @@ performed-short start Input live left before after small s h = absurd (omega (ar
 performed-short start OutOfMemory live left before after small s h = h
 
 -- the session that was begun is the one that the definition opens
-at-opening : (tells : Bool) (words : List (List ℕ)) (options : Options) (s : CommandState) (o : Opening) (old mid : FileState) (input left before after : List ℕ) (finish : Finish) (live : Live) (notes' : List Note)
+at-opening : (tells : Bool) (words : List (List ℕ)) (options : Options) (s : CommandState) (o : Opening) (old mid : FileState) (lines : LineState) (whole : List LineAnswer) (input left : List ℕ) (before after : Output) (finish : Finish) (live : Live) (notes' : List Note)
     → Begun tells words options s o old mid → IsTrue tells
-    → Performed (λ (n : List Note). beginning s mid.files o input n) finish live left before after (notes_said s.notes) notes'
-    → Performed (λ (n : List Note). opening words options s.keys (script_text o) old.files input n) finish live left before after (notes_said s.notes) notes'
-at-opening tells words options s o old mid input left before after finish live notes' begun told p =
+    → Performed (λ (n : List Note). beginning s (beyond mid.files lines whole) o input n) finish live left before after (notes_said s.notes) notes'
+    → Performed (λ (n : List Note). opening words options s.keys (script_text o) old.files (ahead_of lines.told whole) input n) finish live left before after (notes_said s.notes) notes'
+at-opening tells words options s o old mid lines whole input left before after finish live notes' begun told p =
     let by_start : (List Note → Session) → Type 0 = λ start. Performed start finish live left before after (notes_said s.notes) notes' in
-    subst by_start (λ i (n : List Note). same-start tells words options s o old mid input n begun told i) p
+    subst by_start (λ i (n : List Note). same-start tells words options s o old mid lines whole input n begun told i) p
 
-pub performed-outcome : (tells : Bool) (words : List (List ℕ)) (options : Options) (s : CommandState) (o : Opening) (old mid : FileState) (files' : List NamedBytes) (input left before after : List ℕ) (finish : Finish) (watch : WatchState) (now : MachineState) (notes' : List Note)
-    → options_of words ≡ Some options → Begun tells words options s o old mid → IsTrue tells → IsExitStatus finish → status_of finish ≢ 103
-    → Performed (λ (n : List Note). beginning s mid.files o input n) finish (seen (beside watch s.keys files') now) left before after (notes_said s.notes) notes'
-    → IsOutcome words input left before after old.files files' (status_of finish) (Some now) notes'
-performed-outcome tells words options s o old mid files' input left before after finish watch now notes' chosen begun told small other performed =
-    let p = at-opening tells words options s o old mid input left before after finish (seen (beside watch s.keys files') now) notes' begun told performed in
-    let follow = follows words options s.keys (script_text o) old.files input p.own p.first in
-    let start = ap (λ (c : Option Options). start_of c words old.files (notes_said s.notes ++ p.own)) chosen ∙ begun.starts told p.own follow in
-    let session = performed-session (opening words options s.keys (script_text o) old.files input p.own) finish (seen (beside watch s.keys files') now) left before after other p.is in
-    subst (λ (n : List Note). IsOutcome words input left before after old.files files' (status_of finish) (Some now) n) (sym p.kept)
-    (session-outcome words options s.keys s.keys (script_text o) input left before after old.files files' finish watch now (notes_said s.notes ++ p.own) p.own (length (notes_said s.notes)) start
+-- What a session came to that was begun with those files, and with what stands around it, to what stands around it now.
+abbrev pub CameTo : CommandState → Opening → FileState → Beyond → Beyond → List ℕ → List ℕ → List ℕ → List ℕ → Finish → WatchState → MachineState → List Note → Type 0
+CameTo s o mid old new input left before after finish watch now notes' =
+    Performed (λ (n : List Note). beginning s (beyond mid.files old.lines old.whole) o input n) finish (seen (beside watch s.keys new.files new.lines) new.whole now) left
+    (output before old.lines.sent) (output after new.lines.sent) (notes_said s.notes) notes'
+
+pub performed-outcome : (tells : Bool) (words : List (List ℕ)) (options : Options) (s : CommandState) (o : Opening) (was mid : FileState) (lines : LineState) (whole : List LineAnswer) (new : Beyond) (input left before after : List ℕ) (finish : Finish) (watch : WatchState) (now : MachineState) (notes' : List Note)
+    → options_of words ≡ Some options → Begun tells words options s o was mid → IsTrue tells → IsExitStatus finish → status_of finish ≢ 103
+    → CameTo s o mid (beyond was.files lines whole) new input left before after finish watch now notes'
+    → IsOutcome words input left before after (beyond was.files lines whole) new (status_of finish) (Some now) notes'
+performed-outcome tells words options s o was mid lines whole new input left before after finish watch now notes' chosen begun told small other came =
+    let old = beyond was.files lines whole in
+    let ahead = ahead_of lines.told whole in
+    let live = seen (beside watch s.keys new.files new.lines) new.whole now in
+    let p = at-opening tells words options s o was mid lines whole input left (output before lines.sent) (output after new.lines.sent) finish live notes' begun told came in
+    let follow = follows words options s.keys (script_text o) was.files ahead input p.own p.first in
+    let start = ap (λ (c : Option Options). start_of c words was.files (notes_said s.notes ++ p.own)) chosen ∙ begun.starts told p.own follow in
+    let session = performed-session (opening words options s.keys (script_text o) was.files ahead input p.own) finish live left (output before lines.sent) (output after new.lines.sent) other p.is in
+    subst (λ (n : List Note). IsOutcome words input left before after old new (status_of finish) (Some now) n) (sym p.kept)
+    (session-outcome words options s.keys s.keys (script_text o) input left before after old new finish watch now (notes_said s.notes ++ p.own) p.own (length (notes_said s.notes)) start
     (drop-append_seam (notes_said s.notes) p.own) small session)
 
-pub performed-cut : (tells : Bool) (words : List (List ℕ)) (options : Options) (s : CommandState) (o : Opening) (old mid : FileState) (files' : List NamedBytes) (input left before after : List ℕ) (finish : Finish) (watch : WatchState) (now : MachineState) (notes' : List Note)
-    → options_of words ≡ Some options → Begun tells words options s o old mid → IsTrue tells → IsExitStatus finish → status_of finish ≡ 103
-    → Performed (λ (n : List Note). beginning s mid.files o input n) finish (seen (beside watch s.keys files') now) left before after (notes_said s.notes) notes'
-    → IsCutShort words input left before after old.files files' (Some now) notes'
-performed-cut tells words options s o old mid files' input left before after finish watch now notes' chosen begun told small memory performed =
-    let p = at-opening tells words options s o old mid input left before after finish (seen (beside watch s.keys files') now) notes' begun told performed in
-    let follow = follows words options s.keys (script_text o) old.files input p.own p.first in
-    let short = performed-short (opening words options s.keys (script_text o) old.files input p.own) finish (seen (beside watch s.keys files') now) left before after small memory p.is in
-    subst (λ (n : List Note). IsCutShort words input left before after old.files files' (Some now) n) (sym p.kept)
+pub performed-cut : (tells : Bool) (words : List (List ℕ)) (options : Options) (s : CommandState) (o : Opening) (was mid : FileState) (lines : LineState) (whole : List LineAnswer) (new : Beyond) (input left before after : List ℕ) (finish : Finish) (watch : WatchState) (now : MachineState) (notes' : List Note)
+    → options_of words ≡ Some options → Begun tells words options s o was mid → IsTrue tells → IsExitStatus finish → status_of finish ≡ 103
+    → CameTo s o mid (beyond was.files lines whole) new input left before after finish watch now notes'
+    → IsCutShort words input left before after (beyond was.files lines whole) new (Some now) notes'
+performed-cut tells words options s o was mid lines whole new input left before after finish watch now notes' chosen begun told small memory came =
+    let old = beyond was.files lines whole in
+    let ahead = ahead_of lines.told whole in
+    let live = seen (beside watch s.keys new.files new.lines) new.whole now in
+    let p = at-opening tells words options s o was mid lines whole input left (output before lines.sent) (output after new.lines.sent) finish live notes' begun told came in
+    let follow = follows words options s.keys (script_text o) was.files ahead input p.own p.first in
+    let short = performed-short (opening words options s.keys (script_text o) was.files ahead input p.own) finish live left (output before lines.sent) (output after new.lines.sent) small memory p.is in
+    subst (λ (n : List Note). IsCutShort words input left before after old new (Some now) n) (sym p.kept)
     (record {
       options = options;
       words_are = chosen;
@@ -223,30 +266,31 @@ performed-cut tells words options s o old mid files' input left before after fin
         script = script_text o;
         used = length (notes_said s.notes);
         starts = begun.starts told p.own follow;
-        live = seen (beside watch s.keys files') now;
-        machine_is = refl;
-        files_are = refl;
-        short = subst (λ (n : List Note). RunsShort (opening words options s.keys (script_text o) old.files input n) (seen (beside watch s.keys files') now) left before after) (sym (drop-append_seam (notes_said s.notes) p.own)) short;
+        live = live;
+        is = refl;
+        short = subst (λ (n : List Note). RunsShort (opening words options s.keys (script_text o) was.files ahead input n) live left (output before lines.sent) (output after new.lines.sent))
+            (sym (drop-append_seam (notes_said s.notes) p.own)) short;
       });
     })
 
 -- the same at the names of the code
-pub session-answer : (tells : Bool) (words : List (List ℕ)) (options : Options) (s : CommandState) (o : Opening) (old mid : FileState) (files' : List NamedBytes) (input left before after : List ℕ) (finish : Finish) (watch : WatchState) (now : MachineState) (status : ℕ) (machine : Option MachineState) (notes' : List Note)
-    → options_of words ≡ Some options → Begun tells words options s o old mid → IsTrue tells → IsExitStatus finish → status ≡ status_of finish → machine ≡ Some now → status ≢ 103
-    → Performed (λ (n : List Note). beginning s mid.files o input n) finish (seen (beside watch s.keys files') now) left before after (notes_said s.notes) notes'
-    → IsOutcome words input left before after old.files files' status machine notes'
-session-answer tells words options s o old mid files' input left before after finish watch now status machine notes' chosen begun told small is there other performed =
-    subst (λ (m : Option MachineState). IsOutcome words input left before after old.files files' status m notes') (sym there)
-    (subst (λ (n : ℕ). IsOutcome words input left before after old.files files' n (Some now) notes') (sym is)
-    (performed-outcome tells words options s o old mid files' input left before after finish watch now notes' chosen begun told small (λ e. other (is ∙ e)) performed))
+pub session-answer : (tells : Bool) (words : List (List ℕ)) (options : Options) (s : CommandState) (o : Opening) (was mid : FileState) (lines : LineState) (whole : List LineAnswer) (new : Beyond) (input left before after : List ℕ) (finish : Finish) (watch : WatchState) (now : MachineState) (status : ℕ) (machine : Option MachineState) (notes' : List Note)
+    → options_of words ≡ Some options → Begun tells words options s o was mid → IsTrue tells → IsExitStatus finish → status ≡ status_of finish → machine ≡ Some now → status ≢ 103
+    → CameTo s o mid (beyond was.files lines whole) new input left before after finish watch now notes'
+    → IsOutcome words input left before after (beyond was.files lines whole) new status machine notes'
+session-answer tells words options s o was mid lines whole new input left before after finish watch now status machine notes' chosen begun told small is there other came =
+    let old = beyond was.files lines whole in
+    subst (λ (m : Option MachineState). IsOutcome words input left before after old new status m notes') (sym there)
+    (subst (λ (n : ℕ). IsOutcome words input left before after old new n (Some now) notes') (sym is)
+    (performed-outcome tells words options s o was mid lines whole new input left before after finish watch now notes' chosen begun told small (λ e. other (is ∙ e)) came))
 
-pub memory-answer : (tells : Bool) (words : List (List ℕ)) (options : Options) (s : CommandState) (o : Opening) (old mid : FileState) (files' : List NamedBytes) (input left before after : List ℕ) (finish : Finish) (watch : WatchState) (now : MachineState) (status : ℕ) (machine : Option MachineState) (notes' : List Note)
-    → options_of words ≡ Some options → Begun tells words options s o old mid → IsTrue tells → IsExitStatus finish → status ≡ status_of finish → machine ≡ Some now → status ≡ 103
-    → Performed (λ (n : List Note). beginning s mid.files o input n) finish (seen (beside watch s.keys files') now) left before after (notes_said s.notes) notes'
-    → IsCutShort words input left before after old.files files' machine notes'
-memory-answer tells words options s o old mid files' input left before after finish watch now status machine notes' chosen begun told small is there memory performed =
-    subst (λ (m : Option MachineState). IsCutShort words input left before after old.files files' m notes') (sym there)
-    (performed-cut tells words options s o old mid files' input left before after finish watch now notes' chosen begun told small (sym is ∙ memory) performed)
+pub memory-answer : (tells : Bool) (words : List (List ℕ)) (options : Options) (s : CommandState) (o : Opening) (was mid : FileState) (lines : LineState) (whole : List LineAnswer) (new : Beyond) (input left before after : List ℕ) (finish : Finish) (watch : WatchState) (now : MachineState) (status : ℕ) (machine : Option MachineState) (notes' : List Note)
+    → options_of words ≡ Some options → Begun tells words options s o was mid → IsTrue tells → IsExitStatus finish → status ≡ status_of finish → machine ≡ Some now → status ≡ 103
+    → CameTo s o mid (beyond was.files lines whole) new input left before after finish watch now notes'
+    → IsCutShort words input left before after (beyond was.files lines whole) new machine notes'
+memory-answer tells words options s o was mid lines whole new input left before after finish watch now status machine notes' chosen begun told small is there memory came =
+    subst (λ (m : Option MachineState). IsCutShort words input left before after (beyond was.files lines whole) new m notes') (sym there)
+    (performed-cut tells words options s o was mid lines whole new input left before after finish watch now notes' chosen begun told small (sym is ∙ memory) came)
 
 -- ---- causes
 
@@ -347,13 +391,13 @@ refused-status there status sink sink_now (inr h) a = absurd (a (rose sink sink_
 
 -- ---- a file that is refused
 
-refused-at : (words : List (List ℕ)) (options : Options) (input before after : List ℕ) (files files' : List NamedBytes) (status_there status : ℕ) (text : List ℕ) (machine : Option MachineState) (kept : List Note)
-    → options_of words ≡ Some options → StartsWith words options files kept (Refused status_there text) → machine ≡ None → files' ≡ files → status_there ≢ 106
-    → IsRefused status_there text status before after → IsOutcome words input input before after files files' status machine kept
-refused-at words options input before after files files' status_there status text machine kept chosen starts none same other refused =
-    let start = ap (λ (o : Option Options). start_of o words files kept) chosen
-    ∙ ap (λ (n : List Note). start_of (Some options) words files n) (sym (append-nil kept)) ∙ starts [] tt in
-    refused-outcome words input before after files files' status_there status text machine kept (length kept) start (drop-length kept) none same other refused
+refused-at : (words : List (List ℕ)) (options : Options) (input before after : List ℕ) (old new : Beyond) (status_there status : ℕ) (text : List ℕ) (machine : Option MachineState) (kept : List Note)
+    → options_of words ≡ Some options → StartsWith words options old.files kept (Refused status_there text) → machine ≡ None → new ≡ old → status_there ≢ 106
+    → IsRefused status_there text status before after → IsOutcome words input input before after old new status machine kept
+refused-at words options input before after old new status_there status text machine kept chosen starts none same other refused =
+    let start = ap (λ (o : Option Options). start_of o words old.files kept) chosen
+    ∙ ap (λ (n : List Note). start_of (Some options) words old.files n) (sym (append-nil kept)) ∙ starts [] tt in
+    refused-outcome words input before after old new status_there status text machine kept (length kept) start (drop-length kept) none same other refused
 
 -- the text of a file that was not read, as the code prints it
 refused-by : {T : Type 0} (result : Result T Failed) (there : ℕ) (text : List ℕ) (status : ℕ) (before after : List ℕ) → Puts before text result after → status ≡ status_printed result there → IsRefused there text status before after
@@ -374,14 +418,14 @@ unopened-denied words options refusal place word result status before after caus
     subst (λ (r : Refusal). IsDenied (denial_of (texts_of words) r) status before after) (sym refused)
     (subst (λ (n : List ℕ). IsRefused 101 (unopened_text n) status before after) (sym name) (refused-by result 101 (unopened_text (string_bytes word)) status before after puts printed))
 
-files-refused : (words : List (List ℕ)) (options : Options) (input before after : List ℕ) (files files' : List NamedBytes) (refusal : Refusal) (status : ℕ) (machine : Option MachineState) (kept : List Note)
-    → options_of words ≡ Some options → IfSome (denial_of words refusal) (λ (d : Denial). StartsWith words options files kept (denied d)) → machine ≡ None → files' ≡ files → status ≢ 103
-    → IsDenied (denial_of words refusal) status before after → IsOutcome words input input before after files files' status machine kept
-files-refused words options input before after files files' (Unopened place) status machine kept chosen starts none same other refused =
-    refused-at words options input before after files files' 101 status _ machine kept chosen starts none same (λ e. omega (arith, e)) refused
-files-refused words options input before after files files' (BadKeys place) status machine kept chosen starts none same other refused =
-    refused-at words options input before after files files' 105 status _ machine kept chosen starts none same (λ e. omega (arith, e)) refused
-files-refused words options input before after files files' refusal.OutOfMemory status machine kept chosen starts none same other refused = absurd (other refused.0)
+files-refused : (words : List (List ℕ)) (options : Options) (input before after : List ℕ) (old new : Beyond) (refusal : Refusal) (status : ℕ) (machine : Option MachineState) (kept : List Note)
+    → options_of words ≡ Some options → IfSome (denial_of words refusal) (λ (d : Denial). StartsWith words options old.files kept (denied d)) → machine ≡ None → new ≡ old → status ≢ 103
+    → IsDenied (denial_of words refusal) status before after → IsOutcome words input input before after old new status machine kept
+files-refused words options input before after old new (Unopened place) status machine kept chosen starts none same other refused =
+    refused-at words options input before after old new 101 status _ machine kept chosen starts none same (λ e. omega (arith, e)) refused
+files-refused words options input before after old new (BadKeys place) status machine kept chosen starts none same other refused =
+    refused-at words options input before after old new 105 status _ machine kept chosen starts none same (λ e. omega (arith, e)) refused
+files-refused words options input before after old new refusal.OutOfMemory status machine kept chosen starts none same other refused = absurd (other refused.0)
 
 pub files-status : (words : List (List ℕ)) (refusal : Refusal) (status sink sink_now : ℕ) → DeniedCause (denial_of words refusal) status sink sink_now → (Rose sink sink_now → ⊥) → (status ≢ 102) × (status ≢ 106)
 files-status words (Unopened place) status sink sink_now cause quiet = let is = refused-status 101 status sink sink_now cause quiet in (λ s. omega (arith, is, s), λ s. omega (arith, is, s))
@@ -389,12 +433,12 @@ files-status words (BadKeys place) status sink sink_now cause quiet = let is = r
 files-status words refusal.OutOfMemory status sink sink_now cause quiet = let is = cause.0 in (λ s. omega (arith, is, s), λ s. omega (arith, is, s))
 
 -- the same at the names of the code
-pub files-answer : (words : List (List ℕ)) (options : Options) (input before after : List ℕ) (files files' : List NamedBytes) (refusal : Refusal) (status : ℕ) (machine : Option MachineState) (items items' : List FaultNote)
-    → options_of words ≡ Some options → IfSome (denial_of words refusal) (λ (d : Denial). StartsWith words options files (notes_said items) (denied d)) → machine ≡ None → files' ≡ files → status ≢ 103
-    → IsDenied (denial_of words refusal) status before after → items' ≡ items → IsOutcome words input input before after files files' status machine (notes_said items')
-files-answer words options input before after files files' refusal status machine items items' chosen starts none same other refused same_items =
-    subst (λ (l : List FaultNote). IsOutcome words input input before after files files' status machine (notes_said l)) (sym same_items)
-    (files-refused words options input before after files files' refusal status machine (notes_said items) chosen starts none same other refused)
+pub files-answer : (words : List (List ℕ)) (options : Options) (input before after : List ℕ) (old new : Beyond) (refusal : Refusal) (status : ℕ) (machine : Option MachineState) (items items' : List FaultNote)
+    → options_of words ≡ Some options → IfSome (denial_of words refusal) (λ (d : Denial). StartsWith words options old.files (notes_said items) (denied d)) → machine ≡ None → new ≡ old → status ≢ 103
+    → IsDenied (denial_of words refusal) status before after → items' ≡ items → IsOutcome words input input before after old new status machine (notes_said items')
+files-answer words options input before after old new refusal status machine items items' chosen starts none same other refused same_items =
+    subst (λ (l : List FaultNote). IsOutcome words input input before after old new status machine (notes_said l)) (sym same_items)
+    (files-refused words options input before after old new refusal status machine (notes_said items) chosen starts none same other refused)
 
 -- whose fault it was
 denied-cause : (words : List (List ℕ)) (there status sink sink_now source : ℕ) → (there ≡ 101) ⊎ (there ≡ 105) → (there ≡ 101 → HasKeysFile words ⊎ HasScript words) → (there ≡ 105 → HasKeysFile words)
@@ -451,11 +495,11 @@ files-cause words options refusal.OutOfMemory status sink sink_now source chosen
     no-cause words status sink sink_now source (λ none. let both = sym chosen ∙ none in cc) denied
 
 -- words outside their grammar
-pub usage-answer : (words : List (List ℕ)) (input before after : List ℕ) (files : List NamedBytes) (status : ℕ) (machine : Option MachineState) (items : List FaultNote) → options_of words ≡ None → machine ≡ None → items ≡ []
-    → IsRefused 100 usage_text status before after → IsOutcome words input input before after files files status machine (notes_said items)
-usage-answer words input before after files status machine items chosen none nothing refused =
-    let start = ap (λ (o : Option Options). start_of o words files (notes_said items)) chosen in
-    refused-outcome words input before after files files 100 status usage_text machine (notes_said items) 0 start (ap notes_said nothing) none refl (λ e. omega (arith, e)) refused
+pub usage-answer : (words : List (List ℕ)) (input before after : List ℕ) (old : Beyond) (status : ℕ) (machine : Option MachineState) (items : List FaultNote) → options_of words ≡ None → machine ≡ None → items ≡ []
+    → IsRefused 100 usage_text status before after → IsOutcome words input input before after old old status machine (notes_said items)
+usage-answer words input before after old status machine items chosen none nothing refused =
+    let start = ap (λ (o : Option Options). start_of o words old.files (notes_said items)) chosen in
+    refused-outcome words input before after old old 100 status usage_text machine (notes_said items) 0 start (ap notes_said nothing) none refl (λ e. omega (arith, e)) refused
 
 -- ---- notes
 
@@ -486,12 +530,12 @@ pub refused-counted : (before notes items : List FaultNote) (old new : FileState
 refused-counted before notes items old new none same kept =
     subst (λ (l : List FaultNote). AreCounted l old new) (sym (same ∙ kept.added ∙ ap (λ (l : List FaultNote). l ++ kept.kept) none)) kept.counted
 
-pub complete-answer : (words : List (List ℕ)) (input left before after : List ℕ) (files files' : List NamedBytes) (status : ℕ) (machine : Option MachineState) (items : List FaultNote) (old new : FileState)
-    → (status ≢ 102) × (status ≢ 106) → AreCounted items old new → NoneFailed old new
-    → IsOutcome words input left before after files files' status machine (notes_said items) → IsComplete words input left before after files files' status machine
-complete-answer words input left before after files files' status machine items old new other counted none o =
-    complete words input left before after files files' status machine other.0 other.1
-    (subst (λ (l : List FaultNote). IsOutcome words input left before after files files' status machine (notes_said l)) (no-notes items old new counted none) o)
+pub complete-answer : (words : List (List ℕ)) (input left before after : List ℕ) (old new : Beyond) (status : ℕ) (machine : Option MachineState) (items : List FaultNote) (was now : FileState)
+    → (status ≢ 102) × (status ≢ 106) → AreCounted items was now → NoneFailed was now
+    → IsOutcome words input left before after old new status machine (notes_said items) → IsComplete words input left before after old new status machine
+complete-answer words input left before after old new status machine items was now other counted none o =
+    complete words input left before after old new status machine other.0 other.1
+    (subst (λ (l : List FaultNote). IsOutcome words input left before after old new status machine (notes_said l)) (no-notes items was now counted none) o)
 
 -- a status of the session that is no fault's
 pub session-status : (words : List (List ℕ)) (status sink sink_now source source_now : ℕ) → StatusCause words status sink sink_now source source_now → (Rose sink sink_now → ⊥) → (Rose source source_now → ⊥)
@@ -534,25 +578,25 @@ not-refused : (there status : ℕ) (text before after : List ℕ) → IsRefused 
 not-refused there status text before after (inl h) other is = let h0 = h.0 in other (sym h0 ∙ is)
 not-refused there status text before after (inr h) other is = let h0 = h.0 in omega (arith, h0, is)
 
-cut-before : (words : List (List ℕ)) (options : Options) (input before after : List ℕ) (files files' : List NamedBytes) (machine : Option MachineState) (notes : List Note)
-    → options_of words ≡ Some options → machine ≡ None → files' ≡ files → after ≡ before → AreWordClosings notes
-    → IsCutShort words input input before after files files' machine notes
-cut-before words options input before after files files' machine notes chosen none same unprinted closings = record {
+cut-before : (words : List (List ℕ)) (options : Options) (input before after : List ℕ) (old new : Beyond) (machine : Option MachineState) (notes : List Note)
+    → options_of words ≡ Some options → machine ≡ None → new ≡ old → after ≡ before → AreWordClosings notes
+    → IsCutShort words input input before after old new machine notes
+cut-before words options input before after old new machine notes chosen none same unprinted closings = record {
   options = options;
   words_are = chosen;
   cut = inl (record { none = none; unprinted = unprinted; unread = refl; unchanged = same; closings = closings });
 }
 
-pub files-memory : (words : List (List ℕ)) (options : Options) (input before after : List ℕ) (files files' : List NamedBytes) (why : Refusal) (status : ℕ) (machine : Option MachineState) (notes : List Note)
-    → options_of words ≡ Some options → machine ≡ None → files' ≡ files → status ≡ 103 → IsDenied (denial_of words why) status before after
+pub files-memory : (words : List (List ℕ)) (options : Options) (input before after : List ℕ) (old new : Beyond) (why : Refusal) (status : ℕ) (machine : Option MachineState) (notes : List Note)
+    → options_of words ≡ Some options → machine ≡ None → new ≡ old → status ≡ 103 → IsDenied (denial_of words why) status before after
     → (why ≡ refusal.OutOfMemory → AreWordClosings notes)
-    → IsCutShort words input input before after files files' machine notes
-files-memory words options input before after files files' (Unopened place) status machine notes chosen none same is denied closings =
+    → IsCutShort words input input before after old new machine notes
+files-memory words options input before after old new (Unopened place) status machine notes chosen none same is denied closings =
     absurd (not-refused 101 status _ before after denied (λ e. omega (arith, e)) is)
-files-memory words options input before after files files' (BadKeys place) status machine notes chosen none same is denied closings =
+files-memory words options input before after old new (BadKeys place) status machine notes chosen none same is denied closings =
     absurd (not-refused 105 status _ before after denied (λ e. omega (arith, e)) is)
-files-memory words options input before after files files' refusal.OutOfMemory status machine notes chosen none same is denied closings =
-    cut-before words options input before after files files' machine notes chosen none same denied.1 (closings refl)
+files-memory words options input before after old new refusal.OutOfMemory status machine notes chosen none same is denied closings =
+    cut-before words options input before after old new machine notes chosen none same denied.1 (closings refl)
 
 -- ---- a workload
 

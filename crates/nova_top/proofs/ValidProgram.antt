@@ -19,9 +19,11 @@ use Rattle.whole_files.specs.Whole.{WholeSaid, WholeIs}
 use Rattle.whole_files.specs.Whole as whole
 use Rattle.expect_actions.specs.KeysFile.{Key, KeysLine, keys_of, time_read, says_read, line_read, next_read, keys_from, keys_read, lines_of, most_keys}
 use Rattle.expect_actions.specs.Watch.{empty_watch}
+use Rattle.host_lines.specs.Traffic.{Peer, Gone, Ahead}
+use Rattle.telnet_lines.specs.Line.{unconnected, renamed}
 use Rattle.nova_machine.specs.Machine.{MachineState, reset_devices, reset_machine, new_machine}
 use Rattle.nova_machine.specs.Seen.{unnumbered, erased}
-use Rattle.nova_machine.specs.Valid.{AreBytes, ValidMachine, DiskIsItsFile}
+use Rattle.nova_machine.specs.Valid.{AreBytes, ValidMachine, ValidLine, DiskIsItsFile}
 use Rattle.nova_machine.proofs.StayingValid.{runs-stay-valid, kinds-begin}
 use Rattle.nova_machine.proofs.ValidBytes.{AreFiles, every-append, every-take, every-drop}
 use Rattle.scp_commands.specs.Valid.{ValidLive}
@@ -29,7 +31,6 @@ use Rattle.scp_commands.proofs.ValidWatch.{read-bytes}
 use Rattle.scp_commands.proofs.ValidMachines.{GivesWhole, whole-bytes, memory-valid}
 use Rattle.scp_script.specs.Scripts.{Script}
 use Rattle.scp_script.specs.Session.{State, trace}
-use Rattle.scp_script.specs.Perform.{beginning_with}
 use Rattle.scp_script.specs.Valid.{ValidScript}
 use Rattle.scp_script.proofs.ValidSessions.{sessions-stay-valid}
 use Rattle.nova_top.specs.declared.options.Options.{Options}
@@ -37,7 +38,7 @@ use Rattle.nova_top.specs.Standard.{standard_kinds, standard_units}
 use Rattle.nova_top.specs.Words.{keys_name, script_name, script_words, options_of}
 use Rattle.nova_top.specs.Workload.{next_number, words_behind, with_words, loop_words, count_words, filled, with_workload, workload_text, first_text}
 use Rattle.nova_top.specs.Outside as outside
-use Rattle.nova_top.specs.Outside.{Outside, Left, left_by, calls_on, word_file, Denial, unopened, or_bad_keys, taken_keys, script_from, taken_script, Start, Refused, Begins, denied, start_by, start_of, first_scripts, session_with, opening, trace_from, whole_trace, outcome}
+use Rattle.nova_top.specs.Outside.{Outside, Left, left_by, calls_on, word_file, Denial, unopened, or_bad_keys, taken_keys, script_from, taken_script, Start, Refused, Begins, denied, start_by, start_of, first_scripts, first_live, session_with, opening, trace_from, whole_trace, trace_of, outcome}
 use Rattle.nova_top.specs.ValidLaws.{AreHandedBytes, ValidLeft, IsGoodOpening, ProgramStaysValid}
 use Rattle.nova_top.proofs.WordsLemmas.{IsLimit, words-fit}
 
@@ -226,16 +227,20 @@ first-valid : (workload : Option ℕ) → ValidMachine (first_machine workload)
 unfolding first_machine
 first-valid workload = workload-valid workload (new_machine standard_units) (kinds-begin standard_kinds)
 
+empty-line : ValidLine (unconnected None)
+empty-line = record { keys = tt; output = tt; few_keys = omega arith; few_bytes = omega arith }
+
 -- no time has passed, no key is taken, and no file is attached
 record IsFresh (m : MachineState) : Type 0 where
   time : m.time ≡ 0
   taken : m.taken ≡ 0
-  disk : (files : List NamedBytes) (keys : List Key) → DiskIsItsFile (record { machine = erased m; watch = empty_watch; keys = keys; files = files })
+  disk : (files : List NamedBytes) (keys : List Key) (ahead : Ahead) → DiskIsItsFile (first_live m keys files ahead)
+  lines : AllByRecursion ValidLine (map (renamed {Q = Peer} (λ _. Gone)) m.lines)
 
 first-fresh : (workload : Option ℕ) → IsFresh (first_machine workload)
 unfolding first_machine new_machine reset_machine reset_devices
-first-fresh None = record { time = refl; taken = refl; disk = λ files keys. refl }
-first-fresh (Some number) = record { time = refl; taken = refl; disk = λ files keys. refl }
+first-fresh None = record { time = refl; taken = refl; disk = λ files keys ahead. refl; lines = (empty-line, tt) }
+first-fresh (Some number) = record { time = refl; taken = refl; disk = λ files keys ahead. refl; lines = (empty-line, tt) }
 
 -- ---- the session
 
@@ -260,10 +265,10 @@ first-script (Some text) words bytes all =
       each = (record { text = bytes; place = omega arith; few = omega (arith, many); arguments = every-take AreBytes 10 words all }, tt);
     }
 
-opening-good : (words : List (List ℕ)) (options : Options) (keys : List Key) (script : Option (List ℕ)) (files : List NamedBytes) (input : List ℕ) (notes : List Note)
-    → AreHandedBytes words input files → IsGoodStart (Begins options keys script) → IsGoodOpening words options keys script files input notes
-unfolding session_with beginning_with first_machine
-opening-good words options keys script files input notes handed good =
+opening-good : (words : List (List ℕ)) (options : Options) (keys : List Key) (script : Option (List ℕ)) (files : List NamedBytes) (ahead : Ahead) (input : List ℕ) (notes : List Note)
+    → AreHandedBytes words input files ahead → IsGoodStart (Begins options keys script) → IsGoodOpening words options keys script files ahead input notes
+unfolding session_with first_machine
+opening-good words options keys script files ahead input notes handed good =
     let m = first_machine options.workload in
     let fresh = first-fresh options.workload in
     let first = first-script script (script_words words options) good.3 (words-bytes words options handed.each_word) in
@@ -279,6 +284,8 @@ opening-good words options keys script files input notes handed good =
             taken = omega (arith, taken);
             keys = good.2;
             files = handed.each_file;
+            lines = fresh.lines;
+            ahead = handed.comes;
           };
           time = omega (arith, time);
         };
@@ -289,26 +296,26 @@ opening-good words options keys script files input notes handed good =
         budget = omega (arith, budget);
         spent = omega arith;
       };
-      disk = fresh.disk files keys;
+      disk = fresh.disk files keys ahead;
     }
 
 -- ---- what is left
 
 left-valid : (s : State) → ValidLive s.live → ValidLeft (left_by s)
-left-valid s is = record { machine = is.valid.machine; files = is.valid.files }
+left-valid s is = record { machine = is.valid.machine; lines = is.valid.lines; ahead = is.valid.ahead; files = is.valid.files }
 
 record IsGoodTrace (t : Trace Left) : Type 0 where
   made : (at : Left) → StandsAt at t.made → ValidLeft at
   ended : ValidLeft t.ended.state
 
-from-good : (words : List (List ℕ)) (start : Start) (files : List NamedBytes) (input : List ℕ) (notes : List Note) → AreHandedBytes words input files → IsGoodStart start → IsGoodTrace (trace_from words start files input notes)
-from-good words (Refused status text) files input notes handed good = record {
-  made = λ at h. elim h [ inl same ↦ subst ValidLeft (sym same) (record { machine = tt; files = handed.each_file }) | inr none ↦ absurd none ];
-  ended = record { machine = tt; files = handed.each_file };
+from-good : (words : List (List ℕ)) (start : Start) (files : List NamedBytes) (ahead : Ahead) (input : List ℕ) (notes : List Note) → AreHandedBytes words input files ahead → IsGoodStart start → IsGoodTrace (trace_from words start files ahead input notes)
+from-good words (Refused status text) files ahead input notes handed good = record {
+  made = λ at h. elim h [ inl same ↦ subst ValidLeft (sym same) (record { machine = tt; lines = tt; ahead = handed.comes; files = handed.each_file }) | inr none ↦ absurd none ];
+  ended = record { machine = tt; lines = tt; ahead = handed.comes; files = handed.each_file };
 }
-from-good words (Begins options keys script) files input notes handed good =
-    let s = opening words options keys script files input notes in
-    let valid = (opening-good words options keys script files input notes handed good).valid in
+from-good words (Begins options keys script) files ahead input notes handed good =
+    let s = opening words options keys script files ahead input notes in
+    let valid = (opening-good words options keys script files ahead input notes handed good).valid in
     record {
       made = λ at h.
           let from = stands-mapped left_by at (trace s).made h in
@@ -316,22 +323,22 @@ from-good words (Begins options keys script) files input notes handed good =
       ended = left-valid (trace s).ended.state (sessions-stay-valid.ended s valid);
     }
 
-whole-good : (words : List (List ℕ)) (input : List ℕ) (files : List NamedBytes) (notes : List Note) → AreHandedBytes words input files → IsGoodTrace (whole_trace words input files notes)
+whole-good : (words : List (List ℕ)) (input : List ℕ) (files : List NamedBytes) (ahead : Ahead) (notes : List Note) → AreHandedBytes words input files ahead → IsGoodTrace (whole_trace words input files ahead notes)
 unfolding whole_trace
-whole-good words input files notes handed =
+whole-good words input files ahead notes handed =
     let start = start_of (options_of words) words files notes in
-    from-good words start.0 files input (drop start.1 notes) handed (good-start words files notes handed.each_file)
+    from-good words start.0 files ahead input (drop start.1 notes) handed (good-start words files notes handed.each_file)
 
-outcome-good : (o : Outside) → AreHandedBytes o.words o.input o.files → ValidLeft (outcome o).state
+outcome-good : (o : Outside) → AreHandedBytes o.words o.input o.files o.ahead → ValidLeft (outcome o).state
 unfolding outcome
 outcome-good o handed =
-    let t = whole_trace o.words o.input o.files o.notes in
-    let good = whole-good o.words o.input o.files o.notes handed in
+    let t = trace_of o in
+    let good = whole-good o.words o.input o.files o.ahead o.notes handed in
     cut-state ValidLeft t.made t.ended o.takes o.gives good.made good.ended
 
 pub program-stays-valid : ProgramStaysValid
 program-stays-valid = record {
-  begin = λ words input files notes more options keys script handed is.
-      opening-good words options keys script files input more handed (subst IsGoodStart is (good-start words files notes handed.each_file));
+  begin = λ words input files ahead notes more options keys script handed is.
+      opening-good words options keys script files ahead input more handed (subst IsGoodStart is (good-start words files notes handed.each_file));
   left = outcome-good;
 }

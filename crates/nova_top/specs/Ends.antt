@@ -1,13 +1,17 @@
 -- What the program comes to, for a console that took so many bytes, an input that let so many reads through, and the calls
 -- on files that failed.
-use Rattle.std.specs.Prelude.{◌≡◌, ◌≢◌, ◌⊎◌, ℕ, ◌+◌, ◌≤◌, Bool, IsTrue, List, [], ◌++◌, length, drop, Option, Some, None, IsSome, option_map}
+use Rattle.std.specs.Prelude.{◌≡◌, ◌≢◌, ◌⊎◌, ℕ, ◌+◌, ◌≤◌, Bool, IsTrue, List, [], ◌++◌, length, drop, map, Option, Some, None, IsSome, option_map}
 use Rattle.std.specs.List.{AllByRecursion}
 use Rattle.fault_counts.specs.Faults.{raised, Rose}
 use Rattle.host_files.specs.declared.files.FileCall.TheVariants.{Closing}
-use Rattle.observations.specs.Observations.{text_of, reads_of}
+use Rattle.observations.specs.Observations.{Trace, text_of, reads_of, sent_of}
 use Rattle.observations.specs.Cut.{ends}
-use Rattle.host_files.specs.Lists.{NamedBytes}
 use Rattle.host_files.specs.State.{Opened, FileState}
+use Rattle.host_lines.specs.Traffic.{Peer}
+use Rattle.host_lines.specs.Told.{ahead_of}
+use Rattle.host_lines.specs.State.{LineState}
+use Rattle.telnet_lines.specs.Line.{LineOf}
+use Rattle.telnet_lines.specs.Joined.{seen_line}
 use Rattle.unit_files.specs.Open.{AllOpen, Around}
 use Rattle.file_commands.specs.declared.note.FaultNote.{FaultNote}
 use Rattle.file_commands.specs.Notes.{Note}
@@ -15,20 +19,50 @@ use Rattle.file_commands.specs.AllUnits.{IsUnwritten}
 use Rattle.expect_actions.specs.KeysFile.{Key}
 use Rattle.nova_machine.specs.Machine.{MachineState}
 use Rattle.nova_machine.specs.Seen.{erased}
-use Rattle.scp_commands.specs.Live.{Live}
+use Rattle.nova_machine.specs.Comes.{output}
+use Rattle.nova_machine.specs.LineChanges.{heard_with}
+use Rattle.scp_commands.specs.Live.{Live, Beyond}
 use Rattle.scp_script.specs.Perform.{RunsShort}
 use Rattle.nova_top.specs.declared.options.Options.{Options}
 use Rattle.nova_top.specs.Words.{options_of}
-use Rattle.nova_top.specs.Outside.{Begins, start_of, opening, outcome, whole_trace}
+use Rattle.nova_top.specs.Outside.{Outside, Left, left_by, Begins, start_of, opening, outcome, sent_by, whole_trace}
 
 -- a machine without the numbers of open files, where there is one
 abbrev pub machine_left : Option MachineState → Option MachineState
 machine_left machine = option_map erased machine
 
+-- its lines, each with who is behind its connection
+abbrev pub lines_left : Option MachineState → LineState → List (LineOf Peer)
+lines_left None s = []
+lines_left (Some m) s = map (seen_line s) m.lines
+
+-- what is left of it all, where every failing call was used
+abbrev pub left_at : Option MachineState → Beyond → Left
+left_at machine new = record {
+  machine = machine_left machine;
+  lines = lines_left machine new.lines;
+  ahead = ahead_of new.lines.told new.whole;
+  files = new.files;
+  notes = [];
+}
+
+-- what is handed in, to a console that takes so many bytes and an input that lets so many reads through
+abbrev pub handed_in : List (List ℕ) → List ℕ → Beyond → List Note → ℕ → ℕ → Outside
+handed_in words input old notes takes gives = record {
+  words = words;
+  input = input;
+  files = old.files;
+  ahead = ahead_of old.lines.told old.whole;
+  notes = notes;
+  takes = takes;
+  gives = gives;
+}
+
 -- The end of the program is that of the definition, for the bytes that the console took and the reads that the input let
 -- through: those that were made, at status 106, and else all that there can be; and with exactly the notes that were kept,
--- all of which it uses. The bytes of the input that were consumed are exactly those of the reads that were made.
-pub record IsOutcome (words : List (List ℕ)) (input left before after : List ℕ) (files files' : List NamedBytes) (status : ℕ) (machine : Option MachineState) (notes : List Note) : Type 0 where
+-- all of which it uses. The bytes of the input that were consumed are exactly those of the reads that were made, and
+-- callers of lines have heard what was sent to them until then.
+pub record IsOutcome (words : List (List ℕ)) (input left before after : List ℕ) (old new : Beyond) (status : ℕ) (machine : Option MachineState) (notes : List Note) : Type 0 where
   pub taken : List ℕ
   pub gives : ℕ
   pub made : ℕ
@@ -36,39 +70,39 @@ pub record IsOutcome (words : List (List ℕ)) (input left before after : List �
   pub no_failed_read : status ≢ 106 → gives ≡ length input + 1
   pub written : after ≡ before ++ taken
   pub rest : left ≡ drop made input
-  pub is : outcome (record { words = words; input = input; files = files; notes = notes; takes = length taken; gives = gives })
-      ≡ ends status taken made (record { machine = machine_left machine; files = files'; notes = [] })
+  pub is : outcome (handed_in words input old notes (length taken) gives) ≡ ends status taken made (left_at machine new)
+  pub heard : new.lines.sent ≡ heard_with old.lines.sent (sent_by (handed_in words input old notes (length taken) gives))
 
 -- notes of closings of the files that the words name, which are before the first command
 abbrev pub AreWordClosings : List Note → Type 0
 AreWordClosings notes =
     AllByRecursion (λ (n : Note). (n.command ≡ 0) × (n.note.time ≡ 0) × (n.note.failure.call ≡ Closing)) notes
 
--- Memory ran out before the first line: there is no machine, nothing was printed or read, no file has changed, and no
--- call has failed but closings.
-pub record StopsBefore (input left before after : List ℕ) (files files' : List NamedBytes) (machine : Option MachineState) (notes : List Note) : Type 0 where
+-- Memory ran out before the first line: there is no machine, nothing was printed or read, no file has changed, nothing was
+-- asked on lines, and no call has failed but closings.
+pub record StopsBefore (input left before after : List ℕ) (old new : Beyond) (machine : Option MachineState) (notes : List Note) : Type 0 where
   pub none : machine ≡ None
   pub unprinted : after ≡ before
   pub unread : left ≡ input
-  pub unchanged : files' ≡ files
+  pub unchanged : new ≡ old
   pub closings : AreWordClosings notes
 
 -- Memory ran out in the session, which stopped short: what the commands that were done have left stands.
-pub record StopsInside (words : List (List ℕ)) (options : Options) (input left before after : List ℕ) (files files' : List NamedBytes) (machine : Option MachineState) (notes : List Note) : Type 0 where
+pub record StopsInside (words : List (List ℕ)) (options : Options) (input left before after : List ℕ) (old new : Beyond) (machine : Option MachineState) (notes : List Note) : Type 0 where
   pub keys : List Key
   pub script : Option (List ℕ)
   pub used : ℕ
-  pub starts : start_of (Some options) words files notes ≡ (Begins options keys script, used)
+  pub starts : start_of (Some options) words old.files notes ≡ (Begins options keys script, used)
   pub live : Live
-  pub machine_is : machine_left machine ≡ Some live.machine
-  pub files_are : files' ≡ live.files
-  pub short : RunsShort (opening words options keys script files input (drop used notes)) live left before after
+  pub is : left_at machine new ≡ left_by (record { live = live; notes = [] })
+  pub short : RunsShort (opening words options keys script old.files (ahead_of old.lines.told old.whole) input (drop used notes)) live left
+      (output before old.lines.sent) (output after new.lines.sent)
 
 -- memory ran out, with words that are in their grammar
-pub record IsCutShort (words : List (List ℕ)) (input left before after : List ℕ) (files files' : List NamedBytes) (machine : Option MachineState) (notes : List Note) : Type 0 where
+pub record IsCutShort (words : List (List ℕ)) (input left before after : List ℕ) (old new : Beyond) (machine : Option MachineState) (notes : List Note) : Type 0 where
   pub options : Options
   pub words_are : options_of words ≡ Some options
-  pub cut : StopsBefore input left before after files files' machine notes ⊎ StopsInside words options input left before after files files' machine notes
+  pub cut : StopsBefore input left before after old new machine notes ⊎ StopsInside words options input left before after old new machine notes
 
 -- a keys file is among the words
 pub record HasKeysFile (words : List (List ℕ)) : Type 0 where
@@ -131,11 +165,15 @@ FilesAtEnd (Some m) old new = AllOpen m.slots new × Around m.slots old new
 abbrev pub NoneFailed : FileState → FileState → Type 0
 NoneFailed old new = ((file : ℕ) → Rose (old.faults file) (new.faults file) → ⊥) × (Rose old.open_faults new.open_faults → ⊥)
 
--- The status, the machine and the files are those of the whole trace, all of whose text was printed and all of whose reads
--- were made: so it is without a failing call and with memory.
-pub record IsComplete (words : List (List ℕ)) (input left before after : List ℕ) (files files' : List NamedBytes) (status : ℕ) (machine : Option MachineState) : Type 0 where
-  pub status_is : status ≡ (whole_trace words input files []).ended.status
-  pub machine_is : machine_left machine ≡ (whole_trace words input files []).ended.state.machine
-  pub files_are : files' ≡ (whole_trace words input files []).ended.state.files
-  pub printed : after ≡ before ++ text_of (whole_trace words input files []).made
-  pub rest : left ≡ drop (reads_of (whole_trace words input files []).made) input
+-- all that the program does with them, where no call on a file fails
+abbrev pub whole_with : List (List ℕ) → List ℕ → Beyond → Trace Left
+whole_with words input old = whole_trace words input old.files (ahead_of old.lines.told old.whole) []
+
+-- The status and what is left are those of the whole trace, all of whose text was printed, all of whose reads were made, and
+-- all of whose bytes for callers were sent: so it is without a failing call and with memory.
+pub record IsComplete (words : List (List ℕ)) (input left before after : List ℕ) (old new : Beyond) (status : ℕ) (machine : Option MachineState) : Type 0 where
+  pub status_is : status ≡ (whole_with words input old).ended.status
+  pub is : left_at machine new ≡ (whole_with words input old).ended.state
+  pub printed : after ≡ before ++ text_of (whole_with words input old).made
+  pub rest : left ≡ drop (reads_of (whole_with words input old).made) input
+  pub heard : new.lines.sent ≡ heard_with old.lines.sent (sent_of (whole_with words input old).made)

@@ -1,15 +1,13 @@
 -- Laws above the definitions: what holds of every outcome, in a reader's words.
 use Rattle.std.specs.Prelude.{◌≡◌, ◌≢◌, ℕ, ◌≤◌, List, ◌++◌}
-use Rattle.observations.specs.Observations.{Trace, text_of, reads_of}
-use Rattle.nova_top.specs.Outside.{Outside, Left, whole_trace, outcome}
+use Rattle.observations.specs.Observations.{Trace, text_of, reads_of, sent_of}
+use Rattle.nova_top.specs.Outside.{Outside, Left, trace_of, outcome, sent_by}
 
--- all that is done with what is handed in, where the console and the input do not fail
-abbrev pub trace_of : Outside → Trace Left
-trace_of o = whole_trace o.words o.input o.files o.notes
-
--- a console that takes more comes to the same end, where none of its bytes was refused
+-- a console that takes more comes to the same end, and callers are sent the same, where none of its bytes was refused
 abbrev pub MoreRoomSameEnd : Type 0
-MoreRoomSameEnd = (o : Outside) (more : ℕ) → o.takes ≤ more → (outcome o).status ≢ 102 → outcome (record o { takes = more }) ≡ outcome o
+MoreRoomSameEnd =
+    (o : Outside) (more : ℕ) → o.takes ≤ more → (outcome o).status ≢ 102
+    → (outcome (record o { takes = more }) ≡ outcome o) × (sent_by (record o { takes = more }) ≡ sent_by o)
 
 -- what the console took is a first part of what the program prints where nothing fails
 abbrev pub TakesFirstPart : Type 0
@@ -21,6 +19,7 @@ pub record IsWholeOutcome (o : Outside) : Type 0 where
   pub console : (outcome o).console ≡ text_of (trace_of o).made
   pub reads : (outcome o).reads ≡ reads_of (trace_of o).made
   pub state : (outcome o).state ≡ (trace_of o).ended.state
+  pub sent : sent_by o ≡ sent_of (trace_of o).made
 
 abbrev pub WholeWithoutFaults : Type 0
 WholeWithoutFaults = (o : Outside) → (outcome o).status ≢ 102 → (outcome o).status ≢ 106 → IsWholeOutcome o

@@ -1,11 +1,13 @@
 -- All that is handed to the program, and what it comes to.
-use Rattle.std.specs.Prelude.{ℕ, ◌+◌, ◌==◌, ◌&&◌, Bool, List, [], ◌∷◌, ◌++◌, codes, decimal, drop, take, map, take_while, false, is_none, Option, Some, None, Result, Ok, Err}
+use Rattle.std.specs.Prelude.{ℕ, ◌+◌, ◌==◌, ◌&&◌, Bool, List, [], ◌∷◌, ◌++◌, codes, decimal, drop, take, map, take_while, false, is_none, true, Option, Some, None, Result, Ok, Err}
 use Rattle.observations.specs.declared.exit_status.ExitStatus.TheVariants as exits
 use Rattle.observations.specs.Status.{number_of}
 use Rattle.observations.specs.Observations.{Prints, Trace, map_trace}
-use Rattle.observations.specs.Cut.{Outcome, cut_trace}
+use Rattle.observations.specs.Cut.{Outcome, cut_trace, sent_until}
 use Rattle.host_files.specs.declared.files.FileCall.{FileCall}
 use Rattle.host_files.specs.Lists.{NamedBytes}
+use Rattle.host_lines.specs.Traffic.{Peer, Gone, Ahead}
+use Rattle.telnet_lines.specs.Line.{LineOf, renamed}
 use Rattle.file_commands.specs.declared.note.Subject.{Subject}
 use Rattle.file_commands.specs.declared.note.Subject.TheVariants as subject
 use Rattle.file_commands.specs.Notes.{CommandNote, Note, same_subject, handed}
@@ -13,34 +15,46 @@ use Rattle.whole_files.specs.Whole.{WholeSaid, WholeIs, whole_act}
 use Rattle.expect_actions.specs.KeysFile.{Key, keys_read}
 use Rattle.expect_actions.specs.Watch.{empty_watch}
 use Rattle.nova_machine.specs.Machine.{MachineState, new_machine}
-use Rattle.scp_commands.specs.Live.{CommandState}
+use Rattle.nova_machine.specs.Seen.{erased}
+use Rattle.scp_commands.specs.Live.{Live}
 use Rattle.scp_script.specs.Scripts.{Script, begun}
 use Rattle.scp_script.specs.Session.{State, Session, trace}
-use Rattle.scp_script.specs.Perform.{beginning_with}
+use Rattle.scp_script.specs.Actions.{texts_of}
 use Rattle.nova_top.specs.declared.options.Options.{Options}
 use Rattle.nova_top.specs.Standard.{standard_units}
 use Rattle.nova_top.specs.Workload.{with_workload, first_text}
 use Rattle.nova_top.specs.Words.{options_of, keys_name, script_name, script_words}
 
--- The words and the input; all files by their names; the calls on files that fail, in order; how many bytes the console
--- takes; and how many reads the input lets through before one fails, where to find its end counts as one.
+-- The words and the input; all files by their names; what is still to come on lines; the calls on files that fail, in
+-- order; how many bytes the console takes; and how many reads the input lets through before one fails, where to find its
+-- end counts as one.
 pub record Outside : Type 0 where
   pub words : List (List ℕ)
   pub input : List ℕ
   pub files : List NamedBytes
+  pub ahead : Ahead
   pub notes : List Note
   pub takes : ℕ
   pub gives : ℕ
 
--- what the program leaves, or would leave: the machine without the numbers of open files, where there is a session; all
--- files; and the failing calls that it has not used
+-- What the program leaves, or would leave: the machine without the numbers of open files, where there is a session; its
+-- lines, each with who is behind its connection, and what is still to come on them; all files; and the failing calls that
+-- it has not used.
 pub record Left : Type 0 where
   pub machine : Option MachineState
+  pub lines : List (LineOf Peer)
+  pub ahead : Ahead
   pub files : List NamedBytes
   pub notes : List Note
 
 abbrev pub left_by : State → Left
-left_by s = record { machine = Some s.live.machine; files = s.live.files; notes = s.notes }
+left_by s = record {
+  machine = Some s.live.machine;
+  lines = s.live.lines;
+  ahead = s.live.ahead;
+  files = s.live.files;
+  notes = s.notes;
+}
 
 -- ---- the texts of words, names and keys files that are none
 
@@ -124,9 +138,16 @@ start_of (Some options) words files notes =
 
 -- ---- what it does
 
--- what commands stand in before a session's first line: nothing is watched
-abbrev pub state_with : MachineState → List Key → ℕ → CommandState
-state_with m keys limit = record { machine = m; watch = empty_watch; keys = keys; limit = limit; notes = []; command = 0; spare = 0 }
+-- What commands work on before a session's first line: nothing is watched, and nobody is behind a line.
+abbrev pub first_live : MachineState → List Key → List NamedBytes → Ahead → Live
+first_live m keys files ahead = record {
+  machine = erased m;
+  watch = empty_watch;
+  keys = keys;
+  files = files;
+  lines = map (renamed (λ _. Gone)) m.lines;
+  ahead = ahead;
+}
 
 -- the script with which a session begins, and these words for its name and its arguments: its lines are not printed, and of
 -- failed commands only ASSERT ends it
@@ -136,30 +157,49 @@ first_scripts (Some text) words = begun (take 10 words) (record { text = text; e
 
 -- A session with that machine, those keys and those scripts, before its first line. The input is read where there is no
 -- workload.
-unfoldable pub session_with : MachineState → List Key → Options → List Script → List NamedBytes → List ℕ → List Note → Session
-session_with m keys options scripts files input notes =
-    beginning_with (state_with m keys options.limit) files (is_none options.workload) options.prompt options.budget scripts input notes
+unfoldable pub session_with : MachineState → List Key → Options → List Script → List NamedBytes → Ahead → List ℕ → List Note → Session
+session_with m keys options scripts files ahead input notes = record {
+  live = first_live m keys files ahead;
+  notes = notes;
+  spent = 0;
+  limit = options.limit;
+  budget = options.budget;
+  texts = texts_of [] scripts;
+  reads = is_none options.workload;
+  prompt = options.prompt;
+  input = input;
+  open_ = true;
+}
 
 -- a new session, with a new machine of the standard units, in whose memory a workload may be, and with a script whose name and
 -- arguments are among the words
-abbrev pub opening : List (List ℕ) → Options → List Key → Option (List ℕ) → List NamedBytes → List ℕ → List Note → Session
-opening words options keys script files input notes =
-    session_with (with_workload options.workload (new_machine standard_units)) keys options (first_scripts script (script_words words options)) files input notes
+abbrev pub opening : List (List ℕ) → Options → List Key → Option (List ℕ) → List NamedBytes → Ahead → List ℕ → List Note → Session
+opening words options keys script files ahead input notes =
+    session_with (with_workload options.workload (new_machine standard_units)) keys options (first_scripts script (script_words words options)) files ahead input notes
 
 -- What it does from there on, with the notes that are left. A text that refuses the words, the keys file or the script is all
 -- that is printed then, there is no machine, and the input is unread.
-abbrev pub trace_from : List (List ℕ) → Start → List NamedBytes → List ℕ → List Note → Trace Left
-trace_from words (Refused status text) files input notes =
-    let left : Left = record { machine = None; files = files; notes = notes } in
+abbrev pub trace_from : List (List ℕ) → Start → List NamedBytes → Ahead → List ℕ → List Note → Trace Left
+trace_from words (Refused status text) files ahead input notes =
+    let left : Left = record { machine = None; lines = []; ahead = ahead; files = files; notes = notes } in
     record { made = Prints text left ∷ []; ended = record { status = status; state = left } }
-trace_from words (Begins options keys script) files input notes = map_trace left_by (trace (opening words options keys script files input notes))
+trace_from words (Begins options keys script) files ahead input notes =
+    map_trace left_by (trace (opening words options keys script files ahead input notes))
 
--- all that the program does with those words, input and files, and those failing calls on files, where nothing else fails
-unfoldable pub whole_trace : List (List ℕ) → List ℕ → List NamedBytes → List Note → Trace Left
-whole_trace words input files notes =
+-- all that the program does with those words, input, files and lines, and those failing calls on files, where nothing else
+-- fails
+unfoldable pub whole_trace : List (List ℕ) → List ℕ → List NamedBytes → Ahead → List Note → Trace Left
+whole_trace words input files ahead notes =
     let start = start_of (options_of words) words files notes in
-    trace_from words start.0 files input (drop start.1 notes)
+    trace_from words start.0 files ahead input (drop start.1 notes)
+
+abbrev pub trace_of : Outside → Trace Left
+trace_of o = whole_trace o.words o.input o.files o.ahead o.notes
 
 -- what all that is handed in comes to: the status, what the console has, how many reads were made, and what is left
 unfoldable pub outcome : Outside → Outcome Left
-outcome o = cut_trace o.takes o.gives (whole_trace o.words o.input o.files o.notes)
+outcome o = cut_trace o.takes o.gives (trace_of o)
+
+-- what callers of lines were sent until then, each byte with its caller
+unfoldable pub sent_by : Outside → List (ℕ × ℕ)
+sent_by o = sent_until o.takes o.gives (trace_of o).made

@@ -1,37 +1,41 @@
--- What every state of the program is, where the words, the input and the files that it is handed are of bytes.
+-- What every state of the program is, where the words, the input, the files and what comes on lines are of bytes.
 use Rattle.std.specs.Prelude.{◌≡◌, ℕ, List, Option, IfSome}
 use Rattle.std.specs.List.{AllByRecursion}
 use Rattle.host_files.specs.Lists.{NamedBytes}
 use Rattle.file_commands.specs.Notes.{Note}
 use Rattle.expect_actions.specs.KeysFile.{Key}
-use Rattle.nova_machine.specs.Valid.{AreBytes, ValidMachine, DiskIsItsFile}
+use Rattle.host_lines.specs.Traffic.{Ahead}
+use Rattle.nova_machine.specs.Valid.{AreBytes, ValidMachine, ValidLine, ValidAhead, DiskIsItsFile}
 use Rattle.scp_script.specs.Valid.{ValidSession}
 use Rattle.nova_top.specs.declared.options.Options.{Options}
 use Rattle.nova_top.specs.Words.{options_of}
 use Rattle.nova_top.specs.Outside.{Outside, Left, Begins, start_of, opening, outcome}
 
 -- what is handed in is of bytes
-pub record AreHandedBytes (words : List (List ℕ)) (input : List ℕ) (files : List NamedBytes) : Type 0 where
+pub record AreHandedBytes (words : List (List ℕ)) (input : List ℕ) (files : List NamedBytes) (ahead : Ahead) : Type 0 where
   pub each_word : AllByRecursion AreBytes words
   pub read : AreBytes input
   pub each_file : AllByRecursion (λ (f : NamedBytes). AreBytes f.1) files
+  pub comes : ValidAhead ahead
 
--- a machine in which all is in range, where there is one, and files of bytes
+-- a machine in which all is in range, where there is one, its lines, what is still to come on them, and files of bytes
 pub record ValidLeft (l : Left) : Type 0 where
   pub machine : IfSome l.machine ValidMachine
+  pub lines : AllByRecursion ValidLine l.lines
+  pub ahead : ValidAhead l.ahead
   pub files : AllByRecursion (λ (f : NamedBytes). AreBytes f.1) l.files
 
 -- a session at its beginning, with no copy of a file
 pub record IsGoodOpening (words : List (List ℕ)) (options : Options) (keys : List Key) (script : Option (List ℕ))
-    (files : List NamedBytes) (input : List ℕ) (notes : List Note) : Type 0 where
-  pub valid : ValidSession (opening words options keys script files input notes)
-  pub disk : DiskIsItsFile (opening words options keys script files input notes).live
+    (files : List NamedBytes) (ahead : Ahead) (input : List ℕ) (notes : List Note) : Type 0 where
+  pub valid : ValidSession (opening words options keys script files ahead input notes)
+  pub disk : DiskIsItsFile (opening words options keys script files ahead input notes).live
 
 -- The session that the program begins is what every session is, and what the program leaves is in range, wherever it
 -- ends: the console may refuse any byte, any read may fail, and so may any call on a file.
 pub record ProgramStaysValid : Type 0 where
-  pub begin : (words : List (List ℕ)) (input : List ℕ) (files : List NamedBytes) (notes more : List Note)
-      (options : Options) (keys : List Key) (script : Option (List ℕ)) → AreHandedBytes words input files
+  pub begin : (words : List (List ℕ)) (input : List ℕ) (files : List NamedBytes) (ahead : Ahead) (notes more : List Note)
+      (options : Options) (keys : List Key) (script : Option (List ℕ)) → AreHandedBytes words input files ahead
       → (start_of (options_of words) words files notes).0 ≡ Begins options keys script
-      → IsGoodOpening words options keys script files input more
-  pub left : (o : Outside) → AreHandedBytes o.words o.input o.files → ValidLeft (outcome o).state
+      → IsGoodOpening words options keys script files ahead input more
+  pub left : (o : Outside) → AreHandedBytes o.words o.input o.files o.ahead → ValidLeft (outcome o).state

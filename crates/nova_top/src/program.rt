@@ -10,7 +10,12 @@ ghost use Rattle.unit_files.specs.Open.{AllOpen, Around};
 ghost use Rattle.file_commands.specs.Notes.{notes_said};
 ghost use Rattle.file_commands.specs.Counts.{AreCounted};
 ghost use Rattle.file_commands.specs.OwnFiles.{IsOwnNote, AreOwn};
+ghost use Rattle.host_lines.specs.Traffic.{Answer as LineAnswer};
+ghost use Rattle.host_lines.specs.Told.{IsFirst, record_in};
 ghost use Rattle.nova_machine.specs.Seen.{seen, beside};
+ghost use Rattle.nova_machine.specs.Comes.{output as heard_output};
+ghost use Rattle.nova_machine.specs.LineChanges.{HaveNoPort};
+ghost use Rattle.scp_commands.specs.Live.{beyond};
 ghost use Rattle.scp_script.specs.Loop.{FinishCause, AreKept};
 ghost use Rattle.scp_script.specs.Perform.{beginning, Performed};
 ghost use Rattle.nova_top.specs.Standard.{IsStandard};
@@ -29,6 +34,7 @@ use crate::words::options_of;
 use crate::workload::set_up;
 use expect_actions::Keys;
 use host_files::{Failed, Files, Sink, Source, put_all, put_pieces};
+use host_lines::Lines;
 use itoa::Buffer;
 use nova_machine::Machine;
 use observations::ExitStatus;
@@ -52,36 +58,48 @@ pub struct Ending<U: Unit> {
     pub faults: Vec<FaultNote>,
 }
 
-/// The whole program, over the words, the units, the input, the console and the files that are handed in. The units are
-/// the standard ones (`is_standard`); the program is the same over whichever types they have, so they may be boxes.
+/// The whole program, over the words, the units, the input, the console, the files and the terminal lines that are
+/// handed in. The units are the standard ones (`is_standard`); the program is the same over whichever types they have, so they
+/// may be boxes.
 ///
 /// The keys file of `-k` and then the script are read before the session begins. With `-g` the workload of its number
 /// is run in place of that, and the input is left unread. Files that are attached at the end of the input, or at EXIT,
 /// are closed, behind writing back what the disk holds; at any other end they stay open, and where that can't be
 /// written back, which is status 107 at the end of the input.
-pub fn simulate<U: Unit, C: Source, S: Sink, F: Files>(
+///
+/// The machine has one terminal line, of its second teletype. No command gives it a port yet, so that nothing is asked
+/// of `lines`.
+pub fn simulate<U: Unit, C: Source, S: Sink, F: Files, L: Lines>(
     alloc: Global,
     words: &[String],
     units: Vec<U>,
     input: &mut C,
     output: &mut S,
     files: &mut F,
+    lines: &mut L,
 ) -> Ending<U>
     requires { IsStandard (map U.unit_state units.items) }
     ensures outcome { InputTells (texts_of words.now) C.tells → IsTrue F.tells → IsTrue S.tells → result.status ≢ 103
+        → (whole : List LineAnswer) → IsFirst (record_in (L.state lines.new).told) whole
         → IsOutcome (texts_of words.now) (C.left input.old) (C.left input.new) (S.written output.old)
-        (S.written output.new) (F.state files.old).files (F.state files.new).files result.status result.machine
+        (S.written output.new) (beyond (F.state files.old).files (L.state lines.old) whole)
+        (beyond (F.state files.new).files (L.state lines.new) whole) result.status result.machine
         (notes_said result.faults.items) }
     ensures memory { InputTells (texts_of words.now) C.tells → IsTrue F.tells → IsTrue S.tells → result.status ≡ 103
+        → (whole : List LineAnswer) → IsFirst (record_in (L.state lines.new).told) whole
         → IsCutShort (texts_of words.now) (C.left input.old) (C.left input.new) (S.written output.old)
-        (S.written output.new) (F.state files.old).files (F.state files.new).files result.machine
+        (S.written output.new) (beyond (F.state files.old).files (L.state lines.old) whole)
+        (beyond (F.state files.new).files (L.state lines.new) whole) result.machine
         (notes_said result.faults.items) }
     ensures complete { InputTells (texts_of words.now) C.tells → IsTrue F.tells → IsTrue S.tells → result.status ≢ 103
         → (Rose (S.fault_count output.old) (S.fault_count output.new) → ⊥)
         → (Rose (C.fault_count input.old) (C.fault_count input.new) → ⊥)
         → NoneFailed (F.state files.old) (F.state files.new)
+        → (whole : List LineAnswer) → IsFirst (record_in (L.state lines.new).told) whole
         → IsComplete (texts_of words.now) (C.left input.old) (C.left input.new) (S.written output.old)
-        (S.written output.new) (F.state files.old).files (F.state files.new).files result.status result.machine }
+        (S.written output.new) (beyond (F.state files.old).files (L.state lines.old) whole)
+        (beyond (F.state files.new).files (L.state lines.new) whole) result.status result.machine }
+    ensures unasked { L.state lines.new ≡ L.state lines.old }
     ensures cause { StatusCause (texts_of words.now) result.status (S.fault_count output.old) (S.fault_count output.new)
         (C.fault_count input.old) (C.fault_count input.new) }
     ensures unopened { result.status ≡ 101 → IsUnopened F.tells (texts_of words.now) result.faults.items
@@ -108,13 +126,14 @@ pub fn simulate<U: Unit, C: Source, S: Sink, F: Files>(
         };
     };
     match begin(alloc, words, options, files, &mut session.notes) {
-        Ok(Beginning { keys, opening }) => lines(
+        Ok(Beginning { keys, opening }) => run_session(
             alloc,
             ready(session, keys, options.workload),
             &opening,
             input,
             output,
             files,
+            lines,
         ),
         Err(refusal) => refuse_files(words, refusal, notes_of(session), output),
     }
@@ -225,25 +244,32 @@ fn refused<U: Unit>(
     }
 }
 
-/// The lines of a session.
-fn lines<U: Unit, C: Source, S: Sink, F: Files>(
+/// Does all lines of a session on a machine whose terminal lines have no port.
+fn run_session<U: Unit, C: Source, S: Sink, F: Files, L: Lines>(
     alloc: Global,
     session: Session<U>,
     opening: &Opening,
     input: &mut C,
     output: &mut S,
     files: &mut F,
+    lines: &mut L,
 ) -> Ending<U>
     requires command { session.command ≡ 0 }
     requires budget { opening.now.budget ≤ 2 ^ 32 }
     requires open { AllOpen session.machine.slots (F.state files.old).opened }
+    requires portless { HaveNoPort session.machine.lines }
     ensures ended { SessionEnds result.status result.machine
-        (λ finish watch now. (opening.now.reads ≡ true → IsTrue C.tells) → IsTrue F.tells → IsTrue S.tells → Performed
-        (λ notes. beginning session (F.state files.old).files opening.now (C.left input.old) notes)
-        finish (seen (beside watch session.keys (F.state files.new).files) now) (C.left input.new) (S.written output.old)
-        (S.written output.new) (notes_said session.notes) (notes_said result.faults.items))
+        (λ finish watch now. (opening.now.reads ≡ true → IsTrue C.tells) → IsTrue F.tells → IsTrue S.tells
+        → (whole : List LineAnswer) → IsFirst (record_in (L.state lines.new).told) whole → Performed
+        (λ notes. beginning session (beyond (F.state files.old).files (L.state lines.old) whole) opening.now
+        (C.left input.old) notes) finish
+        (seen (beside watch session.keys (F.state files.new).files (L.state lines.new)) whole now) (C.left input.new)
+        (heard_output (S.written output.old) (L.state lines.old).sent)
+        (heard_output (S.written output.new) (L.state lines.new).sent)
+        (notes_said session.notes) (notes_said result.faults.items))
         (λ finish. FinishCause finish (S.fault_count output.old) (S.fault_count output.new) (C.fault_count input.old)
         (C.fault_count input.new)) }
+    ensures unasked { L.state lines.new ≡ L.state lines.old }
     ensures keeps { AreKept session.notes result.faults.items (F.state files.old) (F.state files.new) }
     ensures whose { (slots : List (Option Held))
         × AreOwn session.machine.slots slots session.notes result.faults.items (F.state files.old) (F.state files.new) }
@@ -255,7 +281,7 @@ fn lines<U: Unit, C: Source, S: Sink, F: Files>(
     ensures unread { opening.now.reads ≡ false → input.new ≡ input.old }
 {
     let mut session = session;
-    let finish = perform(alloc, &mut session, opening, input, files, output);
+    let finish = perform(alloc, &mut session, opening, input, files, lines, output);
     let Session { machine, notes, .. } = session;
     Ending {
         status: finish.status(),

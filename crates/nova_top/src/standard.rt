@@ -6,7 +6,7 @@ ghost use Rattle.nova_top.specs.Standard.{IsStandard};
 use unit_trait::{Kind, Unit, reg_initial};
 
 /// The kinds that are built, in bus order.
-const STANDARD_KINDS: [Kind; 8] = [
+const STANDARD_KINDS: [Kind; 10] = [
     Kind::Dsk,
     Kind::Mta,
     Kind::Lpt,
@@ -15,6 +15,8 @@ const STANDARD_KINDS: [Kind; 8] = [
     Kind::Clk,
     Kind::Tti,
     Kind::Tto,
+    Kind::Tti1,
+    Kind::Tto1,
 ];
 
 /// Whether the units are those that a machine of this program has: one of each kind that is built, in bus order, each

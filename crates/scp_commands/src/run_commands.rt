@@ -200,9 +200,7 @@ fn run_up_to<U: Unit, F: Files, L: Lines, S: Sink>(
     ensures stopped { RunStops limit.step limit.count result session.old session.new S.tells (S.written out.old)
         (S.written out.new) }
 {
-    let stop = session
-        .machine
-        .run(limit, &mut session.watch, &session.keys, files, lines, out);
+    let stop = session.machine.run(limit, &mut session.watch, &session.keys, files, lines, out);
     if is_console_fault(stop) {
         return Err(CommandFault::Console);
     }

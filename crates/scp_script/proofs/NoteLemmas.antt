@@ -3,15 +3,16 @@ use Rattle.std.proofs.Common.{Option, Some, None, ◌≡◌, ◌≢◌, ◌⊎�
 use Rattle.std.proofs.Math.Seq.{take-append_seam}
 use Rattle.expect_actions.specs.Actions.{first_written}
 use Rattle.fault_counts.specs.Faults.{raised}
-use Rattle.observations.specs.Observations.{Observation, Trace, text_of, reads_of}
-use Rattle.host_files.specs.Lists.{NamedBytes}
+use Rattle.observations.specs.Observations.{Observation, Trace, text_of, reads_of, sent_of}
 use Rattle.host_files.specs.State.{FileState}
 use Rattle.unit_files.specs.Attachments.{Held}
 use Rattle.file_commands.specs.declared.note.Subject.{Subject}
 use Rattle.file_commands.specs.declared.note.FaultNote.{FaultNote}
 use Rattle.file_commands.specs.Notes.{CommandNote, Note, notes_said, numbered, handed, Follow}
 use Rattle.file_commands.proofs.Handing.{handed-own, dropped}
-use Rattle.scp_commands.specs.Live.{Live, standing, CommandState}
+use Rattle.nova_machine.specs.Comes.{Output}
+use Rattle.nova_machine.specs.LineChanges.{heard_with}
+use Rattle.scp_commands.specs.Live.{Live, standing, CommandState, Beyond}
 use Rattle.scp_commands.specs.Effect.{Asked, asked}
 use Rattle.scp_commands.specs.Remains.{Remains, reader_of}
 use Rattle.scp_commands.proofs.RemainLemmas.{remains}
@@ -78,7 +79,7 @@ may-follow GoesOn number live more m = m
 may-follow (IsOver finish) number live more none = none-follow number live more none
 
 -- no more notes come behind those of a command for which memory ran out
-short-all : (what : Asked) (number : ℕ) (p : Progress) (old new now : Live) (own more : List Note) (before after : List ℕ) → MayCome p number now more
+short-all : (what : Asked) (number : ℕ) (p : Progress) (old new now : Live) (own more : List Note) (before after : Output) → MayCome p number now more
     → IsShort what number p old new own before after → IsShort what number p old new (own ++ more) before after
 short-all what number GoesOn old new now own more before after come short = tt
 short-all what number (IsOver OutOfMemory) old new now own more before after none short =
@@ -91,13 +92,13 @@ short-all what number (IsOver Console) old new now own more before after come sh
 short-all what number (IsOver Input) old new now own more before after come short = tt
 
 -- a text was done
-pub text-stepped : (old behind new : Session) (text : List ℕ) (what : Asked) (shown : List ℕ) (made : ℕ) (result : Progress) (tells : Bool) (before mid after : List ℕ) (notes notes' : List Note) → IsTrue tells
+pub text-stepped : (old behind new : Session) (text : List ℕ) (what : Asked) (shown : List ℕ) (made : ℕ) (result : Progress) (tells : Bool) (before mid after : Output) (notes notes' : List Note) → IsTrue tells
     → ((l : List Note) → upcoming (with_notes old l) ≡ Comes text (with_notes behind l)) → asked text ≡ what → IsBehind behind new → old.spent < new.spent
-    → ((l : List Note) → text_of (asking (with_notes old l)) ≡ shown) → mid ≡ before ++ shown → ((l : List Note) → reads_of (asking (with_notes old l)) ≡ made)
+    → ((l : List Note) → text_of (asking (with_notes old l)) ≡ shown) → mid.console ≡ before.console ++ shown → mid.heard ≡ before.heard → ((l : List Note) → reads_of (asking (with_notes old l)) ≡ made)
     → AreRead made old.open_ old.input new.open_ new.input
     → Answers behind.limit behind.live behind.texts what new.spent result new.live new.texts tells mid after notes notes' → ((own : List Note) → notes' ≡ notes ++ own → IsShort what new.spent result old.live new.live own mid after)
     → Stepped (with_notes old) result (with_notes new) before after notes notes'
-text-stepped old behind new text what shown made result tells before mid after notes notes' told e c b less asks prompted counts reads a short = record {
+text-stepped old behind new text what shown made result tells before mid after notes notes' told e c b less asks prompted quiet counts reads a short = record {
   own = numbered new.spent a.own;
   kept = a.kept;
   first = λ more come. later-follow old.spent new.spent old.live new.live a.own more less (may-follow result new.spent new.live more come);
@@ -107,7 +108,7 @@ text-stepped old behind new text what shown made result tells before mid after n
       let given : handed behind.spent all ≡ a.own ++ m.behind =
       ap (λ n. handed n all) (sym (ap (λ (x : Session). x.spent) b)) ∙ handed-more new.spent new.live a.own more m in
       answered (with_notes old all) (with_notes behind all) (with_notes new more) text what (length a.own) result tells before mid after told (e all) c
-      (ap (λ (x : Session). record x { notes = more }) b) (prompted ∙ ap (λ t. before ++ t) (sym (asks all))) (dropped new.spent a.own more)
+      (ap (λ (x : Session). record x { notes = more }) b) (prompted ∙ ap (λ t. before.console ++ t) (sym (asks all))) quiet (dropped new.spent a.own more)
       (subst (λ n. AreRead n old.open_ old.input new.open_ new.input) (sym (counts all)) reads)
       (subst (λ l. IsAnswer (text_reply behind.limit behind.texts l behind.live what) (texts_behind behind.texts what) result new.texts (standing (length a.own) new.live) tells mid after)
       (sym given) (a.answers m.behind m.closings))
@@ -146,14 +147,14 @@ behind-input old new line e b =
     (b.reads.rest ∙ ap (λ n. drop n old.input) (comes-reads old.budget old.open_ old.input line e)) b.open_
 
 -- a line of the input was done, where no action waited and no script was open
-pub line-stepped : (old new : Session) (line : List ℕ) (what : Asked) (result : Progress) (tells : Bool) (before mid after : List ℕ) (notes notes' : List Note) → IsTrue tells
-    → old.texts ≡ texts_of [] [] → old.reads ≡ true → arrival old.budget old.open_ old.input ≡ LineComes line → asked line ≡ what → IsBehindLine old new → old.spent < new.spent → mid ≡ before ++ prompt_text old.prompt
+pub line-stepped : (old new : Session) (line : List ℕ) (what : Asked) (result : Progress) (tells : Bool) (before mid after : Output) (notes notes' : List Note) → IsTrue tells
+    → old.texts ≡ texts_of [] [] → old.reads ≡ true → arrival old.budget old.open_ old.input ≡ LineComes line → asked line ≡ what → IsBehindLine old new → old.spent < new.spent → mid.console ≡ before.console ++ prompt_text old.prompt → mid.heard ≡ before.heard
     → Answers old.limit old.live (texts_of [] []) what new.spent result new.live new.texts tells mid after notes notes' → ((own : List Note) → notes' ≡ notes ++ own → IsShort what new.spent result old.live new.live own mid after)
     → Stepped (with_notes old) result (with_notes new) before after notes notes'
 unfolding behind_line
-line-stepped old new line what result tells before mid after notes notes' told none on e c b less prompted a short =
+line-stepped old new line what result tells before mid after notes notes' told none on e c b less prompted quiet a short =
     text-stepped old (behind_line old) new line what (prompt_text old.prompt) (line_reads old.budget old.open_ old.input) result tells before mid after notes notes' told
-    (λ l. upcoming-input (with_notes old l) (LineComes line) none on e) c (behind-input old new line e b) less (λ l. asking-text (with_notes old l) none on) prompted
+    (λ l. upcoming-input (with_notes old l) (LineComes line) none on e) c (behind-input old new line e b) less (λ l. asking-text (with_notes old l) none on) prompted quiet
     (λ l. asking-reads (with_notes old l) none on) b.reads a short
 
 -- the same behind the next line of a script
@@ -175,16 +176,16 @@ pub same-read : (o o' : Bool) (i i' : List ℕ) → o' ≡ o → i' ≡ i → Ar
 same-read o o' i i' open_ input = subst (λ (x : Bool). AreRead 0 o i x i') (sym open_) (subst (λ (x : List ℕ). AreRead 0 o i o x) (sym input) (none-read o i))
 
 -- a line of the innermost script was done
-pub script-stepped : (old new : Session) (script : Script) (outer : List Script) (what : Asked) (result : Progress) (tells : Bool) (before mid after : List ℕ) (notes notes' : List Note) → IsTrue tells
+pub script-stepped : (old new : Session) (script : Script) (outer : List Script) (what : Asked) (result : Progress) (tells : Bool) (before mid after : Output) (notes notes' : List Note) → IsTrue tells
     → old.texts ≡ texts_of [] (script ∷ outer) → script.place < length script.text → cost_of_line script ≤ old.budget → asked (text_of_line script) ≡ what → IsBehindScript old new script
-    → old.spent < new.spent → mid ≡ before ++ echo_text script
+    → old.spent < new.spent → mid.console ≡ before.console ++ echo_text script → mid.heard ≡ before.heard
     → Answers old.limit old.live (texts_of [] (past_line script ∷ outer)) what new.spent result new.live new.texts tells mid after notes notes' → ((own : List Note) → notes' ≡ notes ++ own → IsShort what new.spent result old.live new.live own mid after)
     → Stepped (with_notes old) result (with_notes new) before after notes notes'
 unfolding behind_script_line
-script-stepped old new script outer what result tells before mid after notes notes' told is more fits c b less prompted a short =
+script-stepped old new script outer what result tells before mid after notes notes' told is more fits c b less prompted quiet a short =
     text-stepped old (behind_script_line old script outer) new (text_of_line script) what (echo_text script) 0 result tells before mid after notes notes' told
     (λ l. upcoming-script (with_notes old l) script outer is more fits) c (behind-script old new script outer b) less
-    (λ l. ap text_of (asking-script (with_notes old l) script outer is more fits) ∙ append-nil (echo_text script)) prompted
+    (λ l. ap text_of (asking-script (with_notes old l) script outer is more fits) ∙ append-nil (echo_text script)) prompted quiet
     (λ l. ap reads_of (asking-script (with_notes old l) script outer is more fits)) (same-read old.open_ new.open_ old.input new.input b.open_ b.input) a short
 
 -- the same behind an action
@@ -203,7 +204,7 @@ behind-action old new others b =
     session-equal new (record (behind_action old others) { live = new.live; notes = new.notes; texts = new.texts }) refl refl b.spent b.limit b.budget refl b.reading b.prompt b.input b.open_
 
 -- the action that waited first was done
-pub action-stepped : (old new : Session) (action : List ℕ) (others : List (List ℕ)) (what : Asked) (result : Progress) (tells : Bool) (before after : List ℕ) (notes notes' : List Note) → IsTrue tells
+pub action-stepped : (old new : Session) (action : List ℕ) (others : List (List ℕ)) (what : Asked) (result : Progress) (tells : Bool) (before after : Output) (notes notes' : List Note) → IsTrue tells
     → old.texts.actions ≡ action ∷ others → 1 ≤ old.budget → asked action ≡ what → IsBehindAction old new → old.spent < new.spent
     → Answers old.limit old.live (texts_of others old.texts.scripts) what new.spent result new.live new.texts tells before after notes notes' → ((own : List Note) → notes' ≡ notes ++ own → IsShort what new.spent result old.live new.live own before after)
     → Stepped (with_notes old) result (with_notes new) before after notes notes'
@@ -211,7 +212,7 @@ unfolding behind_action
 action-stepped old new action others what result tells before after notes notes' told is fits c b less a short =
     text-stepped old (behind_action old others) new action what [] 0 result tells before before after notes notes' told
     (λ l. upcoming-action (with_notes old l) action others is fits) c (behind-action old new others b) less
-    (λ l. ap text_of (asking-action (with_notes old l) action others is)) (sym (append-nil before))
+    (λ l. ap text_of (asking-action (with_notes old l) action others is)) (sym (append-nil before.console)) refl
     (λ l. ap reads_of (asking-action (with_notes old l) action others is)) (same-read old.open_ new.open_ old.input new.input b.open_ b.input) a short
 
 -- the actions that wait begin with one
@@ -239,7 +240,7 @@ action-there l action others is none =
     absurd (cc)
 
 -- the session is over, and no note was kept for that
-pub over-alone : (old new : Session) (finish : Finish) (before after : List ℕ) (notes notes' : List Note) → notes' ≡ notes
+pub over-alone : (old new : Session) (finish : Finish) (before after : Output) (notes notes' : List Note) → notes' ≡ notes
     → Progresses (with_notes old []) (IsOver finish) (with_notes new []) before after → Stepped (with_notes old) (IsOver finish) (with_notes new) before after notes notes'
 over-alone old new finish before after notes notes' same over = record {
   own = [];
@@ -260,18 +261,18 @@ closed-own s own used =
 kept-own : (s : Session) (own : List CommandNote) → (emptied_in (with_notes s (numbered s.spent own ++ []))).kept ≡ (emptied_all own s.live).kept
 kept-own s own = ap (λ (l : List CommandNote). (emptied_all l s.live).kept) (handed-own s.spent own [] tt)
 
-ended-so : (k : Option UnitName) (old new : Session) (before after : List ℕ) → Finishes old (finish_of (input_end k)) new before after → Progresses old (IsOver (finish_of (input_end k))) new before after
+ended-so : (k : Option UnitName) (old new : Session) (before after : Output) → Finishes old (finish_of (input_end k)) new before after → Progresses old (IsOver (finish_of (input_end k))) new before after
 ended-so None old new before after f = f
 ended-so (Some u) old new before after f = f
 
 -- the input has ended, and the units have lost their files, up to one that has kept it
-pub input-closed : (old new : Session) (k : Option UnitName) (before after : List ℕ) (notes notes' : List Note) → old.texts ≡ texts_of [] [] → old.reads ≡ true → arrival old.budget old.open_ old.input ≡ InputEnds
-    → Closes old.spent old.live new.live k notes notes' → AreRead (line_reads old.budget old.open_ old.input) old.open_ old.input new.open_ new.input → after ≡ before ++ prompt_text old.prompt
+pub input-closed : (old new : Session) (k : Option UnitName) (before after : Output) (notes notes' : List Note) → old.texts ≡ texts_of [] [] → old.reads ≡ true → arrival old.budget old.open_ old.input ≡ InputEnds
+    → Closes old.spent old.live new.live k notes notes' → AreRead (line_reads old.budget old.open_ old.input) old.open_ old.input new.open_ new.input → after.console ≡ before.console ++ prompt_text old.prompt → after.heard ≡ before.heard
     → Stepped (with_notes old) (IsOver (finish_of (input_end k))) (with_notes new) before after notes notes'
-input-closed old new k before after notes notes' none_open on e c reads written =
+input-closed old new k before after notes notes' none_open on e c reads written heard =
     let own = numbered old.spent c.own in
     let closing = closed-own old c.own c.used ∙ ap (λ (x : Live). record { live = x; notes = [] }) (sym c.after) in
-    let over = input-ended (with_notes old (own ++ [])) (with_notes new []) k before after none_open on e (kept-own old c.own ∙ c.keeps) closing reads written in
+    let over = input-ended (with_notes old (own ++ [])) (with_notes new []) k before after none_open on e (kept-own old c.own ∙ c.keeps) closing reads written heard in
     record {
       own = own;
       kept = c.kept;
@@ -289,9 +290,9 @@ none-short (Comes text behind) notes none = by-reader (reader_of (asked text))
     by-reader (Some who) = subst (λ (l : List Note). AreClosings (Some who) behind.spent l) (sym none) tt
 
 -- memory ran out before a text was asked for
-pub room-refused : (old new : Session) (before : List ℕ) → old.notes ≡ [] → new ≡ old → RunsOut old new before before
+pub room-refused : (old new : Session) (before : Output) → old.notes ≡ [] → new ≡ old → RunsOut old new before before
 room-refused old new before none same = subst (λ (x : Session). RunsOut old x before before) (sym same) (record {
-  short = record { live_is = remains (flushes_next old) old.live old.live refl; notes = none-short (upcoming old) old.notes none; written = inl refl };
+  short = record { live_is = remains (flushes_next old) old.live old.live refl; notes = none-short (upcoming old) old.notes none; written = inl refl; heard = refl };
   made = 0;
   few = omega arith;
   reads = none-read old.open_ old.input;
@@ -299,14 +300,15 @@ room-refused old new before none same = subst (λ (x : Session). RunsOut old x b
 
 -- ---- scripts that have ended are closed before the next text
 
-short-still : (s : Session) (live : Live) (before after : List ℕ) → s.texts.actions ≡ [] → StopsShort (closing s) live before after → StopsShort s live before after
+short-still : (s : Session) (live : Live) (before after : Output) → s.texts.actions ≡ [] → StopsShort (closing s) live before after → StopsShort s live before after
 short-still s live before after none h = record {
   live_is = subst (λ (u : Upcoming). Remains (flushes_in u) s.live live) (upcoming-still s none) h.live_is;
   notes = subst (λ (u : Upcoming). AreShort u s.notes) (upcoming-still s none) h.notes;
-  written = subst (λ (l : List (Observation State)). (after ≡ before) ⊎ (after ≡ before ++ text_of l)) (asking-still s none) h.written;
+  written = subst (λ (l : List (Observation State)). (after.console ≡ before.console) ⊎ (after.console ≡ before.console ++ text_of l)) (asking-still s none) h.written;
+  heard = h.heard;
 }
 
-over-still : (s : Session) (finish : Finish) (new : Session) (before after : List ℕ) → s.texts.actions ≡ [] → Finishes (closing s) finish new before after → Finishes s finish new before after
+over-still : (s : Session) (finish : Finish) (new : Session) (before after : Output) → s.texts.actions ≡ [] → Finishes (closing s) finish new before after → Finishes s finish new before after
 over-still s finish new before after none f =
     let course_is = course-still s none in
     let trace_is : trace (closing s) ≡ trace s = trace-is (closing s) (course s) course_is ∙ sym (trace-is s (course s) refl) in
@@ -319,10 +321,11 @@ over-still s finish new before after none f =
       named = λ console input. f.named console input ∙ ap (λ (c : Course). finish_of c.end) course_is;
     }
 
-progress-still : (s : Session) (p : Progress) (new : Session) (before after : List ℕ) → s.texts.actions ≡ [] → Progresses (closing s) p new before after → Progresses s p new before after
+progress-still : (s : Session) (p : Progress) (new : Session) (before after : Output) → s.texts.actions ≡ [] → Progresses (closing s) p new before after → Progresses s p new before after
 progress-still s GoesOn new before after none g = record {
   next = ap (λ (x : Step). x.next) (sym (step-still s none)) ∙ g.next;
-  written = g.written ∙ ap (λ (x : Step). before ++ text_of x.made) (step-still s none);
+  written = g.written ∙ ap (λ (x : Step). before.console ++ text_of x.made) (step-still s none);
+  heard = g.heard ∙ ap (λ (x : Step). heard_with before.heard (sent_of x.made)) (step-still s none);
   reads = subst (λ n. AreRead n s.open_ s.input new.open_ new.input) (ap (λ (x : Step). reads_of x.made) (step-still s none)) g.reads;
 }
 progress-still s (IsOver OutOfMemory) new before after none r = record {
@@ -339,7 +342,7 @@ progress-still s (IsOver Console) new before after none f = over-still s Console
 progress-still s (IsOver Input) new before after none f = over-still s Input new before after none f
 
 -- what is known behind the closing is known before
-pub closed-before : (old : Session) (scripts : List Script) (p : Progress) (new : List Note → Session) (before after : List ℕ) (notes notes' : List Note) → old.texts.actions ≡ [] → still_open old.texts.scripts ≡ scripts
+pub closed-before : (old : Session) (scripts : List Script) (p : Progress) (new : List Note → Session) (before after : Output) (notes notes' : List Note) → old.texts.actions ≡ [] → still_open old.texts.scripts ≡ scripts
     → Stepped (with_notes (record old { texts = texts_of old.texts.actions scripts })) p new before after notes notes' → Stepped (with_notes old) p new before after notes notes'
 closed-before old scripts p new before after notes notes' none is s = record {
   own = s.own;
@@ -350,7 +353,7 @@ closed-before old scripts p new before after notes notes' none is s = record {
 }
 
 -- an answer that is not for want of memory
-pub never-short : (what : Asked) (number : ℕ) (result : Progress) (old new : Live) (own : List Note) (before after : List ℕ) → result ≢ IsOver OutOfMemory
+pub never-short : (what : Asked) (number : ℕ) (result : Progress) (old new : Live) (own : List Note) (before after : Output) → result ≢ IsOver OutOfMemory
     → IsShort what number result old new own before after
 never-short what number GoesOn old new own before after never = tt
 never-short what number (IsOver OutOfMemory) old new own before after never = absurd (never refl)
@@ -362,11 +365,11 @@ never-short what number (IsOver Console) old new own before after never = tt
 never-short what number (IsOver Input) old new own before after never = tt
 
 -- what is known of the state that is left is known where it is that
-pub left-at : (old new now : CommandState) (files : List NamedBytes) (lines lines' : CommandLoop) (input left : List ℕ) (p : Progress) (before after : List ℕ) → new ≡ now
-    → Stepped (session_of old files lines input) p (session_of now files lines' left) before after (notes_said old.notes) (notes_said now.notes)
-    → Stepped (session_of old files lines input) p (session_of new files lines' left) before after (notes_said old.notes) (notes_said new.notes)
-left-at old new now files lines lines' input left p before after is =
-    subst (λ (x : CommandState). Stepped (session_of old files lines input) p (session_of x files lines' left) before after (notes_said old.notes) (notes_said x.notes)) (sym is)
+pub left-at : (old new now : CommandState) (around : Beyond) (lines lines' : CommandLoop) (input left : List ℕ) (p : Progress) (before after : Output) → new ≡ now
+    → Stepped (session_of old around lines input) p (session_of now around lines' left) before after (notes_said old.notes) (notes_said now.notes)
+    → Stepped (session_of old around lines input) p (session_of new around lines' left) before after (notes_said old.notes) (notes_said new.notes)
+left-at old new now around lines lines' input left p before after is =
+    subst (λ (x : CommandState). Stepped (session_of old around lines input) p (session_of x around lines' left) before after (notes_said old.notes) (notes_said x.notes)) (sym is)
 
 -- what is spent has risen by what a line costs
 pub spent-line : (command command' budget budget' : ℕ) (open_ : Bool) (input line : List ℕ) → arrival budget open_ input ≡ LineComes line → budget' ≡ budget - line_cost (length (first_line input))

@@ -44,6 +44,7 @@ use Rattle.binary_load.specs.Tape.{Tape}
 use Rattle.whole_files.specs.Whole.{WholeSaid, WholeIs, whole_act}
 use Rattle.whole_files.specs.Whole as whole
 use Rattle.whole_files.specs.Writing.{WriteSaid, AllWritten, WriteFailed, write_act}
+use Rattle.nova_machine.specs.Comes.{Output}
 use Rattle.nova_machine.specs.Machine.{MachineState}
 use Rattle.scp_script.specs.Scripts.{Script, most_scripts}
 use Rattle.scp_script.specs.Loop.{FitsIn, HasRoom}
@@ -264,7 +265,7 @@ room-effect scripts limit notes live (request.Dump from to name) fits = room-non
 room-effect scripts limit notes live r fits = tt
 
 -- where a command was done that has a script next, there is room for it
-pub room-next : (scripts : List Script) (limit : ℕ) (notes : List CommandNote) (live : Live) (r : Request) (next : Next) (at : Standing) (tells : Bool) (before after : List ℕ)
+pub room-next : (scripts : List Script) (limit : ℕ) (notes : List CommandNote) (live : Live) (r : Request) (next : Next) (at : Standing) (tells : Bool) (before after : Output)
     → FitsIn scripts r → Does (effect limit notes live r) (Ok next) at tells before after → HasRoom scripts next
 room-next scripts limit notes live r (Do file) at tells before after fits does = subst (λ (a : Answer). RoomFor scripts a) (sym does.0) (room-effect scripts limit notes live r fits)
 room-next scripts limit notes live r Go at tells before after fits does = tt

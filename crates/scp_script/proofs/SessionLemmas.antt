@@ -1,7 +1,7 @@
 -- The trace of a session, one text further.
 use Rattle.std.proofs.Common.{◌≡◌, ℕ, zero, suc, ◌-◌, ◌<◌, ◌≤◌, Bool, true, false, not, ◌||◌, nat_le, nat_lt, nat_eq, List, [], ◌∷◌, ◌++◌, length, drop, refl, ap, sym, ◌∙◌, arith, if◌then◌else◌, append_assoc, append-nil, Ok, Err}
 use Rattle.std.proofs.lemmas.Bool.{leb-true, le-leb, lt-leb, lt-ltb, cond_both}
-use Rattle.observations.specs.Observations.{Observation, Prints, Ended, after_made}
+use Rattle.observations.specs.Observations.{Observation, Prints, Ended, after_made, sent_of}
 use Rattle.scp_commands.specs.declared.next.Next.TheVariants.{Go, Ran, Do, Goto, Exit}
 use Rattle.file_commands.specs.Notes.{handed}
 use Rattle.scp_commands.specs.Reply.{Answer}
@@ -170,6 +170,20 @@ begins-shorter s made front more b e = record {
 pub trace-asks : (s : Session) → Begins s (asking s)
 unfolding step
 trace-asks s = let asks = upcoming-asks s (upcoming s) in begins-shorter s (step s).made (asking s) asks.0 (trace-begins s) asks.1
+
+-- asking sends nothing
+sent-in : (s : Session) (scripts : List Script) → sent_of (asking_in s scripts) ≡ []
+sent-in s [] = cond_both s.reads (asking_input s) [] (λ (l : List (Observation State)). sent_of l ≡ []) (λ _. refl) (λ _. refl)
+sent-in s (script ∷ outer) =
+    cond_both (nat_le (cost_of_line script) s.budget) (Prints (echo_text script) (state_of s) ∷ []) [] (λ (l : List (Observation State)). sent_of l ≡ []) (λ _. refl) (λ _. refl)
+
+sent-at : (s : Session) (actions : List (List ℕ)) → sent_of (asking_at s actions) ≡ []
+sent-at s [] = sent-in s (still_open s.texts.scripts)
+sent-at s (action ∷ others) = refl
+
+pub asking-sent : (s : Session) → sent_of (asking s) ≡ []
+unfolding asking
+asking-sent s = sent-at s s.texts.actions
 
 -- ---- what comes next
 

@@ -7,6 +7,7 @@ use Rattle.file_commands.specs.Notes.{Note, notes_said}
 use Rattle.scp_parser.specs.Command.{Request, Do, Load}
 use Rattle.scp_commands.specs.declared.fault.CommandFault.{CommandFault}
 use Rattle.scp_commands.specs.declared.fault.CommandFault.TheVariants as fault
+use Rattle.nova_machine.specs.Comes.{Output}
 use Rattle.scp_commands.specs.Live.{Live}
 use Rattle.scp_commands.specs.Effect.{Asked}
 use Rattle.scp_commands.specs.FaultText.{fault_text}
@@ -17,6 +18,7 @@ use Rattle.scp_script.specs.declared.progress.Progress.{Progress}
 use Rattle.scp_script.specs.declared.progress.Progress.TheVariants.{GoesOn, IsOver}
 use Rattle.scp_script.specs.declared.progress.Finish.TheVariants.{Exit, EndOfInput, FlushFailed, Commands, Console, Input, OutOfMemory}
 use Rattle.scp_script.specs.Loop.{AreClosings, IsShort, Complains, Denies}
+use Rattle.scp_script.proofs.TextLemmas.{same-output}
 
 -- where files are told, it is said of every command that they are as they were
 pub says : (tells : Bool) (request : Request) → IsTrue tells → IsTrue (says_files tells request)
@@ -43,25 +45,25 @@ short-notes (Some who) number time notes notes' own (kept, added, all) is =
     closed (n ∷ kept) all = ((all.0.0.0, all.0.1.0, all.0.1.1), closed kept all.1)
 
 -- an answer by a text is not for want of memory
-complained-short : (what : Asked) (number : ℕ) (result : Progress) (tells : Bool) (old new : Live) (own : List Note) (before mid text after : List ℕ)
-    → Complains tells mid text result after → IsShort what number result old new own before after
-complained-short what number GoesOn tells old new own before mid text after told = tt
-complained-short what number (IsOver OutOfMemory) tells old new own before mid text after told = absurd told
-complained-short what number (IsOver (Exit status)) tells old new own before mid text after told = tt
-complained-short what number (IsOver EndOfInput) tells old new own before mid text after told = tt
-complained-short what number (IsOver FlushFailed) tells old new own before mid text after told = tt
-complained-short what number (IsOver Commands) tells old new own before mid text after told = tt
-complained-short what number (IsOver Console) tells old new own before mid text after told = tt
-complained-short what number (IsOver Input) tells old new own before mid text after told = tt
+complained-short : (what : Asked) (number : ℕ) (result : Progress) (tells : Bool) (old new : Live) (own : List Note) (before mid after : Output) (text : List ℕ)
+    → Complains tells mid.console text result after.console → IsShort what number result old new own before after
+complained-short what number GoesOn tells old new own before mid after text told = tt
+complained-short what number (IsOver OutOfMemory) tells old new own before mid after text told = absurd told
+complained-short what number (IsOver (Exit status)) tells old new own before mid after text told = tt
+complained-short what number (IsOver EndOfInput) tells old new own before mid after text told = tt
+complained-short what number (IsOver FlushFailed) tells old new own before mid after text told = tt
+complained-short what number (IsOver Commands) tells old new own before mid after text told = tt
+complained-short what number (IsOver Console) tells old new own before mid after text told = tt
+complained-short what number (IsOver Input) tells old new own before mid after text told = tt
 
 -- what stands behind a command that was refused, where it was for that
-pub refused-short : (what : Asked) (number : ℕ) (why : CommandFault) (result : Progress) (tells : Bool) (old new : Live) (own : List Note) (before mid after : List ℕ) (sink sink_now : ℕ)
+pub refused-short : (what : Asked) (number : ℕ) (why : CommandFault) (result : Progress) (tells : Bool) (old new : Live) (own : List Note) (before mid after : Output) (sink sink_now : ℕ)
     → (why ≡ fault.OutOfMemory → Remains (flushes_of what) old new × AreClosings (reader_of what) number own × (mid ≡ before))
-    → Denies why tells result mid after sink sink_now → IsShort what number result old new own before after
-refused-short what number fault.OutOfMemory result tells old new own before mid after sink sink_now left told =
+    → after.heard ≡ mid.heard → Denies why tells result mid.console after.console sink sink_now → IsShort what number result old new own before after
+refused-short what number fault.OutOfMemory result tells old new own before mid after sink sink_now left heard told =
     let all = left refl in
-    subst (λ (p : Progress). IsShort what number p old new own before after) (sym told.0) (all.0, all.1, told.1 ∙ all.2)
-refused-short what number fault.Console result tells old new own before mid after sink sink_now left told =
+    subst (λ (p : Progress). IsShort what number p old new own before after) (sym told.0) (all.0, all.1, same-output after mid told.1 heard ∙ all.2)
+refused-short what number fault.Console result tells old new own before mid after sink sink_now left heard told =
     subst (λ (p : Progress). IsShort what number p old new own before after) (sym told.0) tt
-refused-short what number why result tells old new own before mid after sink sink_now left told =
-    complained-short what number result tells old new own before mid (fault_text why) after told.0
+refused-short what number why result tells old new own before mid after sink sink_now left heard told =
+    complained-short what number result tells old new own before mid after (fault_text why) told.0

@@ -7,6 +7,7 @@ use Rattle.observations.proofs.CutLemmas.{cut-state}
 use Rattle.observations.proofs.MadeLemmas.{stands-either, stands-mapped}
 use Rattle.file_commands.specs.Notes.{CommandNote, handed}
 use Rattle.expect_actions.specs.Watch.{forgotten}
+use Rattle.nova_machine.specs.Comes.{Output}
 use Rattle.nova_machine.specs.Valid.{AreBytes}
 use Rattle.nova_machine.proofs.ValidBytes.{bytes-drop}
 use Rattle.script_text.specs.Lines.{first_line, command_line, line_cost}
@@ -349,14 +350,14 @@ trace-ended s is = (texts-good (suc s.budget) s is).ended
 
 -- ---- what a call has left
 
-whole-left : (start : Session) (finish : Finish) (live : Live) (rest before after : List ℕ) → ValidSession start → IsSession start finish live rest before after → ValidLive live
+whole-left : (start : Session) (finish : Finish) (live : Live) (rest : List ℕ) (before after : Output) → ValidSession start → IsSession start finish live rest before after → ValidLive live
 whole-left start finish live rest before after is h =
     let holds = session-holds start is in
     let Left : State → Type 0 = λ s. ValidLive s.live in
     let cut = cut-state Left (trace start).made (trace start).ended (length h.end.taken) h.gives (trace-made start holds) (trace-ended start holds) in
     subst Left (ap (λ (o : Outcome State). o.state) h.end.outcome) cut
 
-left-valid : (start : Session) (finish : Finish) (live : Live) (rest before after : List ℕ) → ValidSession start → IsPerformed start finish live rest before after → ValidLive live
+left-valid : (start : Session) (finish : Finish) (live : Live) (rest : List ℕ) (before after : Output) → ValidSession start → IsPerformed start finish live rest before after → ValidLive live
 left-valid start OutOfMemory live rest before after is h =
     let reached = all-valid h.count start h.reached h.done is h.comes in
     remains-valid (flushes_next h.reached) h.reached.live live reached.live h.short.live_is

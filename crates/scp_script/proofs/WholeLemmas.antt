@@ -5,10 +5,13 @@ use Rattle.fault_counts.specs.Faults.{raised}
 use Rattle.host_files.specs.State.{FileState}
 use Rattle.unit_files.specs.Attachments.{Held}
 use Rattle.file_commands.proofs.Emptying.{unwritten-since}
-use Rattle.observations.specs.Observations.{Observation, after_made, text_of, reads_of}
-use Rattle.observations.specs.Cut.{behind, ends, cut, cut_trace}
-use Rattle.observations.proofs.CutLemmas.{cut-after}
-use Rattle.observations.proofs.MadeLemmas.{text_of-append, reads_of-append, after_made-append}
+use Rattle.observations.specs.Observations.{Observation, Trace, after_made, text_of, reads_of, sent_of}
+use Rattle.observations.specs.Cut.{behind, ends, cut, cut_trace, sent_until}
+use Rattle.observations.proofs.CutLemmas.{cut-after, sent-after}
+use Rattle.observations.proofs.MadeLemmas.{text_of-append, reads_of-append, sent_of-append, after_made-append}
+use Rattle.nova_machine.specs.Comes.{Output}
+use Rattle.nova_machine.specs.LineChanges.{heard_with}
+use Rattle.nova_machine.proofs.Hearing.{heard-nothing, heard-behind}
 use Rattle.file_commands.specs.declared.note.FaultNote.{FaultNote}
 use Rattle.file_commands.specs.Notes.{CommandNote, Note}
 use Rattle.expect_actions.specs.Watch.{WatchState}
@@ -45,21 +48,23 @@ comes-more (suc count) s t u made (mid, more, first, parts, rest) goes = (
 )
 
 -- the session came from its start to here by that many texts, with these observations
-pub record Reached (start now : Session) (before after : List ℕ) : Type 0 where
+pub record Reached (start now : Session) (before after : Output) : Type 0 where
   pub count : ℕ
   pub done : List (Observation State)
   pub comes : ComesTo count start done now
   pub so_far : course start ≡ after_step done (Going now) course
-  pub written : after ≡ before ++ text_of done
+  pub written : after.console ≡ before.console ++ text_of done
+  pub heard : after.heard ≡ heard_with before.heard (sent_of done)
   pub reads : AreRead (reads_of done) start.open_ start.input now.open_ now.input
 
-pub reached-none : (start : Session) (before : List ℕ) → Reached start start before before
+pub reached-none : (start : Session) (before : Output) → Reached start start before before
 reached-none start before = record {
   count = 0;
   done = [];
   comes = (refl, refl);
   so_far = refl;
-  written = sym (append-nil before);
+  written = sym (append-nil before.console);
+  heard = sym (heard-nothing before.heard);
   reads = record { rest = refl; count = sym (zero-add (reads_left start.open_ start.input)) };
 }
 
@@ -69,15 +74,17 @@ reads-behind m n o1 o2 o3 i1 i2 i3 a b = record {
   count = omega (arith, a.count, b.count);
 }
 
-pub reached-more : (start now next : Session) (before mid after : List ℕ) → Reached start now before mid → GoesPast now next mid after → Reached start (rested next) before after
+pub reached-more : (start now next : Session) (before mid after : Output) → Reached start now before mid → GoesPast now next mid after → Reached start (rested next) before after
 reached-more start now next before mid after r g = record {
   count = suc r.count;
   done = r.done ++ (step now).made;
   comes = comes-more r.count start now (rested next) r.done r.comes g.next;
   so_far = r.so_far ∙ ap (λ c. after_step r.done (Going now) (λ _. c)) (course-going now (rested next) g.next)
       ∙ ap (λ t. record { trace = t; end = (course (rested next)).end }) (sym (after_made-append r.done (step now).made (course (rested next)).trace));
-  written = g.written ∙ ap (λ t. t ++ text_of (step now).made) r.written ∙ append_assoc before (text_of r.done) (text_of (step now).made)
-      ∙ ap (λ t. before ++ t) (sym (text_of-append r.done (step now).made));
+  written = g.written ∙ ap (λ t. t ++ text_of (step now).made) r.written ∙ append_assoc before.console (text_of r.done) (text_of (step now).made)
+      ∙ ap (λ t. before.console ++ t) (sym (text_of-append r.done (step now).made));
+  heard = g.heard ∙ ap (λ h. heard_with h (sent_of (step now).made)) r.heard ∙ heard-behind before.heard (sent_of r.done) (sent_of (step now).made)
+      ∙ ap (heard_with before.heard) (sym (sent_of-append r.done (step now).made));
   reads = subst (λ n. AreRead n start.open_ start.input next.open_ next.input) (sym (reads_of-append r.done (step now).made))
       (reads-behind (reads_of r.done) (reads_of (step now).made) start.open_ now.open_ next.open_ start.input now.input next.input r.reads g.reads);
 }
@@ -98,12 +105,16 @@ all-let Console gives made all done whole h e = omega (arith, h, e)
 all-let Input gives made all done whole h e = omega (arith, h)
 
 -- the session is over, and has used every note
-session-over : (start now new : Session) (finish : Finish) (before mid after : List ℕ) → new.notes ≡ [] → Reached start now before mid → Finishes now finish new mid after
+session-over : (start now new : Session) (finish : Finish) (before mid after : Output) → new.notes ≡ [] → Reached start now before mid → Finishes now finish new mid after
     → IsSession start finish new.live new.input before after
 session-over start now new finish before mid after used r f =
     let taken = text_of r.done ++ f.end.taken in
     let so_far = trace-behind start now r.done r.so_far in
     let size : length taken ≡ length (text_of r.done) + length f.end.taken = length-append (text_of r.done) f.end.taken in
+    let sent : sent_until (length taken) (reads_of r.done + f.gives) (trace start).made ≡ sent_of r.done ++ sent_until (length f.end.taken) f.gives (trace now).made =
+    ap (λ (t : Trace State). sent_until (length taken) (reads_of r.done + f.gives) t.made) so_far
+    ∙ ap (λ n. sent_until n (reads_of r.done + f.gives) (r.done ++ (trace now).made)) size
+    ∙ sent-after r.done (trace now).made (length f.end.taken) f.gives in
     let none = ap (λ (l : List Note). behind (text_of r.done) (reads_of r.done) (ends (status_of finish) f.end.taken f.made (record { live = new.live; notes = l }))) used in
     record {
       gives = reads_of r.done + f.gives;
@@ -112,18 +123,21 @@ session-over start now new finish before mid after used r f =
       rest = (reads-behind (reads_of r.done) f.made start.open_ now.open_ new.open_ start.input now.input new.input r.reads f.reads).rest;
       end = record {
         taken = taken;
-        written = f.end.written ∙ ap (λ t. t ++ f.end.taken) r.written ∙ append_assoc before (text_of r.done) f.end.taken;
+        written = f.end.written ∙ ap (λ t. t ++ f.end.taken) r.written ∙ append_assoc before.console (text_of r.done) f.end.taken;
         outcome = ap (cut_trace (length taken) (reads_of r.done + f.gives)) so_far
             ∙ ap (λ n. cut n (reads_of r.done + f.gives) (r.done ++ (trace now).made) (trace now).ended) size
             ∙ cut-after r.done (trace now).made (trace now).ended (length f.end.taken) f.gives
             ∙ ap (behind (text_of r.done) (reads_of r.done)) f.end.outcome
             ∙ none;
+        heard = f.end.heard ∙ ap (λ h. heard_with h (sent_until (length f.end.taken) f.gives (trace now).made)) r.heard
+            ∙ heard-behind before.heard (sent_of r.done) (sent_until (length f.end.taken) f.gives (trace now).made)
+            ∙ ap (heard_with before.heard) (sym sent);
       };
       named = λ console input. f.named console input ∙ ap (λ c. finish_of c.end) (sym r.so_far);
     }
 
 -- memory ran out
-session-short : (start now new : Session) (before mid after : List ℕ) → Reached start now before mid → RunsOut now new mid after → RunsShort start new.live new.input before after
+session-short : (start now new : Session) (before mid after : Output) → Reached start now before mid → RunsOut now new mid after → RunsShort start new.live new.input before after
 session-short start now new before mid after r s = record {
   count = r.count;
   done = r.done;
@@ -131,13 +145,14 @@ session-short start now new before mid after r s = record {
   comes = r.comes;
   mid = mid;
   written = r.written;
+  heard = r.heard;
   made = s.made;
   few = s.few;
   rest = (reads-behind (reads_of r.done) s.made start.open_ now.open_ new.open_ start.input now.input new.input r.reads s.reads).rest;
   short = s.short;
 }
 
-performed-by : (start now new : Session) (finish : Finish) (before mid after : List ℕ) → new.notes ≡ [] → Reached start now before mid → Progresses now (IsOver finish) new mid after
+performed-by : (start now new : Session) (finish : Finish) (before mid after : Output) → new.notes ≡ [] → Reached start now before mid → Progresses now (IsOver finish) new mid after
     → IsPerformed start finish new.live new.input before after
 performed-by start now new (Exit status) before mid after used r p = session-over start now new (Exit status) before mid after used r p
 performed-by start now new EndOfInput before mid after used r p = session-over start now new EndOfInput before mid after used r p
@@ -149,13 +164,13 @@ performed-by start now new OutOfMemory before mid after used r p = session-short
 
 -- With any notes that may follow here behind those that were kept, the session came from its start to here, where those are
 -- left.
-pub record ComesSoFar (start now : List Note → Session) (before after : List ℕ) (notes notes' : List Note) : Type 0 where
+pub record ComesSoFar (start now : List Note → Session) (before after : Output) (notes notes' : List Note) : Type 0 where
   pub own : List Note
   pub kept : notes' ≡ notes ++ own
   pub first : (more : List Note) → MayFollow (now []).spent (now []).live more → MayFollow (start []).spent (start []).live (own ++ more)
   pub comes : (more : List Note) → MayFollow (now []).spent (now []).live more → Reached (start (own ++ more)) (now more) before after
 
-pub begun : (start : List Note → Session) (before : List ℕ) (notes : List Note) → ComesSoFar start start before before notes notes
+pub begun : (start : List Note → Session) (before : Output) (notes : List Note) → ComesSoFar start start before before notes notes
 begun start before notes = record {
   own = [];
   kept = sym (append-nil notes);
@@ -174,7 +189,7 @@ late-rested live watch (n ∷ notes) (late, more) = (
 follow-rested : (number : ℕ) (live : Live) (watch : WatchState) (notes : List Note) → MayFollow number (record live { watch = watch }) notes → MayFollow number live notes
 follow-rested number live watch notes f = record { behind = f.behind; later = f.later; are = f.are; closings = late-rested live watch f.behind f.closings; follows = f.follows }
 
-pub further : (start now next : List Note → Session) (before mid after : List ℕ) (notes notes' notes'' : List Note) → ComesSoFar start now before mid notes notes'
+pub further : (start now next : List Note → Session) (before mid after : Output) (notes notes' notes'' : List Note) → ComesSoFar start now before mid notes notes'
     → Stepped now GoesOn next mid after notes' notes'' → ComesSoFar start (λ n. rested (next n)) before after notes notes''
 further start now next before mid after notes notes' notes'' s st =
     let follows : (more : List Note) → MayFollow (next []).spent (rested (next [])).live more → MayFollow (next []).spent (next []).live more =
@@ -189,7 +204,7 @@ further start now next before mid after notes notes' notes'' s st =
           (s.comes (st.own ++ more) (st.first more (follows more follow))) (st.goes more (follows more follow)));
     }
 
-pub over : (start now : List Note → Session) (new : Session) (finish : Finish) (before mid after : List ℕ) (notes notes' notes'' : List Note) → ComesSoFar start now before mid notes notes'
+pub over : (start now : List Note → Session) (new : Session) (finish : Finish) (before mid after : Output) (notes notes' notes'' : List Note) → ComesSoFar start now before mid notes notes'
     → Stepped now (IsOver finish) (with_notes new) mid after notes' notes'' → Performed start finish new.live new.input before after notes notes''
 over start now new finish before mid after notes notes' notes'' s st =
     let own = s.own ++ (st.own ++ []) in
@@ -202,7 +217,7 @@ over start now new finish before mid after notes notes' notes'' s st =
     }
 
 -- memory ran out before the first text
-pub never-begun : (start : List Note → Session) (before : List ℕ) (notes : List Note) → (start []).notes ≡ []
+pub never-begun : (start : List Note → Session) (before : Output) (notes : List Note) → (start []).notes ≡ []
     → Performed start OutOfMemory (start []).live (start []).input before before notes notes
 never-begun start before notes none = record {
   own = [];
@@ -214,7 +229,8 @@ never-begun start before notes none = record {
     reached = start [];
     comes = (refl, refl);
     mid = before;
-    written = sym (append-nil before);
+    written = sym (append-nil before.console);
+    heard = sym (heard-nothing before.heard);
     made = 0;
     few = omega arith;
     rest = refl;
@@ -222,6 +238,7 @@ never-begun start before notes none = record {
       live_is = remains (flushes_next (start [])) (start []).live (start []).live refl;
       notes = none-short (upcoming (start [])) (start []).notes none;
       written = inl refl;
+      heard = refl;
     };
   };
 }

@@ -3,6 +3,7 @@ use Rattle.std.specs.Prelude.{◌≡◌, ℕ, ◌^◌, ◌<◌, ◌≤◌, List,
 use Rattle.std.specs.List.{AllByRecursion}
 use Rattle.observations.specs.Observations.{Observation, StandsAt}
 use Rattle.expect_actions.specs.Actions.{most_actions}
+use Rattle.nova_machine.specs.Comes.{Output}
 use Rattle.nova_machine.specs.Valid.{AreBytes}
 use Rattle.scp_commands.specs.Live.{Live}
 use Rattle.scp_commands.specs.Valid.{ValidLive, CopyFollows}
@@ -50,5 +51,5 @@ pub record SessionsStayValid : Type 0 where
   pub closed : (s : Session) (end : SessionEnd) (at : State) → ValidSession s → (step s).next ≡ Over end at
       → CopyFollows s.live at.live
   -- what a call has left that performs a session, over whichever console and input, also where memory ran out
-  pub left : (start : Session) (finish : Finish) (live : Live) (rest before after : List ℕ) → ValidSession start
+  pub left : (start : Session) (finish : Finish) (live : Live) (rest : List ℕ) (before after : Output) → ValidSession start
       → IsPerformed start finish live rest before after → ValidLive live

@@ -8,56 +8,66 @@ use Rattle.file_commands.specs.OwnFiles.{IsOwnNote, AreOwn}
 use Rattle.file_commands.proofs.OwnFiles.{own-both, all-own}
 use Rattle.nova_machine.specs.Machine.{MachineState}
 use Rattle.file_commands.proofs.Adding.{counted-none}
-use Rattle.scp_commands.specs.Live.{CommandState}
+use Rattle.host_files.specs.Lists.{NamedBytes}
+use Rattle.scp_commands.specs.Live.{CommandState, beyond}
 use Rattle.scp_script.specs.Loop.{AreKept}
 use Rattle.nova_top.specs.declared.word_files.Refusal.{Refusal}
 use Rattle.nova_top.specs.Ends.{AreWordClosings, InputTells}
 use Rattle.nova_top.specs.Words.{texts_of}
 use Rattle.nova_top.specs.Workload.{with_workload}
-use Rattle.nova_top.proofs.ProgramLemmas.{Begun, Made, begun-files, new-slots, workload-given}
+use Rattle.nova_top.proofs.ProgramLemmas.{Begun, Made, begun-files, begun-portless, new-slots, workload-given}
 use Rattle.nova_top.proofs.ProgramLemmas.{usage-answer, files-answer, files-memory, files-status, files-cause, session-answer, memory-answer, session-cause, session-status, refused-status, kept-counted, refused-counted, complete-answer, never-unwritten, denied-unwritten, unwritten-whole}
 use Rattle.nova_top.proofs.UnreadLemmas.{usage-opened, refused-unopened, refused-measured, session-opened, session-measured}
 use Rattle.nova_top.proofs.program.simulate.Given.{Over}
 use Rattle.nova_top.proofs.program.simulate.Goals as goal
-use Rattle.nova_top.proofs.program.simulate.Goals.{After-lines-arg-in-Ok-begin-2-1}
+use Rattle.nova_top.proofs.program.simulate.Goals.{After-run_session-arg-in-Ok-begin-2-1}
 
 -- ---- words outside their grammar
 
 pub returns-in_default-clause-outcome : goal.returns-in_default-clause-outcome
-returns-in_default-clause-outcome g c = λ source files sink other.
-    usage-answer (texts_of c.args.words.now) (g.C.Source.left c.args.input.now) (g.S.Sink.written c.args.output.now) (g.S.Sink.written c.usage.new.output) (g.F.Files.state c.args.files.now).files
-    c.usage.result.status c.usage.result.machine c.usage.result.faults.items (sym c.options_of.ensures.options ∙ c.in_default.is) c.usage.ensures.machine c.usage.ensures.notes (c.usage.ensures.told sink)
+returns-in_default-clause-outcome g c = λ source files sink other whole first.
+    usage-answer (texts_of c.args.words.now) (g.C.Source.left c.args.input.now) (g.S.Sink.written c.args.output.now) (g.S.Sink.written c.usage.new.output)
+    (beyond (g.F.Files.state c.args.files.now).files (g.L.Lines.state c.args.lines.now) whole) c.usage.result.status c.usage.result.machine c.usage.result.faults.items
+    (sym c.options_of.ensures.options ∙ c.in_default.is) c.usage.ensures.machine c.usage.ensures.notes (c.usage.ensures.told sink)
 
 pub returns-in_default-clause-complete : goal.returns-in_default-clause-complete
-returns-in_default-clause-complete g c = λ source files sink other quiet fed none.
-    let old = g.F.Files.state c.args.files.now in
+returns-in_default-clause-complete g c = λ source files sink other quiet fed none whole first.
+    let was = g.F.Files.state c.args.files.now in
+    let old = beyond was.files (g.L.Lines.state c.args.lines.now) whole in
     let is = refused-status 100 c.usage.result.status (g.S.Sink.fault_count c.args.output.now) (g.S.Sink.fault_count c.usage.new.output) c.usage.ensures.cause quiet in
-    complete-answer (texts_of c.args.words.now) (g.C.Source.left c.args.input.now) (g.C.Source.left c.args.input.now) (g.S.Sink.written c.args.output.now) (g.S.Sink.written c.usage.new.output) old.files old.files
-    c.usage.result.status c.usage.result.machine c.usage.result.faults.items old old ((λ s. omega (arith, is, s)), (λ s. omega (arith, is, s)))
-    (subst (λ (items : List FaultNote). AreCounted items old old) (sym c.usage.ensures.notes) (counted-none old)) none (returns-in_default-clause-outcome g c source files sink other)
+    complete-answer (texts_of c.args.words.now) (g.C.Source.left c.args.input.now) (g.C.Source.left c.args.input.now) (g.S.Sink.written c.args.output.now) (g.S.Sink.written c.usage.new.output) old old
+    c.usage.result.status c.usage.result.machine c.usage.result.faults.items was was ((λ s. omega (arith, is, s)), (λ s. omega (arith, is, s)))
+    (subst (λ (items : List FaultNote). AreCounted items was was) (sym c.usage.ensures.notes) (counted-none was)) none
+    (returns-in_default-clause-outcome g c source files sink other whole first)
 
 -- ---- a file that is refused
 
 pub returns-in-Err-clause-outcome : goal.returns-in-Err-clause-outcome
-returns-in-Err-clause-outcome g c = λ source files sink other.
+returns-in-Err-clause-outcome g c = λ source files sink other whole first.
+    let lines = g.L.Lines.state c.args.lines.now in
     files-answer (texts_of c.args.words.now) c.in-Some.options (g.C.Source.left c.args.input.now) (g.S.Sink.written c.args.output.now) (g.S.Sink.written c.refuse_files.new.output)
-    (g.F.Files.state c.args.files.now).files (g.F.Files.state c.begin.new.files).files c.in-Err.refusal c.refuse_files.result.status c.refuse_files.result.machine c.begin.new.notes.items c.refuse_files.result.faults.items
-    (sym c.options_of.ensures.options ∙ c.in-Some.is) (c.in-Err.ensures.told files) c.refuse_files.ensures.machine (c.begin.ensures.files files) other (c.refuse_files.ensures.told sink) (c.refuse_files.ensures.notes ∙ c.notes_of.ensures)
+    (beyond (g.F.Files.state c.args.files.now).files lines whole) (beyond (g.F.Files.state c.begin.new.files).files lines whole) c.in-Err.refusal c.refuse_files.result.status c.refuse_files.result.machine
+    c.begin.new.notes.items c.refuse_files.result.faults.items (sym c.options_of.ensures.options ∙ c.in-Some.is) (c.in-Err.ensures.told files) c.refuse_files.ensures.machine
+    (ap (λ (f : List NamedBytes). beyond f lines whole) (c.begin.ensures.files files)) other (c.refuse_files.ensures.told sink) (c.refuse_files.ensures.notes ∙ c.notes_of.ensures)
 
 pub returns-in-Err-clause-complete : goal.returns-in-Err-clause-complete
-returns-in-Err-clause-complete g c = λ source files sink other quiet fed none.
-    let old = g.F.Files.state c.args.files.now in
-    let new = g.F.Files.state c.begin.new.files in
+returns-in-Err-clause-complete g c = λ source files sink other quiet fed none whole first.
+    let was = g.F.Files.state c.args.files.now in
+    let now = g.F.Files.state c.begin.new.files in
+    let lines = g.L.Lines.state c.args.lines.now in
     let status = files-status (texts_of c.args.words.now) c.in-Err.refusal c.refuse_files.result.status (g.S.Sink.fault_count c.args.output.now) (g.S.Sink.fault_count c.refuse_files.new.output) c.refuse_files.ensures.cause quiet in
-    complete-answer (texts_of c.args.words.now) (g.C.Source.left c.args.input.now) (g.C.Source.left c.args.input.now) (g.S.Sink.written c.args.output.now) (g.S.Sink.written c.refuse_files.new.output) old.files new.files
-    c.refuse_files.result.status c.refuse_files.result.machine c.refuse_files.result.faults.items old new status
-    (refused-counted [] c.begin.new.notes.items c.refuse_files.result.faults.items old new refl (c.refuse_files.ensures.notes ∙ c.notes_of.ensures) c.begin.ensures.keeps) none (returns-in-Err-clause-outcome g c source files sink other)
+    complete-answer (texts_of c.args.words.now) (g.C.Source.left c.args.input.now) (g.C.Source.left c.args.input.now) (g.S.Sink.written c.args.output.now) (g.S.Sink.written c.refuse_files.new.output)
+    (beyond was.files lines whole) (beyond now.files lines whole) c.refuse_files.result.status c.refuse_files.result.machine c.refuse_files.result.faults.items was now status
+    (refused-counted [] c.begin.new.notes.items c.refuse_files.result.faults.items was now refl (c.refuse_files.ensures.notes ∙ c.notes_of.ensures) c.begin.ensures.keeps) none
+    (returns-in-Err-clause-outcome g c source files sink other whole first)
 
 pub returns-in-Err-clause-memory : goal.returns-in-Err-clause-memory
-returns-in-Err-clause-memory g c = λ source files sink memory.
+returns-in-Err-clause-memory g c = λ source files sink memory whole first.
+    let lines = g.L.Lines.state c.args.lines.now in
     files-memory (texts_of c.args.words.now) c.in-Some.options (g.C.Source.left c.args.input.now) (g.S.Sink.written c.args.output.now) (g.S.Sink.written c.refuse_files.new.output)
-    (g.F.Files.state c.args.files.now).files (g.F.Files.state c.begin.new.files).files c.in-Err.refusal c.refuse_files.result.status c.refuse_files.result.machine
-    (notes_said c.refuse_files.result.faults.items) (sym c.options_of.ensures.options ∙ c.in-Some.is) c.refuse_files.ensures.machine (c.begin.ensures.files files) memory (c.refuse_files.ensures.told sink)
+    (beyond (g.F.Files.state c.args.files.now).files lines whole) (beyond (g.F.Files.state c.begin.new.files).files lines whole) c.in-Err.refusal c.refuse_files.result.status c.refuse_files.result.machine
+    (notes_said c.refuse_files.result.faults.items) (sym c.options_of.ensures.options ∙ c.in-Some.is) c.refuse_files.ensures.machine (ap (λ (f : List NamedBytes). beyond f lines whole) (c.begin.ensures.files files)) memory
+    (c.refuse_files.ensures.told sink)
     (λ short. subst (λ (l : List FaultNote). AreWordClosings (notes_said l)) (sym (c.refuse_files.ensures.notes ∙ c.notes_of.ensures))
     (c.begin.ensures.closings (c.in-Err.is ∙ ap (λ (r : Refusal). Err r) short)))
 
@@ -68,7 +78,7 @@ returns-in-Err-clause-cause g c =
 
 -- ---- a session
 
-made : (g : Over) (c : goal.After-lines-arg-in-Ok-begin-2-1 g) → Made (map g.U.Unit.unit_state c.args.units.items) c.in-Some.options c.in-Ok.session
+made : (g : Over) (c : goal.After-run_session-arg-in-Ok-begin-2-1 g) → Made (map g.U.Unit.unit_state c.args.units.items) c.in-Some.options c.in-Ok.session
 made g c = record {
   standard = c.requires;
   machine = c.in-Ok.ensures.machine;
@@ -80,7 +90,7 @@ made g c = record {
   around = c.in-Ok.ensures.around;
 }
 
-begun : (g : Over) (c : goal.After-lines-arg-in-Ok-begin-2-1 g)
+begun : (g : Over) (c : goal.After-run_session-arg-in-Ok-begin-2-1 g)
     → Begun g.F.Files.tells (texts_of c.args.words.now) c.in-Some.options c.ready.result c.in-Ok-begin.field-0.opening (g.F.Files.state c.args.files.now) (g.F.Files.state c.begin.new.files)
 begun g c =
     let words = texts_of c.args.words.now in
@@ -92,7 +102,7 @@ begun g c =
     c.in-Ok-begin.ensures.told c.in-Ok-begin.ensures.opens c.begin.ensures.files c.begin.ensures.opened c.begin.ensures.keeps)
 
 -- nothing is attached to its machine
-unattached : (g : Over) (c : goal.After-lines-arg-in-Ok-begin-2-1 g) → c.ready.result.machine.slots ≡ no_files
+unattached : (g : Over) (c : goal.After-run_session-arg-in-Ok-begin-2-1 g) → c.ready.result.machine.slots ≡ no_files
 unattached g c =
     let units = map g.U.Unit.unit_state c.args.units.items in
     let workload = c.in-Some.options.workload in
@@ -101,54 +111,65 @@ unattached g c =
     ∙ new-slots workload units
 
 -- where the session reads the input, no workload is among the words
-told-input : (g : Over) (c : goal.After-lines-arg-in-Ok-begin-2-1 g) → InputTells (texts_of c.args.words.now) g.C.Source.tells → c.in-Ok-begin.field-0.opening.reads ≡ true → IsTrue g.C.Source.tells
+told-input : (g : Over) (c : goal.After-run_session-arg-in-Ok-begin-2-1 g) → InputTells (texts_of c.args.words.now) g.C.Source.tells → c.in-Ok-begin.field-0.opening.reads ≡ true → IsTrue g.C.Source.tells
 told-input g c tells on =
     tells (λ given.
     let off = c.in-Ok-begin.ensures.opens.reads ∙ workload-given (texts_of c.args.words.now) c.in-Some.options (sym c.options_of.ensures.options ∙ c.in-Some.is) given in absurd (cc (on, off)))
 
-pub lines-requires-clause-open : goal.lines-requires-clause-open
-lines-requires-clause-open g c = (begun g (goal.at.lines-requires-clause-open g c).After-lines-arg-in-Ok-begin-2-1).open_
+pub run_session-requires-clause-portless : goal.run_session-requires-clause-portless
+run_session-requires-clause-portless g c =
+    begun-portless g.F.Files.tells (texts_of c.args.words.now) c.in-Some.options _ c.in-Ok-begin.field-0.opening (g.F.Files.state c.args.files.now) (g.F.Files.state c.begin.new.files)
+    (begun g (goal.at.run_session-requires-clause-portless g c).After-run_session-arg-in-Ok-begin-2-1)
+
+pub run_session-requires-clause-open : goal.run_session-requires-clause-open
+run_session-requires-clause-open g c = (begun g (goal.at.run_session-requires-clause-open g c).After-run_session-arg-in-Ok-begin-2-1).open_
 
 pub returns-in-Ok-begin-clause-files : goal.returns-in-Ok-begin-clause-files
 returns-in-Ok-begin-clause-files g c =
-    c.lines.ensures.files (g.F.Files.state c.args.files.now).opened (begun g (goal.at.returns-in-Ok-begin-clause-files g c).After-lines-arg-in-Ok-begin-2-1).around
+    c.run_session.ensures.files (g.F.Files.state c.args.files.now).opened (begun g (goal.at.returns-in-Ok-begin-clause-files g c).After-run_session-arg-in-Ok-begin-2-1).around
 
 pub returns-in-Ok-begin-clause-cause : goal.returns-in-Ok-begin-clause-cause
 returns-in-Ok-begin-clause-cause g c =
-    let (finish, watch, now, status, machine, told, cause) = c.lines.ensures.ended in
-    session-cause (texts_of c.args.words.now) c.in-Some.options finish c.lines.result.status (g.S.Sink.fault_count c.args.output.now) (g.S.Sink.fault_count c.lines.new.output)
-    (g.C.Source.fault_count c.args.input.now) (g.C.Source.fault_count c.lines.new.input) (sym c.options_of.ensures.options ∙ c.in-Some.is) status cause
+    let (finish, watch, now, status, machine, told, cause) = c.run_session.ensures.ended in
+    session-cause (texts_of c.args.words.now) c.in-Some.options finish c.run_session.result.status (g.S.Sink.fault_count c.args.output.now) (g.S.Sink.fault_count c.run_session.new.output)
+    (g.C.Source.fault_count c.args.input.now) (g.C.Source.fault_count c.run_session.new.input) (sym c.options_of.ensures.options ∙ c.in-Some.is) status cause
 
 pub returns-in-Ok-begin-clause-outcome : goal.returns-in-Ok-begin-clause-outcome
-returns-in-Ok-begin-clause-outcome g c = λ source files sink other.
-    let (finish, watch, now, status, machine, told, cause) = c.lines.ensures.ended in
-    session-answer g.F.Files.tells (texts_of c.args.words.now) c.in-Some.options _ c.in-Ok-begin.field-0.opening (g.F.Files.state c.args.files.now) (g.F.Files.state c.begin.new.files) (g.F.Files.state c.lines.new.files).files
-    (g.C.Source.left c.args.input.now) (g.C.Source.left c.lines.new.input) (g.S.Sink.written c.args.output.now) (g.S.Sink.written c.lines.new.output) finish watch now c.lines.result.status c.lines.result.machine
-    (notes_said c.lines.result.faults.items) (sym c.options_of.ensures.options ∙ c.in-Some.is) (begun g (goal.at.returns-in-Ok-begin-clause-outcome g c).After-lines-arg-in-Ok-begin-2-1) files cause.exit status machine other (told (told-input g (goal.at.returns-in-Ok-begin-clause-outcome g c).After-lines-arg-in-Ok-begin-2-1 source) files sink)
+returns-in-Ok-begin-clause-outcome g c = λ source files sink other whole first.
+    let (finish, watch, now, status, machine, told, cause) = c.run_session.ensures.ended in
+    let after = (goal.at.returns-in-Ok-begin-clause-outcome g c).After-run_session-arg-in-Ok-begin-2-1 in
+    session-answer g.F.Files.tells (texts_of c.args.words.now) c.in-Some.options _ c.in-Ok-begin.field-0.opening (g.F.Files.state c.args.files.now) (g.F.Files.state c.begin.new.files) (g.L.Lines.state c.args.lines.now) whole
+    (beyond (g.F.Files.state c.run_session.new.files).files (g.L.Lines.state c.run_session.new.lines) whole)
+    (g.C.Source.left c.args.input.now) (g.C.Source.left c.run_session.new.input) (g.S.Sink.written c.args.output.now) (g.S.Sink.written c.run_session.new.output) finish watch now c.run_session.result.status c.run_session.result.machine
+    (notes_said c.run_session.result.faults.items) (sym c.options_of.ensures.options ∙ c.in-Some.is) (begun g after) files cause.exit status machine other (told (told-input g after source) files sink whole first)
 
 pub returns-in-Ok-begin-clause-memory : goal.returns-in-Ok-begin-clause-memory
-returns-in-Ok-begin-clause-memory g c = λ source files sink memory.
-    let (finish, watch, now, status, machine, told, cause) = c.lines.ensures.ended in
-    memory-answer g.F.Files.tells (texts_of c.args.words.now) c.in-Some.options _ c.in-Ok-begin.field-0.opening (g.F.Files.state c.args.files.now) (g.F.Files.state c.begin.new.files) (g.F.Files.state c.lines.new.files).files
-    (g.C.Source.left c.args.input.now) (g.C.Source.left c.lines.new.input) (g.S.Sink.written c.args.output.now) (g.S.Sink.written c.lines.new.output) finish watch now c.lines.result.status c.lines.result.machine
-    (notes_said c.lines.result.faults.items) (sym c.options_of.ensures.options ∙ c.in-Some.is) (begun g (goal.at.returns-in-Ok-begin-clause-memory g c).After-lines-arg-in-Ok-begin-2-1) files cause.exit status machine memory (told (told-input g (goal.at.returns-in-Ok-begin-clause-memory g c).After-lines-arg-in-Ok-begin-2-1 source) files sink)
+returns-in-Ok-begin-clause-memory g c = λ source files sink memory whole first.
+    let (finish, watch, now, status, machine, told, cause) = c.run_session.ensures.ended in
+    let after = (goal.at.returns-in-Ok-begin-clause-memory g c).After-run_session-arg-in-Ok-begin-2-1 in
+    memory-answer g.F.Files.tells (texts_of c.args.words.now) c.in-Some.options _ c.in-Ok-begin.field-0.opening (g.F.Files.state c.args.files.now) (g.F.Files.state c.begin.new.files) (g.L.Lines.state c.args.lines.now) whole
+    (beyond (g.F.Files.state c.run_session.new.files).files (g.L.Lines.state c.run_session.new.lines) whole)
+    (g.C.Source.left c.args.input.now) (g.C.Source.left c.run_session.new.input) (g.S.Sink.written c.args.output.now) (g.S.Sink.written c.run_session.new.output) finish watch now c.run_session.result.status c.run_session.result.machine
+    (notes_said c.run_session.result.faults.items) (sym c.options_of.ensures.options ∙ c.in-Some.is) (begun g after) files cause.exit status machine memory (told (told-input g after source) files sink whole first)
 
 pub returns-in-Ok-begin-clause-notes : goal.returns-in-Ok-begin-clause-notes
 returns-in-Ok-begin-clause-notes g c =
-    kept-counted c.begin.new.notes.items c.lines.result.faults.items (g.F.Files.state c.args.files.now) (g.F.Files.state c.begin.new.files) (g.F.Files.state c.lines.new.files) c.begin.ensures.keeps
-    (subst (λ (s : CommandState). AreKept s.notes c.lines.result.faults.items (g.F.Files.state c.begin.new.files) (g.F.Files.state c.lines.new.files)) c.ready.ensures c.lines.ensures.keeps)
+    kept-counted c.begin.new.notes.items c.run_session.result.faults.items (g.F.Files.state c.args.files.now) (g.F.Files.state c.begin.new.files) (g.F.Files.state c.run_session.new.files) c.begin.ensures.keeps
+    (subst (λ (s : CommandState). AreKept s.notes c.run_session.result.faults.items (g.F.Files.state c.begin.new.files) (g.F.Files.state c.run_session.new.files)) c.ready.ensures c.run_session.ensures.keeps)
 
 pub returns-in-Ok-begin-clause-complete : goal.returns-in-Ok-begin-clause-complete
-returns-in-Ok-begin-clause-complete g c = λ source files sink other quiet fed none.
-    let (finish, watch, now, status, machine, told, cause) = c.lines.ensures.ended in
-    let old = g.F.Files.state c.args.files.now in
-    let new = g.F.Files.state c.lines.new.files in
-    let named = session-cause (texts_of c.args.words.now) c.in-Some.options finish c.lines.result.status (g.S.Sink.fault_count c.args.output.now) (g.S.Sink.fault_count c.lines.new.output)
-    (g.C.Source.fault_count c.args.input.now) (g.C.Source.fault_count c.lines.new.input) (sym c.options_of.ensures.options ∙ c.in-Some.is) status cause in
-    let ended = session-status (texts_of c.args.words.now) c.lines.result.status (g.S.Sink.fault_count c.args.output.now) (g.S.Sink.fault_count c.lines.new.output)
-    (g.C.Source.fault_count c.args.input.now) (g.C.Source.fault_count c.lines.new.input) named quiet fed in
-    complete-answer (texts_of c.args.words.now) (g.C.Source.left c.args.input.now) (g.C.Source.left c.lines.new.input) (g.S.Sink.written c.args.output.now) (g.S.Sink.written c.lines.new.output) old.files new.files
-    c.lines.result.status c.lines.result.machine c.lines.result.faults.items old new ended (returns-in-Ok-begin-clause-notes g c) none (returns-in-Ok-begin-clause-outcome g c source files sink other)
+returns-in-Ok-begin-clause-complete g c = λ source files sink other quiet fed none whole first.
+    let (finish, watch, now, status, machine, told, cause) = c.run_session.ensures.ended in
+    let was = g.F.Files.state c.args.files.now in
+    let left = g.F.Files.state c.run_session.new.files in
+    let named = session-cause (texts_of c.args.words.now) c.in-Some.options finish c.run_session.result.status (g.S.Sink.fault_count c.args.output.now) (g.S.Sink.fault_count c.run_session.new.output)
+    (g.C.Source.fault_count c.args.input.now) (g.C.Source.fault_count c.run_session.new.input) (sym c.options_of.ensures.options ∙ c.in-Some.is) status cause in
+    let ended = session-status (texts_of c.args.words.now) c.run_session.result.status (g.S.Sink.fault_count c.args.output.now) (g.S.Sink.fault_count c.run_session.new.output)
+    (g.C.Source.fault_count c.args.input.now) (g.C.Source.fault_count c.run_session.new.input) named quiet fed in
+    complete-answer (texts_of c.args.words.now) (g.C.Source.left c.args.input.now) (g.C.Source.left c.run_session.new.input) (g.S.Sink.written c.args.output.now) (g.S.Sink.written c.run_session.new.output)
+    (beyond was.files (g.L.Lines.state c.args.lines.now) whole) (beyond left.files (g.L.Lines.state c.run_session.new.lines) whole)
+    c.run_session.result.status c.run_session.result.machine c.run_session.result.faults.items was left ended (returns-in-Ok-begin-clause-notes g c) none
+    (returns-in-Ok-begin-clause-outcome g c source files sink other whole first)
 
 -- ---- a disk that kept its file
 
@@ -163,8 +184,8 @@ returns-in-Err-clause-unwritten g c = λ is.
 
 pub returns-in-Ok-begin-clause-unwritten : goal.returns-in-Ok-begin-clause-unwritten
 returns-in-Ok-begin-clause-unwritten g c = λ is.
-    unwritten-whole c.lines.result.machine c.lines.result.faults.items _ _ (g.F.Files.state c.args.files.now) (g.F.Files.state c.begin.new.files) (g.F.Files.state c.lines.new.files) c.begin.ensures.keeps
-    (c.lines.ensures.unwritten is)
+    unwritten-whole c.run_session.result.machine c.run_session.result.faults.items _ _ (g.F.Files.state c.args.files.now) (g.F.Files.state c.begin.new.files) (g.F.Files.state c.run_session.new.files) c.begin.ensures.keeps
+    (c.run_session.ensures.unwritten is)
 
 -- ---- a workload, which leaves the input unread
 
@@ -173,7 +194,7 @@ returns-in_default-clause-workload g c = λ given. refl
 
 pub returns-in-Ok-begin-clause-workload : goal.returns-in-Ok-begin-clause-workload
 returns-in-Ok-begin-clause-workload g c = λ given.
-    c.lines.ensures.unread (c.in-Ok-begin.ensures.opens.reads ∙ workload-given (texts_of c.args.words.now) c.in-Some.options (sym c.options_of.ensures.options ∙ c.in-Some.is) given)
+    c.run_session.ensures.unread (c.in-Ok-begin.ensures.opens.reads ∙ workload-given (texts_of c.args.words.now) c.in-Some.options (sym c.options_of.ensures.options ∙ c.in-Some.is) given)
 
 -- ---- the files that the notes name
 
@@ -193,14 +214,14 @@ pub returns-in-Ok-begin-clause-whose : goal.returns-in-Ok-begin-clause-whose
 returns-in-Ok-begin-clause-whose g c =
     let old = g.F.Files.state c.args.files.now in
     let mid = g.F.Files.state c.begin.new.files in
-    let new = g.F.Files.state c.lines.new.files in
-    let (slots, own) = c.lines.ensures.whose in
-    let empty : c.ready.result.machine.slots ≡ no_files = unattached g (goal.at.returns-in-Ok-begin-clause-whose g c).After-lines-arg-in-Ok-begin-2-1 in
+    let new = g.F.Files.state c.run_session.new.files in
+    let (slots, own) = c.run_session.ensures.whose in
+    let empty : c.ready.result.machine.slots ≡ no_files = unattached g (goal.at.returns-in-Ok-begin-clause-whose g c).After-run_session-arg-in-Ok-begin-2-1 in
     let notes = ap (λ (s : CommandState). s.notes) c.ready.ensures in
-    let from = subst (λ (l : List (Option Held)). AreOwn l slots c.ready.result.notes c.lines.result.faults.items mid new) empty own in
-    let behind = subst (λ (l : List FaultNote). AreOwn no_files slots l c.lines.result.faults.items mid new) notes from in
-    all-own no_files slots c.lines.result.faults.items old new
-    (own-both no_files no_files slots [] c.begin.new.notes.items c.lines.result.faults.items old mid new c.begin.ensures.whose behind)
+    let from = subst (λ (l : List (Option Held)). AreOwn l slots c.ready.result.notes c.run_session.result.faults.items mid new) empty own in
+    let behind = subst (λ (l : List FaultNote). AreOwn no_files slots l c.run_session.result.faults.items mid new) notes from in
+    all-own no_files slots c.run_session.result.faults.items old new
+    (own-both no_files no_files slots [] c.begin.new.notes.items c.run_session.result.faults.items old mid new c.begin.ensures.whose behind)
 
 -- ---- a file of the words that was not read
 
@@ -224,11 +245,11 @@ returns-in-Err-clause-measured g c = λ is.
 
 pub returns-in-Ok-begin-clause-unopened : goal.returns-in-Ok-begin-clause-unopened
 returns-in-Ok-begin-clause-unopened g c = λ is.
-    let (finish, watch, now, status, machine, told, cause) = c.lines.ensures.ended in
-    absurd (session-opened finish (g.S.Sink.fault_count c.args.output.now) (g.S.Sink.fault_count c.lines.new.output) (g.C.Source.fault_count c.args.input.now) (g.C.Source.fault_count c.lines.new.input)
+    let (finish, watch, now, status, machine, told, cause) = c.run_session.ensures.ended in
+    absurd (session-opened finish (g.S.Sink.fault_count c.args.output.now) (g.S.Sink.fault_count c.run_session.new.output) (g.C.Source.fault_count c.args.input.now) (g.C.Source.fault_count c.run_session.new.input)
     cause (sym status ∙ is))
 
 pub returns-in-Ok-begin-clause-measured : goal.returns-in-Ok-begin-clause-measured
 returns-in-Ok-begin-clause-measured g c = λ is.
-    session-measured g.F.Files.tells (texts_of c.args.words.now) c.in-Some.options c.lines.result.machine (g.F.Files.state c.args.files.now) (g.F.Files.state c.lines.new.files)
+    session-measured g.F.Files.tells (texts_of c.args.words.now) c.in-Some.options c.run_session.result.machine (g.F.Files.state c.args.files.now) (g.F.Files.state c.run_session.new.files)
     (sym c.options_of.ensures.options ∙ c.in-Some.is) c.in-Ok-begin.ensures.unread

@@ -1,6 +1,7 @@
-use Rattle.std.proofs.Common.{List, Ok, subst, ap, sym, ◌∙◌}
+use Rattle.std.proofs.Common.{List, Ok, refl, subst, ap, sym, ◌∙◌}
 use Rattle.scp_commands.specs.declared.next.Next.{Next}
 use Rattle.scp_commands.specs.Doing.{Does}
+use Rattle.nova_machine.specs.Comes.{output}
 use Rattle.scp_script.specs.Scripts.{Script, label_in, jumped_to}
 use Rattle.scp_script.specs.Actions.{texts_of}
 use Rattle.scp_script.specs.Loop.{coming}
@@ -8,20 +9,20 @@ use Rattle.scp_script.proofs.TextLemmas.{refused_texts, ran-followed, label-deni
 use Rattle.scp_script.proofs.answers.follow.Goals as goal
 
 pub returns-in-Ran-clause-told : goal.returns-in-Ran-clause-told
-returns-in-Ran-clause-told g c = λ reply at before watched room does.
+returns-in-Ran-clause-told g c = λ heard reply at before watched room does.
     let tells = g.S.Sink.tells in
-    let mid = g.S.Sink.written c.args.out.now in
-    ran-followed (coming c.args.texts.now) (Ok c.args.command.now) reply c.in-Ran.stop c.args.watch.now c.act_on.result (coming c.act_on.new.texts) at tells before mid (g.S.Sink.written c.act_on.new.out) watched
-    c.act_on.ensures.texts c.act_on.ensures.told (subst (λ (n : Next). Does reply (Ok n) at tells before mid) c.in-Ran.is does)
+    let mid = output (g.S.Sink.written c.args.out.now) heard in
+    ran-followed (coming c.args.texts.now) (Ok c.args.command.now) reply c.in-Ran.stop c.args.watch.now c.act_on.result (coming c.act_on.new.texts) at tells before mid (output (g.S.Sink.written c.act_on.new.out) heard) watched
+    c.act_on.ensures.texts refl c.act_on.ensures.told (subst (λ (n : Next). Does reply (Ok n) at tells before mid) c.in-Ran.is does)
 
 pub returns-in-Goto-clause-told : goal.returns-in-Goto-clause-told
-returns-in-Goto-clause-told g c = λ reply at before watched room does.
+returns-in-Goto-clause-told g c = λ heard reply at before watched room does.
     let texts = coming c.args.texts.now in
     let tells = g.S.Sink.tells in
-    let mid = g.S.Sink.written c.args.out.now in
+    let mid = output (g.S.Sink.written c.args.out.now) heard in
     let found = ap (λ l. label_in l texts.scripts) (sym c.label_of.ensures) ∙ c.in-Err.ensures.found in
     let same = c.in-Err.ensures.jumps ∙ ap (λ f. jumped_to f texts.scripts) c.in-Err.ensures.found in
-    label-denied texts (Ok c.args.command.now) reply c.in-Err.fault c.refuse.result (coming c.refuse.new.texts) at tells before mid (g.S.Sink.written c.refuse.new.out)
+    label-denied texts (Ok c.args.command.now) reply c.in-Err.fault c.refuse.result (coming c.refuse.new.texts) at tells before mid (output (g.S.Sink.written c.refuse.new.out) heard)
     (g.S.Sink.fault_count c.args.out.now) (g.S.Sink.fault_count c.refuse.new.out) found
-    (c.refuse.ensures.texts ∙ ap (λ (l : List Script). refused_texts c.in-Err.fault (texts_of texts.actions l)) same)
+    (c.refuse.ensures.texts ∙ ap (λ (l : List Script). refused_texts c.in-Err.fault (texts_of texts.actions l)) same) refl
     (subst (λ (n : Next). Does reply (Ok n) at tells before mid) c.in-Goto.is does) c.refuse.ensures.told

@@ -1,6 +1,9 @@
 use Rattle.std.proofs.Common.{◌≡◌, ◌<◌, ◌-◌, ℕ, List, [], ◌∷◌, refl, ap, sym, ◌∙◌, subst, arith, drop, take, ◌++◌}
 use Rattle.file_commands.specs.Notes.{Note, notes_said}
-use Rattle.scp_commands.specs.Live.{CommandState, live_in}
+use Rattle.nova_machine.specs.Comes.{output}
+use Rattle.nova_machine.specs.LineChanges.{AreLinesTold, LinesGoOn}
+use Rattle.scp_commands.specs.Live.{CommandState, live_in, beyond}
+use Rattle.scp_commands.proofs.ObeyLemmas.{lines-kept}
 use Rattle.scp_commands.specs.Effect.{asked}
 use Rattle.scp_script.specs.declared.progress.CommandLoop.{CommandLoop}
 use Rattle.scp_script.specs.declared.progress.Progress.TheVariants.{IsOver}
@@ -14,14 +17,15 @@ use Rattle.scp_script.proofs.NoteLemmas.{has-first, action-text, action-there, a
 use Rattle.scp_script.proofs.command_loop.action.Goals as goal
 
 pub returns-then-not-pay-clause-told : goal.returns-then-not-pay-clause-told
-returns-then-not-pay-clause-told g c = λ enough files sink input.
+returns-then-not-pay-clause-told g c = λ enough files known sink whole begins input.
     let session = c.args.session.now in
     let paid = c.pay.new.session in
     let now_state = record session { command = paid.command } in
-    let named = (g.F.Files.state c.args.files.now).files in
+    let ports = g.L.Lines.state c.args.ports.now in
+    let named = beyond (g.F.Files.state c.args.files.now).files ports whole in
     let lines = c.args.lines.now in
     let now = c.pay.new.lines in
-    let before = g.S.Sink.written c.args.out.now in
+    let before = output (g.S.Sink.written c.args.out.now) ports.sent in
     let reader = ap (λ (x : CommandLoop). x.reader.open_) c.pay.ensures.lines in
     let unpaid = c.pay.ensures.unpaid c.if-not-pay.true in
     let first = has-first lines.texts.actions c.requires.some in
@@ -33,21 +37,23 @@ returns-then-not-pay-clause-told g c = λ enough files sink input.
     (same-read lines.reader.open_ now.reader.open_ input input reader refl) refl))
 
 pub returns-in-Some-clause-told : goal.returns-in-Some-clause-told
-returns-in-Some-clause-told g c = λ enough files sink input.
+returns-in-Some-clause-told g c = λ enough files known sink whole begins input.
     let session = c.args.session.now in
     let paid = c.pay.new.session in
-    let named = (g.F.Files.state c.args.files.now).files in
+    let ports = g.L.Lines.state c.args.ports.now in
+    let ports' = g.L.Lines.state c.answer.new.ports in
+    let named = beyond (g.F.Files.state c.args.files.now).files ports whole in
     let lines = c.args.lines.now in
     let now = c.pay.new.lines in
-    let before = g.S.Sink.written c.args.out.now in
-    let after = g.S.Sink.written c.answer.new.out in
+    let before = output (g.S.Sink.written c.args.out.now) ports.sent in
+    let after = output (g.S.Sink.written c.answer.new.out) ports'.sent in
     let paid_for = c.pay.ensures.paid c.if-not-pay.false in
     let budget : now.budget ≡ lines.budget - 1 = paid_for.1 in
     let done = c.answer.new.session in
     let last = record now { texts = c.answer.new.texts } in
     let tells = g.S.Sink.tells in
     let result = c.answer.result in
-    let live = live_in done (g.F.Files.state c.answer.new.files).files in
+    let live = live_in done (beyond (g.F.Files.state c.answer.new.files).files ports' whole) in
     let is = c.pay.ensures.rest in
     let first = has-first lines.texts.actions c.requires.some in
     let there : now.texts.actions ≡ first.action ∷ first.others = ap (λ (x : CommandLoop). x.texts.actions) c.pay.ensures.lines ∙ first.is in
@@ -61,13 +67,13 @@ returns-in-Some-clause-told g c = λ enough files sink input.
     let told = subst (λ (x : CommandState). Answers x.limit (live_in x named) (texts_of first.others lines.texts.scripts) what done.command result live (coming c.answer.new.texts) tells before after (notes_said x.notes) (notes_said done.notes)) is
     (subst (λ (t : Texts). Answers paid.limit (live_in paid named) t what done.command result live (coming c.answer.new.texts) tells before after (notes_said paid.notes) (notes_said done.notes)) left
     (subst (λ n. Answers paid.limit (live_in paid named) (texts_of c.take.new.self now.texts.scripts) what n result live (coming c.answer.new.texts) tells before after (notes_said paid.notes) (notes_said done.notes)) (sym c.answer.ensures.command)
-    (c.answer.ensures.told files))) in
+    (c.answer.ensures.told files (subst (λ (x : CommandState). AreLinesTold g.L.Lines.tells ports x.machine.lines) (sym is) known) whole begins))) in
     let short = λ (own : List Note) (e : notes_said done.notes ≡ notes_said session.notes ++ own).
     subst (λ (x : CommandState). IsShort what done.command result (live_in x named) live own before after) is
     (subst (λ n. IsShort what n result (live_in paid named) live own before after) (sym c.answer.ensures.command)
-    (c.answer.ensures.short files own (e ∙ ap (λ (x : CommandState). notes_said x.notes ++ own) (sym is)))) in
+    (c.answer.ensures.short files whole own (e ∙ ap (λ (x : CommandState). notes_said x.notes ++ own) (sym is)))) in
     let limit = c.answer.ensures.limit ∙ ap (λ (x : CommandState). x.limit) is in
-    action-stepped (session_of session named lines input []) (session_of done (g.F.Files.state c.answer.new.files).files last input []) first.action first.others what result tells before after
+    action-stepped (session_of session named lines input []) (session_of done (beyond (g.F.Files.state c.answer.new.files).files ports' whole) last input []) first.action first.others what result tells before after
     (notes_said session.notes) (notes_said done.notes) sink first.is paid_for.0 (ap asked (sym text))
     (record {
       spent = spent;
@@ -85,6 +91,21 @@ returns-in-Some-clause-kept g c =
 
 -- an action is there
 pub returns-in-None-clause-told : goal.returns-in-None-clause-told
-returns-in-None-clause-told g c = λ enough files sink input.
+returns-in-None-clause-told g c = λ enough files known sink whole begins input.
     let first = has-first c.args.lines.now.texts.actions c.requires.some in
     absurd (action-there c.pay.new.lines.texts.actions first.action first.others (ap (λ (x : CommandLoop). x.texts.actions) c.pay.ensures.lines ∙ first.is) (sym c.in-None.is ∙ c.take.ensures.count))
+
+pub returns-then-not-pay-clause-ports : goal.returns-then-not-pay-clause-ports
+returns-then-not-pay-clause-ports g c =
+    lines-kept g.L.Lines.tells (g.L.Lines.state c.args.ports.now) c.args.session.now.machine.lines c.pay.new.session.machine.lines
+    (ap (λ (x : CommandState). x.machine.lines) c.pay.ensures.rest)
+
+pub returns-in-Some-clause-ports : goal.returns-in-Some-clause-ports
+returns-in-Some-clause-ports g c =
+    subst (λ (x : CommandState). LinesGoOn g.L.Lines.tells (g.L.Lines.state c.args.ports.now) x.machine.lines (g.L.Lines.state c.answer.new.ports) c.answer.new.session.machine.lines)
+    c.pay.ensures.rest c.answer.ensures.lines
+
+pub returns-in-None-clause-ports : goal.returns-in-None-clause-ports
+returns-in-None-clause-ports g c =
+    lines-kept g.L.Lines.tells (g.L.Lines.state c.args.ports.now) c.args.session.now.machine.lines c.pay.new.session.machine.lines
+    (ap (λ (x : CommandState). x.machine.lines) c.pay.ensures.rest)

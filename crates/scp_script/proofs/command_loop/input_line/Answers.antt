@@ -3,7 +3,10 @@ use Rattle.unit_files.specs.Open.{Around}
 use Rattle.file_commands.specs.Notes.{Note, notes_said}
 use Rattle.scp_parser.specs.declared.fault.ParseFault.TheVariants.{TooLong}
 use Rattle.scp_commands.specs.declared.fault.CommandFault.TheVariants.{Parse}
-use Rattle.scp_commands.specs.Live.{CommandState, live_in}
+use Rattle.nova_machine.specs.Comes.{output}
+use Rattle.nova_machine.specs.LineChanges.{AreLinesTold, LinesGoOn}
+use Rattle.scp_commands.specs.Live.{CommandState, live_in, beyond}
+use Rattle.scp_commands.proofs.ObeyLemmas.{lines-kept}
 use Rattle.scp_commands.specs.Doing.{Closes}
 use Rattle.scp_commands.specs.Effect.{asked}
 use Rattle.scp_commands.proofs.AskedLemmas.{long-asked}
@@ -18,33 +21,36 @@ use Rattle.scp_script.proofs.NoteLemmas.{line-stepped, over-alone, input-closed,
 use Rattle.scp_script.proofs.command_loop.input_line.Goals as goal
 
 pub returns-in-Err-clause-told : goal.returns-in-Err-clause-told
-returns-in-Err-clause-told g c = λ enough source files sink.
+returns-in-Err-clause-told g c = λ enough source files known sink whole begins.
     let session = c.args.session.now in
     let input = g.C.Source.left c.args.input.now in
-    let before = g.S.Sink.written c.args.out.now in
-    let after = g.S.Sink.written c.ask.new.out in
-    let old = session_of session (g.F.Files.state c.args.files.now).files c.args.lines.now input [] in
+    let ports = g.L.Lines.state c.args.ports.now in
+    let before = output (g.S.Sink.written c.args.out.now) ports.sent in
+    let after = output (g.S.Sink.written c.ask.new.out) ports.sent in
+    let old = session_of session (beyond (g.F.Files.state c.args.files.now).files ports whole) c.args.lines.now input [] in
     over-alone old old Console before after (notes_said session.notes) (notes_said session.notes) refl
-    (prompt-refused old old before after (λ i. texts_of (c.requires.actions i) (c.requires.scripts i)) c.requires.reads refl (none-read c.args.lines.now.reader.open_ input) (c.in-Err.ensures.told sink))
+    (prompt-refused old old before after (λ i. texts_of (c.requires.actions i) (c.requires.scripts i)) c.requires.reads refl (none-read c.args.lines.now.reader.open_ input) (c.in-Err.ensures.told sink) refl)
 
 pub returns-in-Line-clause-told : goal.returns-in-Line-clause-told
-returns-in-Line-clause-told g c = λ enough source files sink.
+returns-in-Line-clause-told g c = λ enough source files known sink whole begins.
     let session = c.args.session.now in
     let paid = c.read_paid.new.session in
-    let named = (g.F.Files.state c.args.files.now).files in
+    let ports = g.L.Lines.state c.args.ports.now in
+    let ports' = g.L.Lines.state c.answer.new.ports in
+    let named = beyond (g.F.Files.state c.args.files.now).files ports whole in
     let lines = c.args.lines.now in
     let now = c.read_paid.new.lines in
     let input = g.C.Source.left c.args.input.now in
     let left = g.C.Source.left c.read_paid.new.input in
-    let before = g.S.Sink.written c.args.out.now in
-    let mid = g.S.Sink.written c.ask.new.out in
-    let after = g.S.Sink.written c.answer.new.out in
+    let before = output (g.S.Sink.written c.args.out.now) ports.sent in
+    let mid = output (g.S.Sink.written c.ask.new.out) ports.sent in
+    let after = output (g.S.Sink.written c.answer.new.out) ports'.sent in
     let done = c.answer.new.session in
     let last = record now { texts = c.answer.new.texts } in
     let tells = g.S.Sink.tells in
     let result = c.answer.result in
     let what = asked c.line.result.now in
-    let live = live_in done (g.F.Files.state c.answer.new.files).files in
+    let live = live_in done (beyond (g.F.Files.state c.answer.new.files).files ports' whole) in
     let is = c.read_paid.ensures.rest in
     let none = (λ i. coming (c.read_paid.ensures.texts i)) ∙ (λ i. texts_of (c.requires.actions i) (c.requires.scripts i)) in
     let reads = c.in-Line.ensures.reads source in
@@ -53,33 +59,34 @@ returns-in-Line-clause-told g c = λ enough source files sink.
     let told = subst (λ (x : CommandState). Answers x.limit (live_in x named) (texts_of [] []) what done.command result live (coming c.answer.new.texts) tells mid after (notes_said x.notes) (notes_said done.notes)) is
     (subst (λ (t : Texts). Answers paid.limit (live_in paid named) t what done.command result live (coming c.answer.new.texts) tells mid after (notes_said paid.notes) (notes_said done.notes)) none
     (subst (λ n. Answers paid.limit (live_in paid named) (coming now.texts) what n result live (coming c.answer.new.texts) tells mid after (notes_said paid.notes) (notes_said done.notes)) (sym c.answer.ensures.command)
-    (c.answer.ensures.told files))) in
+    (c.answer.ensures.told files (subst (λ (x : CommandState). AreLinesTold g.L.Lines.tells ports x.machine.lines) (sym is) known) whole begins))) in
     let short = λ (own : List Note) (e : notes_said done.notes ≡ notes_said session.notes ++ own).
     subst (λ (x : CommandState). IsShort what done.command result (live_in x named) live own mid after) is
     (subst (λ n. IsShort what n result (live_in paid named) live own mid after) (sym c.answer.ensures.command)
-    (c.answer.ensures.short files own (e ∙ ap (λ (x : CommandState). notes_said x.notes ++ own) (sym is)))) in
+    (c.answer.ensures.short files whole own (e ∙ ap (λ (x : CommandState). notes_said x.notes ++ own) (sym is)))) in
     let limit = c.answer.ensures.limit ∙ ap (λ (x : CommandState). x.limit) is in
-    line-stepped (session_of session named lines input []) (session_of done (g.F.Files.state c.answer.new.files).files last left []) now.reader.line what result tells before mid after
+    line-stepped (session_of session named lines input []) (session_of done (beyond (g.F.Files.state c.answer.new.files).files ports' whole) last left []) now.reader.line what result tells before mid after
     (notes_said session.notes) (notes_said done.notes) sink (λ i. texts_of (c.requires.actions i) (c.requires.scripts i)) c.requires.reads reads.0 (ap asked (sym c.line.ensures))
     (record { spent = c.answer.ensures.command ∙ spent; limit = limit; budget = reads.1; open_ = reads.2; reading = c.read_paid.ensures.reading; prompt = c.read_paid.ensures.prompt; reads = reads.3 }) less
-    (c.in-Ok.ensures.told sink) told short
+    (c.in-Ok.ensures.told sink) refl told short
 
 pub returns-in-Line-clause-around : goal.returns-in-Line-clause-around
 returns-in-Line-clause-around g c = λ base around.
     c.answer.ensures.around base (subst (λ (x : CommandState). Around x.machine.slots base (g.F.Files.state c.args.files.now).opened) (sym c.read_paid.ensures.rest) around)
 
 pub returns-in-TooLong-clause-told : goal.returns-in-TooLong-clause-told
-returns-in-TooLong-clause-told g c = λ enough source files sink.
+returns-in-TooLong-clause-told g c = λ enough source files known sink whole begins.
     let session = c.args.session.now in
     let paid = c.read_paid.new.session in
-    let named = (g.F.Files.state c.args.files.now).files in
+    let ports = g.L.Lines.state c.args.ports.now in
+    let named = beyond (g.F.Files.state c.args.files.now).files ports whole in
     let lines = c.args.lines.now in
     let now = c.read_paid.new.lines in
     let input = g.C.Source.left c.args.input.now in
     let left = g.C.Source.left c.read_paid.new.input in
-    let before = g.S.Sink.written c.args.out.now in
-    let mid = g.S.Sink.written c.ask.new.out in
-    let after = g.S.Sink.written c.deny_line.new.out in
+    let before = output (g.S.Sink.written c.args.out.now) ports.sent in
+    let mid = output (g.S.Sink.written c.ask.new.out) ports.sent in
+    let after = output (g.S.Sink.written c.deny_line.new.out) ports.sent in
     let last = record now { texts = c.deny_line.new.texts } in
     let tells = g.S.Sink.tells in
     let result = c.deny_line.result in
@@ -93,7 +100,7 @@ returns-in-TooLong-clause-told g c = λ enough source files sink.
     let spent = spent-line session.command paid.command lines.budget now.budget lines.reader.open_ input reads.0 reads.1 reads.3 c.read_paid.ensures.command in
     let less : session.command < paid.command = omega (arith, c.read_paid.ensures.command, c.in-TooLong.ensures.pays, enough) in
     let said = answers-none paid.limit (live_in paid named) (coming now.texts) what paid.command result (coming c.deny_line.new.texts) tells mid after (notes_said paid.notes)
-    (λ notes. c.deny_line.ensures.told named notes what (ap (checked now.texts.scripts) long)) in
+    (λ notes. c.deny_line.ensures.told named ports.sent notes what (ap (checked now.texts.scripts) long)) in
     let told = subst (λ (x : CommandState). Answers x.limit (live_in x named) (texts_of [] []) what paid.command result (live_in x named) (coming c.deny_line.new.texts) tells mid after (notes_said x.notes) (notes_said x.notes)) is
     (subst (λ (t : Texts). Answers paid.limit (live_in paid named) t what paid.command result (live_in paid named) (coming c.deny_line.new.texts) tells mid after (notes_said paid.notes) (notes_said paid.notes)) none said) in
     let short = λ (own : List Note) (e : notes_said session.notes ≡ notes_said session.notes ++ own). never-short what paid.command result live live own mid after c.deny_line.ensures.memory in
@@ -104,58 +111,61 @@ returns-in-TooLong-clause-told g c = λ enough source files sink.
     (c.in-Ok.ensures.told sink) told short)
 
 pub returns-in-Ok-detach_files-clause-told : goal.returns-in-Ok-detach_files-clause-told
-returns-in-Ok-detach_files-clause-told g c = λ enough source files sink.
+returns-in-Ok-detach_files-clause-told g c = λ enough source files known sink whole begins.
     let session = c.args.session.now in
     let paid = c.read_paid.new.session in
-    let named = (g.F.Files.state c.args.files.now).files in
+    let ports = g.L.Lines.state c.args.ports.now in
+    let named = beyond (g.F.Files.state c.args.files.now).files ports whole in
     let lines = c.args.lines.now in
     let now = c.read_paid.new.lines in
     let input = g.C.Source.left c.args.input.now in
     let left = g.C.Source.left c.read_paid.new.input in
-    let before = g.S.Sink.written c.args.out.now in
-    let after = g.S.Sink.written c.ask.new.out in
+    let before = output (g.S.Sink.written c.args.out.now) ports.sent in
+    let after = output (g.S.Sink.written c.ask.new.out) ports.sent in
     let done = c.detach_files.new.self in
     let is = c.read_paid.ensures.rest in
     let reads = c.in-End.ensures.reads source in
     let same : paid.command ≡ session.command = omega (arith, c.read_paid.ensures.command, reads.1) in
-    let now_live = live_in done (g.F.Files.state c.detach_files.new.files).files in
+    let now_live = live_in done (beyond (g.F.Files.state c.detach_files.new.files).files ports whole) in
     let closes = subst (λ n. Closes n (live_in session named) now_live None (notes_said session.notes) (notes_said done.notes)) same
-    (subst (λ (x : CommandState). Closes x.command (live_in x named) now_live None (notes_said x.notes) (notes_said done.notes)) is c.in-Ok-detach_files.ensures.closes) in
-    input-closed (session_of session named lines input []) (session_of done (g.F.Files.state c.detach_files.new.files).files now left []) None before after
-    (notes_said session.notes) (notes_said done.notes) (λ i. texts_of (c.requires.actions i) (c.requires.scripts i)) c.requires.reads reads.0 closes reads.2 (c.in-Ok.ensures.told sink)
+    (subst (λ (x : CommandState). Closes x.command (live_in x named) now_live None (notes_said x.notes) (notes_said done.notes)) is (c.in-Ok-detach_files.ensures.closes ports whole)) in
+    input-closed (session_of session named lines input []) (session_of done (beyond (g.F.Files.state c.detach_files.new.files).files ports whole) now left []) None before after
+    (notes_said session.notes) (notes_said done.notes) (λ i. texts_of (c.requires.actions i) (c.requires.scripts i)) c.requires.reads reads.0 closes reads.2 (c.in-Ok.ensures.told sink) refl
 
 pub returns-in-Err-detach_files-clause-told : goal.returns-in-Err-detach_files-clause-told
-returns-in-Err-detach_files-clause-told g c = λ enough source files sink.
+returns-in-Err-detach_files-clause-told g c = λ enough source files known sink whole begins.
     let session = c.args.session.now in
     let paid = c.read_paid.new.session in
-    let named = (g.F.Files.state c.args.files.now).files in
+    let ports = g.L.Lines.state c.args.ports.now in
+    let named = beyond (g.F.Files.state c.args.files.now).files ports whole in
     let lines = c.args.lines.now in
     let now = c.read_paid.new.lines in
     let input = g.C.Source.left c.args.input.now in
     let left = g.C.Source.left c.read_paid.new.input in
-    let before = g.S.Sink.written c.args.out.now in
-    let after = g.S.Sink.written c.ask.new.out in
+    let before = output (g.S.Sink.written c.args.out.now) ports.sent in
+    let after = output (g.S.Sink.written c.ask.new.out) ports.sent in
     let done = c.detach_files.new.self in
     let is = c.read_paid.ensures.rest in
     let reads = c.in-End.ensures.reads source in
     let same : paid.command ≡ session.command = omega (arith, c.read_paid.ensures.command, reads.1) in
-    let now_live = live_in done (g.F.Files.state c.detach_files.new.files).files in
+    let now_live = live_in done (beyond (g.F.Files.state c.detach_files.new.files).files ports whole) in
     let closes = subst (λ n. Closes n (live_in session named) now_live (Some c.in-Err-detach_files._fault.unit) (notes_said session.notes) (notes_said done.notes)) same
-    (subst (λ (x : CommandState). Closes x.command (live_in x named) now_live (Some c.in-Err-detach_files._fault.unit) (notes_said x.notes) (notes_said done.notes)) is c.in-Err-detach_files.ensures.closes) in
-    input-closed (session_of session named lines input []) (session_of done (g.F.Files.state c.detach_files.new.files).files now left []) (Some c.in-Err-detach_files._fault.unit) before after
-    (notes_said session.notes) (notes_said done.notes) (λ i. texts_of (c.requires.actions i) (c.requires.scripts i)) c.requires.reads reads.0 closes reads.2 (c.in-Ok.ensures.told sink)
+    (subst (λ (x : CommandState). Closes x.command (live_in x named) now_live (Some c.in-Err-detach_files._fault.unit) (notes_said x.notes) (notes_said done.notes)) is (c.in-Err-detach_files.ensures.closes ports whole)) in
+    input-closed (session_of session named lines input []) (session_of done (beyond (g.F.Files.state c.detach_files.new.files).files ports whole) now left []) (Some c.in-Err-detach_files._fault.unit) before after
+    (notes_said session.notes) (notes_said done.notes) (λ i. texts_of (c.requires.actions i) (c.requires.scripts i)) c.requires.reads reads.0 closes reads.2 (c.in-Ok.ensures.told sink) refl
 
 pub returns-in-Unpaid-clause-told : goal.returns-in-Unpaid-clause-told
-returns-in-Unpaid-clause-told g c = λ enough source files sink.
+returns-in-Unpaid-clause-told g c = λ enough source files known sink whole begins.
     let session = c.args.session.now in
     let paid = c.read_paid.new.session in
-    let named = (g.F.Files.state c.args.files.now).files in
+    let ports = g.L.Lines.state c.args.ports.now in
+    let named = beyond (g.F.Files.state c.args.files.now).files ports whole in
     let lines = c.args.lines.now in
     let now = c.read_paid.new.lines in
     let input = g.C.Source.left c.args.input.now in
     let left = g.C.Source.left c.read_paid.new.input in
-    let before = g.S.Sink.written c.args.out.now in
-    let after = g.S.Sink.written c.ask.new.out in
+    let before = output (g.S.Sink.written c.args.out.now) ports.sent in
+    let after = output (g.S.Sink.written c.ask.new.out) ports.sent in
     let is = c.read_paid.ensures.rest in
     let reads = c.in-Unpaid.ensures.reads source in
     let now_state = record session { command = paid.command } in
@@ -163,19 +173,20 @@ returns-in-Unpaid-clause-told g c = λ enough source files sink.
     let new = session_of now_state named now left [] in
     left-at session paid now_state named lines now input left (IsOver Commands) before after is
     (over-alone old new Commands before after (notes_said session.notes) (notes_said session.notes) refl
-    (budget-spent old new before after (λ i. texts_of (c.requires.actions i) (c.requires.scripts i)) c.requires.reads reads.0 refl reads.1 (c.in-Ok.ensures.told sink)))
+    (budget-spent old new before after (λ i. texts_of (c.requires.actions i) (c.requires.scripts i)) c.requires.reads reads.0 refl reads.1 (c.in-Ok.ensures.told sink) refl))
 
 pub returns-in-Failed-clause-told : goal.returns-in-Failed-clause-told
-returns-in-Failed-clause-told g c = λ enough source files sink.
+returns-in-Failed-clause-told g c = λ enough source files known sink whole begins.
     let session = c.args.session.now in
     let paid = c.read_paid.new.session in
-    let named = (g.F.Files.state c.args.files.now).files in
+    let ports = g.L.Lines.state c.args.ports.now in
+    let named = beyond (g.F.Files.state c.args.files.now).files ports whole in
     let lines = c.args.lines.now in
     let now = c.read_paid.new.lines in
     let input = g.C.Source.left c.args.input.now in
     let left = g.C.Source.left c.read_paid.new.input in
-    let before = g.S.Sink.written c.args.out.now in
-    let after = g.S.Sink.written c.ask.new.out in
+    let before = output (g.S.Sink.written c.args.out.now) ports.sent in
+    let after = output (g.S.Sink.written c.ask.new.out) ports.sent in
     let is = c.read_paid.ensures.rest in
     let reads = c.in-Failed.ensures.reads source in
     let now_state = record session { command = paid.command } in
@@ -183,7 +194,7 @@ returns-in-Failed-clause-told g c = λ enough source files sink.
     let new = session_of now_state named now left [] in
     left-at session paid now_state named lines now input left (IsOver Input) before after is
     (over-alone old new Input before after (notes_said session.notes) (notes_said session.notes) refl
-    (input-failed old new before after reads.0 (λ i. texts_of (c.requires.actions i) (c.requires.scripts i)) c.requires.reads reads.1 refl reads.2 (c.in-Ok.ensures.told sink)))
+    (input-failed old new before after reads.0 (λ i. texts_of (c.requires.actions i) (c.requires.scripts i)) c.requires.reads reads.1 refl reads.2 (c.in-Ok.ensures.told sink) refl))
 
 pub returns-in-Line-clause-kept : goal.returns-in-Line-clause-kept
 returns-in-Line-clause-kept g c =
@@ -199,3 +210,33 @@ returns-in-Err-detach_files-clause-kept g c = c.in-Err-detach_files.ensures.caus
 pub returns-in-Err-detach_files-clause-around : goal.returns-in-Err-detach_files-clause-around
 returns-in-Err-detach_files-clause-around g c = λ base around.
     c.in-Err-detach_files.ensures.around base (subst (λ (x : CommandState). Around x.machine.slots base (g.F.Files.state c.args.files.now).opened) (sym c.read_paid.ensures.rest) around)
+
+pub returns-in-Line-clause-ports : goal.returns-in-Line-clause-ports
+returns-in-Line-clause-ports g c =
+    subst (λ (x : CommandState). LinesGoOn g.L.Lines.tells (g.L.Lines.state c.args.ports.now) x.machine.lines (g.L.Lines.state c.answer.new.ports) c.answer.new.session.machine.lines)
+    c.read_paid.ensures.rest c.answer.ensures.lines
+
+pub returns-in-TooLong-clause-ports : goal.returns-in-TooLong-clause-ports
+returns-in-TooLong-clause-ports g c =
+    lines-kept g.L.Lines.tells (g.L.Lines.state c.args.ports.now) c.args.session.now.machine.lines c.read_paid.new.session.machine.lines
+    (ap (λ (x : CommandState). x.machine.lines) c.read_paid.ensures.rest)
+
+pub returns-in-Unpaid-clause-ports : goal.returns-in-Unpaid-clause-ports
+returns-in-Unpaid-clause-ports g c =
+    lines-kept g.L.Lines.tells (g.L.Lines.state c.args.ports.now) c.args.session.now.machine.lines c.read_paid.new.session.machine.lines
+    (ap (λ (x : CommandState). x.machine.lines) c.read_paid.ensures.rest)
+
+pub returns-in-Failed-clause-ports : goal.returns-in-Failed-clause-ports
+returns-in-Failed-clause-ports g c =
+    lines-kept g.L.Lines.tells (g.L.Lines.state c.args.ports.now) c.args.session.now.machine.lines c.read_paid.new.session.machine.lines
+    (ap (λ (x : CommandState). x.machine.lines) c.read_paid.ensures.rest)
+
+pub returns-in-Ok-detach_files-clause-ports : goal.returns-in-Ok-detach_files-clause-ports
+returns-in-Ok-detach_files-clause-ports g c =
+    lines-kept g.L.Lines.tells (g.L.Lines.state c.args.ports.now) c.args.session.now.machine.lines c.detach_files.new.self.machine.lines
+    (c.in-Ok-detach_files.ensures.terminals ∙ ap (λ (x : CommandState). x.machine.lines) c.read_paid.ensures.rest)
+
+pub returns-in-Err-detach_files-clause-ports : goal.returns-in-Err-detach_files-clause-ports
+returns-in-Err-detach_files-clause-ports g c =
+    lines-kept g.L.Lines.tells (g.L.Lines.state c.args.ports.now) c.args.session.now.machine.lines c.detach_files.new.self.machine.lines
+    (c.in-Err-detach_files.ensures.terminals ∙ ap (λ (x : CommandState). x.machine.lines) c.read_paid.ensures.rest)

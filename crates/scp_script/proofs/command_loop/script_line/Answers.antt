@@ -2,7 +2,10 @@ use Rattle.std.proofs.Common.{◌≡◌, ◌<◌, ◌≤◌, ◌-◌, ℕ, List,
 use Rattle.file_commands.specs.Notes.{Note, notes_said}
 use Rattle.scp_parser.specs.declared.fault.ParseFault.TheVariants.{TooLong}
 use Rattle.scp_commands.specs.declared.fault.CommandFault.TheVariants.{Parse}
-use Rattle.scp_commands.specs.Live.{CommandState, live_in}
+use Rattle.nova_machine.specs.Comes.{output}
+use Rattle.nova_machine.specs.LineChanges.{AreLinesTold, LinesGoOn}
+use Rattle.scp_commands.specs.Live.{CommandState, live_in, beyond}
+use Rattle.scp_commands.proofs.ObeyLemmas.{lines-kept}
 use Rattle.scp_commands.specs.Effect.{asked}
 use Rattle.scp_commands.proofs.AskedLemmas.{long-asked}
 use Rattle.scp_script.specs.declared.progress.CommandLoop.{CommandLoop}
@@ -20,17 +23,18 @@ use Rattle.scp_script.proofs.WholeLemmas.{kept-none}
 use Rattle.scp_script.proofs.command_loop.script_line.Goals as goal
 
 pub returns-then-not-pay-clause-told : goal.returns-then-not-pay-clause-told
-returns-then-not-pay-clause-told g c = λ enough files sink input.
+returns-then-not-pay-clause-told g c = λ enough files known sink whole begins input.
     let session = c.args.session.now in
     let paid = c.pay.new.session in
     let now_state = record session { command = paid.command } in
-    let named = (g.F.Files.state c.args.files.now).files in
+    let ports = g.L.Lines.state c.args.ports.now in
+    let named = beyond (g.F.Files.state c.args.files.now).files ports whole in
     let script = c.args.script in
     let outer = c.args.lines.now.texts.scripts in
     let lines = record c.args.lines.now { texts = record c.args.lines.now.texts { scripts = script ∷ outer } } in
     let now = c.pay.new.lines in
     let there : texts_of c.args.lines.now.texts.actions (script ∷ outer) ≡ texts_of [] (script ∷ outer) = ap (λ (a : List (List ℕ)). texts_of a (script ∷ outer)) c.requires.actions in
-    let before = g.S.Sink.written c.args.out.now in
+    let before = output (g.S.Sink.written c.args.out.now) ports.sent in
     let cost = c.line_cost.ensures in
     let reader = ap (λ (x : CommandLoop). x.reader.open_) c.pay.ensures.lines in
     let unpaid = c.pay.ensures.unpaid c.if-not-pay.true in
@@ -43,20 +47,21 @@ returns-then-not-pay-clause-told g c = λ enough files sink input.
     (same-read lines.reader.open_ now.reader.open_ input input reader refl) refl))
 
 pub returns-in-Err-clause-told : goal.returns-in-Err-clause-told
-returns-in-Err-clause-told g c = λ enough files sink input.
+returns-in-Err-clause-told g c = λ enough files known sink whole begins input.
     let session = c.args.session.now in
     let paid = c.pay.new.session in
     let now_state = record session { command = paid.command } in
-    let named = (g.F.Files.state c.args.files.now).files in
+    let ports = g.L.Lines.state c.args.ports.now in
+    let named = beyond (g.F.Files.state c.args.files.now).files ports whole in
     let script = c.args.script in
     let outer = c.args.lines.now.texts.scripts in
     let lines = record c.args.lines.now { texts = record c.args.lines.now.texts { scripts = script ∷ outer } } in
     let now = c.pay.new.lines in
     let there : texts_of c.args.lines.now.texts.actions (script ∷ outer) ≡ texts_of [] (script ∷ outer) = ap (λ (a : List (List ℕ)). texts_of a (script ∷ outer)) c.requires.actions in
-    let before = g.S.Sink.written c.args.out.now in
+    let before = output (g.S.Sink.written c.args.out.now) ports.sent in
     let cost = c.line_cost.ensures in
     let reader = ap (λ (x : CommandLoop). x.reader.open_) c.pay.ensures.lines in
-    let after = g.S.Sink.written c.put_echo.new.out in
+    let after = output (g.S.Sink.written c.put_echo.new.out) ports.sent in
     let paid_for = c.pay.ensures.paid c.if-not-pay.false in
     let fits : cost_of_line script ≤ lines.budget = omega (arith, paid_for.0, cost) in
     let old = session_of session named lines input [] in
@@ -64,24 +69,26 @@ returns-in-Err-clause-told g c = λ enough files sink input.
     left-at session paid now_state named lines now input input (IsOver Console) before after c.pay.ensures.rest
     (over-alone old new Console before after (notes_said session.notes) (notes_said session.notes) refl
     (asking-refused old new (echo_text script) [] before after (asking-script old script outer there c.requires.line fits) refl
-    (same-read lines.reader.open_ now.reader.open_ input input reader refl) (c.in-Err.ensures.told sink)))
+    (same-read lines.reader.open_ now.reader.open_ input input reader refl) (c.in-Err.ensures.told sink) refl))
 
 pub returns-in-Some-clause-told : goal.returns-in-Some-clause-told
-returns-in-Some-clause-told g c = λ enough files sink input.
+returns-in-Some-clause-told g c = λ enough files known sink whole begins input.
     let session = c.args.session.now in
     let paid = c.pay.new.session in
     let now_state = record session { command = paid.command } in
-    let named = (g.F.Files.state c.args.files.now).files in
+    let ports = g.L.Lines.state c.args.ports.now in
+    let ports' = g.L.Lines.state c.answer.new.ports in
+    let named = beyond (g.F.Files.state c.args.files.now).files ports whole in
     let script = c.args.script in
     let outer = c.args.lines.now.texts.scripts in
     let lines = record c.args.lines.now { texts = record c.args.lines.now.texts { scripts = script ∷ outer } } in
     let now = c.pay.new.lines in
     let there : texts_of c.args.lines.now.texts.actions (script ∷ outer) ≡ texts_of [] (script ∷ outer) = ap (λ (a : List (List ℕ)). texts_of a (script ∷ outer)) c.requires.actions in
-    let before = g.S.Sink.written c.args.out.now in
+    let before = output (g.S.Sink.written c.args.out.now) ports.sent in
     let cost = c.line_cost.ensures in
     let reader = ap (λ (x : CommandLoop). x.reader.open_) c.pay.ensures.lines in
-    let mid = g.S.Sink.written c.put_echo.new.out in
-    let after = g.S.Sink.written c.answer.new.out in
+    let mid = output (g.S.Sink.written c.put_echo.new.out) ports.sent in
+    let after = output (g.S.Sink.written c.answer.new.out) ports'.sent in
     let paid_for = c.pay.ensures.paid c.if-not-pay.false in
     let fits : cost_of_line script ≤ lines.budget = omega (arith, paid_for.0, cost) in
     let budget : now.budget ≡ lines.budget - cost_of_line script = omega (arith, paid_for.1, cost) in
@@ -90,7 +97,7 @@ returns-in-Some-clause-told g c = λ enough files sink input.
     let tells = g.S.Sink.tells in
     let result = c.answer.result in
     let what = asked c.as_slice.result.now in
-    let live = live_in done (g.F.Files.state c.answer.new.files).files in
+    let live = live_in done (beyond (g.F.Files.state c.answer.new.files).files ports' whole) in
     let is = c.pay.ensures.rest in
     let none : now.texts.actions ≡ [] = ap (λ (x : CommandLoop). x.texts.actions) c.pay.ensures.lines ∙ c.requires.actions in
     let pushed : c.push.new.self ≡ past_line script ∷ outer =
@@ -102,33 +109,34 @@ returns-in-Some-clause-told g c = λ enough files sink input.
     let told = subst (λ (x : CommandState). Answers x.limit (live_in x named) (texts_of [] (past_line script ∷ outer)) what done.command result live (coming c.answer.new.texts) tells mid after (notes_said x.notes) (notes_said done.notes)) is
     (subst (λ (t : Texts). Answers paid.limit (live_in paid named) t what done.command result live (coming c.answer.new.texts) tells mid after (notes_said paid.notes) (notes_said done.notes)) stack
     (subst (λ n. Answers paid.limit (live_in paid named) (texts_of now.texts.actions c.push.new.self) what n result live (coming c.answer.new.texts) tells mid after (notes_said paid.notes) (notes_said done.notes)) (sym c.answer.ensures.command)
-    (c.answer.ensures.told files))) in
+    (c.answer.ensures.told files (subst (λ (x : CommandState). AreLinesTold g.L.Lines.tells ports x.machine.lines) (sym is) known) whole begins))) in
     let short = λ (own : List Note) (e : notes_said done.notes ≡ notes_said session.notes ++ own).
     subst (λ (x : CommandState). IsShort what done.command result (live_in x named) live own mid after) is
     (subst (λ n. IsShort what n result (live_in paid named) live own mid after) (sym c.answer.ensures.command)
-    (c.answer.ensures.short files own (e ∙ ap (λ (x : CommandState). notes_said x.notes ++ own) (sym is)))) in
+    (c.answer.ensures.short files whole own (e ∙ ap (λ (x : CommandState). notes_said x.notes ++ own) (sym is)))) in
     let limit = c.answer.ensures.limit ∙ ap (λ (x : CommandState). x.limit) is in
-    script-stepped (session_of session named lines input []) (session_of done (g.F.Files.state c.answer.new.files).files last input []) script outer what result tells before mid after
+    script-stepped (session_of session named lines input []) (session_of done (beyond (g.F.Files.state c.answer.new.files).files ports' whole) last input []) script outer what result tells before mid after
     (notes_said session.notes) (notes_said done.notes) sink there c.requires.line fits (ap asked (sym line))
     (record { spent = spent; limit = limit; budget = budget; reading = ap (λ (x : CommandLoop). x.reads) c.pay.ensures.lines; prompt = ap (λ (x : CommandLoop). x.prompt) c.pay.ensures.lines; input = refl; open_ = reader }) less
-    (c.in-Ok.ensures.told sink) told short
+    (c.in-Ok.ensures.told sink) refl told short
 
 pub returns-in-None-clause-told : goal.returns-in-None-clause-told
-returns-in-None-clause-told g c = λ enough files sink input.
+returns-in-None-clause-told g c = λ enough files known sink whole begins input.
     let session = c.args.session.now in
     let paid = c.pay.new.session in
     let now_state = record session { command = paid.command } in
-    let named = (g.F.Files.state c.args.files.now).files in
+    let ports = g.L.Lines.state c.args.ports.now in
+    let named = beyond (g.F.Files.state c.args.files.now).files ports whole in
     let script = c.args.script in
     let outer = c.args.lines.now.texts.scripts in
     let lines = record c.args.lines.now { texts = record c.args.lines.now.texts { scripts = script ∷ outer } } in
     let now = c.pay.new.lines in
     let there : texts_of c.args.lines.now.texts.actions (script ∷ outer) ≡ texts_of [] (script ∷ outer) = ap (λ (a : List (List ℕ)). texts_of a (script ∷ outer)) c.requires.actions in
-    let before = g.S.Sink.written c.args.out.now in
+    let before = output (g.S.Sink.written c.args.out.now) ports.sent in
     let cost = c.line_cost.ensures in
     let reader = ap (λ (x : CommandLoop). x.reader.open_) c.pay.ensures.lines in
-    let mid = g.S.Sink.written c.put_echo.new.out in
-    let after = g.S.Sink.written c.deny_line.new.out in
+    let mid = output (g.S.Sink.written c.put_echo.new.out) ports.sent in
+    let after = output (g.S.Sink.written c.deny_line.new.out) ports.sent in
     let paid_for = c.pay.ensures.paid c.if-not-pay.false in
     let fits : cost_of_line script ≤ lines.budget = omega (arith, paid_for.0, cost) in
     let budget : now.budget ≡ lines.budget - cost_of_line script = omega (arith, paid_for.1, cost) in
@@ -146,7 +154,7 @@ returns-in-None-clause-told g c = λ enough files sink input.
     let spent : paid.command ≡ spent_more session.command (cost_of_line script) = omega (arith, c.pay.ensures.command, fits, budget) in
     let less : session.command < paid.command = omega (arith, spent, enough, fits) in
     let said = answers-none paid.limit (live_in paid named) (texts_of now.texts.actions c.push.new.self) what paid.command result (coming c.deny_line.new.texts) tells mid after (notes_said paid.notes)
-    (λ notes. c.deny_line.ensures.told named notes what (ap (checked c.push.new.self) long)) in
+    (λ notes. c.deny_line.ensures.told named ports.sent notes what (ap (checked c.push.new.self) long)) in
     let told = subst (λ (x : CommandState). Answers x.limit (live_in x named) (texts_of [] (past_line script ∷ outer)) what paid.command result (live_in x named) (coming c.deny_line.new.texts) tells mid after (notes_said x.notes) (notes_said x.notes)) is
     (subst (λ (t : Texts). Answers paid.limit (live_in paid named) t what paid.command result (live_in paid named) (coming c.deny_line.new.texts) tells mid after (notes_said paid.notes) (notes_said paid.notes)) stack said) in
     let never = λ (own : List Note) (e : notes_said session.notes ≡ notes_said session.notes ++ own). never-short what paid.command result live live own mid after c.deny_line.ensures.memory in
@@ -154,7 +162,7 @@ returns-in-None-clause-told g c = λ enough files sink input.
     (script-stepped (session_of session named lines input []) (session_of now_state named last input []) script outer what result tells before mid after
     (notes_said session.notes) (notes_said session.notes) sink there c.requires.line fits refl
     (record { spent = spent; limit = refl; budget = budget; reading = ap (λ (x : CommandLoop). x.reads) c.pay.ensures.lines; prompt = ap (λ (x : CommandLoop). x.prompt) c.pay.ensures.lines; input = refl; open_ = reader }) less
-    (c.in-Ok.ensures.told sink) told never)
+    (c.in-Ok.ensures.told sink) refl told never)
 
 pub returns-in-Some-clause-kept : goal.returns-in-Some-clause-kept
 returns-in-Some-clause-kept g c =
@@ -170,3 +178,23 @@ returns-in-None-clause-keeps g c =
     let files = g.F.Files.state c.args.files.now in
     let notes = c.args.session.now.notes in
     subst (λ (x : CommandState). AreKept notes x.notes files files) (sym c.pay.ensures.rest) (kept-none notes files)
+
+pub returns-then-not-pay-clause-ports : goal.returns-then-not-pay-clause-ports
+returns-then-not-pay-clause-ports g c =
+    lines-kept g.L.Lines.tells (g.L.Lines.state c.args.ports.now) c.args.session.now.machine.lines c.pay.new.session.machine.lines
+    (ap (λ (x : CommandState). x.machine.lines) c.pay.ensures.rest)
+
+pub returns-in-Err-clause-ports : goal.returns-in-Err-clause-ports
+returns-in-Err-clause-ports g c =
+    lines-kept g.L.Lines.tells (g.L.Lines.state c.args.ports.now) c.args.session.now.machine.lines c.pay.new.session.machine.lines
+    (ap (λ (x : CommandState). x.machine.lines) c.pay.ensures.rest)
+
+pub returns-in-Some-clause-ports : goal.returns-in-Some-clause-ports
+returns-in-Some-clause-ports g c =
+    subst (λ (x : CommandState). LinesGoOn g.L.Lines.tells (g.L.Lines.state c.args.ports.now) x.machine.lines (g.L.Lines.state c.answer.new.ports) c.answer.new.session.machine.lines)
+    c.pay.ensures.rest c.answer.ensures.lines
+
+pub returns-in-None-clause-ports : goal.returns-in-None-clause-ports
+returns-in-None-clause-ports g c =
+    lines-kept g.L.Lines.tells (g.L.Lines.state c.args.ports.now) c.args.session.now.machine.lines c.pay.new.session.machine.lines
+    (ap (λ (x : CommandState). x.machine.lines) c.pay.ensures.rest)

@@ -3,6 +3,11 @@ use Rattle.host_files.specs.State.{Opened}
 use Rattle.unit_files.specs.Open.{AllOpen, Around}
 use Rattle.file_commands.specs.OwnFiles.{AreOwn}
 use Rattle.file_commands.specs.Notes.{notes_said}
+use Rattle.host_lines.specs.Traffic.{Answer}
+use Rattle.host_lines.specs.Told.{IsFirst, record_in}
+use Rattle.nova_machine.specs.Comes.{output}
+use Rattle.nova_machine.specs.LineChanges.{AreLinesTold, LinesGoOn}
+use Rattle.scp_commands.specs.Live.{beyond}
 use Rattle.scp_script.specs.Session.{spent_more}
 use Rattle.scp_script.specs.Perform.{beginning}
 use Rattle.scp_script.specs.Loop.{AreKept, NumbersSuffice, session_of}
@@ -11,16 +16,20 @@ use Rattle.scp_script.proofs.perform_session.perform.Given as goal
 
 abbrev pub invariant-lines : goal.invariant-lines
 invariant-lines g l = record {
-  paid : l.lines.budget ≤ l.fn.opening.budget;
-  command : l.session.command ≡ spent_more l.fn.session.command (l.fn.opening.budget - l.lines.budget);
+  paid : l.texts.budget ≤ l.fn.opening.budget;
+  command : l.session.command ≡ spent_more l.fn.session.command (l.fn.opening.budget - l.texts.budget);
   limit : l.session.limit ≡ l.fn.session.limit;
   keys : l.session.keys ≡ l.fn.session.keys;
-  reads : l.lines.reads ≡ l.fn.opening.reads;
+  reads : l.texts.reads ≡ l.fn.opening.reads;
   unread : l.fn.opening.reads ≡ false → l.input ≡ l.fn.input;
-  told : NumbersSuffice l.fn.session.command l.fn.opening.budget → (l.fn.opening.reads ≡ true → IsTrue g.C.Source.tells) → IsTrue g.F.Files.tells → IsTrue g.S.Sink.tells → ComesSoFar
-      (λ notes. beginning l.fn.session (g.F.Files.state l.fn.files).files l.fn.opening (g.C.Source.left l.fn.input) notes)
-      (session_of l.session (g.F.Files.state l.files).files l.lines (g.C.Source.left l.input))
-      (g.S.Sink.written l.fn.out) (g.S.Sink.written l.out) (notes_said l.fn.session.notes) (notes_said l.session.notes);
+  told : NumbersSuffice l.fn.session.command l.fn.opening.budget → (l.fn.opening.reads ≡ true → IsTrue g.C.Source.tells) → IsTrue g.F.Files.tells
+      → AreLinesTold g.L.Lines.tells (g.L.Lines.state l.fn.lines) l.fn.session.machine.lines → IsTrue g.S.Sink.tells
+      → (whole : List Answer) → IsFirst (record_in (g.L.Lines.state l.lines).told) whole → ComesSoFar
+      (λ notes. beginning l.fn.session (beyond (g.F.Files.state l.fn.files).files (g.L.Lines.state l.fn.lines) whole) l.fn.opening (g.C.Source.left l.fn.input) notes)
+      (session_of l.session (beyond (g.F.Files.state l.files).files (g.L.Lines.state l.lines) whole) l.texts (g.C.Source.left l.input))
+      (output (g.S.Sink.written l.fn.out) (g.L.Lines.state l.fn.lines).sent) (output (g.S.Sink.written l.out) (g.L.Lines.state l.lines).sent)
+      (notes_said l.fn.session.notes) (notes_said l.session.notes);
+  lines : LinesGoOn g.L.Lines.tells (g.L.Lines.state l.fn.lines) l.fn.session.machine.lines (g.L.Lines.state l.lines) l.session.machine.lines;
   source : g.C.Source.fault_count l.input ≡ g.C.Source.fault_count l.fn.input;
   sink : g.S.Sink.fault_count l.out ≡ g.S.Sink.fault_count l.fn.out;
   keeps : AreKept l.fn.session.notes l.session.notes (g.F.Files.state l.fn.files) (g.F.Files.state l.files);
@@ -30,4 +39,4 @@ invariant-lines g l = record {
 }
 
 abbrev pub decreases-lines : goal.decreases-lines
-decreases-lines g l = l.lines.budget
+decreases-lines g l = l.texts.budget

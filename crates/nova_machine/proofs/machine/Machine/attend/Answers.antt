@@ -17,4 +17,3 @@ returns-in-Some-clause-told g c = λ told lt whole first.
     (seen (beside c.serve.new.watch c.args.keys.now (g.F.Files.state c.serve.new.files).files (g.L.Lines.state c.serve.new.lines)) whole c.serve.new.self) c.in-Some.stop g.S.Sink.tells
     (output (g.S.Sink.written c.args.out.now) (g.L.Lines.state c.args.lines.now).sent) (output (g.S.Sink.written c.serve.new.out) (g.L.Lines.state c.serve.new.lines).sent)
     (c.in-Some.ensures.told told lt whole first)
-

@@ -22,4 +22,3 @@ returns-in-Some-clause-told g c = λ told lt whole first.
     (seen (beside c.prepare.new.watch c.args.keys.now (g.F.Files.state c.prepare.new.files).files (g.L.Lines.state c.prepare.new.lines)) whole c.prepare.new.self) c.in-Some.stop g.S.Sink.tells
     (output (g.S.Sink.written c.args.out.now) (g.L.Lines.state c.args.lines.now).sent) (output (g.S.Sink.written c.prepare.new.out) (g.L.Lines.state c.prepare.new.lines).sent)
     (c.in-Some.ensures.told told lt whole first)
-
