@@ -49,15 +49,16 @@ pub fn answer<U: Unit, F: Files, L: Lines, S: Sink>(
     ensures told { IsTrue F.tells → AreLinesTold L.tells (L.state lines.old) session.old.machine.lines
         → (whole : List LineAnswer) → IsFirst (record_in (L.state lines.new).told) whole
         → Answers session.old.limit (live_in session.old (beyond (F.state files.old).files (L.state lines.old) whole))
-        (coming texts.old) (asked line.now) session.old.command result (live_in session.new (beyond (F.state files.new).files (L.state lines.new) whole))
-        (coming texts.new) S.tells (output (S.written out.old) (L.state lines.old).sent)
-        (output (S.written out.new) (L.state lines.new).sent) (notes_said session.old.notes)
-        (notes_said session.new.notes) }
+        (coming texts.old) (asked line.now) session.old.command result
+        (live_in session.new (beyond (F.state files.new).files (L.state lines.new) whole)) (coming texts.new) S.tells
+        (output (S.written out.old) (L.state lines.old).sent) (output (S.written out.new) (L.state lines.new).sent)
+        (notes_said session.old.notes) (notes_said session.new.notes) }
     ensures short { IsTrue F.tells → (whole : List LineAnswer) (own : List Note)
         → notes_said session.new.notes ≡ notes_said session.old.notes ++ own
-        → IsShort (asked line.now) session.old.command result (live_in session.old (beyond (F.state files.old).files (L.state lines.old) whole))
-        (live_in session.new (beyond (F.state files.new).files (L.state lines.new) whole)) own (output (S.written out.old) (L.state lines.old).sent)
-        (output (S.written out.new) (L.state lines.new).sent) }
+        → IsShort (asked line.now) session.old.command result
+        (live_in session.old (beyond (F.state files.old).files (L.state lines.old) whole))
+        (live_in session.new (beyond (F.state files.new).files (L.state lines.new) whole)) own
+        (output (S.written out.old) (L.state lines.old).sent) (output (S.written out.new) (L.state lines.new).sent) }
     ensures lines { LinesGoOn L.tells (L.state lines.old) session.old.machine.lines (L.state lines.new)
         session.new.machine.lines }
     ensures counts { AnswerCounts result (S.fault_count out.old) (S.fault_count out.new) }
@@ -97,15 +98,16 @@ fn obey<U: Unit, F: Files, L: Lines, S: Sink>(
     ensures told { IsTrue F.tells → AreLinesTold L.tells (L.state lines.old) session.old.machine.lines
         → (whole : List LineAnswer) → IsFirst (record_in (L.state lines.new).told) whole
         → Answers session.old.limit (live_in session.old (beyond (F.state files.old).files (L.state lines.old) whole))
-        (coming texts.old) (Ok command.now) session.old.command result (live_in session.new (beyond (F.state files.new).files (L.state lines.new) whole))
-        (coming texts.new) S.tells (output (S.written out.old) (L.state lines.old).sent)
-        (output (S.written out.new) (L.state lines.new).sent) (notes_said session.old.notes)
-        (notes_said session.new.notes) }
+        (coming texts.old) (Ok command.now) session.old.command result
+        (live_in session.new (beyond (F.state files.new).files (L.state lines.new) whole)) (coming texts.new) S.tells
+        (output (S.written out.old) (L.state lines.old).sent) (output (S.written out.new) (L.state lines.new).sent)
+        (notes_said session.old.notes) (notes_said session.new.notes) }
     ensures short { IsTrue F.tells → (whole : List LineAnswer) (own : List Note)
         → notes_said session.new.notes ≡ notes_said session.old.notes ++ own
-        → IsShort (Ok command.now) session.old.command result (live_in session.old (beyond (F.state files.old).files (L.state lines.old) whole))
-        (live_in session.new (beyond (F.state files.new).files (L.state lines.new) whole)) own (output (S.written out.old) (L.state lines.old).sent)
-        (output (S.written out.new) (L.state lines.new).sent) }
+        → IsShort (Ok command.now) session.old.command result
+        (live_in session.old (beyond (F.state files.old).files (L.state lines.old) whole))
+        (live_in session.new (beyond (F.state files.new).files (L.state lines.new) whole)) own
+        (output (S.written out.old) (L.state lines.old).sent) (output (S.written out.new) (L.state lines.new).sent) }
     ensures lines { LinesGoOn L.tells (L.state lines.old) session.old.machine.lines (L.state lines.new)
         session.new.machine.lines }
     ensures counts { AnswerCounts result (S.fault_count out.old) (S.fault_count out.new) }
@@ -178,7 +180,8 @@ fn follow<S: Sink>(
 ) -> Progress
     requires arguments { arguments ≡ arguments_of (Ok command.now) }
     requires exit { IsExitAnswer (Ok next) }
-    ensures told { (heard : Heard) → Follows watch.now next command.now result (coming texts.old) (coming texts.new) S.tells
+    ensures told { (heard : Heard)
+        → Follows watch.now next command.now result (coming texts.old) (coming texts.new) S.tells
         (output (S.written out.old) heard) (output (S.written out.new) heard) }
     ensures counts { AnswerCounts result (S.fault_count out.old) (S.fault_count out.new) }
     ensures exit { HasExitStatus result }
@@ -206,7 +209,8 @@ fn follow<S: Sink>(
 fn act_on<S: Sink>(stop: Stop, watch: &Watch, texts: &mut Texts, out: &mut S) -> Progress
     ensures told { Complains S.tells (S.written out.old)
         (overflow_text (text_of_stop stop watch.now) texts.old.actions) result (S.written out.new) }
-    ensures texts { coming texts.new ≡ texts_of (put_first (text_of_stop stop watch.now) texts.old.actions) texts.old.scripts }
+    ensures texts { coming texts.new
+        ≡ texts_of (put_first (text_of_stop stop watch.now) texts.old.actions) texts.old.scripts }
     ensures counts { AnswerCounts result (S.fault_count out.old) (S.fault_count out.new) }
     ensures exit { HasExitStatus result }
     ensures memory { result ≢ IsOver OutOfMemory }
@@ -271,11 +275,11 @@ pub fn deny_line<U: Unit, S: Sink>(
     texts: &mut Texts,
     out: &mut S,
 ) -> Progress
-    ensures told { (files : Beyond) (heard : Heard) (notes : List CommandNote) (what : Asked)
+    ensures told { (around : Beyond) (heard : Heard) (notes : List CommandNote) (what : Asked)
         → checked texts.old.scripts what ≡ Err fault
-        → IsAnswer (text_reply session.now.limit (coming texts.old) notes (live_in session.now files) what)
-        (texts_behind (coming texts.old) what) result (coming texts.new) (standing 0 (live_in session.now files)) S.tells
-        (output (S.written out.old) heard) (output (S.written out.new) heard) }
+        → IsAnswer (text_reply session.now.limit (coming texts.old) notes (live_in session.now around) what)
+        (texts_behind (coming texts.old) what) result (coming texts.new) (standing 0 (live_in session.now around))
+        S.tells (output (S.written out.old) heard) (output (S.written out.new) heard) }
     ensures memory { result ≢ IsOver OutOfMemory }
     ensures counts { AnswerCounts result (S.fault_count out.old) (S.fault_count out.new) }
     ensures exit { HasExitStatus result }

@@ -43,12 +43,14 @@ pub fn next_line<U: Unit, C: Source, F: Files, L: Lines, S: Sink>(
 ) -> Progress
     requires open { AllOpen session.old.machine.slots (F.state files.old).opened }
     ensures told { NumbersSuffice session.old.command lines.old.budget → (lines.old.reads ≡ true → IsTrue C.tells)
-        → IsTrue F.tells
-        → AreLinesTold L.tells (L.state ports.old) session.old.machine.lines → IsTrue S.tells
-        → (whole : List LineAnswer) → IsFirst (record_in (L.state ports.new).told) whole
-        → Stepped (session_of session.old (beyond (F.state files.old).files (L.state ports.old) whole) lines.old (C.left input.old)) result
-        (session_of session.new (beyond (F.state files.new).files (L.state ports.new) whole) lines.new (C.left input.new)) (output (S.written out.old) (L.state ports.old).sent)
-        (output (S.written out.new) (L.state ports.new).sent) (notes_said session.old.notes) (notes_said session.new.notes) }
+        → IsTrue F.tells → AreLinesTold L.tells (L.state ports.old) session.old.machine.lines → IsTrue S.tells
+        → (whole : List LineAnswer) → IsFirst (record_in (L.state ports.new).told) whole → Stepped
+        (session_of session.old (beyond (F.state files.old).files (L.state ports.old) whole) lines.old
+        (C.left input.old)) result
+        (session_of session.new (beyond (F.state files.new).files (L.state ports.new) whole) lines.new
+        (C.left input.new)) (output (S.written out.old) (L.state ports.old).sent)
+        (output (S.written out.new) (L.state ports.new).sent) (notes_said session.old.notes)
+        (notes_said session.new.notes) }
     ensures ports { LinesGoOn L.tells (L.state ports.old) session.old.machine.lines (L.state ports.new)
         session.new.machine.lines }
     ensures cause { ProgressCause result (S.fault_count out.old) (S.fault_count out.new) (C.fault_count input.old)
@@ -59,7 +61,8 @@ pub fn next_line<U: Unit, C: Source, F: Files, L: Lines, S: Sink>(
     ensures keeps { AreKept session.old.notes session.new.notes (F.state files.old) (F.state files.new) }
     ensures whose { AreOwn session.old.machine.slots session.new.machine.slots session.old.notes session.new.notes
         (F.state files.old) (F.state files.new) }
-    ensures kept { KeptInLine result session.new.machine.slots session.new.notes (F.state files.old) (F.state files.new) }
+    ensures kept { KeptInLine result session.new.machine.slots session.new.notes (F.state files.old)
+        (F.state files.new) }
     ensures unread { lines.old.reads ≡ false → input.new ≡ input.old }
     ensures reads { lines.new.reads ≡ lines.old.reads }
     ensures keys { session.new.keys ≡ session.old.keys }
@@ -94,10 +97,10 @@ fn action<U: Unit, F: Files, L: Lines, S: Sink>(
     requires open { AllOpen session.old.machine.slots (F.state files.old).opened }
     ensures told { NumbersSuffice session.old.command lines.old.budget → IsTrue F.tells
         → AreLinesTold L.tells (L.state ports.old) session.old.machine.lines → IsTrue S.tells
-        → (whole : List LineAnswer) → IsFirst (record_in (L.state ports.new).told) whole
-        → (input : List ℕ) → Stepped (session_of session.old (beyond (F.state files.old).files (L.state ports.old) whole) lines.old input) result
-        (session_of session.new (beyond (F.state files.new).files (L.state ports.new) whole) lines.new input) (output (S.written out.old) (L.state ports.old).sent)
-        (output (S.written out.new) (L.state ports.new).sent)
+        → (whole : List LineAnswer) → IsFirst (record_in (L.state ports.new).told) whole → (input : List ℕ) → Stepped
+        (session_of session.old (beyond (F.state files.old).files (L.state ports.old) whole) lines.old input) result
+        (session_of session.new (beyond (F.state files.new).files (L.state ports.new) whole) lines.new input)
+        (output (S.written out.old) (L.state ports.old).sent) (output (S.written out.new) (L.state ports.new).sent)
         (notes_said session.old.notes) (notes_said session.new.notes) }
     ensures ports { LinesGoOn L.tells (L.state ports.old) session.old.machine.lines (L.state ports.new)
         session.new.machine.lines }
@@ -108,7 +111,8 @@ fn action<U: Unit, F: Files, L: Lines, S: Sink>(
     ensures keeps { AreKept session.old.notes session.new.notes (F.state files.old) (F.state files.new) }
     ensures whose { AreOwn session.old.machine.slots session.new.machine.slots session.old.notes session.new.notes
         (F.state files.old) (F.state files.new) }
-    ensures kept { KeptInLine result session.new.machine.slots session.new.notes (F.state files.old) (F.state files.new) }
+    ensures kept { KeptInLine result session.new.machine.slots session.new.notes (F.state files.old)
+        (F.state files.new) }
     ensures reads { lines.new.reads ≡ lines.old.reads }
     ensures keys { session.new.keys ≡ session.old.keys }
     ensures limit { session.new.limit ≡ session.old.limit }
@@ -152,10 +156,13 @@ fn input_line<U: Unit, C: Source, F: Files, L: Lines, S: Sink>(
     requires open { AllOpen session.old.machine.slots (F.state files.old).opened }
     ensures told { NumbersSuffice session.old.command lines.old.budget → IsTrue C.tells → IsTrue F.tells
         → AreLinesTold L.tells (L.state ports.old) session.old.machine.lines → IsTrue S.tells
-        → (whole : List LineAnswer) → IsFirst (record_in (L.state ports.new).told) whole
-        → Stepped (session_of session.old (beyond (F.state files.old).files (L.state ports.old) whole) lines.old (C.left input.old)) result
-        (session_of session.new (beyond (F.state files.new).files (L.state ports.new) whole) lines.new (C.left input.new)) (output (S.written out.old) (L.state ports.old).sent)
-        (output (S.written out.new) (L.state ports.new).sent) (notes_said session.old.notes) (notes_said session.new.notes) }
+        → (whole : List LineAnswer) → IsFirst (record_in (L.state ports.new).told) whole → Stepped
+        (session_of session.old (beyond (F.state files.old).files (L.state ports.old) whole) lines.old
+        (C.left input.old)) result
+        (session_of session.new (beyond (F.state files.new).files (L.state ports.new) whole) lines.new
+        (C.left input.new)) (output (S.written out.old) (L.state ports.old).sent)
+        (output (S.written out.new) (L.state ports.new).sent) (notes_said session.old.notes)
+        (notes_said session.new.notes) }
     ensures ports { LinesGoOn L.tells (L.state ports.old) session.old.machine.lines (L.state ports.new)
         session.new.machine.lines }
     ensures cause { ProgressCause result (S.fault_count out.old) (S.fault_count out.new) (C.fault_count input.old)
@@ -166,7 +173,8 @@ fn input_line<U: Unit, C: Source, F: Files, L: Lines, S: Sink>(
     ensures keeps { AreKept session.old.notes session.new.notes (F.state files.old) (F.state files.new) }
     ensures whose { AreOwn session.old.machine.slots session.new.machine.slots session.old.notes session.new.notes
         (F.state files.old) (F.state files.new) }
-    ensures kept { KeptInLine result session.new.machine.slots session.new.notes (F.state files.old) (F.state files.new) }
+    ensures kept { KeptInLine result session.new.machine.slots session.new.notes (F.state files.old)
+        (F.state files.new) }
     ensures reads { lines.new.reads ≡ lines.old.reads }
     ensures keys { session.new.keys ≡ session.old.keys }
     ensures limit { session.new.limit ≡ session.old.limit }
@@ -218,10 +226,12 @@ fn script_line<U: Unit, F: Files, L: Lines, S: Sink>(
     ensures told { NumbersSuffice session.old.command lines.old.budget → IsTrue F.tells
         → AreLinesTold L.tells (L.state ports.old) session.old.machine.lines → IsTrue S.tells
         → (whole : List LineAnswer) → IsFirst (record_in (L.state ports.new).told) whole
-        → (input : List ℕ) → Stepped (session_of session.old (beyond (F.state files.old).files (L.state ports.old) whole)
-        (record lines.old { texts = record lines.old.texts { scripts = script ∷ lines.old.texts.scripts } }) input) result
-        (session_of session.new (beyond (F.state files.new).files (L.state ports.new) whole) lines.new input) (output (S.written out.old) (L.state ports.old).sent)
-        (output (S.written out.new) (L.state ports.new).sent)
+        → (input : List ℕ) → Stepped
+        (session_of session.old (beyond (F.state files.old).files (L.state ports.old) whole)
+        (record lines.old { texts = record lines.old.texts { scripts = script ∷ lines.old.texts.scripts } }) input)
+        result
+        (session_of session.new (beyond (F.state files.new).files (L.state ports.new) whole) lines.new input)
+        (output (S.written out.old) (L.state ports.old).sent) (output (S.written out.new) (L.state ports.new).sent)
         (notes_said session.old.notes) (notes_said session.new.notes) }
     ensures ports { LinesGoOn L.tells (L.state ports.old) session.old.machine.lines (L.state ports.new)
         session.new.machine.lines }
@@ -232,7 +242,8 @@ fn script_line<U: Unit, F: Files, L: Lines, S: Sink>(
     ensures keeps { AreKept session.old.notes session.new.notes (F.state files.old) (F.state files.new) }
     ensures whose { AreOwn session.old.machine.slots session.new.machine.slots session.old.notes session.new.notes
         (F.state files.old) (F.state files.new) }
-    ensures kept { KeptInLine result session.new.machine.slots session.new.notes (F.state files.old) (F.state files.new) }
+    ensures kept { KeptInLine result session.new.machine.slots session.new.notes (F.state files.old)
+        (F.state files.new) }
     ensures reads { lines.new.reads ≡ lines.old.reads }
     ensures keys { session.new.keys ≡ session.old.keys }
     ensures limit { session.new.limit ≡ session.old.limit }

@@ -48,6 +48,9 @@ pub struct Opening {
 ///
 /// The notes that it keeps are those of the calls on files that failed in it, one for each, but for the closing that a
 /// refused ATTACH makes. Memory is taken for those of a command before its line is read.
+///
+/// `lines` are the ports and connections of the host: a run polls them for the machine's terminal lines. Where none of
+/// these has a port, nothing is asked of the host.
 pub fn perform<U: Unit, C: Source, F: Files, L: Lines, S: Sink>(
     alloc: Global,
     session: &mut Session<U>,
@@ -60,12 +63,11 @@ pub fn perform<U: Unit, C: Source, F: Files, L: Lines, S: Sink>(
     requires open { AllOpen session.old.machine.slots (F.state files.old).opened }
     ensures told { NumbersSuffice session.old.command opening.now.budget → (opening.now.reads ≡ true → IsTrue C.tells)
         → IsTrue F.tells → AreLinesTold L.tells (L.state lines.old) session.old.machine.lines → IsTrue S.tells
-        → (whole : List LineAnswer) → IsFirst (record_in (L.state lines.new).told) whole
-        → Performed
+        → (whole : List LineAnswer) → IsFirst (record_in (L.state lines.new).told) whole → Performed
         (λ notes. beginning session.old (beyond (F.state files.old).files (L.state lines.old) whole) opening.now
-        (C.left input.old) notes) result (live_in session.new (beyond (F.state files.new).files (L.state lines.new) whole))
-        (C.left input.new) (output (S.written out.old) (L.state lines.old).sent)
-        (output (S.written out.new) (L.state lines.new).sent)
+        (C.left input.old) notes) result
+        (live_in session.new (beyond (F.state files.new).files (L.state lines.new) whole)) (C.left input.new)
+        (output (S.written out.old) (L.state lines.old).sent) (output (S.written out.new) (L.state lines.new).sent)
         (notes_said session.old.notes) (notes_said session.new.notes) }
     ensures lines { LinesGoOn L.tells (L.state lines.old) session.old.machine.lines (L.state lines.new)
         session.new.machine.lines }
@@ -75,7 +77,8 @@ pub fn perform<U: Unit, C: Source, F: Files, L: Lines, S: Sink>(
     ensures keeps { AreKept session.old.notes session.new.notes (F.state files.old) (F.state files.new) }
     ensures whose { AreOwn session.old.machine.slots session.new.machine.slots session.old.notes session.new.notes
         (F.state files.old) (F.state files.new) }
-    ensures kept { KeptCause result session.new.machine.slots session.new.notes (F.state files.old) (F.state files.new) }
+    ensures kept { KeptCause result session.new.machine.slots session.new.notes (F.state files.old)
+        (F.state files.new) }
     ensures unread { opening.now.reads ≡ false → input.new ≡ input.old }
     ensures keys { session.new.keys ≡ session.old.keys }
     ensures limit { session.new.limit ≡ session.old.limit }

@@ -118,7 +118,7 @@ returns-in-Err-clause-short g c = λ told whole own is.
     (output (g.S.Sink.written c.refuse.new.out) ports'.sent) (g.S.Sink.fault_count c.execute.new.out) (g.S.Sink.fault_count c.refuse.new.out)
     (λ short. (
       subst (λ (x : LineState). Remains (nature r).flushes (live_in session (beyond files ports whole)) (live_in new (beyond files' x whole))) (sym (unasked short))
-      ((undone short).live (says g.F.Files.tells r told) ports whole),
+          ((undone short).live (says g.F.Files.tells r told) ports whole),
       short-notes (nature r).reads_whole session.command session.machine.time session.notes new.notes own (undone short).notes is,
       (λ i. output ((undone short).written i) (unasked short i).sent),
     ))

@@ -41,7 +41,7 @@ returns-in-Some-clause-told g c = λ enough files known sink whole begins input.
     let session = c.args.session.now in
     let paid = c.pay.new.session in
     let ports = g.L.Lines.state c.args.ports.now in
-    let ports' = g.L.Lines.state c.answer.new.ports in
+    let ports' = g.L.Lines.state c.answer.new.lines in
     let named = beyond (g.F.Files.state c.args.files.now).files ports whole in
     let lines = c.args.lines.now in
     let now = c.pay.new.lines in
@@ -102,7 +102,7 @@ returns-then-not-pay-clause-ports g c =
 
 pub returns-in-Some-clause-ports : goal.returns-in-Some-clause-ports
 returns-in-Some-clause-ports g c =
-    subst (λ (x : CommandState). LinesGoOn g.L.Lines.tells (g.L.Lines.state c.args.ports.now) x.machine.lines (g.L.Lines.state c.answer.new.ports) c.answer.new.session.machine.lines)
+    subst (λ (x : CommandState). LinesGoOn g.L.Lines.tells (g.L.Lines.state c.args.ports.now) x.machine.lines (g.L.Lines.state c.answer.new.lines) c.answer.new.session.machine.lines)
     c.pay.ensures.rest c.answer.ensures.lines
 
 pub returns-in-None-clause-ports : goal.returns-in-None-clause-ports

@@ -6,6 +6,7 @@ use Rattle.scp_commands.specs.declared.fault.CommandFault.TheVariants.{Parse}
 use Rattle.nova_machine.specs.Comes.{output}
 use Rattle.nova_machine.specs.LineChanges.{AreLinesTold, LinesGoOn}
 use Rattle.scp_commands.specs.Live.{CommandState, live_in, beyond}
+use Rattle.nova_machine.proofs.LineSteps.{lines-stay}
 use Rattle.scp_commands.proofs.ObeyLemmas.{lines-kept}
 use Rattle.scp_commands.specs.Doing.{Closes}
 use Rattle.scp_commands.specs.Effect.{asked}
@@ -36,7 +37,7 @@ returns-in-Line-clause-told g c = λ enough source files known sink whole begins
     let session = c.args.session.now in
     let paid = c.read_paid.new.session in
     let ports = g.L.Lines.state c.args.ports.now in
-    let ports' = g.L.Lines.state c.answer.new.ports in
+    let ports' = g.L.Lines.state c.answer.new.lines in
     let named = beyond (g.F.Files.state c.args.files.now).files ports whole in
     let lines = c.args.lines.now in
     let now = c.read_paid.new.lines in
@@ -108,7 +109,7 @@ returns-in-TooLong-clause-told g c = λ enough source files known sink whole beg
     (line-stepped (session_of session named lines input []) (session_of now_state named last left []) reads.0 what result tells before mid after
     (notes_said session.notes) (notes_said session.notes) sink (λ i. texts_of (c.requires.actions i) (c.requires.scripts i)) c.requires.reads reads.1 refl
     (record { spent = spent; limit = refl; budget = reads.3; open_ = reads.4; reading = c.read_paid.ensures.reading; prompt = c.read_paid.ensures.prompt; reads = reads.5 }) less
-    (c.in-Ok.ensures.told sink) told short)
+    (c.in-Ok.ensures.told sink) refl told short)
 
 pub returns-in-Ok-detach_files-clause-told : goal.returns-in-Ok-detach_files-clause-told
 returns-in-Ok-detach_files-clause-told g c = λ enough source files known sink whole begins.
@@ -213,7 +214,7 @@ returns-in-Err-detach_files-clause-around g c = λ base around.
 
 pub returns-in-Line-clause-ports : goal.returns-in-Line-clause-ports
 returns-in-Line-clause-ports g c =
-    subst (λ (x : CommandState). LinesGoOn g.L.Lines.tells (g.L.Lines.state c.args.ports.now) x.machine.lines (g.L.Lines.state c.answer.new.ports) c.answer.new.session.machine.lines)
+    subst (λ (x : CommandState). LinesGoOn g.L.Lines.tells (g.L.Lines.state c.args.ports.now) x.machine.lines (g.L.Lines.state c.answer.new.lines) c.answer.new.session.machine.lines)
     c.read_paid.ensures.rest c.answer.ensures.lines
 
 pub returns-in-TooLong-clause-ports : goal.returns-in-TooLong-clause-ports
@@ -240,3 +241,6 @@ pub returns-in-Err-detach_files-clause-ports : goal.returns-in-Err-detach_files-
 returns-in-Err-detach_files-clause-ports g c =
     lines-kept g.L.Lines.tells (g.L.Lines.state c.args.ports.now) c.args.session.now.machine.lines c.detach_files.new.self.machine.lines
     (c.in-Err-detach_files.ensures.terminals ∙ ap (λ (x : CommandState). x.machine.lines) c.read_paid.ensures.rest)
+
+pub returns-in-Err-clause-ports : goal.returns-in-Err-clause-ports
+returns-in-Err-clause-ports g c = lines-stay g.L.Lines.tells (g.L.Lines.state c.args.ports.now) c.args.session.now.machine.lines

@@ -77,7 +77,7 @@ returns-in-Some-clause-told g c = λ enough files known sink whole begins input.
     let paid = c.pay.new.session in
     let now_state = record session { command = paid.command } in
     let ports = g.L.Lines.state c.args.ports.now in
-    let ports' = g.L.Lines.state c.answer.new.ports in
+    let ports' = g.L.Lines.state c.answer.new.lines in
     let named = beyond (g.F.Files.state c.args.files.now).files ports whole in
     let script = c.args.script in
     let outer = c.args.lines.now.texts.scripts in
@@ -191,10 +191,16 @@ returns-in-Err-clause-ports g c =
 
 pub returns-in-Some-clause-ports : goal.returns-in-Some-clause-ports
 returns-in-Some-clause-ports g c =
-    subst (λ (x : CommandState). LinesGoOn g.L.Lines.tells (g.L.Lines.state c.args.ports.now) x.machine.lines (g.L.Lines.state c.answer.new.ports) c.answer.new.session.machine.lines)
+    subst (λ (x : CommandState). LinesGoOn g.L.Lines.tells (g.L.Lines.state c.args.ports.now) x.machine.lines (g.L.Lines.state c.answer.new.lines) c.answer.new.session.machine.lines)
     c.pay.ensures.rest c.answer.ensures.lines
 
 pub returns-in-None-clause-ports : goal.returns-in-None-clause-ports
 returns-in-None-clause-ports g c =
     lines-kept g.L.Lines.tells (g.L.Lines.state c.args.ports.now) c.args.session.now.machine.lines c.pay.new.session.machine.lines
     (ap (λ (x : CommandState). x.machine.lines) c.pay.ensures.rest)
+
+pub returns-in-Err-clause-keeps : goal.returns-in-Err-clause-keeps
+returns-in-Err-clause-keeps g c =
+    let files = g.F.Files.state c.args.files.now in
+    let notes = c.args.session.now.notes in
+    subst (λ (x : CommandState). AreKept notes x.notes files files) (sym c.pay.ensures.rest) (kept-none notes files)
