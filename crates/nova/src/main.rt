@@ -1,12 +1,13 @@
 //! A Data General Nova under a control program in the manner of SIMH. The words of its command line, its standard input
-//! and its standard output are a session's words, input and console, and the session's status is its exit status. It
-//! writes nothing to standard error.
+//! and its standard output are a session's words, input and console, sockets of this machine are its terminal lines,
+//! and the session's status is its exit status. It writes nothing to standard error.
 #![tactic(auto)]
 
 ghost use Rattle.std.specs.Prelude.{◌≡◌, ◌⊎◌, None, IfOk, map};
 ghost use Rattle.unit_trait.specs.declared.kind.Kind.TheVariants.{Dsk as disks, Mta as tapes, Lpt as printers, Ptr as readers};
 ghost use Rattle.unit_trait.specs.declared.kind.Kind.TheVariants.{Ptp as punches, Clk as clocks, Tti as keyboards};
 ghost use Rattle.unit_trait.specs.declared.kind.Kind.TheVariants.{Tto as teleprinters};
+ghost use Rattle.unit_trait.specs.declared.kind.Kind.TheVariants.{Tti1 as second_keyboards, Tto1 as second_printers};
 ghost use Rattle.unit_trait.specs.Row.{initial_unit};
 ghost use Rattle.nova_top.specs.Standard.{IsStandard};
 ghost use Rattle.std.specs.Process.{exit_status};
@@ -16,22 +17,23 @@ mod boxes;
 mod session;
 mod words;
 
-use boxes::{four, push_four};
+use boxes::{four, push_four, push_two, two};
 use clock_unit::Clk;
 use disk_unit::Dsk;
-use host_adapters::{PagedFiles, ReaderSource, RealFiles, WriterSink};
-use host_files::{Sink, Source};
+use host_adapters::{PagedFiles, ReaderSource, RealFiles, RealLines, WriterSink};
+use host_files::{Files, Sink, Source};
 use observations::ExitStatus;
 use paper_tape::{Lpt, Ptp, Ptr};
 use session::session;
 use std::alloc::{AllocError as OutOfMemory, Global};
 use std::env::Env;
 use std::io;
+use std::net::Net;
 use std::os::unix::fs::FileExt;
 use std::process::ExitCode;
 use std::rt::Files as System;
 use tape_unit::Mta;
-use tty_units::{Tti, Tto};
+use tty_units::{Tti, Tti1, Tto, Tto1};
 use unit_trait::Unit;
 
 fn main(rt: HostRuntime) -> ExitCode {
@@ -41,8 +43,8 @@ fn main(rt: HostRuntime) -> ExitCode {
     }
 }
 
-/// Runs a session over the runtime's words, standard streams and files.
-fn command_line_session<R: Env + Input + Print + AllocGlobal + System>(
+/// Runs a session over the runtime's words, standard streams, files and sockets.
+fn command_line_session<R: Env + Input + Print + AllocGlobal + System + Net>(
     rt: &R,
 ) -> Result<ExitCode, OutOfMemory>
 where
@@ -52,9 +54,9 @@ where
     standard_session(rt, words.as_slice())
 }
 
-/// Runs a session over these words and the runtime's standard streams and files, with a new unit of each kind that is
-/// built.
-fn standard_session<R: Input + Print + AllocGlobal + System>(
+/// Runs a session over these words and the runtime's standard streams, files and sockets, with a new unit of each kind
+/// that is built.
+fn standard_session<R: Input + Print + AllocGlobal + System + Net>(
     rt: &R,
     words: &[String],
 ) -> Result<ExitCode, OutOfMemory>
@@ -64,9 +66,18 @@ where
     ensures bad_words { options_of (texts_of words.now) ≡ None
         → IfOk result (λ code. (exit_status code ≡ 100) ⊎ (exit_status code ≡ 102)) }
 {
-    let (disk, tape, printer, reader, punch, clock, keyboard, teleprinter) = boxed_units(
-        rt.alloc(),
-    )?;
+    let (
+        disk,
+        tape,
+        printer,
+        reader,
+        punch,
+        clock,
+        keyboard,
+        teleprinter,
+        keyboard_1,
+        teleprinter_1,
+    ) = boxed_units(rt.alloc())?;
     // The others become such boxes too, since they go into one list with it.
     let disk: Box<dyn Unit> = disk;
     with_units(
@@ -80,6 +91,8 @@ where
         clock,
         keyboard,
         teleprinter,
+        keyboard_1,
+        teleprinter_1,
     )
 }
 
@@ -93,6 +106,8 @@ type Boxes = (
     Box<Clk>,
     Box<Tti>,
     Box<Tto>,
+    Box<Tti1>,
+    Box<Tto1>,
 );
 
 /// A new unit of each kind that is built.
@@ -105,6 +120,8 @@ fn boxed_units(alloc: Global) -> Result<Boxes, OutOfMemory>
     ensures clock { IfOk result (λ b. ⟦<Clk as Unit>⟧.unit_state b.5.value ≡ initial_unit clocks) }
     ensures keyboard { IfOk result (λ b. ⟦<Tti as Unit>⟧.unit_state b.6.value ≡ initial_unit keyboards) }
     ensures teleprinter { IfOk result (λ b. ⟦<Tto as Unit>⟧.unit_state b.7.value ≡ initial_unit teleprinters) }
+    ensures keyboard_1 { IfOk result (λ b. ⟦<Tti1 as Unit>⟧.unit_state b.8.value ≡ initial_unit second_keyboards) }
+    ensures teleprinter_1 { IfOk result (λ b. ⟦<Tto1 as Unit>⟧.unit_state b.9.value ≡ initial_unit second_printers) }
 {
     let (disk, tape, printer, reader) = four(
         alloc,
@@ -120,6 +137,7 @@ fn boxed_units(alloc: Global) -> Result<Boxes, OutOfMemory>
         Tti::new(),
         Tto::new(),
     )?;
+    let (keyboard_1, teleprinter_1) = two(alloc, Tti1::new(), Tto1::new())?;
     Ok((
         disk,
         tape,
@@ -129,11 +147,13 @@ fn boxed_units(alloc: Global) -> Result<Boxes, OutOfMemory>
         clock,
         keyboard,
         teleprinter,
+        keyboard_1,
+        teleprinter_1,
     ))
 }
 
 /// Runs a session with these units, in bus order.
-fn with_units<U: Unit, R: Input + Print + AllocGlobal + System>(
+fn with_units<U: Unit, R: Input + Print + AllocGlobal + System + Net>(
     rt: &R,
     words: &[String],
     disk: U,
@@ -144,6 +164,8 @@ fn with_units<U: Unit, R: Input + Print + AllocGlobal + System>(
     clock: U,
     keyboard: U,
     teleprinter: U,
+    keyboard_1: U,
+    teleprinter_1: U,
 ) -> Result<ExitCode, OutOfMemory>
 where
     R::File: FileExt,
@@ -155,6 +177,8 @@ where
     requires clock { U.unit_state clock ≡ initial_unit clocks }
     requires keyboard { U.unit_state keyboard ≡ initial_unit keyboards }
     requires teleprinter { U.unit_state teleprinter ≡ initial_unit teleprinters }
+    requires keyboard_1 { U.unit_state keyboard_1 ≡ initial_unit second_keyboards }
+    requires teleprinter_1 { U.unit_state teleprinter_1 ≡ initial_unit second_printers }
     ensures usage { IfOk result (λ code. exit_status code ≡ 100 → options_of (texts_of words.now) ≡ None) }
     ensures bad_words { options_of (texts_of words.now) ≡ None
         → IfOk result (λ code. (exit_status code ≡ 100) ⊎ (exit_status code ≡ 102)) }
@@ -162,11 +186,12 @@ where
     let mut units = Vec::new(rt.alloc());
     push_four(&mut units, disk, tape, printer, reader)?;
     push_four(&mut units, punch, clock, keyboard, teleprinter)?;
+    push_two(&mut units, keyboard_1, teleprinter_1)?;
     with_streams(rt, words, units)
 }
 
-/// Runs a session with these units over the runtime's standard streams and files.
-fn with_streams<U: Unit, R: Input + Print + AllocGlobal + System>(
+/// Runs a session with these units over the runtime's standard streams, files and sockets.
+fn with_streams<U: Unit, R: Input + Print + AllocGlobal + System + Net>(
     rt: &R,
     words: &[String],
     units: Vec<U>,
@@ -183,8 +208,9 @@ where
     with_files(rt, words, units, &mut input, &mut output)
 }
 
-/// Runs a session with these units over any input and output, and the files of the system, which are read by pages.
-fn with_files<U: Unit, C: Source, S: Sink, R: System + AllocGlobal>(
+/// Runs a session with these units over any input and output, the files of the system, which are read by pages, and
+/// sockets.
+fn with_files<U: Unit, C: Source, S: Sink, R: System + AllocGlobal + Net>(
     rt: &R,
     words: &[String],
     units: Vec<U>,
@@ -199,5 +225,23 @@ where
         → IfOk result (λ code. (exit_status code ≡ 100) ⊎ (exit_status code ≡ 102)) }
 {
     let mut files = PagedFiles::new(rt.alloc(), RealFiles::new(rt.alloc(), rt))?;
-    Ok(session(rt.alloc(), words, units, input, output, &mut files))
+    Ok(with_lines(rt, words, units, input, output, &mut files))
+}
+
+/// Runs a session with these units over any input, output and files, and sockets of this machine as its terminal lines.
+fn with_lines<U: Unit, C: Source, S: Sink, F: Files, R: AllocGlobal + Net>(
+    rt: &R,
+    words: &[String],
+    units: Vec<U>,
+    input: &mut C,
+    output: &mut S,
+    files: &mut F,
+) -> ExitCode
+    requires { IsStandard (map U.unit_state units.items) }
+    ensures usage { exit_status result ≡ 100 → options_of (texts_of words.now) ≡ None }
+    ensures bad_words { options_of (texts_of words.now) ≡ None
+        → (exit_status result ≡ 100) ⊎ (exit_status result ≡ 102) }
+{
+    let mut lines = RealLines::new(rt.alloc(), rt);
+    session(rt.alloc(), words, units, input, output, files, &mut lines)
 }

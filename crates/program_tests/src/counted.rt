@@ -3,6 +3,7 @@ ghost use Rattle.std.specs.Prelude.{◌≡◌};
 ghost use Rattle.unit_trait.specs.declared.kind.Kind.TheVariants.{Dsk as disks, Mta as tapes, Lpt as printers, Ptr as readers};
 ghost use Rattle.unit_trait.specs.declared.kind.Kind.TheVariants.{Ptp as punches, Clk as clocks, Tti as keyboards};
 ghost use Rattle.unit_trait.specs.declared.kind.Kind.TheVariants.{Tto as teleprinters};
+ghost use Rattle.unit_trait.specs.declared.kind.Kind.TheVariants.{Tti1 as second_keyboards, Tto1 as second_printers};
 ghost use Rattle.unit_trait.specs.Row.{initial_unit};
 
 use crate::checked::holds;
@@ -146,6 +147,8 @@ pub fn play_counted<U: Unit>(
     clock: U,
     keyboard: U,
     teleprinter: U,
+    keyboard_1: U,
+    teleprinter_1: U,
     counters: &Counters,
     row: Row<'_>,
 ) -> Result<(), AllocError>
@@ -157,6 +160,8 @@ pub fn play_counted<U: Unit>(
     requires clock { U.unit_state clock ≡ initial_unit clocks }
     requires keyboard { U.unit_state keyboard ≡ initial_unit keyboards }
     requires teleprinter { U.unit_state teleprinter ≡ initial_unit teleprinters }
+    requires keyboard_1 { U.unit_state keyboard_1 ≡ initial_unit second_keyboards }
+    requires teleprinter_1 { U.unit_state teleprinter_1 ≡ initial_unit second_printers }
 {
     let clock_calls = counters.clock.clone()?;
     let printer_calls = counters.printer.clone()?;
@@ -171,6 +176,8 @@ pub fn play_counted<U: Unit>(
         Counted::new(clock, Some(clock_calls)),
         Counted::new(keyboard, None),
         Counted::new(teleprinter, Some(printer_calls)),
+        Counted::new(keyboard_1, None),
+        Counted::new(teleprinter_1, None),
         row,
     )
 }

@@ -4,6 +4,8 @@
 #[cfg(test)]
 mod boxes;
 #[cfg(test)]
+mod callers;
+#[cfg(test)]
 mod checked;
 #[cfg(test)]
 mod counted;

@@ -1,21 +1,24 @@
 // How a row is played. It says the words, which files are there before (`before`), which call on them fails and how many
 // bytes that writes (`fails`), which read of the input fails (`read`), how many bytes the console takes (`room`), and the
-// input (`lines` and `more`); and then what is printed (`prints` and `then`, as far as there is room), the status, the note
-// of the failed call (`note`), what is left of the input (`left`), files behind it (`after`), words of memory (`cells`) and
-// that there is no machine (`machine=none`).
+// input (`lines` and `more`) and what a caller types (`types`); and then what is printed (`prints` and `then`, as far as there
+// is room), the status, the note of the failed call (`note`), what is left of the input (`left`), files behind it (`after`),
+// words of memory (`cells`) and that there is no machine (`machine=none`).
 ghost use Rattle.std.specs.Prelude.{◌≡◌, map};
 ghost use Rattle.unit_trait.specs.declared.kind.Kind.TheVariants.{Dsk as disks, Mta as tapes, Lpt as printers, Ptr as readers};
 ghost use Rattle.unit_trait.specs.declared.kind.Kind.TheVariants.{Ptp as punches, Clk as clocks, Tti as keyboards};
 ghost use Rattle.unit_trait.specs.declared.kind.Kind.TheVariants.{Tto as teleprinters};
+ghost use Rattle.unit_trait.specs.declared.kind.Kind.TheVariants.{Tti1 as second_keyboards, Tto1 as second_printers};
 ghost use Rattle.unit_trait.specs.Row.{initial_unit};
 ghost use Rattle.nova_top.specs.Standard.{IsStandard};
 
-use crate::boxes::push_four;
+use crate::boxes::{push_four, push_two};
+use crate::callers::{lines_of, lines_stand};
 use crate::checked::holds;
 use crate::row::{Row, add, bytes, decimal, number, text};
 use crate::units::{Purpose, with_new_units};
 use file_commands::{FaultNote, Subject};
 use host_files::{ByteSink, ByteSource, FileCall, Files, MemFiles, Sink, Source, next_byte};
+use host_lines::Lines;
 use nova_machine::Machine;
 use nova_top::{Ending, simulate};
 use nova_word::{Addr, Word, read_octal};
@@ -46,6 +49,8 @@ pub fn play<U: Unit>(
     clock: U,
     keyboard: U,
     teleprinter: U,
+    keyboard_1: U,
+    teleprinter_1: U,
     row: Row<'_>,
 ) -> Result<(), AllocError>
     requires disk { U.unit_state disk ≡ initial_unit disks }
@@ -56,10 +61,13 @@ pub fn play<U: Unit>(
     requires clock { U.unit_state clock ≡ initial_unit clocks }
     requires keyboard { U.unit_state keyboard ≡ initial_unit keyboards }
     requires teleprinter { U.unit_state teleprinter ≡ initial_unit teleprinters }
+    requires keyboard_1 { U.unit_state keyboard_1 ≡ initial_unit second_keyboards }
+    requires teleprinter_1 { U.unit_state teleprinter_1 ≡ initial_unit second_printers }
 {
     let mut units = Vec::new(alloc);
     push_four(&mut units, disk, tape, printer, reader)?;
     push_four(&mut units, punch, clock, keyboard, teleprinter)?;
+    push_two(&mut units, keyboard_1, teleprinter_1)?;
     with_units(rt, alloc, units, row)
 }
 
@@ -71,29 +79,46 @@ fn with_units<U: Unit>(
 ) -> Result<(), AllocError>
     requires { IsStandard (map U.unit_state units.items) }
 {
-    let mut files = files_of(rt, alloc, row)?;
-    with_files(rt, alloc, units, &mut files, row)?;
-    files_stand(rt, alloc, &files, row)
+    let mut lines = lines_of(alloc, row)?;
+    with_lines(rt, alloc, units, &mut lines, row)?;
+    lines_stand(rt, &mut lines, row);
+    Ok(())
 }
 
-fn with_files<U: Unit, F: Files>(
+fn with_lines<U: Unit, L: Lines>(
     rt: &impl Abort,
     alloc: Global,
     units: Vec<U>,
+    lines: &mut L,
+    row: Row<'_>,
+) -> Result<(), AllocError>
+    requires { IsStandard (map U.unit_state units.items) }
+{
+    let mut files = files_of(rt, alloc, row)?;
+    with_files(rt, alloc, units, lines, &mut files, row)?;
+    files_stand(rt, alloc, &files, row)
+}
+
+fn with_files<U: Unit, L: Lines, F: Files>(
+    rt: &impl Abort,
+    alloc: Global,
+    units: Vec<U>,
+    lines: &mut L,
     files: &mut F,
     row: Row<'_>,
 ) -> Result<(), AllocError>
     requires { IsStandard (map U.unit_state units.items) }
 {
     let mut console = ByteSink::with_room(alloc, room(row))?;
-    with_console(rt, alloc, units, files, &mut console, row)?;
+    with_console(rt, alloc, units, lines, files, &mut console, row)?;
     prints(rt, alloc, &console, row)
 }
 
-fn with_console<U: Unit, F: Files, S: Sink>(
+fn with_console<U: Unit, L: Lines, F: Files, S: Sink>(
     rt: &impl Abort,
     alloc: Global,
     units: Vec<U>,
+    lines: &mut L,
     files: &mut F,
     console: &mut S,
     row: Row<'_>,
@@ -101,14 +126,15 @@ fn with_console<U: Unit, F: Files, S: Sink>(
     requires { IsStandard (map U.unit_state units.items) }
 {
     let mut input = input_of(alloc, row)?;
-    with_input(rt, alloc, units, files, console, &mut input, row)?;
+    with_input(rt, alloc, units, lines, files, console, &mut input, row)?;
     is_left(rt, alloc, &mut input, row)
 }
 
-fn with_input<U: Unit, F: Files, S: Sink, C: Source>(
+fn with_input<U: Unit, L: Lines, F: Files, S: Sink, C: Source>(
     rt: &impl Abort,
     alloc: Global,
     units: Vec<U>,
+    lines: &mut L,
     files: &mut F,
     console: &mut S,
     input: &mut C,
@@ -122,6 +148,7 @@ fn with_input<U: Unit, F: Files, S: Sink, C: Source>(
         alloc,
         words.as_slice(),
         units,
+        lines,
         files,
         console,
         input,
@@ -130,11 +157,12 @@ fn with_input<U: Unit, F: Files, S: Sink, C: Source>(
     Ok(())
 }
 
-fn with_words<U: Unit, F: Files, S: Sink, C: Source>(
+fn with_words<U: Unit, L: Lines, F: Files, S: Sink, C: Source>(
     rt: &impl Abort,
     alloc: Global,
     words: &[String],
     units: Vec<U>,
+    lines: &mut L,
     files: &mut F,
     console: &mut S,
     input: &mut C,
@@ -142,7 +170,7 @@ fn with_words<U: Unit, F: Files, S: Sink, C: Source>(
 )
     requires { IsStandard (map U.unit_state units.items) }
 {
-    let ending = simulate(alloc, words, units, input, console, files);
+    let ending = simulate(alloc, words, units, input, console, files, lines);
     ends(rt, &ending, row);
 }
 

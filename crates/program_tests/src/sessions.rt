@@ -29,7 +29,7 @@ lines=DEPOSIT 100 60000~DEPOSIT PC 100~STEP~DEPOSIT STOP_DEV 1~GO 100~EXAMINE PC
 ; the clock ticks after 1000 instructions, and SKPDN sees it
 lines=D AC0 3~D 100 61114~D 101 63614~D 102 777~D 103 63077~GO 100~SHOW TIME~E CLK STATE~ | prints=~HALT instruction, PC: 00104 (000000)~Time: 1003~BUSY:\t0~DONE:\t1~SEL:\t3~
 ; what the teletype prints comes in front of the stop, and RESET clears it
-lines=D AC0 101~D 100 61111~D 101 63611~D 102 777~D 103 63077~GO 100~SHOW TIME~SHOW QUEUE~E TTO DONE~RESET~E TTO DONE~E PC~SHOW QUEUE~ | prints=A~HALT instruction, PC: 00104 (000000)~Time: 103~TTI 97~DONE:\t1~DONE:\t0~PC:\t00104~TTI 100~
+lines=D AC0 101~D 100 61111~D 101 63611~D 102 777~D 103 63077~GO 100~SHOW TIME~SHOW QUEUE~E TTO DONE~RESET~E TTO DONE~E PC~SHOW QUEUE~ | prints=A~HALT instruction, PC: 00104 (000000)~Time: 103~TTI 97~TTI1 97~DONE:\t1~DONE:\t0~PC:\t00104~TTI 100~TTI1 100~
 ; INC of all ones carries, and HALT counts as an instruction
 lines=DEPOSIT AC0 177777~DEPOSIT 100 101400~DEPOSIT 101 63077~GO 100~EXAMINE AC0~EXAMINE C~SHOW TIME~ | prints=~HALT instruction, PC: 00102 (000000)~AC0:\t000000~C:\t1~Time: 2~
 ; auto-index through 20, whose changed word is the address
@@ -87,6 +87,19 @@ const RUNS: &str =
 #[test]
 fn a_limit_ends_each_run(rt: HostRuntime) -> Result<(), Fail> {
     all(&rt, rt.alloc(), RUNS, LIMITS)
+}
+
+/// A program that loops, while both keyboards look for keys.
+const LOOPS: &str =
+    "words=-q -l 250 | lines=D 100 400~GO 100~E TTI1 STATE~SHOW QUEUE~ | prints=~Instruction limit, PC: 00100 (000400)~BUSY:\t0~DONE:\t0~TIME:\t000144~BUF:\t000~TTI 50~TTI1 50~";
+
+const CALLERS: &str = "types=A
+; without a caller
+status=0";
+
+#[test]
+fn a_caller_waits_where_no_port_is_attached(rt: HostRuntime) -> Result<(), Fail> {
+    all(&rt, rt.alloc(), LOOPS, CALLERS)
 }
 
 /// A run of one instruction.

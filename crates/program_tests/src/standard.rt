@@ -1,4 +1,4 @@
-use crate::boxes::push_four;
+use crate::boxes::{push_four, push_two};
 use crate::checked::holds;
 use crate::row::Row;
 use crate::units::{Purpose, with_new_units};
@@ -29,12 +29,12 @@ fn are_standard_together<U: Unit>(units: &[U]) -> bool {
 
 /// Whether the last two units are standard ones in their order alone.
 fn are_standard_in_order<U: Unit>(units: &mut [U]) -> bool {
-    if units.len() != 8 {
+    if units.len() != 10 {
         return false;
     }
-    units.swap(6, 7);
+    units.swap(8, 9);
     let swapped = is_standard(units);
-    units.swap(6, 7);
+    units.swap(8, 9);
     !swapped && is_standard(units)
 }
 
@@ -50,11 +50,14 @@ pub fn tell<U: Unit>(
     clock: U,
     keyboard: U,
     teleprinter: U,
+    keyboard_1: U,
+    teleprinter_1: U,
     line: &str,
 ) -> Result<(), AllocError> {
     let mut units = Vec::new(alloc);
     push_four(&mut units, disk, tape, printer, reader)?;
     push_four(&mut units, punch, clock, keyboard, teleprinter)?;
+    push_two(&mut units, keyboard_1, teleprinter_1)?;
     holds(rt, are_told(units.as_mut_slice()), line);
     Ok(())
 }

@@ -3,9 +3,10 @@ ghost use Rattle.std.specs.Prelude.{◌≡◌};
 ghost use Rattle.unit_trait.specs.declared.kind.Kind.TheVariants.{Dsk as disks, Mta as tapes, Lpt as printers, Ptr as readers};
 ghost use Rattle.unit_trait.specs.declared.kind.Kind.TheVariants.{Ptp as punches, Clk as clocks, Tti as keyboards};
 ghost use Rattle.unit_trait.specs.declared.kind.Kind.TheVariants.{Tto as teleprinters};
+ghost use Rattle.unit_trait.specs.declared.kind.Kind.TheVariants.{Tti1 as second_keyboards, Tto1 as second_printers};
 ghost use Rattle.unit_trait.specs.Row.{initial_unit};
 
-use crate::boxes::four;
+use crate::boxes::{four, two};
 use crate::counted::{Counters, play_counted};
 use crate::play::play;
 use crate::row::Row;
@@ -16,7 +17,7 @@ use paper_tape::{Lpt, Ptp, Ptr};
 use std::alloc::{AllocError, Global};
 use std::process::Abort;
 use tape_unit::Mta;
-use tty_units::{Tti, Tto};
+use tty_units::{Tti, Tti1, Tto, Tto1};
 use unit_trait::Unit;
 
 /// What is done with the units: a row is played, with or without a count of their calls, or they are told from others.
@@ -48,6 +49,7 @@ pub fn with_new_units(
         Tti::new(),
         Tto::new(),
     )?;
+    let (keyboard_1, teleprinter_1) = two(alloc, Tti1::new(), Tto1::new())?;
     // The others become such boxes too, since they go into one list with it.
     let disk: Box<dyn Unit> = disk;
     with_units(
@@ -61,6 +63,8 @@ pub fn with_new_units(
         clock,
         keyboard,
         teleprinter,
+        keyboard_1,
+        teleprinter_1,
         purpose,
         row,
     )
@@ -77,6 +81,8 @@ fn with_units<U: Unit>(
     clock: U,
     keyboard: U,
     teleprinter: U,
+    keyboard_1: U,
+    teleprinter_1: U,
     purpose: Purpose<'_>,
     row: Row<'_>,
 ) -> Result<(), AllocError>
@@ -88,6 +94,8 @@ fn with_units<U: Unit>(
     requires clock { U.unit_state clock ≡ initial_unit clocks }
     requires keyboard { U.unit_state keyboard ≡ initial_unit keyboards }
     requires teleprinter { U.unit_state teleprinter ≡ initial_unit teleprinters }
+    requires keyboard_1 { U.unit_state keyboard_1 ≡ initial_unit second_keyboards }
+    requires teleprinter_1 { U.unit_state teleprinter_1 ≡ initial_unit second_printers }
 {
     match purpose {
         Purpose::Play => play(
@@ -101,6 +109,8 @@ fn with_units<U: Unit>(
             clock,
             keyboard,
             teleprinter,
+            keyboard_1,
+            teleprinter_1,
             row,
         ),
         Purpose::Count(counters) => play_counted(
@@ -114,6 +124,8 @@ fn with_units<U: Unit>(
             clock,
             keyboard,
             teleprinter,
+            keyboard_1,
+            teleprinter_1,
             counters,
             row,
         ),
@@ -128,6 +140,8 @@ fn with_units<U: Unit>(
             clock,
             keyboard,
             teleprinter,
+            keyboard_1,
+            teleprinter_1,
             row.line,
         ),
     }
