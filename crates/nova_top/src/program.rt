@@ -59,8 +59,8 @@ pub struct Ending<U: Unit> {
 }
 
 /// The whole program, over the words, the units, the input, the console, the files and the terminal lines that are
-/// handed in. The units are the standard ones (`is_standard`); the program is the same over whichever types they have, so they
-/// may be boxes.
+/// handed in. The units are the standard ones (`is_standard`); the program is the same over whichever types they have,
+/// so they may be boxes.
 ///
 /// The keys file of `-k` and then the script are read before the session begins. With `-g` the workload of its number
 /// is run in place of that, and the input is left unread. Files that are attached at the end of the input, or at EXIT,
