@@ -2,7 +2,7 @@ use Rattle.std.proofs.Common.{◌≢◌, ℕ, sym, ◌∙◌, subst}
 use Rattle.file_commands.specs.Notes.{notes_said}
 use Rattle.scp_commands.specs.Live.{beyond}
 use Rattle.nova_top.specs.Words.{texts_of}
-use Rattle.nova_top.specs.Ends.{IsOutcome}
+use Rattle.nova_top.specs.Ends.{IsOutcome, IsComplete}
 use Rattle.nova.proofs.session.session.Goals as goal
 
 -- of the machine and the notes that are let go
@@ -25,4 +25,16 @@ returns-clause-memory g c = λ source files sink short whole first.
       ending.machine,
       notes_said ending.faults.items,
       c.simulate-ending.ensures.memory source files sink (sym c.from.ensures ∙ short) whole first,
+    )
+
+pub returns-clause-complete : goal.returns-clause-complete
+returns-clause-complete g c = λ source files sink other quiet fed none whole first.
+    let ending = c.simulate-ending.result in (
+      ending.machine,
+      notes_said ending.faults.items,
+      subst
+          (λ (status : ℕ). IsComplete (texts_of c.args.words.now) (g.C.Source.left c.args.input.now) (g.C.Source.left c.simulate-ending.new.input) (g.S.Sink.written c.args.output.now)
+          (g.S.Sink.written c.simulate-ending.new.output) (beyond (g.F.Files.state c.args.files.now).files (g.L.Lines.state c.args.lines.now) whole)
+          (beyond (g.F.Files.state c.simulate-ending.new.files).files (g.L.Lines.state c.simulate-ending.new.lines) whole) status ending.machine)
+          (sym c.from.ensures) (c.simulate-ending.ensures.complete source files sink (subst (λ (status : ℕ). status ≢ 103) c.from.ensures other) quiet fed none whole first),
     )
