@@ -33,6 +33,13 @@ impl<U: Unit> Machine<U> {
         self.lines.get_mut(number as usize)
     }
 
+    /// The terminal line with that number, where it is there, as it stands.
+    pub fn line_at(&self, number: u8) -> Option<&Line>
+        ensures { option_map (λ l. l.now) result ≡ slice_get self.now.lines number }
+    {
+        self.lines.get(number as usize)
+    }
+
     /// The files of its units, to be attached and detached as a person at the console does. It takes no time.
     pub fn attached_mut(&mut self) -> &mut Attached
         ensures* writes_back { sem 𝓛 (Lends (the_row U.row U.Unit) attached_row self.entry result (with_attached_files self.old)) }

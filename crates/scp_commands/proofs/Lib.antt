@@ -25,6 +25,7 @@ pub mod TapeLemmas
 pub mod ScriptLemmas
 pub mod SetLemmas
 pub mod AskedLemmas
+pub mod PortLemmas
 pub mod PrintedLemmas
 pub mod QuotedLemmas
 pub mod WatchLines

@@ -12,6 +12,7 @@ use Rattle.host_lines.specs.Traffic.{Answer as LineAnswer}
 use Rattle.host_lines.specs.Told.{IsFirst, record_in}
 use Rattle.host_lines.specs.State.{LineState}
 use Rattle.telnet_lines.specs.Line.{LineOf}
+use Rattle.telnet_lines.specs.Many.{AreApart}
 use Rattle.unit_trait.specs.declared.kind.Kind.{Kind}
 use Rattle.unit_trait.specs.declared.kind.UnitName.{UnitName}
 use Rattle.unit_trait.specs.Kinds.{same_unit}
@@ -36,14 +37,14 @@ use Rattle.nova_machine.specs.Seen.{attached_in}
 use Rattle.scp_parser.specs.Command.{Request, Attach, Detach, Exit as ExitRequest}
 use Rattle.scp_commands.specs.declared.next.Next.{Next}
 use Rattle.scp_commands.specs.declared.next.Next.TheVariants.{Exit, Ran}
-use Rattle.scp_commands.specs.declared.fault.CommandFault.TheVariants.{Console, OutOfMemory, NoFile, FileTooLong, FileFailed}
+use Rattle.scp_commands.specs.declared.fault.CommandFault.TheVariants.{Console, OutOfMemory, NoFile, FileTooLong, FileFailed, PortFailed}
 use Rattle.scp_commands.specs.declared.fault.CommandFault.TheVariants.{LoadTruncated, LoadSum, PastMemory}
 use Rattle.scp_commands.specs.Live.{Live, Standing, standing, CommandState, Beyond, beyond, live_in}
 use Rattle.scp_commands.specs.Nature.{Telling, nature}
-use Rattle.scp_commands.specs.Nature.Telling.{Nothing, Attached, Named}
+use Rattle.scp_commands.specs.Nature.Telling.{Nothing, Ported, Listening, Attached, Named}
 use Rattle.scp_commands.specs.Remains.{Remains, AreLeft}
 use Rattle.scp_commands.specs.Reply.{Answer, Reply, bare_answer}
-use Rattle.scp_commands.specs.FileEffects.{emptied_all, emptied_live}
+use Rattle.scp_commands.specs.FileEffects.{emptied_all, filed_live, emptied_live}
 
 -- ---- what is printed, and what is left
 
@@ -101,9 +102,12 @@ pub record Did (reply : List CommandNote → Reply) (number : ℕ) (answer : Ans
   pub kept : notes' ≡ notes ++ numbered number own
   pub does : (behind : List CommandNote) → ComeBehind new behind → Does (reply (own ++ behind)) answer (standing (length own) new) tells before after
 
--- what is done is told where of files and lines that is told which the command needs: a run needs the lines
+-- what is done is told where of files and lines that is told which the command needs: a run needs the lines, and so does what
+-- gives a terminal its port or takes it away
 abbrev pub told_by : Telling → Bool → List (Option Held) → Bool → LineState → List (LineOf ℕ) → Type 0
 told_by Named tells slots line_tells s lines = IsTrue tells
+told_by Ported tells slots line_tells s lines = AreLinesTold line_tells s lines
+told_by Listening tells slots line_tells s lines = IsTrue line_tells × AreApart s lines
 told_by Attached tells slots line_tells s lines = AreTold tells slots × AreLinesTold line_tells s lines
 told_by Nothing tells slots line_tells s lines = Unit {0}
 
@@ -178,16 +182,27 @@ abbrev pub ConsoleCounts : Answer → ℕ → ℕ → Type 0
 ConsoleCounts (Err Console) before now = now ≡ raised before
 ConsoleCounts answer before now = now ≡ before
 
--- an answer that is not the console's
+-- an answer that is not the console's, and speaks of no port
 abbrev pub IsOwn : Answer → Type 0
 IsOwn (Err Console) = ⊥
+IsOwn (Err PortFailed) = ⊥
 IsOwn (Ok (Ran stop)) = ⊥
 IsOwn answer = Unit {0}
+
+-- an answer of ATTACH of a port
+abbrev pub IsOfPort : Answer → Type 0
+IsOfPort (Err Console) = ⊥
+IsOfPort (Err NoFile) = ⊥
+IsOfPort (Err (FileFailed who)) = ⊥
+IsOfPort (Ok (Ran stop)) = ⊥
+IsOfPort (Ok (Exit status)) = ⊥
+IsOfPort answer = Unit {0}
 
 -- the same of a call that takes no memory
 abbrev pub IsPlain : Answer → Type 0
 IsPlain (Err Console) = ⊥
 IsPlain (Err OutOfMemory) = ⊥
+IsPlain (Err PortFailed) = ⊥
 IsPlain (Ok (Ran stop)) = ⊥
 IsPlain answer = Unit {0}
 
@@ -196,6 +211,7 @@ abbrev pub IsShown : Answer → Type 0
 IsShown (Ok (Ran stop)) = ⊥
 IsShown (Ok (Exit status)) = ⊥
 IsShown (Err OutOfMemory) = ⊥
+IsShown (Err PortFailed) = ⊥
 IsShown answer = Unit {0}
 
 -- an answer of a run: the stop of its machine, which is never that of the console, or that the console refused a byte
@@ -203,6 +219,7 @@ abbrev pub IsRunAnswer : Answer → Type 0
 IsRunAnswer (Ok (Ran ConsoleFault)) = ⊥
 IsRunAnswer (Ok (Exit status)) = ⊥
 IsRunAnswer (Err OutOfMemory) = ⊥
+IsRunAnswer (Err PortFailed) = ⊥
 IsRunAnswer answer = Unit {0}
 
 -- a command was refused; that the console refused a byte is no refusal
@@ -296,8 +313,17 @@ pub record IsUndone (flushes : Bool) (reads : Option Subject) (says : Bool) (old
 
 -- ---- the end of the input
 
--- All units have lost their files at the end, up to one that has kept it, with the notes that were kept for it: they are
--- used, and they may come behind those of the last command.
+-- All units have lost their files, up to one that has kept it, with the notes that were kept for it: they are used, and
+-- they may come behind those of the last command.
+pub record ClosesFiles (number : ℕ) (live new : Live) (keeper : Option UnitName) (notes notes' : List Note) : Type 0 where
+  pub own : List CommandNote
+  pub kept : notes' ≡ notes ++ numbered number own
+  pub used : (emptied_all own live).used ≡ length own
+  pub keeps : (emptied_all own live).kept ≡ keeper
+  pub after : new ≡ filed_live (emptied_all own live) live
+  pub behind : ComeBehind live own
+
+-- the same at the end, where the port of the second teletype is given up behind that, if no unit has kept its file
 pub record Closes (number : ℕ) (live new : Live) (keeper : Option UnitName) (notes notes' : List Note) : Type 0 where
   pub own : List CommandNote
   pub kept : notes' ≡ notes ++ numbered number own

@@ -3,7 +3,7 @@ use Rattle.std.specs.Prelude.{ℕ, List, unwrap_or, true, false, Result, Ok, Err
 use Rattle.file_commands.specs.Notes.{CommandNote}
 use Rattle.scp_parser.specs.declared.fault.ParseFault.{ParseFault}
 use Rattle.scp_parser.specs.Command.{Request, Nothing, Examine, Deposit, Run, Go, Cont, Step, Reset, Break, NoBreak, Expect, NoExpect, Send, NoSend}
-use Rattle.scp_parser.specs.Command.{Attach, Detach, SetSize, Show, Do, Goto, Assert, Echo, Exit, Load, Dump}
+use Rattle.scp_parser.specs.Command.{Attach, AttachPort, Detach, SetSize, Disconnect, Show, Do, Goto, Assert, Echo, Exit, Load, Dump}
 use Rattle.scp_parser.specs.Reading.{reading}
 use Rattle.scp_commands.specs.declared.fault.CommandFault.{CommandFault}
 use Rattle.scp_commands.specs.declared.fault.CommandFault.TheVariants.{Parse, NotBuilt}
@@ -13,6 +13,7 @@ use Rattle.scp_commands.specs.RunEffects.{running, run_from, step_of, reset_repl
 use Rattle.scp_commands.specs.ListEffects.{examine_reply, deposit_reply}
 use Rattle.scp_commands.specs.WatchEffects.{break_reply, no_break_reply, expect_reply, no_expect_reply, send_reply, no_send_reply}
 use Rattle.scp_commands.specs.FileEffects.{attach_reply, detach_one_or_all}
+use Rattle.scp_commands.specs.LineEffects.{attach_port_reply, disconnect_reply}
 use Rattle.scp_commands.specs.ShowEffects.{show_reply}
 use Rattle.scp_commands.specs.ExitEffects.{exit_reply}
 use Rattle.scp_commands.specs.ScriptEffects.{do_reply, goto_reply, echo_reply, assert_reply}
@@ -37,8 +38,10 @@ effect limit notes live NoExpect = no_expect_reply live
 effect limit notes live (Send after delay text) = send_reply live after delay text
 effect limit notes live NoSend = no_send_reply live
 effect limit notes live (Attach option unit name) = attach_reply notes live option unit name
+effect limit notes live (AttachPort kind port) = attach_port_reply live port
 effect limit notes live (Detach unit) = detach_one_or_all notes live unit
 effect limit notes live (SetSize k) = set_size_reply live k
+effect limit notes live (Disconnect kind) = disconnect_reply live
 effect limit notes live (Show subject) = show_reply live subject
 effect limit notes live (Assert test) = assert_reply live test
 effect limit notes live (Echo text) = echo_reply live text

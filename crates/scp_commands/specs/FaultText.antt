@@ -21,7 +21,7 @@ use Rattle.scp_commands.specs.declared.fault.CommandFault.{CommandFault}
 use Rattle.scp_commands.specs.declared.fault.Detail.{Detail}
 use Rattle.scp_commands.specs.declared.fault.Detail.TheVariants.{Nothing, Place, Address}
 use Rattle.scp_commands.specs.declared.fault.CommandFault.TheVariants.{Parse, NoSuchName, OutOfRange, ReadOnlyName, Console, NotBuilt}
-use Rattle.scp_commands.specs.declared.fault.CommandFault.TheVariants.{AlreadyAttached, NotAttached, ReadOnly, NoFile, FileTooLong, FileFailed, Full, AssertFailed, TooDeep, NoLabel, NotInDo, OutOfMemory}
+use Rattle.scp_commands.specs.declared.fault.CommandFault.TheVariants.{AlreadyAttached, NotAttached, ReadOnly, NoFile, FileTooLong, FileFailed, PortFailed, Full, AssertFailed, TooDeep, NoLabel, NotInDo, OutOfMemory}
 use Rattle.scp_commands.specs.declared.fault.CommandFault.TheVariants.{LoadTruncated, LoadSum, PastMemory}
 
 -- the fault of a list
@@ -92,6 +92,7 @@ fault_words ReadOnly = Some (codes "Read only not allowed")
 fault_words NoFile = Some (codes "File not found")
 fault_words FileTooLong = Some (codes "File too long")
 fault_words (FileFailed who) = Some (codes "File error")
+fault_words PortFailed = Some (codes "Port not available")
 fault_words Full = Some (codes "Table full")
 fault_words AssertFailed = Some (codes "Assertion failed")
 fault_words TooDeep = Some (codes "DO nested too deeply")

@@ -1,6 +1,7 @@
 -- ATTACH, DETACH, and SHOW of a unit (SIMH Users' Guide, "Attaching Devices").
 use Rattle.std.specs.Prelude.{ℕ, ◌==◌, ◌||◌, Bool, not, is_none, List, [], ◌∷◌, ◌++◌, codes, Option, Some, None, Ok, Err, if◌then◌else◌, ◌+◌}
 use Rattle.unit_trait.specs.declared.kind.Kind.{Kind}
+use Rattle.unit_trait.specs.declared.kind.Kind.TheVariants.{Tti1}
 use Rattle.unit_trait.specs.declared.kind.UnitName.{UnitName}
 use Rattle.unit_trait.specs.Kinds.{code_of, unit_name}
 use Rattle.unit_trait.specs.Calls.{UnitState}
@@ -22,6 +23,7 @@ use Rattle.scp_commands.specs.declared.next.Next.TheVariants.{Go}
 use Rattle.scp_commands.specs.declared.fault.CommandFault.TheVariants.{AlreadyAttached, NotAttached, ReadOnly, NoFile, FileTooLong, FileFailed, NotBuilt}
 use Rattle.scp_commands.specs.Live.{Live, standing, with_attached}
 use Rattle.scp_commands.specs.Reply.{Answer, Reply, refused}
+use Rattle.scp_commands.specs.LineEffects.{unported, detach_port_reply}
 
 -- whether this version has files for the units of a kind
 abbrev pub has_files : Kind → Bool
@@ -150,8 +152,16 @@ abbrev pub left_by : Option UnitName → Filed → Live → Live
 left_by None s live = record live { machine = record (with_attached live.machine s.attached) { disk = s.disk }; files = s.files }
 left_by (Some unit) s live = record live { files = s.files }
 
+-- the terminal line has no port any more, where no unit has kept its file
+abbrev pub unported_by : Option UnitName → Live → Live
+unported_by None live = record live { lines = unported live.lines }
+unported_by (Some unit) live = live
+
+abbrev pub filed_live : Emptied → Live → Live
+filed_live e live = left_by e.kept e.left live
+
 abbrev pub emptied_live : Emptied → Live → Live
-emptied_live e live = left_by e.kept e.left live
+emptied_live e live = unported_by e.kept (filed_live e live)
 
 -- what is answered then, where that comes next
 abbrev pub kept_answer : Option UnitName → Next → Answer
@@ -161,13 +171,18 @@ kept_answer (Some unit) next = Err (FileFailed (subject.Unit unit))
 abbrev pub emptied_reply : Next → Emptied → Live → Reply
 emptied_reply next e live = record { made = []; answer = kept_answer e.kept next; after = standing e.used (emptied_live e live) }
 
--- DETACH ALL takes the files of all units away, in bus order, up to one that could not be written back
+-- DETACH ALL takes the files of all units away, in bus order, up to one that could not be written back, and then the port
+-- of the second teletype
 unfoldable pub detach_all_reply : List CommandNote → Live → Reply
 detach_all_reply notes live = emptied_reply Go (emptied_all notes live) live
 
+abbrev pub detach_by : Kind → List CommandNote → Live → UnitName → Reply
+detach_by Tti1 notes live unit = detach_port_reply live
+detach_by kind notes live unit = detach_reply notes live unit
+
 abbrev pub detach_one_or_all : List CommandNote → Live → Option UnitName → Reply
 detach_one_or_all notes live None = detach_all_reply notes live
-detach_one_or_all notes live (Some unit) = detach_reply notes live unit
+detach_one_or_all notes live (Some unit) = detach_by unit.kind notes live unit
 
 -- ---- SHOW
 

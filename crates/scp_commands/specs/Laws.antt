@@ -12,7 +12,7 @@ use Rattle.nova_machine.specs.Machine.{MachineState}
 use Rattle.nova_machine.specs.Turn.{with_memory}
 use Rattle.scp_parser.specs.Command.{Request, Reset, Run, SetSize}
 use Rattle.scp_commands.specs.declared.fault.CommandFault.{CommandFault}
-use Rattle.scp_commands.specs.declared.fault.CommandFault.TheVariants.{FileFailed}
+use Rattle.scp_commands.specs.declared.fault.CommandFault.TheVariants.{FileFailed, PortFailed}
 use Rattle.scp_commands.specs.Live.{Live, with_machine}
 use Rattle.scp_commands.specs.Nature.{nature}
 use Rattle.scp_commands.specs.Remains.{MachineRemains, Remains}
@@ -28,14 +28,17 @@ traces_by true (FileFailed who) = Unit {0}
 traces_by true fault = ⊥
 traces_by false fault = ⊥
 
+-- beside them ATTACH of a port that was not listened on: the call was made
 abbrev pub LeavesTraces : Request → CommandFault → Type 0
+LeavesTraces request PortFailed = Unit {0}
 LeavesTraces request fault = traces_by (nature request).leaves_part fault
 
--- it has printed nothing, and changed nothing but files, and the mark of a disk that was flushed
+-- it has printed nothing, and changed nothing but files, the mark of a disk that was flushed, and what is still to come on lines
 pub record IsUntouched (flushes : Bool) (live : Live) (reply : Reply) : Type 0 where
   pub machine : MachineRemains flushes live.machine reply.after.live.machine
   pub watch : reply.after.live.watch ≡ live.watch
   pub keys : reply.after.live.keys ≡ live.keys
+  pub lines : reply.after.live.lines ≡ live.lines
   pub text : reply.made ≡ []
 
 -- A command that is refused prints nothing and leaves all as it was, but for those that may leave something behind, and

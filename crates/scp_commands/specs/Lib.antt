@@ -3,6 +3,7 @@ pub mod Reply
 pub mod FaultText
 pub mod RunEffects
 pub mod ListEffects
+pub mod LineEffects
 pub mod FileEffects
 pub mod WatchEffects
 pub mod QuotedText
@@ -16,6 +17,7 @@ pub mod SetEffects
 pub mod Unbuilt
 pub mod Effect
 pub mod Nature
+pub mod LinesLeft
 pub mod Remains
 pub mod Refusals
 pub mod RunStops

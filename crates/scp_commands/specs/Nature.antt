@@ -1,13 +1,20 @@
 -- What each command is by nature. A command that joins names itself here, and what is said of every command follows.
-use Rattle.std.specs.Prelude.{Bool, true, false, Option, Some, None}
+use Rattle.std.specs.Prelude.{◌≡◌, Bool, true, false, Option, Some, None}
 use Rattle.file_commands.specs.declared.note.Subject.{Subject}
 use Rattle.file_commands.specs.declared.note.Subject.TheVariants as subject
-use Rattle.scp_parser.specs.Command.{Request, Run, Go, Cont, Step, Break, Expect, Attach, Detach, Load, Dump, Do, Exit}
+use Rattle.unit_trait.specs.declared.kind.Kind.{Kind}
+use Rattle.unit_trait.specs.declared.kind.Kind.TheVariants.{Tti1}
+use Rattle.unit_trait.specs.declared.kind.UnitName.{UnitName}
+use Rattle.scp_parser.specs.Command.{Request, Run, Go, Cont, Step, Break, Expect, Attach, AttachPort, Detach, Disconnect, Load, Dump, Do, Exit}
 
--- what of files has to be told, so that all that a command does is
+-- what of files and lines has to be told, so that all that a command does is
 pub data Telling : Type 0 where
   -- nothing
   Nothing : Telling
+  -- lines, where one has a port
+  Ported : Telling
+  -- all lines: it listens on a port
+  Listening : Telling
   -- all of them, where one is attached that a run may use
   Attached : Telling
   -- all of them: it works on one by its name
@@ -38,8 +45,18 @@ of_nature telling takes_memory reads_whole leaves_part flushes = record {
 abbrev pub plain : Nature
 plain = of_nature Nothing false None false false
 
+-- a DETACH, by its unit: the second teletype has a port, and all units include it
+abbrev pub detach_telling : Option UnitName → Telling
+detach_telling None = Ported
+detach_telling (Some unit) = telling_of unit.kind
+  where
+    telling_of : Kind → Telling
+    telling_of Tti1 = Ported
+    telling_of kind = Nothing
+
 abbrev pub nature : Request → Nature
 nature (Attach option unit name) = of_nature Named true None true false
+nature (AttachPort kind port) = of_nature Listening true None false false
 nature (Do echo strict name arguments) = of_nature Named true (Some subject.Script) false false
 nature (Load name) = of_nature Named true (Some subject.Load) false false
 nature (Dump from to name) = of_nature Named true None true false
@@ -49,6 +66,11 @@ nature Cont = of_nature Attached false None false false
 nature (Step count) = of_nature Attached false None false false
 nature (Break at count actions) = of_nature Nothing true None false false
 nature (Expect count text actions) = of_nature Nothing true None false false
-nature (Detach unit) = of_nature Nothing false None true false
-nature (Exit status) = of_nature Nothing false None true false
+nature (Detach unit) = of_nature (detach_telling unit) false None true false
+nature (Disconnect kind) = of_nature Ported false None false false
+nature (Exit status) = of_nature Ported false None true false
 nature request = plain
+
+-- a command that works on no file and no line
+abbrev pub IsUntold : Request → Type 0
+IsUntold request = ((nature request).telling ≡ Nothing) × ((nature request).leaves_part ≡ false)

@@ -1,24 +1,27 @@
 -- What a command is refused for before it wants any memory.
-use Rattle.std.specs.Prelude.{◌≡◌, ◌==◌, ◌&&◌, ℕ, nat_le, Bool, true, false, List, None, Err, length}
+use Rattle.std.specs.Prelude.{◌≡◌, ◌==◌, ◌&&◌, ℕ, nat_le, Bool, true, false, List, Some, None, option_map, Err, length}
 use Rattle.host_files.specs.State.{FileState}
 use Rattle.unit_files.specs.Attachments.{attachment_at}
 use Rattle.unit_files.specs.Acts.{refused_first}
+use Rattle.telnet_lines.specs.Line.{LineOf}
 use Rattle.expect_actions.specs.Expects.{most_expects}
 use Rattle.expect_actions.specs.Watch.{WatchState}
 use Rattle.nova_machine.specs.Machine.{MachineState}
 use Rattle.nova_machine.specs.Seen.{attached_in}
 use Rattle.whole_files.specs.declared.whole.WholeFault.TheVariants as whole
 use Rattle.whole_files.specs.Claims.{WholeCause}
-use Rattle.scp_parser.specs.Command.{Request, Break, Expect, Attach, Dump, Do, Load}
+use Rattle.scp_parser.specs.Command.{Request, Break, Expect, Attach, AttachPort, Dump, Do, Load}
 use Rattle.scp_commands.specs.declared.fault.CommandFault.TheVariants.{NoFile, FileTooLong, OutOfMemory}
 use Rattle.scp_commands.specs.Reply.{Answer}
 use Rattle.scp_commands.specs.RunEffects.{last_address}
 use Rattle.scp_commands.specs.WatchEffects.{largest_count, lacks_room_for_break, can_be_expected, text_of_quoted}
+use Rattle.scp_commands.specs.LineEffects.{terminal_line, is_port}
 use Rattle.scp_commands.specs.FileEffects.{lacks_unit, mode_of}
 use Rattle.scp_commands.specs.TapeEffects.{can_dump}
 
 -- The command is refused for nothing that can be seen before memory is wanted: a number out of range or a full table of BREAK
--- and EXPECT; a unit of ATTACH that is not built, has a file already, or only writes where its file is only to be read;
+-- and EXPECT; a unit of ATTACH that is not built, has a file already, or only writes where its file is only to be read; a port that
+-- is out of range, or of a terminal that has one;
 -- addresses of DUMP that the memory does not have.
 abbrev pub IsUnrefused : Request → MachineState → WatchState → Type 0
 IsUnrefused (Break at count actions) m w =
@@ -27,6 +30,8 @@ IsUnrefused (Expect count quoted actions) m w =
     (can_be_expected count (text_of_quoted quoted) ≡ true) × ((length w.expects.list == most_expects) ≡ false)
 IsUnrefused (Attach option unit name) m w =
     (lacks_unit m unit ≡ false) × (refused_first (attachment_at (attached_in m) unit) unit (mode_of option) ≡ None)
+IsUnrefused (AttachPort kind port) m w =
+    (option_map (λ (line : LineOf ℕ). line.port) (terminal_line m.lines) ≡ Some None) × (is_port port ≡ true)
 IsUnrefused (Dump from to name) m w = can_dump m from to ≡ true
 IsUnrefused request m w = Unit {0}
 

@@ -8,12 +8,12 @@ ghost use Rattle.host_lines.specs.Traffic.{Answer as LineAnswer};
 ghost use Rattle.host_lines.specs.Told.{Heard, IsFirst, record_in};
 ghost use Rattle.host_lines.specs.State.{LineState};
 ghost use Rattle.nova_machine.specs.Comes.{output};
-ghost use Rattle.nova_machine.specs.LineChanges.{LinesGoOn};
 ghost use Rattle.scp_commands.specs.declared.next.Next.TheVariants.{Ran};
-ghost use Rattle.scp_commands.specs.declared.fault.CommandFault.TheVariants.{OutOfMemory};
+ghost use Rattle.scp_commands.specs.declared.fault.CommandFault.TheVariants.{OutOfMemory, PortFailed};
 ghost use Rattle.scp_commands.specs.Live.{live_in, beyond};
 ghost use Rattle.scp_commands.specs.Effect.{effect};
-ghost use Rattle.scp_commands.specs.Nature.{nature, plain, Nothing};
+ghost use Rattle.scp_commands.specs.Nature.{nature, plain, IsUntold};
+ghost use Rattle.scp_commands.specs.LinesLeft.{LinesLeft, IsUnlistened, ListenCause};
 ghost use Rattle.scp_commands.specs.Remains.{AreLeft};
 ghost use Rattle.scp_commands.specs.Refusals.{IsUnrefused, IsMeasured};
 ghost use Rattle.scp_commands.specs.RunStops.{RunStops, IsNoStop, run_count, is_step};
@@ -23,6 +23,7 @@ use crate::do_command::do_script;
 use crate::dump_command::dump_file;
 use crate::exit_command::exit;
 use crate::fault::CommandFault;
+use crate::line_commands::{attach_port, disconnect};
 use crate::list_commands::{deposit_list, examine_list};
 use crate::load_command::load_file;
 use crate::next::Next;
@@ -49,6 +50,9 @@ use unit_trait::Unit;
 /// did when that byte was to be printed. `OutOfMemory` means that nothing was done: it comes where the room for 16
 /// notes can't be taken, and from BREAK, EXPECT, ATTACH, DO, LOAD and DUMP. A closing that fails then in DO or LOAD is
 /// noted.
+///
+/// `lines` are the ports and connections of the host. Runs poll them for the machine's terminal lines; ATTACH of the second
+/// teletype listens on a port, which may fail and is counted then, and DETACH, DETACH ALL and EXIT give it up.
 pub fn execute<U: Unit, F: Files, L: Lines, S: Sink>(
     alloc: Global,
     session: &mut Session<U>,
@@ -67,9 +71,10 @@ pub fn execute<U: Unit, F: Files, L: Lines, S: Sink>(
         session.old.command result (live_in session.new (beyond (F.state files.new).files (L.state lines.new) whole))
         S.tells (output (S.written out.old) (L.state lines.old).sent) (output (S.written out.new) (L.state lines.new).sent)
         (notes_said session.old.notes) (notes_said session.new.notes) }
-    ensures lines { LinesGoOn L.tells (L.state lines.old) session.old.machine.lines (L.state lines.new)
+    ensures lines { LinesLeft L.tells (L.state lines.old) session.old.machine.lines (L.state lines.new)
         session.new.machine.lines }
-    ensures unasked { IsRefused result → lines.new ≡ lines.old }
+    ensures unasked { IsRefused result → (IsUnlistened command.now result → ⊥) → lines.new ≡ lines.old }
+    ensures listening { ListenCause L.tells command.now result (L.state lines.old) (L.state lines.new) }
     ensures undone { result ≡ Err OutOfMemory → IsUndone (nature command.now).flushes (nature command.now).reads_whole
         (says_files F.tells command.now) session.old session.new (S.written out.old) (S.written out.new)
         (F.state files.old) (F.state files.new) }
@@ -124,9 +129,10 @@ fn obey<U: Unit, F: Files, L: Lines, S: Sink>(
         session.old.command result (live_in session.new (beyond (F.state files.new).files (L.state lines.new) whole))
         S.tells (output (S.written out.old) (L.state lines.old).sent) (output (S.written out.new) (L.state lines.new).sent)
         (notes_said session.old.notes) (notes_said session.new.notes) }
-    ensures lines { LinesGoOn L.tells (L.state lines.old) session.old.machine.lines (L.state lines.new)
+    ensures lines { LinesLeft L.tells (L.state lines.old) session.old.machine.lines (L.state lines.new)
         session.new.machine.lines }
-    ensures unasked { IsRefused result → lines.new ≡ lines.old }
+    ensures unasked { IsRefused result → (IsUnlistened command.now result → ⊥) → lines.new ≡ lines.old }
+    ensures listening { ListenCause L.tells command.now result (L.state lines.old) (L.state lines.new) }
     ensures undone { result ≡ Err OutOfMemory → IsUndone (nature command.now).flushes (nature command.now).reads_whole
         (says_files F.tells command.now) session.old session.new (S.written out.old) (S.written out.new)
         (F.state files.old) (F.state files.new) }
@@ -162,6 +168,10 @@ fn obey<U: Unit, F: Files, L: Lines, S: Sink>(
         Verb::Attach { option, unit, .. } => {
             attach(alloc, session, *option, *unit, command.file_name(), files)
         }
+        Verb::AttachPort { port, .. } => attach_port(alloc, session, *port, lines),
+        Verb::Detach(unit) => detach_one_or_every(session, *unit, files, lines),
+        Verb::Disconnect(_) => disconnect(session, lines),
+        Verb::Exit(status) => exit(session, *status, files, lines),
         Verb::Do { echo, strict, .. } => {
             do_script(alloc, session, *echo, *strict, command.file_name(), files)
         }
@@ -173,7 +183,7 @@ fn obey<U: Unit, F: Files, L: Lines, S: Sink>(
     }
 }
 
-// The same of all commands but those that run, or work on a file by its name.
+// The same of all commands but those that run, or work on files or lines.
 #[tactic(auto, using(crate::proofs::RemainLemmas::leaves, file_commands::proofs::OwnFiles::unused), unfolding(crate::specs::Effect::effect))]
 fn obey_untold<U: Unit, F: Files, S: Sink>(
     alloc: Global,
@@ -184,7 +194,7 @@ fn obey_untold<U: Unit, F: Files, S: Sink>(
 ) -> Result<Next, CommandFault>
     requires room { 16 ≤ session.old.spare }
     requires open { AllOpen session.old.machine.slots (F.state files.old).opened }
-    requires part { (nature command.now).telling ≡ Nothing }
+    requires part { IsUntold command.now }
     ensures refused { IsRefusal command.now result
         → AreLeft (nature command.now).flushes session.old session.new }
     ensures told { (lines : LineState) (whole : List LineAnswer) (heard : Heard)
@@ -210,6 +220,7 @@ fn obey_untold<U: Unit, F: Files, S: Sink>(
     ensures command { session.new.command ≡ session.old.command }
     ensures counts { ConsoleCounts result (S.fault_count out.old) (S.fault_count out.new) }
     ensures ran { RunCause result session.old.machine.slots (F.state files.old) (F.state files.new) }
+    ensures no_port { result ≢ Err PortFailed }
     ensures no_stop { IsNoStop result }
     ensures attach_note { AttachNote command.now result
         (record { command = session.old.command; time = session.old.machine.time }) session.old.notes session.new.notes
@@ -225,8 +236,6 @@ fn obey_untold<U: Unit, F: Files, S: Sink>(
         Verb::Expect { count, .. } => {
             add_expect(session, *count, command.quoted(), command.text())
         }
-        Verb::Detach(unit) => detach_one_or_every(session, *unit, files),
-        Verb::Exit(status) => exit(session, *status, files),
         _ => obey_plain(session, command, files, out),
     }
 }
@@ -267,6 +276,7 @@ fn obey_plain<U: Unit, F: Files, S: Sink>(
     ensures command { session.new.command ≡ session.old.command }
     ensures counts { ConsoleCounts result (S.fault_count out.old) (S.fault_count out.new) }
     ensures ran { RunCause result session.old.machine.slots (F.state files.now) (F.state files.now) }
+    ensures no_port { result ≢ Err PortFailed }
     ensures no_stop { IsNoStop result }
     ensures attach_note { AttachNote command.now result
         (record { command = session.old.command; time = session.old.machine.time }) session.old.notes session.new.notes

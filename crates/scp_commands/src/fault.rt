@@ -39,6 +39,8 @@ pub enum CommandFault {
     FileTooLong,
     /// A call on a file failed; it may have been emptied or made before. A note says which call it was.
     FileFailed(Subject),
+    /// The port is not listened on: the host refused it, as where another program has it.
+    PortFailed,
     /// There is no room for another break or expect, or for all bytes of a SEND.
     Full,
     /// The condition of an ASSERT is false.
@@ -164,6 +166,7 @@ impl CommandFault {
             CommandFault::NoFile => b"File not found",
             CommandFault::FileTooLong => b"File too long",
             CommandFault::FileFailed(_) => b"File error",
+            CommandFault::PortFailed => b"Port not available",
             CommandFault::Full => b"Table full",
             CommandFault::AssertFailed => b"Assertion failed",
             CommandFault::TooDeep => b"DO nested too deeply",

@@ -10,6 +10,8 @@ mod execute_command;
 mod exit_command;
 pub mod fault;
 pub mod laws;
+mod line_commands;
+mod line_ports;
 mod list_commands;
 mod load_command;
 pub mod next;

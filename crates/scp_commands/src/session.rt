@@ -6,9 +6,11 @@ ghost use Rattle.expect_actions.specs.Watch.{empty_watch};
 ghost use Rattle.nova_machine.specs.BusOrder.{IsBusOrder};
 ghost use Rattle.nova_machine.specs.Machine.{new_machine};
 
+use crate::line_commands::close_terminal;
 use expect_actions::{Keys, Watch};
 use file_commands::{FaultNote, Stamp, detach_all, take_room};
 use host_files::Files;
+use host_lines::Lines;
 use nova_machine::{Machine, OutOfMemory};
 use std::alloc::Global;
 use std::marker::Model;
@@ -55,7 +57,9 @@ impl<U: Unit> Session<U> {
     ghost use Rattle.scp_commands.specs.FileEffects.{kept_answer};
     ghost use Rattle.file_commands.specs.AllUnits.{keeper, IsUnwritten};
     ghost use Rattle.file_commands.specs.OwnFiles.{AreOwn};
-    ghost use Rattle.scp_commands.specs.Doing.{Closes, Keeps};
+    ghost use Rattle.scp_commands.specs.Doing.{ClosesFiles, Closes, Keeps};
+    ghost use Rattle.nova_machine.specs.LineChanges.{AreLinesTold};
+    ghost use Rattle.scp_commands.specs.LinesLeft.{LinesLeft};
     ghost use Rattle.scp_commands.specs.declared.next.Next.TheVariants.{Go};
 
     /// A session of a machine with those units, before its first command. No file is attached, nothing is watched, and
@@ -98,14 +102,51 @@ impl<U: Unit> Session<U> {
         take_room(&mut self.notes)
     }
 
-    /// Takes the files of all units away, in bus order, as at the end of the input. What the disk holds is written back
-    /// first; where that fails, it is noted and answered, and all units keep their files. A closing that fails is
-    /// noted, and the next one follows.
-    pub fn detach_files<F: Files>(&mut self, files: &mut F) -> Result<(), UnitFault>
+    /// Takes the files of all units away, in bus order, and then the port of the second teletype with its connection, as
+    /// at the end of the input. What the disk holds is written back first; where that fails, it is noted and answered,
+    /// and all units keep their files and the teletype its port. A closing that fails is noted, and the next one
+    /// follows.
+    pub fn detach_all<F: Files, L: Lines>(
+        &mut self,
+        files: &mut F,
+        lines: &mut L,
+    ) -> Result<(), UnitFault>
+        requires room { 12 ≤ self.old.spare }
+        requires open { AllOpen self.old.machine.slots (F.state files.old).opened }
+        ensures closes { AreLinesTold L.tells (L.state lines.old) self.old.machine.lines → (whole : List LineAnswer)
+            → Closes self.old.command (live_in self.old (beyond (F.state files.old).files (L.state lines.old) whole))
+            (live_in self.new (beyond (F.state files.new).files (L.state lines.new) whole)) (keeper result)
+            (notes_said self.old.notes) (notes_said self.new.notes) }
+        ensures left { LinesLeft L.tells (L.state lines.old) self.old.machine.lines (L.state lines.new)
+            self.new.machine.lines }
+        ensures unasked { OnErr result (lines.new ≡ lines.old) }
+        ensures sent { (L.state lines.new).sent ≡ (L.state lines.old).sent }
+        ensures kept { OnErr result (self.new.machine.lines ≡ self.old.machine.lines) }
+        ensures keeps { Keeps self.old.command self.new.machine.time F.tells (kept_answer (keeper result) Go)
+            self.old.notes self.new.notes (F.state files.old) (F.state files.new) }
+        ensures cause { OnErr result
+            (IsUnwritten self.new.machine.slots self.new.notes (F.state files.old) (F.state files.new)) }
+        ensures whose { AreOwn self.old.machine.slots self.new.machine.slots self.old.notes self.new.notes
+            (F.state files.old) (F.state files.new) }
+        ensures watch { self.new.watch ≡ self.old.watch }
+        ensures keys { self.new.keys ≡ self.old.keys }
+        ensures limit { self.new.limit ≡ self.old.limit }
+        ensures command { self.new.command ≡ self.old.command }
+        ensures open { AllOpen self.new.machine.slots (F.state files.new).opened }
+        ensures around { (base : List Opened) → Around self.old.machine.slots base (F.state files.old).opened
+            → Around self.new.machine.slots base (F.state files.new).opened }
+    {
+        self.detach_files(files)?;
+        close_terminal(&mut self.machine, lines);
+        Ok(())
+    }
+
+    /// Takes the files of all units away.
+    fn detach_files<F: Files>(&mut self, files: &mut F) -> Result<(), UnitFault>
         requires room { 12 ≤ self.old.spare }
         requires open { AllOpen self.old.machine.slots (F.state files.old).opened }
         ensures closes { (lines : LineState) (whole : List LineAnswer)
-            → Closes self.old.command (live_in self.old (beyond (F.state files.old).files lines whole))
+            → ClosesFiles self.old.command (live_in self.old (beyond (F.state files.old).files lines whole))
             (live_in self.new (beyond (F.state files.new).files lines whole)) (keeper result)
             (notes_said self.old.notes) (notes_said self.new.notes) }
         ensures keeps { Keeps self.old.command self.new.machine.time F.tells (kept_answer (keeper result) Go)

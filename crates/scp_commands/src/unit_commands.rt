@@ -10,19 +10,23 @@ ghost use Rattle.file_commands.specs.Notes.{notes_said};
 ghost use Rattle.host_lines.specs.Traffic.{Answer as LineAnswer};
 ghost use Rattle.host_lines.specs.State.{LineState};
 ghost use Rattle.nova_machine.specs.Comes.{Output};
+ghost use Rattle.nova_machine.specs.LineChanges.{AreLinesTold};
 ghost use Rattle.scp_commands.specs.declared.fault.CommandFault.TheVariants.{OutOfMemory};
 ghost use Rattle.scp_commands.specs.Live.{live_in, beyond};
 ghost use Rattle.scp_commands.specs.FileEffects.{lacks_unit, mode_of, first_place, positioned};
 ghost use Rattle.scp_commands.specs.FileEffects.{attach_reply, detach_reply, detach_all_reply, detach_one_or_all};
 ghost use Rattle.scp_parser.specs.Command.{Attach, Detach};
 ghost use Rattle.scp_commands.specs.Refusals.{IsUnrefused};
-ghost use Rattle.scp_commands.specs.Doing.{Did, Keeps, IsUndone, IsOwn, IsPlain, IsExitAnswer, IsRefused, IsKept, IsRefusal, AttachNote};
+ghost use Rattle.scp_commands.specs.LinesLeft.{LinesLeft};
+ghost use Rattle.scp_commands.specs.Doing.{Did, IsTold, Keeps, IsUndone, IsOwn, IsPlain, IsExitAnswer, IsRefused, IsKept, IsRefusal, AttachNote};
 
 use crate::fault::CommandFault;
+use crate::line_commands::detach_port;
 use crate::next::Next;
 use crate::session::Session;
 use file_commands::{Stamp, attach_unit, detach_unit};
 use host_files::Files;
+use host_lines::Lines;
 use nova_machine::Machine;
 use std::alloc::Global;
 use unit_files::{AttachMode, DetachFault};
@@ -94,21 +98,24 @@ pub fn attach<U: Unit, F: Files>(
     }
 }
 
-/// DETACH closes a unit's file, or those of all units where none is named. It prints nothing.
-pub fn detach_one_or_every<U: Unit, F: Files>(
+/// DETACH closes a unit's file, or gives up the port of the second teletype; where none is named, all units lose their
+/// files, and then the teletype its port. It prints nothing.
+pub fn detach_one_or_every<U: Unit, F: Files, L: Lines>(
     session: &mut Session<U>,
     unit: Option<UnitName>,
     files: &mut F,
+    lines: &mut L,
 ) -> Result<Next, CommandFault>
     requires room { 16 ≤ session.old.spare }
     requires unit { IfSome unit (λ u. u.unit < units_of u.kind) }
     requires open { AllOpen session.old.machine.slots (F.state files.old).opened }
     ensures refused { IsRefusal (Detach unit) result
         → (session.new.machine ≡ session.old.machine) × (session.new.watch ≡ session.old.watch) }
-    ensures told { (lines : LineState) (whole : List LineAnswer) (tells : Bool) (text : Output)
-        → Did (λ notes. detach_one_or_all notes (live_in session.old (beyond (F.state files.old).files lines whole))
-        unit) session.old.command result
-        (live_in session.new (beyond (F.state files.new).files lines whole)) tells text text
+    ensures told { IsTold F.tells session.old.machine.slots L.tells (L.state lines.old) session.old.machine.lines
+        (Detach unit) → (whole : List LineAnswer) (tells : Bool) (text : Output)
+        → Did (λ notes. detach_one_or_all notes
+        (live_in session.old (beyond (F.state files.old).files (L.state lines.old) whole)) unit) session.old.command
+        result (live_in session.new (beyond (F.state files.new).files (L.state lines.new) whole)) tells text text
         (notes_said session.old.notes) (notes_said session.new.notes) }
     ensures keeps { Keeps session.old.command session.new.machine.time F.tells result session.old.notes
         session.new.notes (F.state files.old) (F.state files.new) }
@@ -117,7 +124,10 @@ pub fn detach_one_or_every<U: Unit, F: Files>(
     ensures own { IsPlain result }
     ensures exit { IsExitAnswer result }
     ensures watch { session.new.watch ≡ session.old.watch }
-    ensures terminals { session.new.machine.lines ≡ session.old.machine.lines }
+    ensures left { LinesLeft L.tells (L.state lines.old) session.old.machine.lines (L.state lines.new)
+        session.new.machine.lines }
+    ensures unasked { IsRefused result → lines.new ≡ lines.old }
+    ensures sent { (L.state lines.new).sent ≡ (L.state lines.old).sent }
     ensures keys { session.new.keys ≡ session.old.keys }
     ensures limit { session.new.limit ≡ session.old.limit }
     ensures command { session.new.command ≡ session.old.command }
@@ -126,7 +136,11 @@ pub fn detach_one_or_every<U: Unit, F: Files>(
         → Around session.new.machine.slots base (F.state files.new).opened }
 {
     match unit {
-        None => detach_every(session, files),
+        None => detach_every(session, files, lines),
+        Some(UnitName {
+            kind: Kind::Tti1,
+            ..
+        }) => detach_port(session, lines),
         Some(unit) => detach(session, unit, files),
     }
 }
@@ -178,19 +192,22 @@ fn detach<U: Unit, F: Files>(
     }
 }
 
-// DETACH ALL takes the files of all units away.
+// DETACH ALL takes the files of all units away, and then the port of the second teletype.
 #[tactic(auto, unfolding(crate::specs::FileEffects::detach_all_reply))]
-fn detach_every<U: Unit, F: Files>(
+fn detach_every<U: Unit, F: Files, L: Lines>(
     session: &mut Session<U>,
     files: &mut F,
+    lines: &mut L,
 ) -> Result<Next, CommandFault>
     requires room { 16 ≤ session.old.spare }
     requires open { AllOpen session.old.machine.slots (F.state files.old).opened }
     ensures refused { IsKept result
         → (session.new.machine ≡ session.old.machine) × (session.new.watch ≡ session.old.watch) }
-    ensures told { (lines : LineState) (whole : List LineAnswer) (tells : Bool) (text : Output)
-        → Did (λ notes. detach_all_reply notes (live_in session.old (beyond (F.state files.old).files lines whole)))
-        session.old.command result (live_in session.new (beyond (F.state files.new).files lines whole)) tells text text
+    ensures told { AreLinesTold L.tells (L.state lines.old) session.old.machine.lines
+        → (whole : List LineAnswer) (tells : Bool) (text : Output)
+        → Did (λ notes. detach_all_reply notes
+        (live_in session.old (beyond (F.state files.old).files (L.state lines.old) whole))) session.old.command result
+        (live_in session.new (beyond (F.state files.new).files (L.state lines.new) whole)) tells text text
         (notes_said session.old.notes) (notes_said session.new.notes) }
     ensures keeps { Keeps session.old.command session.new.machine.time F.tells result session.old.notes
         session.new.notes (F.state files.old) (F.state files.new) }
@@ -199,7 +216,10 @@ fn detach_every<U: Unit, F: Files>(
     ensures own { IsPlain result }
     ensures exit { IsExitAnswer result }
     ensures watch { session.new.watch ≡ session.old.watch }
-    ensures terminals { session.new.machine.lines ≡ session.old.machine.lines }
+    ensures left { LinesLeft L.tells (L.state lines.old) session.old.machine.lines (L.state lines.new)
+        session.new.machine.lines }
+    ensures unasked { IsRefused result → lines.new ≡ lines.old }
+    ensures sent { (L.state lines.new).sent ≡ (L.state lines.old).sent }
     ensures keys { session.new.keys ≡ session.old.keys }
     ensures limit { session.new.limit ≡ session.old.limit }
     ensures command { session.new.command ≡ session.old.command }
@@ -207,7 +227,7 @@ fn detach_every<U: Unit, F: Files>(
     ensures around { (base : List Opened) → Around session.old.machine.slots base (F.state files.old).opened
         → Around session.new.machine.slots base (F.state files.new).opened }
 {
-    match session.detach_files(files) {
+    match session.detach_all(files, lines) {
         Ok(()) => Ok(Next::Go),
         Err(fault) => Err(CommandFault::of_detach(DetachFault::Failed(fault))),
     }

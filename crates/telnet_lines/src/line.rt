@@ -73,7 +73,8 @@ impl Line {
 
     /// The port on which it is to be reached.
     pub fn port(&self) -> Option<u16>
-        ensures { result ≡ self.now.port }
+        ensures port { result ≡ self.now.port }
+        ensures settled { IsSettled self.now }
     {
         self.port
     }
