@@ -33,8 +33,8 @@ use Rattle.scp_commands.specs.declared.next.Next.{Next}
 use Rattle.scp_commands.specs.declared.next.Next.TheVariants.{Go, Exit}
 use Rattle.scp_commands.specs.Live.{Live, Standing, standing, with_attached, numberless}
 use Rattle.scp_commands.specs.Reply.{Reply, bare_answer}
-use Rattle.scp_commands.specs.FileEffects.{filed_in, emptied_all, left_by, emptied_live, kept_answer, emptied_reply}
-use Rattle.scp_commands.specs.Doing.{IsLastCall, ComeBehind, IsStamped, IsRefusalOf, IsClosingOf, AreRefusalOf, AllClosings, FileCause, Closes, Keeps, Does, IsSaid, Did}
+use Rattle.scp_commands.specs.FileEffects.{filed_in, emptied_all, left_by, unported_by, filed_live, emptied_live, kept_answer, emptied_reply}
+use Rattle.scp_commands.specs.Doing.{IsLastCall, ComeBehind, IsStamped, IsRefusalOf, IsClosingOf, AreRefusalOf, AllClosings, FileCause, ClosesFiles, Closes, Keeps, Does, IsSaid, Did}
 use Rattle.scp_commands.proofs.SeenLemmas.{attached-erased, attached-numberless, unnumbered-is, seen-with}
 
 -- ---- units with one name are one
@@ -465,7 +465,7 @@ module _ (number time : ℕ) (live : Live) (from to : Filed) (k : Option UnitNam
   all-is : emptied_all e.own live ≡ record { left = to; used = length e.own; kept = k }
   all-is = (λ i. emptied (sym at i) attachable (sym are i) e.own) ∙ e.is
 
-  pub closes-of : (new : Live) → new ≡ left_by k to live → Closes number live new k (notes_said before) (notes_said after)
+  pub closes-of : (new : Live) → new ≡ left_by k to live → ClosesFiles number live new k (notes_said before) (notes_said after)
   closes-of new left =
       let used : (emptied_all e.own live).used ≡ length e.own = ap (λ (x : Emptied). x.used) all-is in
       record {
@@ -473,7 +473,7 @@ module _ (number time : ℕ) (live : Live) (from to : Filed) (k : Option UnitNam
         kept = ap notes_said e.added ∙ said-append before e.kept ∙ ap (λ (l : List Note). notes_said before ++ l) e.said;
         used = used;
         keeps = ap (λ (x : Emptied). x.kept) all-is;
-        after = left ∙ sym (ap (λ (x : Emptied). emptied_live x live) all-is);
+        after = left ∙ sym (ap (λ (x : Emptied). filed_live x live) all-is);
         behind = come-behind live e.own (are-of live.machine.time attachable (filed_in live) e.own used);
       }
 
@@ -551,7 +551,8 @@ pub no-behind : (live : Live) (own behind : List CommandNote) → (emptied_all o
 no-behind live own [] kept come = refl
 no-behind live own (n ∷ behind) kept come =
     let e = emptied_all own live in
-    let at : ComeBehind (left_by None e.left live) (n ∷ behind) = subst (λ (k : Option UnitName). ComeBehind (left_by k e.left live) (n ∷ behind)) kept come in
+    let at : ComeBehind (unported_by None (left_by None e.left live)) (n ∷ behind) =
+    subst (λ (k : Option UnitName). ComeBehind (unported_by k (left_by k e.left live)) (n ∷ behind)) kept come in
     let first = at.0 in
     absurd (some-none (attachment_at (attached_in (left_by None e.left live).machine) first.unit)
     (ap (λ (a : List (Option Attachment)). attachment_at a first.unit) (attached-numberless e.left.attached)
@@ -588,3 +589,33 @@ all-did next number live new k tells text notes notes' plain does closes = recor
         → Does (emptied_reply next (emptied_all closes.own live) live) (kept_answer k next) (standing (length closes.own) new) tells text text
     by-keeper None is said = does _ _ (plain ∙ is, said)
     by-keeper (Some u) is said = (is, said)
+
+-- ---- behind the files, the port of the second teletype
+
+-- no unit has kept its file: the port is given up
+pub closes-ported : (number : ℕ) (live mid new : Live) (notes notes' : List Note) → ClosesFiles number live mid None notes notes'
+    → new ≡ unported_by None mid → Closes number live new None notes notes'
+closes-ported number live mid new notes notes' closes is = record {
+  own = closes.own;
+  kept = closes.kept;
+  used = closes.used;
+  keeps = closes.keeps;
+  after =
+      is ∙ ap (unported_by None) closes.after
+      ∙ ap (λ (k : Option UnitName). unported_by k (filed_live (emptied_all closes.own live) live)) (sym closes.keeps);
+  behind = closes.behind;
+}
+
+-- one has kept it, and so does the terminal
+pub closes-kept : (number : ℕ) (live new : Live) (unit : UnitName) (notes notes' : List Note) → ClosesFiles number live new (Some unit) notes notes'
+    → Closes number live new (Some unit) notes notes'
+closes-kept number live new unit notes notes' closes = record {
+  own = closes.own;
+  kept = closes.kept;
+  used = closes.used;
+  keeps = closes.keeps;
+  after =
+      closes.after
+      ∙ ap (λ (k : Option UnitName). unported_by k (filed_live (emptied_all closes.own live) live)) (sym closes.keeps);
+  behind = closes.behind;
+}

@@ -1,6 +1,6 @@
 -- What holds of every command: it reads nothing, the status of an exit is small, and one that is refused has changed
 -- nothing but files.
-use Rattle.std.proofs.Common.{◌≡◌, ℕ, Bool, true, false, List, [], ◌∷◌, refl, sym, subst, ◌∙◌, Option, Some, None, Result, Ok, Err, if◌then◌else◌, nat_le, nat_lt, not, ◌==◌, length, ◌+◌, ◌&&◌, ◌^◌, min, unwrap_or, arith}
+use Rattle.std.proofs.Common.{◌≡◌, ℕ, Bool, true, false, List, [], ◌∷◌, refl, sym, subst, ◌∙◌, Option, Some, None, Result, Ok, Err, if◌then◌else◌, nat_le, nat_lt, not, ◌==◌, length, ◌+◌, ◌&&◌, ◌^◌, min, unwrap_or, arith, is_none, is_some}
 use Rattle.std.proofs.lemmas.Bool.{leb-true}
 use Rattle.observations.specs.Observations.{Prints, reads_of, map_made}
 use Rattle.observations.proofs.MadeLemmas.{reads_of-append, reads_of-map}
@@ -33,7 +33,7 @@ use Rattle.scp_examine.specs.Effect.{examine_fault, fault_of_deposit, tested}
 use Rattle.nova_machine.specs.Comes.{Output}
 use Rattle.scp_commands.specs.declared.next.Next.TheVariants.{Go, Ran, Do, Goto, Exit}
 use Rattle.scp_commands.specs.declared.fault.CommandFault.{CommandFault}
-use Rattle.scp_commands.specs.declared.fault.CommandFault.TheVariants.{OutOfRange, NotBuilt, FileFailed}
+use Rattle.scp_commands.specs.declared.fault.CommandFault.TheVariants.{OutOfRange, NotBuilt, FileFailed, PortFailed}
 use Rattle.scp_commands.specs.Live.{Live, Standing, standing}
 use Rattle.scp_commands.specs.Reply.{Answer, Reply, goes, says, refused}
 use Rattle.scp_commands.specs.Doing.{Does, IsExitAnswer}
@@ -45,9 +45,14 @@ use Rattle.scp_commands.specs.WatchEffects.{largest_count, text_of_quoted, lacks
 use Rattle.scp_commands.specs.WatchEffects.{break_reply, no_break_reply, expect_reply, no_expect_reply, send_reply, no_send_reply}
 use Rattle.scp_commands.specs.ListEffects.{lacks_device, examine_after, examine_reply, handed, deposit_after, deposit_reply}
 use Rattle.scp_commands.specs.FileEffects.{lacks_unit, mode_of, attach_answer, attached_machine, attach_with, attach_reply}
-use Rattle.scp_commands.specs.FileEffects.{detach_answer, detach_used, detached_machine, flushed_files, detach_with, detach_reply, detach_all_reply, detach_one_or_all, emptied_all, left_by, kept_answer, emptied_reply}
+use Rattle.scp_commands.specs.FileEffects.{detach_answer, detach_used, detached_machine, flushed_files, detach_with, detach_reply, detach_all_reply, detach_one_or_all, emptied_all, left_by, unported_by, kept_answer, emptied_reply}
 use Rattle.file_commands.specs.AllUnits.{Emptied}
 use Rattle.scp_commands.specs.declared.next.Next.{Next}
+use Rattle.unit_trait.specs.declared.kind.Kind.{Kind}
+use Rattle.host_lines.specs.Traffic.{Answer as LineAnswer, Peer, Replied, Quiet, Connected, Gave, HungUp, Failed, Took, listening}
+use Rattle.telnet_lines.specs.Line.{LineOf}
+use Rattle.scp_commands.specs.LineEffects.{is_terminal, terminal_line, is_port, listen_answer, listen_lines, listen_with, attach_line, attach_port_reply}
+use Rattle.scp_commands.specs.LineEffects.{with_port, detach_port_reply, disconnect_reply, show_line}
 use Rattle.scp_commands.specs.ShowEffects.{show_reply}
 use Rattle.scp_commands.specs.ExitEffects.{exit_reply}
 use Rattle.scp_commands.specs.SetEffects.{set_size_reply}
@@ -91,7 +96,7 @@ fair-refused : {W : CommandFault → Type 0} (fault : CommandFault) (live : Live
 fair-refused fault live = record {
   reads = refl;
   exit = tt;
-  untouched = λ other h. record { machine = refl; watch = refl; keys = refl; text = refl };
+  untouched = λ other h. record { machine = refl; watch = refl; keys = refl; lines = refl; text = refl };
   all = λ other h none. refl;
 }
 
@@ -160,7 +165,7 @@ fair-attach_with : (fault : Option Failure) (mode : AttachMode) (unit : UnitName
 fair-attach_with fault mode unit name option live = record {
   reads = refl;
   exit = answer-exit said;
-  untouched = λ other h. record { machine = machine-kept said other h; watch = refl; keys = refl; text = refl };
+  untouched = λ other h. record { machine = machine-kept said other h; watch = refl; keys = refl; lines = refl; text = refl };
   all = λ other h none. left-live live _ _ (machine-kept said other h) (files-kept fault mode unit name option (attached_in live.machine) live.files other h none);
 }
   where
@@ -213,13 +218,13 @@ fair-detach_with where_ fault unit live = by-said (detach_said fault unit (attac
     by-said HadNone is = record {
       reads = refl;
       exit = tt;
-      untouched = λ other h. record { machine = refl; watch = refl; keys = refl; text = refl };
+      untouched = λ other h. record { machine = refl; watch = refl; keys = refl; lines = refl; text = refl };
       all = λ other h none. left-live live live.machine _ refl (none-flushed fault unit (attachment_at (attached_in live.machine) unit) live.machine.disk live.files is);
     }
     by-said (StillHeld f) is = record {
       reads = refl;
       exit = tt;
-      untouched = λ other h. record { machine = refl; watch = refl; keys = refl; text = refl };
+      untouched = λ other h. record { machine = refl; watch = refl; keys = refl; lines = refl; text = refl };
       all = λ other h none.
           let same : FileFailed (subject.Unit unit) ≡ other = cc in
           absurd (none (subst (λ (x : CommandFault). LeavesTraces (request.Detach where_) x) same tt));
@@ -235,12 +240,12 @@ fair-detach notes live unit =
 fair-emptied : (W : CommandFault → Type 0) (next : Next) (e : Emptied) (live : Live) → IsExitAnswer (Ok next) → ((u : UnitName) → W (FileFailed (subject.Unit u))) → Fair false W live (emptied_reply next e live)
 fair-emptied W next e live small leaves = by-keeper e.kept
   where
-    by-keeper : (k : Option UnitName) → Fair false W live (record { made = []; answer = kept_answer k next; after = standing e.used (left_by k e.left live) })
+    by-keeper : (k : Option UnitName) → Fair false W live (record { made = []; answer = kept_answer k next; after = standing e.used (unported_by k (left_by k e.left live)) })
     by-keeper None = record { reads = refl; exit = small; untouched = λ other h. absurd (cc); all = λ other h none. absurd (cc) }
     by-keeper (Some u) = record {
       reads = refl;
       exit = tt;
-      untouched = λ other h. record { machine = refl; watch = refl; keys = refl; text = refl };
+      untouched = λ other h. record { machine = refl; watch = refl; keys = refl; lines = refl; text = refl };
       all = λ other h none.
           let same : FileFailed (subject.Unit u) ≡ other = cc in
           absurd (none (subst W same (leaves u)));
@@ -250,9 +255,56 @@ fair-detach_all : (where_ : Option UnitName) (notes : List CommandNote) (live : 
 unfolding detach_all_reply
 fair-detach_all where_ notes live = fair-emptied (LeavesTraces (request.Detach where_)) Go (emptied_all notes live) live tt (λ u. tt)
 
+-- what needs a line with a port
+fair-with_port : {W : CommandFault → Type 0} (line : Option (LineOf Peer)) (live after : Live) → Fair false W live (with_port line (goes after) live)
+fair-with_port None live after = fair-refused _ live
+fair-with_port (Some line) live after = fair-if (is_none line.port) live _ _ (fair-refused _ live) (fair-goes live after)
+
+fair-detach_port : {W : CommandFault → Type 0} (live : Live) → Fair false W live (detach_port_reply live)
+unfolding detach_port_reply
+fair-detach_port live = fair-with_port (terminal_line live.lines) live _
+
+fair-disconnect : {W : CommandFault → Type 0} (live : Live) → Fair false W live (disconnect_reply live)
+unfolding disconnect_reply
+fair-disconnect live = fair-with_port (terminal_line live.lines) live _
+
+-- a listening that failed leaves that it was made
+fair-listen_with : (kind : Kind) (port given : ℕ) (said : Replied) (live : Live) → Fair false (LeavesTraces (request.AttachPort kind given)) live (listen_with said port live)
+fair-listen_with kind port given said live = by said.answer
+  where
+    by : (answer : LineAnswer) → Fair false (LeavesTraces (request.AttachPort kind given)) live (record {
+      made = [];
+      answer = listen_answer answer;
+      after = standing 0 (record live { lines = listen_lines answer port live.lines; ahead = said.ahead });
+    })
+    by Failed = record {
+      reads = refl;
+      exit = tt;
+      untouched = λ other h. record { machine = refl; watch = refl; keys = refl; lines = refl; text = refl };
+      all = λ other h none.
+          let same : PortFailed ≡ other = cc in
+          absurd (none (subst (λ (x : CommandFault). LeavesTraces (request.AttachPort kind given) x) same tt));
+    }
+    by Quiet = record { reads = refl; exit = tt; untouched = λ other h. absurd (cc); all = λ other h none. absurd (cc) }
+    by (Connected caller) = record { reads = refl; exit = tt; untouched = λ other h. absurd (cc); all = λ other h none. absurd (cc) }
+    by (Gave bytes) = record { reads = refl; exit = tt; untouched = λ other h. absurd (cc); all = λ other h none. absurd (cc) }
+    by HungUp = record { reads = refl; exit = tt; untouched = λ other h. absurd (cc); all = λ other h none. absurd (cc) }
+    by (Took count) = record { reads = refl; exit = tt; untouched = λ other h. absurd (cc); all = λ other h none. absurd (cc) }
+
+fair-attach_line : (kind : Kind) (line : Option (LineOf Peer)) (port : ℕ) (live : Live) → Fair false (LeavesTraces (request.AttachPort kind port)) live (attach_line line port live)
+fair-attach_line kind None port live = fair-refused _ live
+fair-attach_line kind (Some line) port live =
+    fair-if (is_some line.port) live _ _ (fair-refused _ live)
+    (fair-if (is_port port) live _ _ (fair-listen_with kind port port (listening live.ahead) live) (fair-refused _ live))
+
+fair-attach_port : (kind : Kind) (live : Live) (port : ℕ) → Fair false (LeavesTraces (request.AttachPort kind port)) live (attach_port_reply live port)
+unfolding attach_port_reply
+fair-attach_port kind live port = fair-attach_line kind (terminal_line live.lines) port live
+
 fair-detach_where : (notes : List CommandNote) (live : Live) (unit : Option UnitName) → Fair false (LeavesTraces (request.Detach unit)) live (detach_one_or_all notes live unit)
 fair-detach_where notes live None = fair-detach_all None notes live
-fair-detach_where notes live (Some unit) = fair-detach notes live unit
+fair-detach_where notes live (Some unit) =
+    fair-if (is_terminal unit) live _ _ (fair-detach_port live) (fair-detach notes live unit)
 
 -- ---- SHOW and EXIT
 
@@ -265,7 +317,13 @@ fair-show live shown.Break = fair-says _ live live
 fair-show live shown.Expect = fair-says _ live live
 fair-show live shown.Send = fair-says _ live live
 fair-show live shown.Version = fair-says _ live live
-fair-show live (shown.Unit unit) = fair-if (lacks_unit live.machine unit) live _ _ (fair-refused _ live) (fair-says _ live live)
+fair-show live (shown.Unit unit) =
+    fair-if (is_terminal unit) live _ _ (fair-line (terminal_line live.lines))
+    (fair-if (lacks_unit live.machine unit) live _ _ (fair-refused _ live) (fair-says _ live live))
+  where
+    fair-line : {W : CommandFault → Type 0} (line : Option (LineOf Peer)) → Fair false W live (show_line line live)
+    fair-line None = fair-refused _ live
+    fair-line (Some line) = fair-says _ live live
 
 fair-exit : (notes : List CommandNote) (live : Live) (status : Option ℕ) → Fair false (LeavesTraces (request.Exit status)) live (exit_reply notes live status)
 unfolding exit_reply
@@ -333,7 +391,7 @@ unfolding assert_reply
 fair-assert live test = record {
   reads = refl;
   exit = assert-exit (lacks_device live.machine test.device) (tested live.machine test);
-  untouched = λ fault h. record { machine = refl; watch = refl; keys = refl; text = refl };
+  untouched = λ fault h. record { machine = refl; watch = refl; keys = refl; lines = refl; text = refl };
   all = λ fault h none. refl;
 }
 
@@ -344,7 +402,7 @@ unfolding do_reply
 fair-do notes live echo strict name = record {
   reads = refl;
   exit = do-exit (whole_act (whole_calls subject.Script live.machine.time notes) name live.files).0;
-  untouched = λ fault h. record { machine = refl; watch = refl; keys = refl; text = refl };
+  untouched = λ fault h. record { machine = refl; watch = refl; keys = refl; lines = refl; text = refl };
   all = λ fault h none. refl;
 }
   where
@@ -364,7 +422,7 @@ unfolding load_reply
 fair-load notes live name = record {
   reads = refl;
   exit = load-exit said;
-  untouched = λ fault h. record { machine = load-kept said fault h; watch = refl; keys = refl; text = refl };
+  untouched = λ fault h. record { machine = load-kept said fault h; watch = refl; keys = refl; lines = refl; text = refl };
   all = λ fault h none. left-live live _ live.files (load-kept said fault h) refl;
 }
   where
@@ -402,7 +460,7 @@ fair-dump_after from to name act live = by-said act.said
     by-said WriteFailed = record {
       reads = refl;
       exit = tt;
-      untouched = λ fault h. record { machine = refl; watch = refl; keys = refl; text = refl };
+      untouched = λ fault h. record { machine = refl; watch = refl; keys = refl; lines = refl; text = refl };
       all = λ fault h none.
           let same : FileFailed subject.Dump ≡ fault = cc in
           absurd (none (subst (λ (x : CommandFault). LeavesTraces (request.Dump from to name) x) same tt));
@@ -433,8 +491,10 @@ fair-effect limit notes live request.NoExpect = fair-no_expect live
 fair-effect limit notes live (request.Send after delay text) = fair-send live after delay text
 fair-effect limit notes live request.NoSend = fair-no_send live
 fair-effect limit notes live (request.Attach option unit name) = fair-attach notes live option unit name
+fair-effect limit notes live (request.AttachPort kind port) = fair-attach_port kind live port
 fair-effect limit notes live (request.Detach unit) = fair-detach_where notes live unit
 fair-effect limit notes live (request.SetSize k) = fair-set_size live k
+fair-effect limit notes live (request.Disconnect kind) = fair-disconnect live
 fair-effect limit notes live (request.Show subject) = fair-show live subject
 fair-effect limit notes live (request.Do echo strict name arguments) = fair-do notes live echo strict name
 fair-effect limit notes live (request.Goto label) = fair-goto live

@@ -26,6 +26,7 @@ pub mod ScriptLemmas
 pub mod SetLemmas
 pub mod AskedLemmas
 pub mod PortLemmas
+pub mod PortCommands
 pub mod PrintedLemmas
 pub mod QuotedLemmas
 pub mod WatchLines

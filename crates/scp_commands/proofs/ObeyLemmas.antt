@@ -1,6 +1,7 @@
 -- What a command comes to, by what it asks for.
-use Rattle.std.proofs.Common.{◌≡◌, ℕ, ◌<◌, Bool, true, false, List, [], ◌+◌, length, nat_le, nat_lt, not, ◌==◌, ◌&&◌, Option, Some, None, Result, Ok, Err, refl, ap, sym, ◌∙◌, subst, append-nil, if◌then◌else◌, arith}
+use Rattle.std.proofs.Common.{◌≡◌, ◌≢◌, ℕ, ◌<◌, Bool, true, false, List, [], ◌+◌, length, nat_le, nat_lt, not, ◌==◌, ◌&&◌, Option, Some, None, Result, Ok, Err, refl, ap, sym, ◌∙◌, subst, append-nil, if◌then◌else◌, arith}
 use Rattle.host_files.specs.State.{FileState}
+use Rattle.unit_trait.specs.declared.kind.Kind.{Kind}
 use Rattle.unit_trait.specs.declared.kind.UnitName.{UnitName}
 use Rattle.file_commands.specs.declared.note.FaultNote.{FaultNote}
 use Rattle.file_commands.specs.Notes.{CommandNote, Note}
@@ -15,7 +16,7 @@ use Rattle.operand_forms.specs.declared.listing.Test.{Test}
 use Rattle.scp_parser.specs.declared.command.Piece.{Piece}
 use Rattle.scp_parser.specs.declared.command.Verb.{Verb}
 use Rattle.scp_parser.specs.declared.command.Verb.TheVariants as verb
-use Rattle.scp_parser.specs.Command.{Request, Break, Expect, Send, Attach, Do, Load, Dump, piece_of, request_of, file_name_of, given_text, given_quoted}
+use Rattle.scp_parser.specs.Command.{Request, Break, Expect, Send, Attach, AttachPort, Do, Load, Dump, piece_of, request_of, file_name_of, given_text, given_quoted}
 use Rattle.expect_actions.specs.Expects.{most_expects}
 use Rattle.expect_actions.specs.Sends.{most_sends}
 use Rattle.scp_examine.specs.declared.fault.ExamineFault.{ExamineFault}
@@ -23,12 +24,13 @@ use Rattle.scp_examine.specs.declared.fault.ExamineFault.TheVariants as list
 use Rattle.scp_examine.specs.Effect.{examine_fault, fault_of_deposit, tested}
 use Rattle.nova_machine.specs.Comes.{Output}
 use Rattle.scp_commands.specs.declared.next.Next.TheVariants.{Go, Goto, Ran}
-use Rattle.scp_commands.specs.declared.fault.CommandFault.TheVariants.{Console, OutOfMemory, NoFile, FileTooLong, FileFailed, NotBuilt}
+use Rattle.scp_commands.specs.declared.fault.CommandFault.TheVariants.{Console, OutOfMemory, NoFile, FileTooLong, FileFailed, PortFailed, NotBuilt}
 use Rattle.scp_commands.specs.declared.fault.CommandFault.TheVariants.{LoadTruncated, LoadSum, PastMemory}
 use Rattle.scp_commands.specs.Live.{Live, Standing, standing, Beyond, beyond}
 use Rattle.scp_commands.specs.Reply.{Answer, Reply, goes, refused}
 use Rattle.scp_commands.specs.RunEffects.{reset_reply}
 use Rattle.scp_commands.specs.ListEffects.{lacks_device, examine_after, examine_reply, handed, deposit_after, deposit_reply}
+use Rattle.scp_commands.specs.LineEffects.{is_terminal, terminal_line, show_line}
 use Rattle.scp_commands.specs.FileEffects.{lacks_unit}
 use Rattle.scp_commands.specs.RunEffects.{last_address}
 use Rattle.scp_commands.specs.WatchEffects.{largest_count, text_of_quoted, lacks_room_for_break, can_be_expected}
@@ -38,17 +40,17 @@ use Rattle.scp_commands.specs.SetEffects.{set_size_reply}
 use Rattle.scp_commands.specs.ScriptEffects.{test_answer, echo_reply, assert_reply, goto_reply}
 use Rattle.scp_commands.specs.Effect.{effect}
 use Rattle.file_commands.specs.declared.note.Subject.{Subject}
-use Rattle.scp_commands.specs.Nature.{Telling, Nothing, Attached, Nature, of_nature, plain, nature}
+use Rattle.scp_commands.specs.Nature.{Telling, Nothing, Ported, Attached, Nature, of_nature, plain, nature, IsUntold}
 use Rattle.file_commands.specs.declared.stamp.Stamp.{Stamp}
 use Rattle.scp_commands.specs.Refusals.{IsMeasured}
-use Rattle.scp_commands.specs.Doing.{Does, Did, FileCause, Keeps, MayWant, AttachNote}
+use Rattle.scp_commands.specs.Doing.{Does, Did, FileCause, Keeps, MayWant, AttachNote, IsOwn, IsPlain, IsShown, IsRunAnswer, IsOfPort}
 use Rattle.host_files.specs.Lists.{NamedBytes}
-use Rattle.host_lines.specs.Traffic.{Gone}
+use Rattle.host_lines.specs.Traffic.{Peer, Gone}
 use Rattle.host_lines.specs.Told.{Heard, Named, Records}
 use Rattle.host_lines.specs.State.{LineState}
 use Rattle.telnet_lines.specs.Line.{LineOf}
-use Rattle.nova_machine.specs.LineChanges.{LinesGoOn}
-use Rattle.nova_machine.proofs.LineSteps.{lines-stay}
+use Rattle.scp_commands.specs.LinesLeft.{LinesLeft, ListenCause}
+use Rattle.scp_commands.proofs.PortLemmas.{left-same}
 use Rattle.nova_machine.proofs.Hearing.{heard-nothing}
 use Rattle.scp_commands.proofs.ReplyLemmas.{goes-said}
 use Rattle.scp_commands.proofs.DidLemmas.{did-of}
@@ -70,8 +72,40 @@ abbrev pub unheard : Heard
 unheard = Named []
 
 -- a command does nothing to the lines
-pub lines-kept : (tells : Bool) (s : LineState) (before after : List (LineOf ℕ)) → after ≡ before → LinesGoOn tells s before s after
-lines-kept tells s before after same = subst (λ (ls : List (LineOf ℕ)). LinesGoOn tells s before s ls) (sym same) (lines-stay tells s before)
+pub lines-kept : (tells : Bool) (s : LineState) (before after : List (LineOf ℕ)) → after ≡ before → LinesLeft tells s before s after
+lines-kept tells s before after same = subst (λ (ls : List (LineOf ℕ)). LinesLeft tells s before s ls) (sym same) (left-same tells s before)
+
+-- an answer that speaks of no port, of a command that is no ATTACH of one
+abbrev pub IsNoAttachPort : Request → Type 0
+IsNoAttachPort (AttachPort kind port) = ⊥
+IsNoAttachPort request = Unit {0}
+
+pub unlistening : (tells : Bool) (request : Request) (answer : Answer) (old new : LineState) → IsNoAttachPort request → answer ≢ Err PortFailed
+    → ListenCause tells request answer old new
+unlistening tells (AttachPort kind port) answer old new other none = absurd other
+unlistening tells request answer old new other none = none
+
+-- nothing was asked of the outside
+pub unlistened : (tells : Bool) (request : Request) (answer : Answer) (s : LineState) → answer ≢ Err PortFailed → ListenCause tells request answer s s
+unlistened tells (AttachPort kind port) (Err PortFailed) s none = absurd (none refl)
+unlistened tells (AttachPort kind port) (Err OutOfMemory) s none =
+    (record { listens = refl; stands = refl; behind = refl; sent = refl; counted = refl }, λ _. refl)
+unlistened tells (AttachPort kind port) answer s none = tt
+unlistened tells request answer s none = none
+
+pub own-no-port : (answer : Answer) → IsOwn answer → answer ≢ Err PortFailed
+own-no-port answer own is = subst (λ (a : Answer). IsOwn a) is own
+
+pub plain-no-port : (answer : Answer) → IsPlain answer → answer ≢ Err PortFailed
+plain-no-port answer own is = subst (λ (a : Answer). IsPlain a) is own
+
+pub shown-no-port : (answer : Answer) → IsShown answer → answer ≢ Err PortFailed
+shown-no-port answer own is = subst (λ (a : Answer). IsShown a) is own
+
+pub run-no-port : (answer : Answer) → IsRunAnswer answer → answer ≢ Err PortFailed
+run-no-port answer own is = subst (λ (a : Answer). IsRunAnswer a) is own
+
+pub ruleset no-port = (own-no-port, plain-no-port, shown-no-port, run-no-port)
 
 -- a request that keeps no note
 pub plain-did : (limit number : ℕ) (live new : Live) (request other : Request) (r : Reply) (answer : Answer) (tells : Bool) (before after : Output) (notes notes' : List Note)
@@ -179,6 +213,12 @@ does-of-no-file reply (Err (FileFailed who)) at tells before after does own = of
 does-of-no-file reply (Ok (Ran (FileFault f))) at tells before after does own = of-no-file (Ok (Ran (FileFault (record f { file = None })))) reply.answer does.0 own
 does-of-no-file reply answer at tells before after does own = tt
 
+pub port-no-file : (answer : Answer) → IsOfPort answer → IsOfNoFile answer
+port-no-file (Err NoFile) own = own
+port-no-file (Err (FileFailed who)) own = own
+port-no-file (Ok (Ran (FileFault f))) own = own
+port-no-file answer own = tt
+
 no-file-if : (b : Bool) (x y : Reply) → IsOfNoFile x.answer → IsOfNoFile y.answer → IsOfNoFile (if b then x else y).answer
 no-file-if true x y first second = first
 no-file-if false x y first second = second
@@ -214,7 +254,12 @@ show-no-file live shown.Break = tt
 show-no-file live shown.Expect = tt
 show-no-file live shown.Send = tt
 show-no-file live shown.Version = tt
-show-no-file live (shown.Unit unit) = no-file-if (lacks_unit live.machine unit) _ _ tt tt
+show-no-file live (shown.Unit unit) =
+    no-file-if (is_terminal unit) _ _ (by-line (terminal_line live.lines)) (no-file-if (lacks_unit live.machine unit) _ _ tt tt)
+  where
+    by-line : (line : Option (LineOf Peer)) → IsOfNoFile (show_line line live).answer
+    by-line None = tt
+    by-line (Some line) = tt
 
 pub break-no-file : (live : Live) (at count : ℕ) (actions : List ℕ) → IsOfNoFile (break_reply live at count actions).answer
 unfolding break_reply
@@ -280,6 +325,7 @@ pub may-want : (spare : ℕ) (request : Request) → spare < 16 → MayWant spar
 may-want spare (Break at count actions) few = tt
 may-want spare (Expect count text actions) few = tt
 may-want spare (Attach option unit name) few = tt
+may-want spare (AttachPort kind port) few = tt
 may-want spare (Do echo strict name arguments) few = tt
 may-want spare (Load name) few = tt
 may-want spare (Dump from to name) few = tt
@@ -287,50 +333,58 @@ may-want spare request few = few
 
 -- ---- what is left of the commands, by their nature
 
--- none of those that run, or work on a file by its name
+-- none of those that run, or work on files or lines
 pub record IsNoRunOrFile (v : Verb) : Type 0 where
   pub run : (address : Option ℕ) → v ≡ verb.Run address → ⊥
   pub go : (address : Option ℕ) → v ≡ verb.Go address → ⊥
   pub cont : v ≡ verb.Cont → ⊥
   pub step : (count : Option ℕ) → v ≡ verb.Step count → ⊥
   pub attach : (option : ℕ) (unit : UnitName) (name : Piece) → v ≡ verb.Attach option unit name → ⊥
+  pub attach_port : (kind : Kind) (port : ℕ) → v ≡ verb.AttachPort kind port → ⊥
+  pub detach : (unit : Option UnitName) → v ≡ verb.Detach unit → ⊥
+  pub disconnect : (kind : Kind) → v ≡ verb.Disconnect kind → ⊥
+  pub exit : (status : Option ℕ) → v ≡ verb.Exit status → ⊥
   pub do_ : (echo strict : Bool) (name arguments : Piece) → v ≡ verb.Do echo strict name arguments → ⊥
   pub load : (name : Piece) → v ≡ verb.Load name → ⊥
   pub dump : (from to : ℕ) (name : Piece) → v ≡ verb.Dump from to name → ⊥
 
--- a command that neither runs nor works on a file by its name
-pub is-untold : (line : List ℕ) (v : Verb) → IsNoRunOrFile v → (nature (request_of line v)).telling ≡ Nothing
+-- a command that neither runs nor works on files or lines
+pub is-untold : (line : List ℕ) (v : Verb) → IsNoRunOrFile v → IsUntold (request_of line v)
 is-untold line (verb.Run address) o = absurd (o.run address refl)
 is-untold line (verb.Go address) o = absurd (o.go address refl)
 is-untold line verb.Cont o = absurd (o.cont refl)
 is-untold line (verb.Step count) o = absurd (o.step count refl)
 is-untold line (verb.Attach option unit name) o = absurd (o.attach option unit name refl)
+is-untold line (verb.AttachPort kind port) o = absurd (o.attach_port kind port refl)
+is-untold line (verb.Detach unit) o = absurd (o.detach unit refl)
+is-untold line (verb.Disconnect kind) o = absurd (o.disconnect kind refl)
+is-untold line (verb.Exit status) o = absurd (o.exit status refl)
 is-untold line (verb.Do echo strict name arguments) o = absurd (o.do_ echo strict name arguments refl)
 is-untold line (verb.Load name) o = absurd (o.load name refl)
 is-untold line (verb.Dump from to name) o = absurd (o.dump from to name refl)
-is-untold line v o = refl
+is-untold line v o = (refl, refl)
 
 -- none of the others that are not plain
-pub record IsNoWatchOrClosing (v : Verb) : Type 0 where
+pub record IsNoWatch (v : Verb) : Type 0 where
   pub break_ : (at count : ℕ) (actions : Piece) → v ≡ verb.Break at count actions → ⊥
   pub expect : (count : ℕ) (text actions : Piece) → v ≡ verb.Expect count text actions → ⊥
-  pub detach : (unit : Option UnitName) → v ≡ verb.Detach unit → ⊥
-  pub exit : (status : Option ℕ) → v ≡ verb.Exit status → ⊥
 
 -- one that is none of the others either
-pub is-plain : (line : List ℕ) (v : Verb) → (nature (request_of line v)).telling ≡ Nothing → IsNoWatchOrClosing v → nature (request_of line v) ≡ plain
-is-plain line (verb.Run address) untold o = absurd (cc untold)
-is-plain line (verb.Go address) untold o = absurd (cc untold)
-is-plain line verb.Cont untold o = absurd (cc untold)
-is-plain line (verb.Step count) untold o = absurd (cc untold)
-is-plain line (verb.Attach option unit name) untold o = absurd (cc untold)
-is-plain line (verb.Do echo strict name arguments) untold o = absurd (cc untold)
-is-plain line (verb.Load name) untold o = absurd (cc untold)
-is-plain line (verb.Dump from to name) untold o = absurd (cc untold)
+pub is-plain : (line : List ℕ) (v : Verb) → IsUntold (request_of line v) → IsNoWatch v → nature (request_of line v) ≡ plain
+is-plain line (verb.Run address) untold o = absurd (cc untold.0)
+is-plain line (verb.Go address) untold o = absurd (cc untold.0)
+is-plain line verb.Cont untold o = absurd (cc untold.0)
+is-plain line (verb.Step count) untold o = absurd (cc untold.0)
+is-plain line (verb.Attach option unit name) untold o = absurd (cc untold.0)
+is-plain line (verb.Do echo strict name arguments) untold o = absurd (cc untold.0)
+is-plain line (verb.Load name) untold o = absurd (cc untold.0)
+is-plain line (verb.Dump from to name) untold o = absurd (cc untold.0)
 is-plain line (verb.Break at count actions) untold o = absurd (o.break_ at count actions refl)
 is-plain line (verb.Expect count text actions) untold o = absurd (o.expect count text actions refl)
-is-plain line (verb.Detach unit) untold o = absurd (o.detach unit refl)
-is-plain line (verb.Exit status) untold o = absurd (o.exit status refl)
+is-plain line (verb.AttachPort kind port) untold o = absurd (cc untold.0)
+is-plain line (verb.Disconnect kind) untold o = absurd (cc untold.0)
+is-plain line (verb.Detach unit) untold o = absurd (cc untold.1)
+is-plain line (verb.Exit status) untold o = absurd (cc untold.1)
 is-plain line v untold o = refl
 
 -- none of those that are plain and built
@@ -358,6 +412,9 @@ leaves-part kind takes reads flushes is = absurd (cc (ap (λ (n : Nature). n.lea
 tells-attached : (takes : Bool) (reads : Option Subject) (leaves flushes : Bool) → of_nature Attached takes reads leaves flushes ≡ plain → ⊥
 tells-attached takes reads leaves flushes is = absurd (cc (ap (λ (n : Nature). n.telling) is))
 
+tells-ported : (takes : Bool) (reads : Option Subject) (leaves flushes : Bool) → of_nature Ported takes reads leaves flushes ≡ plain → ⊥
+tells-ported takes reads leaves flushes is = absurd (cc (ap (λ (n : Nature). n.telling) is))
+
 -- what is not built
 pub other-is : (limit : ℕ) (own : List CommandNote) (live : Live) (line : List ℕ) (v : Verb) → nature (request_of line v) ≡ plain → IsNoPlain v → effect limit own live (request_of line v) ≡ refused NotBuilt live
 unfolding effect
@@ -371,6 +428,8 @@ other-is limit own live line (verb.Load name) is o = absurd (takes-memory _ _ _ 
 other-is limit own live line (verb.Dump from to name) is o = absurd (takes-memory _ _ _ _ is)
 other-is limit own live line (verb.Break at count actions) is o = absurd (takes-memory _ _ _ _ is)
 other-is limit own live line (verb.Expect count text actions) is o = absurd (takes-memory _ _ _ _ is)
+other-is limit own live line (verb.AttachPort kind port) is o = absurd (takes-memory _ _ _ _ is)
+other-is limit own live line (verb.Disconnect kind) is o = absurd (tells-ported _ _ _ _ is)
 other-is limit own live line (verb.Detach unit) is o = absurd (leaves-part _ _ _ _ is)
 other-is limit own live line (verb.Exit status) is o = absurd (leaves-part _ _ _ _ is)
 other-is limit own live line verb.Nothing is o = absurd (o.nothing refl)

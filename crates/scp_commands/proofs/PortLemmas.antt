@@ -1,5 +1,5 @@
 -- What commands leave of the ports and the connections of the outside.
-use Rattle.std.proofs.Common.{◌≡◌, ◌≢◌, ◌⊎◌, inl, inr, ◌∙◌, ap, sym, refl, subst, absurd, arith, ℕ, ◌+◌, ◌-◌, ◌^◌, ◌≤◌, ◌==◌, Bool, true, false, true≢false, IsTrue, List, [], ◌∷◌, length, map, slice_get, slice_set, Option, Some, None, IsSome, is_some, if◌then◌else◌, Result, Ok, Err}
+use Rattle.std.proofs.Common.{◌≡◌, ◌≢◌, ◌⊎◌, inl, inr, ◌∙◌, ap, sym, refl, subst, arith, ℕ, ◌+◌, ◌-◌, ◌^◌, ◌≤◌, ◌==◌, Bool, true, false, true≢false, IsTrue, List, [], ◌∷◌, length, suc, map, slice_get, slice_set, Option, Some, None, IsSome, IfSome, is_some, if◌then◌else◌, Result, Ok, Err}
 use Rattle.std.proofs.lemmas.Option.{same_Some}
 use Rattle.std.proofs.lemmas.Bool.Decides.{eqb_tells}
 use Rattle.fault_counts.specs.Faults.{raised}
@@ -49,8 +49,7 @@ many-by (l ∷ lines) (k ∷ others) same =
     omega (arith, rest)
 
 abbrev IsListenedAt : LineState → Option ℕ → Type 0
-IsListenedAt s None = Unit {0}
-IsListenedAt s (Some port) = IsListened s port
+IsListenedAt s port = IfSome port (IsListened s)
 
 listened-at : (s s' : LineState) → s'.listens ≡ s.listens → (port : Option ℕ) → IsListenedAt s port → IsListenedAt s' port
 listened-at s s' same None is = tt
@@ -145,9 +144,9 @@ keeps-dropped old new before after told free kept = record {
     none conn own = true≢false (ap is_some (sym own ∙ free))
 
 -- What is taken from the first line: the port that it had or none, and the connection.
-record Gives (port : Option ℕ) (line after : LineOf ℕ) : Type 0 where
-  free : after.connection ≡ None
-  which : ((port ≡ line.port) × (after.port ≡ None)) ⊎ ((port ≡ None) × (after.port ≡ line.port))
+pub record Gives (port : Option ℕ) (line after : LineOf ℕ) : Type 0 where
+  pub free : after.connection ≡ None
+  pub which : ((port ≡ line.port) × (after.port ≡ None)) ⊎ ((port ≡ None) × (after.port ≡ line.port))
 
 module _ (tells : Bool) (port : Option ℕ) (old new : LineState) (line after : LineOf ℕ) (others : List (LineOf ℕ)) (gives : Gives port line after)
     (up : GivesUp port line.connection old new) (keeps : IsTrue tells → KeepsParties old line new after) where
@@ -177,18 +176,19 @@ module _ (tells : Bool) (port : Option ℕ) (old new : LineState) (line after : 
   still-listened few all = by others few
     where
       at : AreListened new (after ∷ [])
-      at = elim gives.which [
-        | inl closes ↦ (subst (λ (p : Option ℕ). IsListenedAt new p) (sym closes.1) tt, tt)
-        | inr keeps ↦
-            let same : new.listens ≡ old.listens = up.listens ∙ ap (λ (p : Option ℕ). without_port p old.listens) keeps.0 in
-            (subst (λ (p : Option ℕ). IsListenedAt new p) (sym keeps.1) (listened-at old new same line.port all.0), tt)
-      ]
+      at = (by-port gives.which, tt)
+        where
+          by-port : ((port ≡ line.port) × (after.port ≡ None)) ⊎ ((port ≡ None) × (after.port ≡ line.port)) → IsListenedAt new after.port
+          by-port (inl closes) = subst (λ (p : Option ℕ). IsListenedAt new p) (sym closes.1) tt
+          by-port (inr keeps) =
+              let same : new.listens ≡ old.listens = up.listens ∙ ap (λ (p : Option ℕ). without_port p old.listens) keeps.0 in
+              subst (λ (p : Option ℕ). IsListenedAt new p) (sym keeps.1) (listened-at old new same line.port all.0)
 
       by : (ls : List (LineOf ℕ)) → length (line ∷ ls) ≤ 1 → AreListened new (after ∷ ls)
       by [] few = at
       by (l ∷ ls) few = absurd (too-many few)
         where
-          too-many : 2 + length ls ≤ 1 → ⊥
+          too-many : suc (suc (length ls)) ≤ 1 → ⊥
           too-many few = omega (arith, few)
 
   pub left-given : LinesLeft tells old (line ∷ others) new (after ∷ others)
@@ -199,9 +199,9 @@ module _ (tells : Bool) (port : Option ℕ) (old new : LineState) (line after : 
     many = refl;
     listened = still-listened;
     told = λ tells apart. (
-        (stand_apart 0 old new (line ∷ others) line after refl apart (keeps tells)).apart,
-        subst (λ (t : Told). IsFirst (record_in old.told) (record_in t)) (sym up.told) (first-same (record_in old.told)),
-      );
+      (stand_apart 0 old new (line ∷ others) line after refl apart (keeps tells)).apart,
+      subst (λ (t : Told). IsFirst (record_in old.told) (record_in t)) (sym up.told) (first-same (record_in old.told)),
+    );
   }
 
 -- ---- the first of some lines
@@ -210,7 +210,7 @@ pub first-of : (lines : List (LineOf ℕ)) (line : LineOf ℕ) → slice_get lin
 first-of [] line at = absurd (cc)
 first-of (l ∷ others) line at = (others, ap (λ (x : LineOf ℕ). x ∷ others) (same_Some l line at))
 
-closed-none : {P : Type 0} (line : LineOf P) → line.port ≡ None → closed line ≡ line
+pub closed-none : {P : Type 0} (line : LineOf P) → line.port ≡ None → closed line ≡ line
 closed-none {P} line none = by line.port none
   where
     by : (port : Option ℕ) → port ≡ None → closed_by port line ≡ line
@@ -224,7 +224,7 @@ closed-some {P} line port some = by line.port some
     by None is = absurd (cc)
     by (Some q) is = refl
 
-hung-none : {P : Type 0} (line : LineOf P) → line.port ≡ None → hung line ≡ line
+pub hung-none : {P : Type 0} (line : LineOf P) → line.port ≡ None → hung line ≡ line
 hung-none {P} line none = by line.port none
   where
     by : (port : Option ℕ) → port ≡ None → hung_by port line ≡ line
@@ -237,6 +237,10 @@ hung-some {P} line port some = by line.port some
     by : (p : Option ℕ) → p ≡ Some port → hung_by p line ≡ unconnected (Some port)
     by None is = absurd (cc)
     by (Some q) is = ap unconnected is
+
+pub none-of : (lines : List (LineOf ℕ)) → slice_get lines 0 ≡ None → lines ≡ []
+none-of [] none = refl
+none-of (l ∷ lines) none = absurd (cc)
 
 -- a line is closed, or loses its connection
 module _ (tells : Bool) (old new : LineState) (others : List (LineOf ℕ)) where
@@ -371,11 +375,7 @@ pub seen-still : (old new : LineState) (lines : List (LineOf ℕ)) → parties n
 seen-still old new lines same = ap (λ (f : ℕ → Peer). map (renamed f) lines) same
 
 later-raised : (count : ℕ) → count ≤ raised count
-later-raised count = by (count == 2 ^ 64 - 1)
-  where
-    by : (b : Bool) → count ≤ (if b then count else count + 1)
-    by true = omega arith
-    by false = omega arith
+later-raised count = omega arith
 
 module _ (tells : Bool) (old new : LineState) (line : LineOf ℕ) (others : List (LineOf ℕ)) (port : ℕ) where
   -- the line has the port from then on
@@ -399,27 +399,27 @@ module _ (tells : Bool) (old new : LineState) (line : LineOf ℕ) (others : List
     many = refl;
     listened = λ few all. by others few;
     told = λ tells apart. (
-        (stand_apart 0 old new (line ∷ others) line (unconnected (Some port)) refl apart (keeps tells)).apart,
-        (listened.told tells).grows,
-      );
+      (stand_apart 0 old new (line ∷ others) line (unconnected (Some port)) refl apart (keeps tells)).apart,
+      (listened.told tells).grows,
+    );
   }
     where
       by : (ls : List (LineOf ℕ)) → length (line ∷ ls) ≤ 1 → AreListened new (unconnected (Some port) ∷ ls)
       by [] few = (ap (λ (f : ℕ → Bool). f port) listened.listens ∙ one-there port old.listens, tt)
       by (l ∷ ls) few = absurd (too-many few)
         where
-          too-many : 2 + length ls ≤ 1 → ⊥
+          too-many : suc (suc (length ls)) ≤ 1 → ⊥
           too-many few = omega (arith, few)
 
-      free : (conn : ℕ) → None ≡ Some conn → ⊥
-      free conn own = true≢false (ap is_some (sym own))
+      unlinked : (conn : ℕ) → None ≡ Some conn → ⊥
+      unlinked conn own = true≢false (ap is_some (sym own))
 
       keeps : IsTrue tells → KeepsParties old line new (unconnected (Some port))
       keeps is = record {
         kind = (listened.told is).kind;
         kept = λ conn other has. ap (λ (f : ℕ → Peer). f conn) listened.behind;
-        apart = λ conn other has own. absurd (free conn own);
-        linked = λ was conn own. absurd (free conn own);
+        apart = λ conn other has own. absurd (unlinked conn own);
+        linked = λ was conn own. absurd (unlinked conn own);
       }
 
   -- the outside refused it, or there was no memory
@@ -441,6 +441,44 @@ module _ (tells : Bool) (old new : LineState) (line : LineOf ℕ) (others : List
           → AreApart new (line ∷ others) × IsFirst (record_in old.told) (record_in new.told)
       told listen.Failed listened is apart = (apart-still old new (line ∷ others) (listened.told is).kind listened.behind apart, (listened.told is).grows)
       told listen.OutOfMemory listened is apart = (
-          apart-still old new (line ∷ others) (subst (λ (t : Told). SameKind old.told t) (sym (listened.told is)) (same_kind old.told)) listened.behind apart,
-          subst (λ (t : Told). IsFirst (record_in old.told) (record_in t)) (sym (listened.told is)) (first-same (record_in old.told)),
-        )
+        apart-still old new (line ∷ others) (subst (λ (t : Told). SameKind old.told t) (sym (listened.told is)) (same_kind old.told)) listened.behind apart,
+        subst (λ (t : Told). IsFirst (record_in old.told) (record_in t)) (sym (listened.told is)) (first-same (record_in old.told)),
+      )
+
+-- ---- the line of the second teletype among the lines of a machine
+
+pub seen-none : (change : List (LineOf Peer) → List (LineOf Peer)) (s : LineState) (lines : List (LineOf ℕ)) → change [] ≡ [] → slice_get lines 0 ≡ None → SeenAs change s lines s lines
+seen-none change s [] nothing none = record { lines = sym nothing; told = refl; sent = refl }
+seen-none change s (line ∷ lines) nothing none = absurd (cc)
+
+module _ (tells : Bool) (old new : LineState) (lines : List (LineOf ℕ)) (line after : LineOf ℕ) (at : slice_get lines 0 ≡ Some line)
+    (none : line.port ≡ None → new ≡ old) (keeps : IsTrue tells → KeepsParties old line new after) where
+  pub close-left : after ≡ closed line → (IsSome line.port → GivesUp line.port line.connection old new) → LinesLeft tells old lines new (slice_set lines 0 after)
+  close-left is up =
+      let (others, are) = first-of lines line at in
+      subst (λ (ls : List (LineOf ℕ)). LinesLeft tells old ls new (slice_set ls 0 after)) (sym are)
+      (subst (λ (l : LineOf ℕ). LinesLeft tells old (line ∷ others) new (l ∷ others)) (sym is)
+      (left-closed tells old new others line none up (λ told. subst (λ (l : LineOf ℕ). KeepsParties old line new l) is (keeps told))))
+
+  pub close-seen : after ≡ closed line → (IsSome line.port → GivesUp line.port line.connection old new) → AreLinesTold tells old lines → SeenAs unported old lines new (slice_set lines 0 after)
+  close-seen is up told =
+      let (others, are) = first-of lines line at in
+      subst (λ (ls : List (LineOf ℕ)). SeenAs unported old ls new (slice_set ls 0 after)) (sym are)
+      (subst (λ (l : LineOf ℕ). SeenAs unported old (line ∷ others) new (l ∷ others)) (sym is)
+      (seen-closed tells old new others line none up (λ tells. subst (λ (l : LineOf ℕ). KeepsParties old line new l) is (keeps tells))
+      (subst (λ (ls : List (LineOf ℕ)). AreLinesTold tells old ls) are told)))
+
+  pub hang-left : after ≡ hung line → (IsSome line.port → GivesUp None line.connection old new) → LinesLeft tells old lines new (slice_set lines 0 after)
+  hang-left is up =
+      let (others, are) = first-of lines line at in
+      subst (λ (ls : List (LineOf ℕ)). LinesLeft tells old ls new (slice_set ls 0 after)) (sym are)
+      (subst (λ (l : LineOf ℕ). LinesLeft tells old (line ∷ others) new (l ∷ others)) (sym is)
+      (left-hung tells old new others line none up (λ told. subst (λ (l : LineOf ℕ). KeepsParties old line new l) is (keeps told))))
+
+  pub hang-seen : after ≡ hung line → (IsSome line.port → GivesUp None line.connection old new) → AreLinesTold tells old lines → SeenAs hung_up old lines new (slice_set lines 0 after)
+  hang-seen is up told =
+      let (others, are) = first-of lines line at in
+      subst (λ (ls : List (LineOf ℕ)). SeenAs hung_up old ls new (slice_set ls 0 after)) (sym are)
+      (subst (λ (l : LineOf ℕ). SeenAs hung_up old (line ∷ others) new (l ∷ others)) (sym is)
+      (seen-hung tells old new others line none up (λ tells. subst (λ (l : LineOf ℕ). KeepsParties old line new l) is (keeps tells))
+      (subst (λ (ls : List (LineOf ℕ)). AreLinesTold tells old ls) are told)))

@@ -1,5 +1,5 @@
 -- Every command keeps what every state is, and what the disk holds of its file.
-use Rattle.std.proofs.Common.{◌≡◌, ◌≢◌, inl, inr, ℕ, ◌+◌, ◌^◌, ◌<◌, ◌≤◌, ◌==◌, ◌&&◌, not, nat_le, nat_lt, min, unwrap_or, Bool, true, false, List, [], ◌∷◌, length, Option, Some, None, option_map, Result, Ok, Err, if◌then◌else◌, refl, sym, subst, ◌∙◌, arith}
+use Rattle.std.proofs.Common.{◌≡◌, ◌≢◌, inl, inr, ℕ, ◌+◌, ◌^◌, ◌<◌, ◌≤◌, ◌==◌, ◌&&◌, not, nat_le, nat_lt, min, unwrap_or, Bool, true, false, List, [], ◌∷◌, length, Option, Some, None, option_map, Result, Ok, Err, if◌then◌else◌, refl, sym, subst, ◌∙◌, arith, is_none, is_some}
 use Rattle.std.proofs.lemmas.Bool.{and_parts, leb-true, ltb-true}
 use Rattle.std.proofs.lemmas.List.{length-map}
 use Rattle.observations.specs.Observations.{Prints, map_made}
@@ -25,7 +25,8 @@ use Rattle.nova_memory.specs.Memory.{fits_size}
 use Rattle.nova_machine.specs.Machine.{MachineState, reset_machine}
 use Rattle.nova_machine.specs.Seen.{attached_in}
 use Rattle.nova_machine.specs.Run.{run, last_time}
-use Rattle.nova_machine.specs.Valid.{AreBytes, ValidMachine, ValidWatch, CopyIsFile, DiskIsItsFile}
+use Rattle.std.specs.List.{AllByRecursion}
+use Rattle.nova_machine.specs.Valid.{AreBytes, ValidMachine, ValidWatch, ValidLine, ValidAhead, CopyIsFile, DiskIsItsFile}
 use Rattle.nova_machine.proofs.StayingValid.{runs-stay-valid}
 use Rattle.nova_machine.specs.declared.machine.Stop.{Stop}
 use Rattle.nova_machine.proofs.ValidBytes.{AreFiles, files-found}
@@ -49,7 +50,11 @@ use Rattle.scp_commands.specs.RunEffects.{stop_line, run_answer, used_by, run_fa
 use Rattle.scp_commands.specs.WatchEffects.{text_of_quoted, lacks_room_for_break, can_be_expected, largest_count, break_reply, no_break_reply, expect_reply, no_expect_reply, send_reply, no_send_reply}
 use Rattle.scp_commands.specs.ListEffects.{lacks_device, examine_after, examine_reply, handed, deposit_after, deposit_reply}
 use Rattle.scp_commands.specs.FileEffects.{lacks_unit, mode_of, attach_answer, attach_used, attached_machine, attach_with, attach_reply, detach_answer, detach_used, detached_machine, flushed_files, detach_with, detach_reply}
-use Rattle.scp_commands.specs.FileEffects.{filed_in, emptied_all, left_by, kept_answer, emptied_reply, detach_all_reply, detach_one_or_all}
+use Rattle.scp_commands.specs.FileEffects.{filed_in, emptied_all, left_by, unported_by, kept_answer, emptied_reply, detach_all_reply, detach_one_or_all}
+use Rattle.host_lines.specs.Traffic.{Answer as LineAnswer, Peer, Replied, Ahead, Script, Answers, Quiet, Failed, replied, begun, listening}
+use Rattle.telnet_lines.specs.Line.{LineOf, unconnected}
+use Rattle.scp_commands.specs.LineEffects.{is_terminal, terminal_line, ported, closed_by, unported, hung_by, hung_up, is_port, listen_answer, listen_lines, listen_with, attach_line, attach_port_reply}
+use Rattle.scp_commands.specs.LineEffects.{with_port, detach_port_reply, disconnect_reply, show_line}
 use Rattle.scp_commands.specs.ShowEffects.{show_reply}
 use Rattle.scp_commands.specs.ExitEffects.{exit_reply}
 use Rattle.scp_commands.specs.SetEffects.{sized, set_size_reply}
@@ -103,6 +108,69 @@ pub watch-live : (live : Live) (w : WatchState) → ValidLive live → ValidWatc
 watch-live live w is watch = changed-live live live.machine w live.files is is.valid.machine refl refl watch is.valid.files
 
 -- ---- replies
+
+-- with other lines
+lined-live : (live : Live) (lines : List (LineOf Peer)) → ValidLive live → AllByRecursion ValidLine lines → ValidLive (record live { lines = lines })
+lined-live live lines is all = record {
+  valid = record {
+    machine = is.valid.machine;
+    watch = is.valid.watch;
+    taken = is.valid.taken;
+    keys = is.valid.keys;
+    files = is.valid.files;
+    lines = all;
+    ahead = is.valid.ahead;
+  };
+  time = is.time;
+}
+
+-- and with what is to come on them
+ahead-live : (live : Live) (ahead : Ahead) → ValidLive live → ValidAhead ahead → ValidLive (record live { ahead = ahead })
+ahead-live live ahead is valid = record {
+  valid = record {
+    machine = is.valid.machine;
+    watch = is.valid.watch;
+    taken = is.valid.taken;
+    keys = is.valid.keys;
+    files = is.valid.files;
+    lines = is.valid.lines;
+    ahead = valid;
+  };
+  time = is.time;
+}
+
+-- a line to which nobody is connected
+free-valid : (port : Option ℕ) → ValidLine (unconnected port)
+free-valid port = record { keys = tt; output = tt; few_keys = omega arith; few_bytes = omega arith }
+
+valid-ported : (port : Option ℕ) (lines : List (LineOf Peer)) → AllByRecursion ValidLine lines → AllByRecursion ValidLine (ported port lines)
+valid-ported port [] all = tt
+valid-ported port (line ∷ lines) all = (free-valid port, all.1)
+
+closed-valid : (port : Option ℕ) (line : LineOf Peer) → ValidLine line → ValidLine (closed_by port line)
+closed-valid None line valid = valid
+closed-valid (Some port) line valid = free-valid None
+
+hung-valid : (port : Option ℕ) (line : LineOf Peer) → ValidLine line → ValidLine (hung_by port line)
+hung-valid None line valid = valid
+hung-valid (Some port) line valid = free-valid (Some port)
+
+valid-unported : (lines : List (LineOf Peer)) → AllByRecursion ValidLine lines → AllByRecursion ValidLine (unported lines)
+valid-unported [] all = tt
+valid-unported (line ∷ lines) all = (closed-valid line.port line all.0, all.1)
+
+valid-hung : (lines : List (LineOf Peer)) → AllByRecursion ValidLine lines → AllByRecursion ValidLine (hung_up lines)
+valid-hung [] all = tt
+valid-hung (line ∷ lines) all = (hung-valid line.port line all.0, all.1)
+
+valid-listening : (ahead : Ahead) → ValidAhead ahead → ValidAhead (listening ahead).ahead
+valid-listening (Script t) valid = by (t.fails 0)
+  where
+    by : (b : Bool) → ValidAhead (if b then replied Failed (Script (begun t)) else replied Quiet (Script (begun t))).ahead
+    by true = valid
+    by false = valid
+valid-listening (Answers []) valid = valid
+valid-listening (Answers (a ∷ more)) valid = valid.1
 
 stands-if : (b : Bool) (live : Live) (x y : Reply) → (b ≡ true → Stands live x) → (b ≡ false → Stands live y) → Stands live (if b then x else y)
 stands-if true live x y first second = first refl
@@ -302,6 +370,55 @@ stands-detach notes live unit drive is =
     stands-if (lacks_unit live.machine unit) live _ _ (λ _. stands-refused _ live is)
     (λ _. stands-detach_with (failure_now live.machine.time (subject.Unit unit) notes) unit live drive is)
 
+-- a port is listened on, or was not
+stands-listen_with : (said : Replied) (port : ℕ) (live : Live) → ValidAhead said.ahead → ValidLive live → Stands live (listen_with said port live)
+stands-listen_with said port live valid is = by said.answer
+  where
+    by : (answer : LineAnswer) → Stands live (record {
+      made = [];
+      answer = listen_answer answer;
+      after = standing 0 (record live { lines = listen_lines answer port live.lines; ahead = said.ahead });
+    })
+    by Failed = record {
+      valid = record { after = ahead-live live said.ahead is valid; made = λ at h. absurd h; script = tt };
+      copy = copy-same live (record live { ahead = said.ahead }) refl refl;
+    }
+    by other = record {
+      valid = record {
+        after = lined-live (record live { ahead = said.ahead }) (ported (Some port) live.lines) (ahead-live live said.ahead is valid) (valid-ported (Some port) live.lines is.valid.lines);
+        made = λ at h. absurd h;
+        script = tt;
+      };
+      copy = copy-same live (record live { lines = ported (Some port) live.lines; ahead = said.ahead }) refl refl;
+    }
+
+stands-attach_port : (live : Live) (port : ℕ) → ValidLive live → Stands live (attach_port_reply live port)
+unfolding attach_port_reply
+stands-attach_port live port is = by (terminal_line live.lines)
+  where
+    by : (line : Option (LineOf Peer)) → Stands live (attach_line line port live)
+    by None = stands-refused _ live is
+    by (Some line) =
+        stands-if (is_some line.port) live _ _ (λ _. stands-refused _ live is)
+        (λ _. stands-if (is_port port) live _ _
+        (λ _. stands-listen_with (listening live.ahead) port live (valid-listening live.ahead is.valid.ahead) is)
+        (λ _. stands-refused _ live is))
+
+stands-with_port : (line : Option (LineOf Peer)) (lines : List (LineOf Peer)) (live : Live) → AllByRecursion ValidLine lines → ValidLive live
+    → Stands live (with_port line (goes (record live { lines = lines })) live)
+stands-with_port None lines live all is = stands-refused _ live is
+stands-with_port (Some line) lines live all is =
+    stands-if (is_none line.port) live _ _ (λ _. stands-refused _ live is)
+    (λ _. stands-goes live (record live { lines = lines }) (lined-live live lines is all) refl refl)
+
+stands-detach_port : (live : Live) → ValidLive live → Stands live (detach_port_reply live)
+unfolding detach_port_reply
+stands-detach_port live is = stands-with_port (terminal_line live.lines) (unported live.lines) live (valid-unported live.lines is.valid.lines) is
+
+stands-disconnect : (live : Live) → ValidLive live → Stands live (disconnect_reply live)
+unfolding disconnect_reply
+stands-disconnect live is = stands-with_port (terminal_line live.lines) (hung_up live.lines) live (valid-hung live.lines is.valid.lines) is
+
 -- all units lose their files, and then that comes
 filed-live : (live : Live) → ValidLive live → IsFiled (filed_in live)
 filed-live live is = record { places = numberless-count live.machine ∙ is.valid.machine.places; disk = is.valid.machine.disk; files = is.valid.files }
@@ -315,14 +432,17 @@ stands-emptied next notes live gives is = by-keeper e.kept refl
     filed : IsFiled e.left
     filed = emptied-filed live.machine.time attachable (filed_in live) notes (filed-live live is)
 
-    by-keeper : (k : Option UnitName) → e.kept ≡ k → Stands live (record { made = []; answer = kept_answer k next; after = standing e.used (left_by k e.left live) })
+    by-keeper : (k : Option UnitName) → e.kept ≡ k → Stands live (record { made = []; answer = kept_answer k next; after = standing e.used (unported_by k (left_by k e.left live)) })
     by-keeper (Some u) kept = stands-files _ _ live e.left.files is filed.files tt
     by-keeper None kept =
         let m : MachineState = record (with_attached live.machine e.left.attached) { disk = e.left.disk } in
         let some : 0 < length (attached_in live.machine) = omega (arith, attached-count live.machine, is.valid.machine.places) in
         record {
           valid = record {
-            after = changed-live live m live.watch e.left.files is (filed-valid live.machine e.left.attached e.left.disk is.valid.machine filed.places filed.disk) refl refl is.valid.watch filed.files;
+            after =
+                lined-live (left_by None e.left live) (unported live.lines)
+                (changed-live live m live.watch e.left.files is (filed-valid live.machine e.left.attached e.left.disk is.valid.machine filed.places filed.disk) refl refl is.valid.watch filed.files)
+                (valid-unported live.lines is.valid.lines);
             made = λ at h. absurd h;
             script = gives;
           };
@@ -334,7 +454,8 @@ stands-emptied next notes live gives is = by-keeper e.kept refl
 stands-detach_where : (notes : List CommandNote) (live : Live) (unit : Option UnitName) → IsKept (request.Detach unit) → ValidLive live → Stands live (detach_one_or_all notes live unit)
 unfolding detach_all_reply
 stands-detach_where notes live None kept is = stands-emptied Go notes live tt is
-stands-detach_where notes live (Some unit) kept is = stands-detach notes live unit kept.1 is
+stands-detach_where notes live (Some unit) kept is =
+    stands-if (is_terminal unit) live _ _ (λ _. stands-detach_port live is) (λ _. stands-detach notes live unit kept.1 is)
 
 stands-exit : (notes : List CommandNote) (live : Live) (status : Option ℕ) → ValidLive live → Stands live (exit_reply notes live status)
 unfolding exit_reply
@@ -407,7 +528,13 @@ stands-show live shown.Break is = stands-says _ live is
 stands-show live shown.Expect is = stands-says _ live is
 stands-show live shown.Send is = stands-says _ live is
 stands-show live shown.Version is = stands-says _ live is
-stands-show live (shown.Unit unit) is = stands-if (lacks_unit live.machine unit) live _ _ (λ _. stands-refused _ live is) (λ _. stands-says _ live is)
+stands-show live (shown.Unit unit) is =
+    stands-if (is_terminal unit) live _ _ (λ _. by-line (terminal_line live.lines))
+    (λ _. stands-if (lacks_unit live.machine unit) live _ _ (λ _. stands-refused _ live is) (λ _. stands-says _ live is))
+  where
+    by-line : (line : Option (LineOf Peer)) → Stands live (show_line line live)
+    by-line None = stands-refused _ live is
+    by-line (Some line) = stands-says _ live is
 
 stands-echo : (live : Live) (text : List ℕ) → ValidLive live → Stands live (echo_reply live text)
 unfolding echo_reply
@@ -507,8 +634,10 @@ stands-effect limit notes live request.NoExpect is kept bytes = stands-no_expect
 stands-effect limit notes live (request.Send after delay text) is kept bytes = stands-send live after delay text is
 stands-effect limit notes live request.NoSend is kept bytes = stands-no_send live is
 stands-effect limit notes live (request.Attach option unit name) is kept bytes = stands-attach notes live option unit name kept.1.1 is
+stands-effect limit notes live (request.AttachPort kind port) is kept bytes = stands-attach_port live port is
 stands-effect limit notes live (request.Detach unit) is kept bytes = stands-detach_where notes live unit kept is
 stands-effect limit notes live (request.SetSize k) is kept bytes = stands-set_size live k is
+stands-effect limit notes live (request.Disconnect kind) is kept bytes = stands-disconnect live is
 stands-effect limit notes live (request.Show subject) is kept bytes = stands-show live subject is
 stands-effect limit notes live (request.Do echo strict name arguments) is kept bytes = stands-do notes live echo strict name is
 stands-effect limit notes live (request.Goto label) is kept bytes = stands-goto live is

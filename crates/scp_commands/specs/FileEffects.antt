@@ -1,7 +1,6 @@
 -- ATTACH, DETACH, and SHOW of a unit (SIMH Users' Guide, "Attaching Devices").
 use Rattle.std.specs.Prelude.{ℕ, ◌==◌, ◌||◌, Bool, not, is_none, List, [], ◌∷◌, ◌++◌, codes, Option, Some, None, Ok, Err, if◌then◌else◌, ◌+◌}
 use Rattle.unit_trait.specs.declared.kind.Kind.{Kind}
-use Rattle.unit_trait.specs.declared.kind.Kind.TheVariants.{Tti1}
 use Rattle.unit_trait.specs.declared.kind.UnitName.{UnitName}
 use Rattle.unit_trait.specs.Kinds.{code_of, unit_name}
 use Rattle.unit_trait.specs.Calls.{UnitState}
@@ -23,7 +22,7 @@ use Rattle.scp_commands.specs.declared.next.Next.TheVariants.{Go}
 use Rattle.scp_commands.specs.declared.fault.CommandFault.TheVariants.{AlreadyAttached, NotAttached, ReadOnly, NoFile, FileTooLong, FileFailed, NotBuilt}
 use Rattle.scp_commands.specs.Live.{Live, standing, with_attached}
 use Rattle.scp_commands.specs.Reply.{Answer, Reply, refused}
-use Rattle.scp_commands.specs.LineEffects.{unported, detach_port_reply}
+use Rattle.scp_commands.specs.LineEffects.{is_terminal, unported, detach_port_reply}
 
 -- whether this version has files for the units of a kind
 abbrev pub has_files : Kind → Bool
@@ -176,13 +175,10 @@ emptied_reply next e live = record { made = []; answer = kept_answer e.kept next
 unfoldable pub detach_all_reply : List CommandNote → Live → Reply
 detach_all_reply notes live = emptied_reply Go (emptied_all notes live) live
 
-abbrev pub detach_by : Kind → List CommandNote → Live → UnitName → Reply
-detach_by Tti1 notes live unit = detach_port_reply live
-detach_by kind notes live unit = detach_reply notes live unit
-
 abbrev pub detach_one_or_all : List CommandNote → Live → Option UnitName → Reply
 detach_one_or_all notes live None = detach_all_reply notes live
-detach_one_or_all notes live (Some unit) = detach_by unit.kind notes live unit
+detach_one_or_all notes live (Some unit) =
+    if is_terminal unit then detach_port_reply live else detach_reply notes live unit
 
 -- ---- SHOW
 

@@ -1,6 +1,9 @@
 -- ATTACH, DETACH and SHOW of the second teletype, whose line has a port in place of a file, and SET of it (SIMH Users'
 -- Guide, "Attaching Devices" and "Connecting Terminals").
-use Rattle.std.specs.Prelude.{ℕ, ◌&&◌, nat_le, Bool, is_none, is_some, List, [], ◌∷◌, ◌++◌, codes, decimal, slice_get, Option, Some, None, Ok, Err, if◌then◌else◌}
+use Rattle.std.specs.Prelude.{ℕ, ◌&&◌, nat_le, Bool, true, false, is_none, is_some, List, [], ◌∷◌, ◌++◌, codes, decimal, slice_get, Option, Some, None, Ok, Err, if◌then◌else◌}
+use Rattle.unit_trait.specs.declared.kind.Kind.{Kind}
+use Rattle.unit_trait.specs.declared.kind.Kind.TheVariants.{Tti1}
+use Rattle.unit_trait.specs.declared.kind.UnitName.{UnitName}
 use Rattle.host_lines.specs.Traffic.{Answer as LineAnswer, Failed, Peer, Replied, listening}
 use Rattle.telnet_lines.specs.Line.{LineOf, unconnected}
 use Rattle.scp_commands.specs.declared.next.Next.TheVariants.{Go}
@@ -8,7 +11,15 @@ use Rattle.scp_commands.specs.declared.fault.CommandFault.TheVariants.{AlreadyAt
 use Rattle.scp_commands.specs.Live.{Live, standing}
 use Rattle.scp_commands.specs.Reply.{Answer, Reply, goes, says, refused}
 
--- the line of the second teletype is the first of all lines
+-- the unit that has a port in place of a file: the second teletype
+abbrev pub is_terminal : UnitName → Bool
+is_terminal unit = is_terminal_kind unit.kind
+  where
+    is_terminal_kind : Kind → Bool
+    is_terminal_kind Tti1 = true
+    is_terminal_kind kind = false
+
+-- its line is the first of all lines
 abbrev pub terminal_line : {P : Type 0} → List (LineOf P) → Option (LineOf P)
 terminal_line lines = slice_get lines 0
 
@@ -18,24 +29,24 @@ ported port [] = []
 ported port (line ∷ others) = unconnected port ∷ others
 
 -- a line with a port to which nobody is connected any more
+abbrev pub hung_by : {P : Type 0} → Option ℕ → LineOf P → LineOf P
+hung_by None line = line
+hung_by (Some port) line = unconnected (Some port)
+
 abbrev pub hung : {P : Type 0} → LineOf P → LineOf P
 hung line = hung_by line.port line
-  where
-    hung_by : {P : Type 0} → Option ℕ → LineOf P → LineOf P
-    hung_by None line = line
-    hung_by (Some port) line = unconnected (Some port)
 
 abbrev pub hung_up : {P : Type 0} → List (LineOf P) → List (LineOf P)
 hung_up [] = []
 hung_up (line ∷ others) = hung line ∷ others
 
 -- a line without a port, if it had one
+abbrev pub closed_by : {P : Type 0} → Option ℕ → LineOf P → LineOf P
+closed_by None line = line
+closed_by (Some port) line = unconnected None
+
 abbrev pub closed : {P : Type 0} → LineOf P → LineOf P
 closed line = closed_by line.port line
-  where
-    closed_by : {P : Type 0} → Option ℕ → LineOf P → LineOf P
-    closed_by None line = line
-    closed_by (Some port) line = unconnected None
 
 -- it has no port any more
 abbrev pub unported : {P : Type 0} → List (LineOf P) → List (LineOf P)

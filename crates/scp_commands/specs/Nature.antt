@@ -1,10 +1,9 @@
 -- What each command is by nature. A command that joins names itself here, and what is said of every command follows.
-use Rattle.std.specs.Prelude.{◌≡◌, Bool, true, false, Option, Some, None}
+use Rattle.std.specs.Prelude.{◌≡◌, Bool, true, false, Option, Some, None, if◌then◌else◌}
 use Rattle.file_commands.specs.declared.note.Subject.{Subject}
 use Rattle.file_commands.specs.declared.note.Subject.TheVariants as subject
-use Rattle.unit_trait.specs.declared.kind.Kind.{Kind}
-use Rattle.unit_trait.specs.declared.kind.Kind.TheVariants.{Tti1}
 use Rattle.unit_trait.specs.declared.kind.UnitName.{UnitName}
+use Rattle.scp_commands.specs.LineEffects.{is_terminal}
 use Rattle.scp_parser.specs.Command.{Request, Run, Go, Cont, Step, Break, Expect, Attach, AttachPort, Detach, Disconnect, Load, Dump, Do, Exit}
 
 -- what of files and lines has to be told, so that all that a command does is
@@ -48,11 +47,7 @@ plain = of_nature Nothing false None false false
 -- a DETACH, by its unit: the second teletype has a port, and all units include it
 abbrev pub detach_telling : Option UnitName → Telling
 detach_telling None = Ported
-detach_telling (Some unit) = telling_of unit.kind
-  where
-    telling_of : Kind → Telling
-    telling_of Tti1 = Ported
-    telling_of kind = Nothing
+detach_telling (Some unit) = if is_terminal unit then Ported else Nothing
 
 abbrev pub nature : Request → Nature
 nature (Attach option unit name) = of_nature Named true None true false

@@ -1,7 +1,5 @@
 -- SHOW.
 use Rattle.std.specs.Prelude.{ℕ, ◌/◌, List, [], ◌∷◌, ◌++◌, codes, decimal, if◌then◌else◌}
-use Rattle.unit_trait.specs.declared.kind.Kind.{Kind}
-use Rattle.unit_trait.specs.declared.kind.Kind.TheVariants.{Tti1}
 use Rattle.unit_trait.specs.declared.kind.UnitName.{UnitName}
 use Rattle.unit_trait.specs.Kinds.{unit_name}
 use Rattle.event_queue.specs.EventList.{Event}
@@ -12,7 +10,7 @@ use Rattle.scp_commands.specs.declared.fault.CommandFault.TheVariants.{NotBuilt}
 use Rattle.scp_commands.specs.Live.{Live}
 use Rattle.scp_commands.specs.Reply.{Reply, says, refused}
 use Rattle.scp_commands.specs.FileEffects.{lacks_unit, unit_text}
-use Rattle.scp_commands.specs.LineEffects.{terminal_line, show_line}
+use Rattle.scp_commands.specs.LineEffects.{is_terminal, terminal_line, show_line}
 use Rattle.scp_commands.specs.WatchTexts.{breaks_text, expects_text, sends_text}
 
 -- what SHOW TIME prints
@@ -37,9 +35,11 @@ queue_text [] = []
 queue_text (e ∷ events) = event_line e ++ queue_text events
 
 -- SHOW of the second teletype tells its port, and that of another unit its file; of one that has none here it is not built
-abbrev pub show_unit : Kind → Live → UnitName → Reply
-show_unit Tti1 live unit = show_line (terminal_line live.lines) live
-show_unit kind live unit = if lacks_unit live.machine unit then refused NotBuilt live else says (unit_text live.machine unit) live
+abbrev pub show_unit : Live → UnitName → Reply
+show_unit live unit =
+    if is_terminal unit then show_line (terminal_line live.lines) live
+    else if lacks_unit live.machine unit then refused NotBuilt live
+    else says (unit_text live.machine unit) live
 
 unfoldable pub show_reply : Live → Shown → Reply
 show_reply live Time = says (time_text live.machine) live
@@ -49,4 +49,4 @@ show_reply live Break = says (breaks_text live.watch.breaks.list) live
 show_reply live Expect = says (expects_text live.watch.expects.list) live
 show_reply live Send = says (sends_text live.watch.sends) live
 show_reply live Version = says version_text live
-show_reply live (AUnit unit) = show_unit unit.kind live unit
+show_reply live (AUnit unit) = show_unit live unit

@@ -28,7 +28,7 @@ use telnet_lines::Line;
 use unit_trait::Unit;
 
 /// The number of the second teletype's line.
-const TERMINAL: u8 = 0;
+pub const TERMINAL: u8 = 0;
 
 /// ATTACH listens on a port, from 1 to 65535, for the second teletype. It prints nothing.
 pub fn attach_port<U: Unit, L: Lines>(
@@ -54,12 +54,13 @@ pub fn attach_port<U: Unit, L: Lines>(
     ensures own { IsOfPort result }
     ensures exit { IsExitAnswer result }
     ensures rest { session.new ≡ record session.old { machine = session.new.machine } }
-    ensures machine { session.new.machine ≡ record session.old.machine { lines = session.new.machine.lines } }
+    ensures slots { session.new.machine.slots ≡ session.old.machine.slots }
+    ensures time { session.new.machine.time ≡ session.old.machine.time }
 {
-    match session.machine.line(TERMINAL) {
-        None => Err(CommandFault::NotBuilt),
-        Some(line) => attach_line(alloc, line, port, lines),
-    }
+    let Some(line) = session.machine.line(TERMINAL) else {
+        return Err(CommandFault::NotBuilt);
+    };
+    attach_line(alloc, line, port, lines)
 }
 
 /// DETACH drops the connection to the second teletype, where one stands, and gives up its port. It prints nothing.
@@ -78,14 +79,16 @@ pub fn detach_port<U: Unit, L: Lines>(
     ensures sent { (L.state lines.new).sent ≡ (L.state lines.old).sent }
     ensures unasked { IsRefused result → lines.new ≡ lines.old }
     ensures own { IsPlain result }
+    ensures port { IsOfPort result }
     ensures exit { IsExitAnswer result }
     ensures rest { session.new ≡ record session.old { machine = session.new.machine } }
-    ensures machine { session.new.machine ≡ record session.old.machine { lines = session.new.machine.lines } }
+    ensures slots { session.new.machine.slots ≡ session.old.machine.slots }
+    ensures time { session.new.machine.time ≡ session.old.machine.time }
 {
-    match session.machine.line(TERMINAL) {
-        None => Err(CommandFault::NotBuilt),
-        Some(line) => detach_line(line, lines),
-    }
+    let Some(line) = session.machine.line(TERMINAL) else {
+        return Err(CommandFault::NotBuilt);
+    };
+    detach_line(line, lines)
 }
 
 /// SET DISCONNECT drops the connection to the second teletype, where one stands. Its port goes on to be listened on. It
@@ -105,14 +108,16 @@ pub fn disconnect<U: Unit, L: Lines>(
     ensures sent { (L.state lines.new).sent ≡ (L.state lines.old).sent }
     ensures unasked { IsRefused result → lines.new ≡ lines.old }
     ensures own { IsPlain result }
+    ensures port { IsOfPort result }
     ensures exit { IsExitAnswer result }
     ensures rest { session.new ≡ record session.old { machine = session.new.machine } }
-    ensures machine { session.new.machine ≡ record session.old.machine { lines = session.new.machine.lines } }
+    ensures slots { session.new.machine.slots ≡ session.old.machine.slots }
+    ensures time { session.new.machine.time ≡ session.old.machine.time }
 {
-    match session.machine.line(TERMINAL) {
-        None => Err(CommandFault::NotBuilt),
-        Some(line) => disconnect_line(line, lines),
-    }
+    let Some(line) = session.machine.line(TERMINAL) else {
+        return Err(CommandFault::NotBuilt);
+    };
+    disconnect_line(line, lines)
 }
 
 /// Gives up the port of a machine's second teletype, where it has one, and drops the connection.

@@ -1,6 +1,6 @@
 // The port of a terminal line: it is listened on, or given up, and its connection is dropped.
 ghost use Rattle.std.specs.Prelude.{◌≡◌, IsTrue, IsSome, Some, None, OnOk, OnErr};
-ghost use Rattle.telnet_lines.specs.Line.{IsSettled, unconnected};
+ghost use Rattle.telnet_lines.specs.Line.{unconnected};
 ghost use Rattle.telnet_lines.specs.Joined.{KeepsParties};
 ghost use Rattle.scp_commands.specs.LineEffects.{closed};
 ghost use Rattle.scp_commands.specs.LinesLeft.{GivesUp, Listened};
@@ -18,7 +18,6 @@ pub fn listen<L: Lines>(
 ) -> Result<(), ListenFault>
     ensures ok { OnOk result (line.new ≡ unconnected (Some port)) }
     ensures refused { OnErr result (line.new ≡ line.old) }
-    ensures settled { OnOk result (IsSettled line.old) }
     ensures outside { Listened L.tells port result (L.state lines.old) (L.state lines.new) }
 {
     lines.listen(alloc, port)?;

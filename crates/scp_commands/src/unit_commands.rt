@@ -13,6 +13,7 @@ ghost use Rattle.nova_machine.specs.Comes.{Output};
 ghost use Rattle.nova_machine.specs.LineChanges.{AreLinesTold};
 ghost use Rattle.scp_commands.specs.declared.fault.CommandFault.TheVariants.{OutOfMemory};
 ghost use Rattle.scp_commands.specs.Live.{live_in, beyond};
+ghost use Rattle.scp_commands.specs.LineEffects.{is_terminal};
 ghost use Rattle.scp_commands.specs.FileEffects.{lacks_unit, mode_of, first_place, positioned};
 ghost use Rattle.scp_commands.specs.FileEffects.{attach_reply, detach_reply, detach_all_reply, detach_one_or_all};
 ghost use Rattle.scp_parser.specs.Command.{Attach, Detach};
@@ -137,10 +138,7 @@ pub fn detach_one_or_every<U: Unit, F: Files, L: Lines>(
 {
     match unit {
         None => detach_every(session, files, lines),
-        Some(UnitName {
-            kind: Kind::Tti1,
-            ..
-        }) => detach_port(session, lines),
+        Some(unit) if is_terminal(unit) => detach_port(session, lines),
         Some(unit) => detach(session, unit, files),
     }
 }
@@ -230,6 +228,16 @@ fn detach_every<U: Unit, F: Files, L: Lines>(
     match session.detach_all(files, lines) {
         Ok(()) => Ok(Next::Go),
         Err(fault) => Err(CommandFault::of_detach(DetachFault::Failed(fault))),
+    }
+}
+
+/// Whether a unit is the second teletype, which has a port in place of a file.
+pub fn is_terminal(unit: UnitName) -> bool
+    ensures { result ≡ is_terminal unit }
+{
+    match unit.kind {
+        Kind::Tti1 => true,
+        _ => false,
     }
 }
 

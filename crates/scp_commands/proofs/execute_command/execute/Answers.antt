@@ -1,10 +1,11 @@
-use Rattle.std.proofs.Common.{ap}
+use Rattle.std.proofs.Common.{ap, Err}
 use Rattle.file_commands.specs.Notes.{notes_said}
 use Rattle.scp_commands.specs.Live.{CommandState, live_in, beyond}
 use Rattle.nova_machine.specs.Comes.{output}
+use Rattle.scp_commands.specs.declared.fault.CommandFault.TheVariants.{OutOfMemory}
 use Rattle.scp_commands.specs.Effect.{effect}
 use Rattle.scp_commands.proofs.DidLemmas.{did-want}
-use Rattle.scp_commands.proofs.ObeyLemmas.{lines-kept, may-want, none-measured}
+use Rattle.scp_commands.proofs.ObeyLemmas.{lines-kept, unlistened, may-want, none-measured}
 use Rattle.scp_commands.proofs.execute_command.execute.Goals as goal
 
 pub returns-in-Err-clause-told : goal.returns-in-Err-clause-told
@@ -27,3 +28,7 @@ pub returns-in-Err-clause-lines : goal.returns-in-Err-clause-lines
 returns-in-Err-clause-lines g c =
     lines-kept g.L.Lines.tells (g.L.Lines.state c.args.lines.now) c.args.session.now.machine.lines c.take_room.new.self.machine.lines
     (ap (λ (x : CommandState). x.machine.lines) c.in-Err.ensures.rest)
+
+pub returns-in-Err-clause-listening : goal.returns-in-Err-clause-listening
+returns-in-Err-clause-listening g c =
+    unlistened g.L.Lines.tells c.args.command.now (Err OutOfMemory) (g.L.Lines.state c.args.lines.now) (λ is. absurd (cc))

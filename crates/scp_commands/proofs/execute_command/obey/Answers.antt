@@ -1,19 +1,24 @@
 use Rattle.std.proofs.Common.{ℕ, refl, ap, sym, ◌∙◌, subst, ◌≡◌, true, false, Some, None}
 use Rattle.file_commands.specs.Notes.{notes_said}
-use Rattle.scp_parser.specs.Command.{request_of, Request, Run, Go, Cont, Step, Attach, Do, Load, Dump, file_name_of}
-use Rattle.scp_commands.specs.Live.{live_in, beyond}
+use Rattle.host_lines.specs.Told.{Heard}
+use Rattle.scp_parser.specs.Command.{request_of, Request, Run, Go, Cont, Step, Attach, AttachPort, Detach, Disconnect, Exit, Do, Load, Dump, file_name_of}
+use Rattle.scp_commands.specs.Live.{CommandState, live_in, beyond}
 use Rattle.scp_commands.specs.Effect.{effect}
-use Rattle.scp_commands.proofs.ObeyLemmas.{lines-kept, noted-did, do-named, load-named, dump-named, IsNoRunOrFile, is-untold}
+use Rattle.scp_commands.proofs.ObeyLemmas.{lines-kept, plain-did, keeps-none, port-no-file, IsNoAttachPort, unlistening, unlistened, own-no-port, plain-no-port, run-no-port, noted-did, do-named, load-named, dump-named, IsNoRunOrFile, is-untold}
 use Rattle.scp_commands.specs.ScriptEffects.{do_reply}
-use Rattle.scp_commands.specs.Nature.{Nothing, nature}
-use Rattle.scp_commands.specs.Doing.{says_files, IsTold}
-use Rattle.scp_commands.proofs.RemainLemmas.{undone-as}
+use Rattle.scp_commands.specs.Nature.{nature, IsUntold}
+use Rattle.scp_commands.specs.Doing.{says_files, IsTold, IsRefused, Did}
+use Rattle.scp_commands.specs.LinesLeft.{IsUnlistened, ListenCause}
+use Rattle.scp_commands.specs.Refusals.{IsMeasured, IsUnrefused}
+use Rattle.scp_commands.specs.LineEffects.{attach_port_reply, disconnect_reply}
+use Rattle.scp_commands.specs.ExitEffects.{exit_reply}
+use Rattle.scp_commands.proofs.PortLemmas.{left-run}
+use Rattle.scp_commands.proofs.RemainLemmas.{undone-as, undone-none}
 use Rattle.file_commands.specs.declared.note.Subject.TheVariants as subject
-use Rattle.scp_commands.specs.FileEffects.{attach_reply}
+use Rattle.scp_commands.specs.FileEffects.{attach_reply, detach_one_or_all}
 use Rattle.scp_commands.specs.RunEffects.{run_from, running, step_of}
 use Rattle.nova_machine.specs.Comes.{output}
 use Rattle.scp_commands.specs.TapeEffects.{load_reply, dump_reply}
-use Rattle.scp_commands.specs.Refusals.{IsMeasured}
 use Rattle.scp_commands.proofs.execute_command.obey.Goals as goal
 
 pub returns-in-Attach-clause-told : goal.returns-in-Attach-clause-told
@@ -208,6 +213,10 @@ obey_untold-requires g c =
       cont = c.in_default.not-Cont;
       step = c.in_default.not-Step;
       attach = c.in_default.not-Attach;
+      attach_port = c.in_default.not-AttachPort;
+      detach = c.in_default.not-Detach;
+      disconnect = c.in_default.not-Disconnect;
+      exit = c.in_default.not-Exit;
       do_ = c.in_default.not-Do;
       load = c.in_default.not-Load;
       dump = c.in_default.not-Dump;
@@ -215,5 +224,223 @@ obey_untold-requires g c =
     record {
       room = c.requires.room;
       «open» = c.requires.«open»;
-      part = subst (λ (r : Request). (nature r).telling ≡ Nothing) c.command.view_is (is-untold _ c.command.inside.verb others);
+      part = subst (λ (r : Request). IsUntold r) c.command.view_is (is-untold _ c.command.inside.verb others);
     }
+
+pub returns-in-AttachPort-clause-told : goal.returns-in-AttachPort-clause-told
+unfolding effect
+returns-in-AttachPort-clause-told g c = λ told whole first.
+    let s = c.args.session.now in
+    let state = g.F.Files.state c.args.files.now in
+    let ports = g.L.Lines.state c.args.lines.now in
+    let ports' = g.L.Lines.state c.attach_port.new.lines in
+    let new = c.attach_port.new.session in
+    let live = live_in s (beyond state.files ports whole) in
+    let what = c.in-AttachPort in
+    let is : c.args.command.now ≡ AttachPort what.kind what.port = sym c.command.view_is ∙ ap (request_of _) what.is in
+    let both = subst (λ (r : Request). IsTold g.F.Files.tells s.machine.slots g.L.Lines.tells ports s.machine.lines r) is told in
+    let text = output (g.S.Sink.written c.args.out.now) ports.sent in
+    subst (λ (h : Heard). Did (λ own. effect s.limit own live c.args.command.now) s.command c.attach_port.result (live_in new (beyond state.files ports' whole)) g.S.Sink.tells
+    text (output (g.S.Sink.written c.args.out.now) h) (notes_said s.notes) (notes_said new.notes)) (sym c.attach_port.ensures.sent)
+    (plain-did s.limit s.command live (live_in new (beyond state.files ports' whole)) c.args.command.now (AttachPort what.kind what.port) (attach_port_reply live what.port) c.attach_port.result g.S.Sink.tells
+    text text (notes_said s.notes) (notes_said new.notes) is (λ own. refl) (ap (λ (x : CommandState). notes_said x.notes) c.attach_port.ensures.rest)
+    (c.attach_port.ensures.told both.0 both.1 whole first state.files g.S.Sink.tells text))
+
+pub returns-in-AttachPort-clause-keeps : goal.returns-in-AttachPort-clause-keeps
+returns-in-AttachPort-clause-keeps g c =
+    keeps-none c.args.session.now.command c.attach_port.new.session.machine.time g.F.Files.tells c.attach_port.result c.args.session.now.notes c.attach_port.new.session.notes (g.F.Files.state c.args.files.now)
+    (ap (λ (x : CommandState). x.notes) c.attach_port.ensures.rest) (port-no-file c.attach_port.result c.attach_port.ensures.own)
+
+pub returns-in-AttachPort-clause-lines : goal.returns-in-AttachPort-clause-lines
+returns-in-AttachPort-clause-lines g c = c.attach_port.ensures.left
+
+pub returns-in-AttachPort-clause-unasked : goal.returns-in-AttachPort-clause-unasked
+returns-in-AttachPort-clause-unasked g c =
+    let is : c.args.command.now ≡ AttachPort c.in-AttachPort.kind c.in-AttachPort.port = sym c.command.view_is ∙ ap (request_of _) c.in-AttachPort.is in
+    λ refused never. c.attach_port.ensures.unasked refused (λ un. never (subst (λ (r : Request). IsUnlistened r c.attach_port.result) (sym is) un))
+
+pub returns-in-AttachPort-clause-listening : goal.returns-in-AttachPort-clause-listening
+returns-in-AttachPort-clause-listening g c =
+    let is : c.args.command.now ≡ AttachPort c.in-AttachPort.kind c.in-AttachPort.port = sym c.command.view_is ∙ ap (request_of _) c.in-AttachPort.is in
+    subst (λ (r : Request). ListenCause g.L.Lines.tells r c.attach_port.result (g.L.Lines.state c.args.lines.now) (g.L.Lines.state c.attach_port.new.lines)) (sym is) c.attach_port.ensures.cause
+
+pub returns-in-AttachPort-clause-undone : goal.returns-in-AttachPort-clause-undone
+returns-in-AttachPort-clause-undone g c = λ is.
+    let text = g.S.Sink.written c.args.out.now in
+    let s = c.args.session.now in
+    let new = c.attach_port.new.session in
+    let refused = c.attach_port.ensures.refused (subst IsRefused (sym is) tt) in
+    undone-none (nature c.args.command.now).flushes (nature c.args.command.now).reads_whole (says_files g.F.Files.tells c.args.command.now) s new text (g.F.Files.state c.args.files.now)
+    refused.0 refused.1 (ap (λ (x : CommandState). x.keys) c.attach_port.ensures.rest) (ap (λ (x : CommandState). x.notes) c.attach_port.ensures.rest)
+
+pub returns-in-AttachPort-clause-unrefused : goal.returns-in-AttachPort-clause-unrefused
+returns-in-AttachPort-clause-unrefused g c =
+    let is : c.args.command.now ≡ AttachPort c.in-AttachPort.kind c.in-AttachPort.port = sym c.command.view_is ∙ ap (request_of _) c.in-AttachPort.is in
+    λ want. subst (λ (r : Request). IsUnrefused r c.args.session.now.machine c.args.session.now.watch) (sym is) (c.attach_port.ensures.unrefused want)
+
+pub returns-in-Disconnect-clause-told : goal.returns-in-Disconnect-clause-told
+unfolding effect
+returns-in-Disconnect-clause-told g c = λ told whole first.
+    let s = c.args.session.now in
+    let state = g.F.Files.state c.args.files.now in
+    let ports = g.L.Lines.state c.args.lines.now in
+    let ports' = g.L.Lines.state c.disconnect.new.lines in
+    let new = c.disconnect.new.session in
+    let live = live_in s (beyond state.files ports whole) in
+    let is : c.args.command.now ≡ Disconnect c.in-Disconnect.field-0 = sym c.command.view_is ∙ ap (request_of _) c.in-Disconnect.is in
+    let apart = subst (λ (r : Request). IsTold g.F.Files.tells s.machine.slots g.L.Lines.tells ports s.machine.lines r) is told in
+    let text = output (g.S.Sink.written c.args.out.now) ports.sent in
+    subst (λ (h : Heard). Did (λ own. effect s.limit own live c.args.command.now) s.command c.disconnect.result (live_in new (beyond state.files ports' whole)) g.S.Sink.tells
+    text (output (g.S.Sink.written c.args.out.now) h) (notes_said s.notes) (notes_said new.notes)) (sym c.disconnect.ensures.sent)
+    (plain-did s.limit s.command live (live_in new (beyond state.files ports' whole)) c.args.command.now (Disconnect _) (disconnect_reply live) c.disconnect.result g.S.Sink.tells
+    text text (notes_said s.notes) (notes_said new.notes) is (λ own. refl) (ap (λ (x : CommandState). notes_said x.notes) c.disconnect.ensures.rest)
+    (c.disconnect.ensures.told apart whole state.files g.S.Sink.tells text))
+
+pub returns-in-Disconnect-clause-keeps : goal.returns-in-Disconnect-clause-keeps
+returns-in-Disconnect-clause-keeps g c =
+    keeps-none c.args.session.now.command c.disconnect.new.session.machine.time g.F.Files.tells c.disconnect.result c.args.session.now.notes c.disconnect.new.session.notes (g.F.Files.state c.args.files.now)
+    (ap (λ (x : CommandState). x.notes) c.disconnect.ensures.rest) (port-no-file c.disconnect.result c.disconnect.ensures.port)
+
+pub returns-in-Disconnect-clause-lines : goal.returns-in-Disconnect-clause-lines
+returns-in-Disconnect-clause-lines g c = c.disconnect.ensures.left
+
+pub returns-in-Disconnect-clause-unasked : goal.returns-in-Disconnect-clause-unasked
+returns-in-Disconnect-clause-unasked g c = λ refused never. c.disconnect.ensures.unasked refused
+
+pub returns-in-Detach-clause-told : goal.returns-in-Detach-clause-told
+unfolding effect
+returns-in-Detach-clause-told g c = λ told whole first.
+    let s = c.args.session.now in
+    let ports = g.L.Lines.state c.args.lines.now in
+    let ports' = g.L.Lines.state c.detach_one_or_every.new.lines in
+    let new = c.detach_one_or_every.new.session in
+    let files' = (g.F.Files.state c.detach_one_or_every.new.files).files in
+    let live = live_in s (beyond (g.F.Files.state c.args.files.now).files ports whole) in
+    let is : c.args.command.now ≡ Detach c.in-Detach.unit = sym c.command.view_is ∙ ap (request_of _) c.in-Detach.is in
+    let both = subst (λ (r : Request). IsTold g.F.Files.tells s.machine.slots g.L.Lines.tells ports s.machine.lines r) is told in
+    let text = output (g.S.Sink.written c.args.out.now) ports.sent in
+    subst (λ (h : Heard). Did (λ own. effect s.limit own live c.args.command.now) s.command c.detach_one_or_every.result (live_in new (beyond files' ports' whole)) g.S.Sink.tells
+    text (output (g.S.Sink.written c.args.out.now) h) (notes_said s.notes) (notes_said new.notes)) (sym c.detach_one_or_every.ensures.sent)
+    (noted-did s.limit s.command live (live_in new (beyond files' ports' whole)) c.args.command.now (Detach c.in-Detach.unit)
+    (λ own. detach_one_or_all own live c.in-Detach.unit) c.detach_one_or_every.result g.S.Sink.tells text text (notes_said s.notes) (notes_said new.notes)
+    is (λ own. refl) (c.detach_one_or_every.ensures.told both whole g.S.Sink.tells text))
+
+pub returns-in-Detach-clause-lines : goal.returns-in-Detach-clause-lines
+returns-in-Detach-clause-lines g c = c.detach_one_or_every.ensures.left
+
+pub returns-in-Detach-clause-unasked : goal.returns-in-Detach-clause-unasked
+returns-in-Detach-clause-unasked g c = λ refused never. c.detach_one_or_every.ensures.unasked refused
+
+pub returns-in-Exit-clause-told : goal.returns-in-Exit-clause-told
+unfolding effect
+returns-in-Exit-clause-told g c = λ told whole first.
+    let s = c.args.session.now in
+    let ports = g.L.Lines.state c.args.lines.now in
+    let ports' = g.L.Lines.state c.exit.new.lines in
+    let new = c.exit.new.session in
+    let files' = (g.F.Files.state c.exit.new.files).files in
+    let live = live_in s (beyond (g.F.Files.state c.args.files.now).files ports whole) in
+    let is : c.args.command.now ≡ Exit c.in-Exit.status = sym c.command.view_is ∙ ap (request_of _) c.in-Exit.is in
+    let both = subst (λ (r : Request). IsTold g.F.Files.tells s.machine.slots g.L.Lines.tells ports s.machine.lines r) is told in
+    let text = output (g.S.Sink.written c.args.out.now) ports.sent in
+    subst (λ (h : Heard). Did (λ own. effect s.limit own live c.args.command.now) s.command c.exit.result (live_in new (beyond files' ports' whole)) g.S.Sink.tells
+    text (output (g.S.Sink.written c.args.out.now) h) (notes_said s.notes) (notes_said new.notes)) (sym c.exit.ensures.sent)
+    (noted-did s.limit s.command live (live_in new (beyond files' ports' whole)) c.args.command.now (Exit c.in-Exit.status)
+    (λ own. exit_reply own live c.in-Exit.status) c.exit.result g.S.Sink.tells text text (notes_said s.notes) (notes_said new.notes)
+    is (λ own. refl) (c.exit.ensures.told both whole g.S.Sink.tells text))
+
+pub returns-in-Exit-clause-lines : goal.returns-in-Exit-clause-lines
+returns-in-Exit-clause-lines g c = c.exit.ensures.left
+
+pub returns-in-Exit-clause-unasked : goal.returns-in-Exit-clause-unasked
+returns-in-Exit-clause-unasked g c = λ refused never. c.exit.ensures.unasked refused
+
+pub returns-in-Run-clause-lines : goal.returns-in-Run-clause-lines
+returns-in-Run-clause-lines g c =
+    left-run g.L.Lines.tells (g.L.Lines.state c.args.lines.now) (g.L.Lines.state c.run_from.new.lines) c.args.session.now.machine.lines c.run_from.new.session.machine.lines c.run_from.ensures.done.lines
+
+pub returns-in-Run-clause-unasked : goal.returns-in-Run-clause-unasked
+returns-in-Run-clause-unasked g c = λ refused never. c.run_from.ensures.unasked refused
+
+pub returns-in-Run-clause-listening : goal.returns-in-Run-clause-listening
+returns-in-Run-clause-listening g c =
+    let is : c.args.command.now ≡ Run c.in-Run.address = sym c.command.view_is ∙ ap (request_of _) c.in-Run.is in
+    unlistening g.L.Lines.tells c.args.command.now c.run_from.result (g.L.Lines.state c.args.lines.now) (g.L.Lines.state c.run_from.new.lines)
+    (subst (λ (r : Request). IsNoAttachPort r) (sym is) tt) (run-no-port c.run_from.result c.run_from.ensures.done.own)
+
+pub returns-in-Go-clause-lines : goal.returns-in-Go-clause-lines
+returns-in-Go-clause-lines g c =
+    left-run g.L.Lines.tells (g.L.Lines.state c.args.lines.now) (g.L.Lines.state c.run_from-in-Go.new.lines) c.args.session.now.machine.lines c.run_from-in-Go.new.session.machine.lines c.run_from-in-Go.ensures.done.lines
+
+pub returns-in-Go-clause-unasked : goal.returns-in-Go-clause-unasked
+returns-in-Go-clause-unasked g c = λ refused never. c.run_from-in-Go.ensures.unasked refused
+
+pub returns-in-Go-clause-listening : goal.returns-in-Go-clause-listening
+returns-in-Go-clause-listening g c =
+    let is : c.args.command.now ≡ Go c.in-Go.address = sym c.command.view_is ∙ ap (request_of _) c.in-Go.is in
+    unlistening g.L.Lines.tells c.args.command.now c.run_from-in-Go.result (g.L.Lines.state c.args.lines.now) (g.L.Lines.state c.run_from-in-Go.new.lines)
+    (subst (λ (r : Request). IsNoAttachPort r) (sym is) tt) (run-no-port c.run_from-in-Go.result c.run_from-in-Go.ensures.done.own)
+
+pub returns-in-Cont-clause-lines : goal.returns-in-Cont-clause-lines
+returns-in-Cont-clause-lines g c =
+    left-run g.L.Lines.tells (g.L.Lines.state c.args.lines.now) (g.L.Lines.state c.run.new.lines) c.args.session.now.machine.lines c.run.new.session.machine.lines c.run.ensures.done.lines
+
+pub returns-in-Cont-clause-unasked : goal.returns-in-Cont-clause-unasked
+returns-in-Cont-clause-unasked g c = λ refused never. absurd (c.run.ensures.never refused)
+
+pub returns-in-Cont-clause-listening : goal.returns-in-Cont-clause-listening
+returns-in-Cont-clause-listening g c =
+    let is : c.args.command.now ≡ Cont = sym c.command.view_is ∙ ap (request_of _) c.in-Cont.is in
+    unlistening g.L.Lines.tells c.args.command.now c.run.result (g.L.Lines.state c.args.lines.now) (g.L.Lines.state c.run.new.lines)
+    (subst (λ (r : Request). IsNoAttachPort r) (sym is) tt) (run-no-port c.run.result c.run.ensures.done.own)
+
+pub returns-in-Step-clause-lines : goal.returns-in-Step-clause-lines
+returns-in-Step-clause-lines g c =
+    left-run g.L.Lines.tells (g.L.Lines.state c.args.lines.now) (g.L.Lines.state c.step.new.lines) c.args.session.now.machine.lines c.step.new.session.machine.lines c.step.ensures.done.lines
+
+pub returns-in-Step-clause-unasked : goal.returns-in-Step-clause-unasked
+returns-in-Step-clause-unasked g c = λ refused never. c.step.ensures.unasked refused
+
+pub returns-in-Step-clause-listening : goal.returns-in-Step-clause-listening
+returns-in-Step-clause-listening g c =
+    let is : c.args.command.now ≡ Step c.in-Step.count = sym c.command.view_is ∙ ap (request_of _) c.in-Step.is in
+    unlistening g.L.Lines.tells c.args.command.now c.step.result (g.L.Lines.state c.args.lines.now) (g.L.Lines.state c.step.new.lines)
+    (subst (λ (r : Request). IsNoAttachPort r) (sym is) tt) (run-no-port c.step.result c.step.ensures.done.own)
+
+pub returns-in-Attach-clause-listening : goal.returns-in-Attach-clause-listening
+returns-in-Attach-clause-listening g c =
+    unlistened g.L.Lines.tells c.args.command.now c.attach.result (g.L.Lines.state c.args.lines.now) (own-no-port c.attach.result c.attach.ensures.own)
+
+pub returns-in-Do-clause-listening : goal.returns-in-Do-clause-listening
+returns-in-Do-clause-listening g c =
+    unlistened g.L.Lines.tells c.args.command.now c.do_script.result (g.L.Lines.state c.args.lines.now) (own-no-port c.do_script.result c.do_script.ensures.own)
+
+pub returns-in-Load-clause-listening : goal.returns-in-Load-clause-listening
+returns-in-Load-clause-listening g c =
+    unlistened g.L.Lines.tells c.args.command.now c.load_file.result (g.L.Lines.state c.args.lines.now) (own-no-port c.load_file.result c.load_file.ensures.own)
+
+pub returns-in-Dump-clause-listening : goal.returns-in-Dump-clause-listening
+returns-in-Dump-clause-listening g c =
+    unlistened g.L.Lines.tells c.args.command.now c.dump_file.result (g.L.Lines.state c.args.lines.now) (own-no-port c.dump_file.result c.dump_file.ensures.own)
+
+pub returns-in-Detach-clause-listening : goal.returns-in-Detach-clause-listening
+returns-in-Detach-clause-listening g c =
+    let is : c.args.command.now ≡ Detach c.in-Detach.unit = sym c.command.view_is ∙ ap (request_of _) c.in-Detach.is in
+    unlistening g.L.Lines.tells c.args.command.now c.detach_one_or_every.result (g.L.Lines.state c.args.lines.now) (g.L.Lines.state c.detach_one_or_every.new.lines)
+    (subst (λ (r : Request). IsNoAttachPort r) (sym is) tt) (plain-no-port c.detach_one_or_every.result c.detach_one_or_every.ensures.own)
+
+pub returns-in-Disconnect-clause-listening : goal.returns-in-Disconnect-clause-listening
+returns-in-Disconnect-clause-listening g c =
+    let is : c.args.command.now ≡ Disconnect c.in-Disconnect.field-0 = sym c.command.view_is ∙ ap (request_of _) c.in-Disconnect.is in
+    unlistening g.L.Lines.tells c.args.command.now c.disconnect.result (g.L.Lines.state c.args.lines.now) (g.L.Lines.state c.disconnect.new.lines)
+    (subst (λ (r : Request). IsNoAttachPort r) (sym is) tt) (plain-no-port c.disconnect.result c.disconnect.ensures.own)
+
+pub returns-in-Exit-clause-listening : goal.returns-in-Exit-clause-listening
+returns-in-Exit-clause-listening g c =
+    let is : c.args.command.now ≡ Exit c.in-Exit.status = sym c.command.view_is ∙ ap (request_of _) c.in-Exit.is in
+    unlistening g.L.Lines.tells c.args.command.now c.exit.result (g.L.Lines.state c.args.lines.now) (g.L.Lines.state c.exit.new.lines)
+    (subst (λ (r : Request). IsNoAttachPort r) (sym is) tt) (plain-no-port c.exit.result c.exit.ensures.own)
+
+pub returns-in_default-clause-listening : goal.returns-in_default-clause-listening
+returns-in_default-clause-listening g c =
+    unlistened g.L.Lines.tells c.args.command.now c.obey_untold.result (g.L.Lines.state c.args.lines.now) c.obey_untold.ensures.no_port

@@ -350,6 +350,7 @@ returns-in_default g c =
       echo = c.in_default.not-Echo;
     } in
     record {
+      no_port = λ is. absurd (cc);
       terminals = refl;
       told = λ lines whole heard.
           let live = live_in s (beyond state.files lines whole) in

@@ -1,17 +1,15 @@
 use Rattle.std.proofs.Common.{refl, ap, sym, ◌∙◌, subst, ◌≡◌}
 use Rattle.file_commands.specs.Notes.{notes_said}
-use Rattle.scp_parser.specs.Command.{request_of, Break, Expect, Request, Detach, Exit}
+use Rattle.scp_parser.specs.Command.{request_of, Break, Expect, Request}
 use Rattle.scp_commands.specs.Live.{CommandState, live_in, beyond}
 use Rattle.nova_machine.specs.Comes.{output}
 use Rattle.scp_commands.specs.Effect.{effect}
-use Rattle.scp_commands.proofs.ObeyLemmas.{alone, unheard, plain-did, keeps-none, does-of-no-file, break-given, expect-given, break-no-file, expect-no-file, noted-did, IsNoWatchOrClosing, is-plain}
+use Rattle.scp_commands.proofs.ObeyLemmas.{alone, unheard, plain-did, keeps-none, does-of-no-file, break-given, expect-given, break-no-file, expect-no-file, IsNoWatch, is-plain}
 use Rattle.unit_files.specs.Open.{AllOpen, Around}
 use Rattle.scp_commands.specs.WatchEffects.{break_reply, expect_reply}
-use Rattle.scp_commands.specs.Nature.{Nothing, plain, nature}
+use Rattle.scp_commands.specs.Nature.{plain, nature, IsUntold}
 use Rattle.scp_commands.specs.Doing.{says_files}
 use Rattle.scp_commands.proofs.RemainLemmas.{undone-none}
-use Rattle.scp_commands.specs.FileEffects.{detach_one_or_all}
-use Rattle.scp_commands.specs.ExitEffects.{exit_reply}
 use Rattle.scp_commands.proofs.execute_command.obey_untold.Goals as goal
 
 pub returns-in-Break-clause-told : goal.returns-in-Break-clause-told
@@ -98,37 +96,10 @@ pub returns-in-Expect-clause-around : goal.returns-in-Expect-clause-around
 returns-in-Expect-clause-around g c = λ base around.
     subst (λ l. Around l base (g.F.Files.state c.args.files.now).opened) (sym (ap (λ (x : CommandState). x.machine.slots) c.add_expect.ensures.rest)) around
 
-pub returns-in-Detach-clause-told : goal.returns-in-Detach-clause-told
-unfolding effect
-returns-in-Detach-clause-told g c = λ lines whole heard.
-    let s = c.args.session.now in
-    let new = c.detach_one_or_every.new.session in
-    let live = live_in s (beyond (g.F.Files.state c.args.files.now).files lines whole) in
-    let text = output (g.S.Sink.written c.args.out.now) heard in
-    noted-did s.limit s.command live (live_in new (beyond (g.F.Files.state c.detach_one_or_every.new.files).files lines whole)) c.args.command.now (Detach c.in-Detach.unit)
-    (λ own. detach_one_or_all own live c.in-Detach.unit) c.detach_one_or_every.result g.S.Sink.tells text text (notes_said s.notes) (notes_said new.notes)
-    (sym c.command.view_is ∙ ap (request_of _) c.in-Detach.is) (λ own. refl) (c.detach_one_or_every.ensures.told lines whole g.S.Sink.tells text)
-
-pub returns-in-Exit-clause-told : goal.returns-in-Exit-clause-told
-unfolding effect
-returns-in-Exit-clause-told g c = λ lines whole heard.
-    let s = c.args.session.now in
-    let new = c.exit.new.session in
-    let live = live_in s (beyond (g.F.Files.state c.args.files.now).files lines whole) in
-    let text = output (g.S.Sink.written c.args.out.now) heard in
-    noted-did s.limit s.command live (live_in new (beyond (g.F.Files.state c.exit.new.files).files lines whole)) c.args.command.now (Exit c.in-Exit.status)
-    (λ own. exit_reply own live c.in-Exit.status) c.exit.result g.S.Sink.tells text text (notes_said s.notes) (notes_said new.notes)
-    (sym c.command.view_is ∙ ap (request_of _) c.in-Exit.is) (λ own. refl) (c.exit.ensures.told lines whole g.S.Sink.tells text)
-
 pub obey_plain-requires : goal.obey_plain-requires
 obey_plain-requires g c =
-    let others : IsNoWatchOrClosing c.command.inside.verb = record {
-      break_ = c.in_default.not-Break;
-      expect = c.in_default.not-Expect;
-      detach = c.in_default.not-Detach;
-      exit = c.in_default.not-Exit;
-    } in
-    let untold = subst (λ (r : Request). (nature r).telling ≡ Nothing) (sym c.command.view_is) c.requires.part in
+    let others : IsNoWatch c.command.inside.verb = record { break_ = c.in_default.not-Break; expect = c.in_default.not-Expect } in
+    let untold = subst (λ (r : Request). IsUntold r) (sym c.command.view_is) c.requires.part in
     record {
       room = c.requires.room;
       «open» = c.requires.«open»;

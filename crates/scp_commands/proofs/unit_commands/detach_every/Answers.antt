@@ -11,18 +11,18 @@ use Rattle.scp_commands.proofs.unit_commands.detach_every.Goals as goal
 
 pub returns-in-Ok-clause-told : goal.returns-in-Ok-clause-told
 unfolding detach_all_reply
-returns-in-Ok-clause-told g c = λ lines whole tells text.
-    let after = c.detach_files.new in
+returns-in-Ok-clause-told g c = λ told whole tells text.
+    let after = c.detach_all.new in
     let before = c.args.session.now in
-    all-did Go before.command (live_in before (beyond (g.F.Files.state c.args.files.now).files lines whole)) (live_in after.self (beyond (g.F.Files.state after.files).files lines whole)) None tells text
-    (notes_said before.notes) (notes_said after.self.notes) refl (λ at reply both. both) (c.in-Ok.ensures.closes lines whole)
+    all-did Go before.command (live_in before (beyond (g.F.Files.state c.args.files.now).files (g.L.Lines.state c.args.lines.now) whole)) (live_in after.self (beyond (g.F.Files.state after.files).files (g.L.Lines.state after.lines) whole)) None tells text
+    (notes_said before.notes) (notes_said after.self.notes) refl (λ at reply both. both) (c.in-Ok.ensures.closes told whole)
 
 pub returns-in-Err-clause-told : goal.returns-in-Err-clause-told
 unfolding detach_all_reply
-returns-in-Err-clause-told g c = λ lines whole tells text.
-    let after = c.detach_files.new in
+returns-in-Err-clause-told g c = λ told whole tells text.
+    let after = c.detach_all.new in
     let before = c.args.session.now in
-    subst (λ (a : Answer). Did (λ (notes : List CommandNote). detach_all_reply notes (live_in before (beyond (g.F.Files.state c.args.files.now).files lines whole))) before.command a
-    (live_in after.self (beyond (g.F.Files.state after.files).files lines whole)) tells text text (notes_said before.notes) (notes_said after.self.notes)) (sym (ap Err c.of_detach.ensures))
-    (all-did Go before.command (live_in before (beyond (g.F.Files.state c.args.files.now).files lines whole)) (live_in after.self (beyond (g.F.Files.state after.files).files lines whole)) (Some c.in-Err.fault.unit) tells text
-    (notes_said before.notes) (notes_said after.self.notes) refl (λ at reply both. both) (c.in-Err.ensures.closes lines whole))
+    subst (λ (a : Answer). Did (λ (notes : List CommandNote). detach_all_reply notes (live_in before (beyond (g.F.Files.state c.args.files.now).files (g.L.Lines.state c.args.lines.now) whole))) before.command a
+    (live_in after.self (beyond (g.F.Files.state after.files).files (g.L.Lines.state after.lines) whole)) tells text text (notes_said before.notes) (notes_said after.self.notes)) (sym (ap Err c.of_detach.ensures))
+    (all-did Go before.command (live_in before (beyond (g.F.Files.state c.args.files.now).files (g.L.Lines.state c.args.lines.now) whole)) (live_in after.self (beyond (g.F.Files.state after.files).files (g.L.Lines.state after.lines) whole)) (Some c.in-Err.fault.unit) tells text
+    (notes_said before.notes) (notes_said after.self.notes) refl (λ at reply both. both) (c.in-Err.ensures.closes told whole))
