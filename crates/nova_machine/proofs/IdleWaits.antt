@@ -1,15 +1,11 @@
 -- Rounds of a loop that waits for a flag, and looks of the keyboards for which no key comes.
 use Rattle.std.proofs.Common.{◌≡◌, ℕ, zero, suc, ◌+◌, ◌-◌, ◌*◌, ◌<◌, ◌≤◌, Bool, false, List, Option, None, refl, ap, sym, ◌∙◌, arith}
-use Rattle.host_files.specs.Lists.{NamedBytes}
 use Rattle.nova_processor.specs.declared.burst.BurstEnd.TheVariants as burst_end
 use Rattle.nova_processor.specs.Processor.{ProcessorState}
 use Rattle.nova_processor.specs.InputOutput.{past}
 use Rattle.nova_processor.specs.Burst.{step}
 use Rattle.expect_actions.specs.Breaks.{has_break}
 use Rattle.expect_actions.specs.Watch.{WatchState}
-use Rattle.expect_actions.specs.Sends.{Send}
-use Rattle.host_lines.specs.Traffic.{Answer}
-use Rattle.host_lines.specs.State.{LineState}
 use Rattle.nova_machine.specs.Machine.{MachineState}
 use Rattle.nova_machine.specs.Notes.{RunNote, at_time}
 use Rattle.nova_machine.specs.Seen.{Seen, seen, beside, erased, with_machine}

@@ -1,6 +1,6 @@
 -- Turns of instructions alone, and of looks of the keyboards for which no key comes.
 use Rattle.std.specs.List.{AllByRecursion}
-use Rattle.std.proofs.Common.{map, ◌≡◌, ℕ, zero, suc, ◌+◌, ◌-◌, ◌<◌, ◌≤◌, ◌==◌, ◌&&◌, Bool, true, false, List, [], ◌∷◌, Option, Some, None, is_some, slice_get, option_map, refl, ap, sym, ◌∙◌, subst, arith, if◌then◌else◌}
+use Rattle.std.proofs.Common.{map, ◌≡◌, ℕ, zero, suc, ◌+◌, ◌-◌, ◌<◌, ◌≤◌, ◌==◌, ◌&&◌, Bool, true, false, List, [], ◌∷◌, Option, Some, None, slice_get, option_map, refl, ap, sym, ◌∙◌, arith, if◌then◌else◌}
 use Rattle.std.proofs.lemmas.Bool.Decides.{nat_tests}
 use Rattle.host_files.specs.Lists.{NamedBytes}
 use Rattle.unit_trait.specs.declared.kind.UnitName.{UnitName}
@@ -9,10 +9,6 @@ use Rattle.unit_trait.specs.declared.kind.Kind.TheVariants.{Tti, Tti1}
 use Rattle.unit_trait.specs.Calls.{UnitState}
 use Rattle.telnet_lines.specs.Line.{LineOf, unconnected}
 use Rattle.telnet_lines.specs.Joined.{seen_line}
-use Rattle.unit_trait.specs.declared.calls.Queue.{Queue}
-use Rattle.unit_trait.specs.declared.calls.Queue.TheVariants.{After}
-use Rattle.unit_trait.specs.Kinds.{code_of}
-use Rattle.unit_list.specs.Bus.{unit_at}
 use Rattle.event_queue.specs.EventList.{Event, dues, ticked as ticked_events}
 use Rattle.event_queue.specs.Idle.{asked_again, looked, idled, AreLooks, AreOthersLater, AreTwins, AreLaterThanTwo}
 use Rattle.event_queue.proofs.Looks.{looks-behind, looks-fewer, looks-weaker, one-looks, two-look, others-fewer, two-fewer}
@@ -23,7 +19,7 @@ use Rattle.nova_processor.specs.declared.burst.BurstEnd.{BurstEnd}
 use Rattle.nova_processor.specs.declared.burst.BurstEnd.TheVariants as burst_end
 use Rattle.nova_processor.specs.declared.burst.Step.TheVariants as step_end
 use Rattle.nova_processor.specs.Processor.{ProcessorState}
-use Rattle.nova_processor.specs.Burst.{Stepped, steps, step, Reaches, IsBurst}
+use Rattle.nova_processor.specs.Burst.{steps, step, Reaches, IsBurst}
 use Rattle.expect_actions.specs.Breaks.{has_break}
 use Rattle.expect_actions.specs.Watch.{WatchState}
 use Rattle.expect_actions.specs.Sends.{Send, due_send}
@@ -37,8 +33,8 @@ use Rattle.nova_machine.specs.Seen.{Seen, seen, beside, erased, with_machine}
 use Rattle.nova_machine.specs.Parts.{Part, silent, then_part}
 use Rattle.nova_machine.specs.Turned.{Turned, still}
 use Rattle.nova_machine.specs.Wants.{first_key}
-use Rattle.nova_machine.specs.Service.{service, services, serving, taken, key_at}
-use Rattle.nova_machine.specs.Turn.{fetch, is_interrupted, interrupt, breaks_tested_unless, attended, prepared, turn}
+use Rattle.nova_machine.specs.Service.{services, taken, key_at}
+use Rattle.nova_machine.specs.Turn.{fetch, is_interrupted, interrupt, breaks_tested_unless, attended, turn}
 use Rattle.nova_machine.specs.Run.{last_time, next_turn, turns}
 use Rattle.nova_machine.specs.Bursts.{Bursts}
 use Rattle.nova_machine.specs.Looks.{IsUnheard, LooksEach, LooksAt, AreNext, IsKeyless, IsLooking, IsIdle, idled_by, looked_at, idle_end}

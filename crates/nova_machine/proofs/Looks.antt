@@ -17,7 +17,7 @@ use Rattle.unit_trait.specs.declared.calls.UnitStop.TheVariants.{Go}
 use Rattle.event_queue.specs.EventList.{activated, wished}
 use Rattle.unit_trait.specs.Kinds.{code_of, units_of}
 use Rattle.unit_trait.specs.Calls.{UnitState, UnitCall, Due, Answered}
-use Rattle.unit_trait.specs.Row.{row, row_of, moved}
+use Rattle.unit_trait.specs.Row.{row_of, moved}
 use Rattle.unit_trait.specs.Keyboard.{keyboard_row}
 use Rattle.unit_trait.proofs.Codes.{same-code}
 use Rattle.unit_list.specs.Bus.{unit_at, row_or_nothing, row_at, after_at}
@@ -31,7 +31,7 @@ use Rattle.nova_machine.specs.Turned.{Turned, goes_on, still}
 use Rattle.nova_machine.specs.Wants.{answer_to, own_stop, prints, watch_after, files_after, typed_key, first_key, stop_by}
 use Rattle.nova_machine.specs.OnLines.{Lined, lined, lined_by}
 use Rattle.nova_machine.specs.Service.{asked, answered, hosted, own_service, line_service, service_by, lined_at, service, replied, done_for, key_at, sent_at, typed_at, want_at}
-use Rattle.nova_machine.specs.Looks.{keyboard, wish_of, looked_again, keyless_wish, IsKeyed, IsUnheard, LooksEach, LooksChangeNothing}
+use Rattle.nova_machine.specs.Looks.{keyboard, keyless_wish, IsKeyed, IsUnheard, LooksEach, LooksChangeNothing}
 use Rattle.nova_machine.proofs.EachService.{service-own}
 
 -- the unit of that kind
