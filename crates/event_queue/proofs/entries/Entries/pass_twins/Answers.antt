@@ -1,6 +1,6 @@
-use Rattle.std.proofs.Common.{◌≡◌, List, Some, false, remove, slice_get, ap, ◌∙◌, rules, arith}
+use Rattle.std.proofs.Common.{◌≡◌, List, Some, remove, slice_get, ap, ◌∙◌, rules, arith}
 use Rattle.unit_trait.specs.declared.kind.UnitName.{UnitName}
-use Rattle.event_queue.specs.EventList.{Event, Sound, waits, placed, lowered}
+use Rattle.event_queue.specs.EventList.{Event, waits, placed, lowered}
 use Rattle.event_queue.proofs.SoundLists.{sound-removed, twins-alone, waits-placed, waits-lowered}
 use Rattle.event_queue.proofs.entries.Entries.pass_twins.Goals as goal
 
