@@ -9,11 +9,11 @@ use Rattle.unit_trait.specs.Kinds.{units_of, same_unit}
 use Rattle.event_queue.specs.EventList.{Event, event, waits, placed, activated, is_of_kind, cancelled, due, served, dues, lowered, Rising, waiting, Sound, IsApart}
 
 -- ---- what holds of each element
-all-weaker : {A : Type 0} (P Q : A → Type 0) → ((x : A) → P x → Q x) → (xs : List A) → AllByRecursion P xs → AllByRecursion Q xs
+pub all-weaker : {A : Type 0} (P Q : A → Type 0) → ((x : A) → P x → Q x) → (xs : List A) → AllByRecursion P xs → AllByRecursion Q xs
 all-weaker P Q gives [] all = tt
 all-weaker P Q gives (x ∷ xs) all = (gives x all.0, all-weaker P Q gives xs all.1)
 
-all-placed : (P : Event → Type 0) (u : UnitName) (t : ℕ) (es : List Event) → P (event u t) → AllByRecursion P es → AllByRecursion P (placed u t es)
+pub all-placed : (P : Event → Type 0) (u : UnitName) (t : ℕ) (es : List Event) → P (event u t) → AllByRecursion P es → AllByRecursion P (placed u t es)
 all-placed P u t [] here all = (here, tt)
 all-placed P u t (e ∷ es) here all =
     cond_both (leb e.remaining t) _ _ (λ (xs : List Event). AllByRecursion P xs) (λ _. (all.0, all-placed P u t es here all.1)) (λ _. (here, all))
@@ -187,3 +187,38 @@ first-alone n (x ∷ es) e sound is =
     let apart : IsApart x.unit (waiting es) = sound.distinct.0 in
     ap (λ (y : Event). waits y.unit (lowered n es)) (sym same)
     ∙ apart-waits x.unit (lowered n es) (subst (λ (us : List UnitName). IsApart x.unit us) (sym (waiting-lowered n es)) apart)
+
+-- that of each event does not wait behind it
+pub first-apart : (e : Event) (es : List Event) → Sound (e ∷ es) → waits e.unit es ≡ false
+unfolding IsDistinct
+first-apart e es sound = apart-waits e.unit es sound.distinct.0
+
+pub two-apart : (e f : Event) (es : List Event) → Sound (e ∷ f ∷ es) → (same_unit f.unit e.unit ≡ false) × ((waits e.unit es ≡ false) × (waits f.unit es ≡ false))
+unfolding IsDistinct
+two-apart e f es sound =
+    (same-unit-flips f.unit e.unit ∙ sound.distinct.0.0, (apart-waits e.unit es sound.distinct.0.1, apart-waits f.unit es sound.distinct.1.0))
+
+pub waits-lowered : (u : UnitName) (n : ℕ) (es : List Event) → waits u (lowered n es) ≡ waits u es
+waits-lowered u n [] = refl
+waits-lowered u n (e ∷ es) = ap (λ (b : Bool). same_unit e.unit u || b) (waits-lowered u n es)
+
+pub waits-placed : (u v : UnitName) (t : ℕ) (es : List Event) → same_unit v u ≡ false → waits u es ≡ false → waits u (placed v t es) ≡ false
+waits-placed u v t [] other none = ap (λ (b : Bool). b || false) other
+waits-placed u v t (e ∷ es) other none =
+    let parts = neither (same_unit e.unit u) (waits u es) none in
+    cond_both (leb e.remaining t) _ _ (λ (xs : List Event). waits u xs ≡ false)
+    (λ _. ap (λ (b : Bool). b || waits u (placed v t es)) parts.0 ∙ waits-placed u v t es other parts.1)
+    (λ _. ap (λ (b : Bool). b || waits u (e ∷ es)) other ∙ none)
+
+-- the units of the first two events are two, and neither waits among the others
+pub twins-alone : (es : List Event) (e f : Event) → Sound es → slice_get es 0 ≡ Some e → slice_get es 1 ≡ Some f
+    → (same_unit e.unit f.unit ≡ false) × ((waits e.unit (remove (remove es 0) 0) ≡ false) × (waits f.unit (remove (remove es 0) 0) ≡ false))
+twins-alone [] e f sound first second = absurd (cc)
+twins-alone (x ∷ []) e f sound first second = absurd (cc)
+twins-alone (x ∷ y ∷ es) e f sound first second =
+    let one : x ≡ e = grind arith in
+    let two : y ≡ f = grind arith in
+    let apart = two-apart x y es sound in
+    let here : same_unit x.unit y.unit ≡ false = same-unit-flips x.unit y.unit ∙ apart.0 in
+    subst (λ (v : Event). (same_unit e.unit v.unit ≡ false) × ((waits e.unit es ≡ false) × (waits v.unit es ≡ false))) two
+    (subst (λ (u : Event). (same_unit u.unit y.unit ≡ false) × ((waits u.unit es ≡ false) × (waits y.unit es ≡ false))) one (here, apart.1))

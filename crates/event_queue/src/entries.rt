@@ -1,6 +1,6 @@
 ghost use Rattle.std.specs.Prelude.{◌≡◌, ◌<◌, ◌≤◌, [], length, insert, not, false, None, slice_get, is_some, IfOk, IfSome};
 ghost use Rattle.unit_trait.specs.Kinds.{units_of};
-ghost use Rattle.event_queue.specs.Idle.{AreOthersLater, idled, rest_behind};
+ghost use Rattle.event_queue.specs.Idle.{AreOthersLater, AreTwins, AreLaterThanTwo, idled, rest_behind};
 ghost use Rattle.event_queue.specs.EventList.{Sound, event, waits, placed, activated, is_of_kind, cancelled, due, dues, served, lowered, IsApart, IsFirst};
 
 use crate::entry::Entry;
@@ -116,6 +116,32 @@ impl Entries {
         self.list.remove(0);
         self.lower(count);
         self.put(first.unit, rest_behind(first.remaining, period, count));
+    }
+
+    /// The same, where the looks are those of the first two events' units, which come together.
+    #[tactic(auto, using(crate::proofs::Looks::twins))]
+    pub(crate) fn pass_twins(&mut self, count: u32, period: u32)
+        requires twins { AreTwins self.old }
+        requires others { AreLaterThanTwo count self.old }
+        requires period { 1 ≤ period }
+        ensures { self.new ≡ idled period count self.old }
+    {
+        let Some(first) = self.get(0) else {
+            return;
+        };
+        let Some(second) = self.get(1) else {
+            return;
+        };
+        if count <= first.remaining {
+            self.lower(count);
+            return;
+        }
+        let rest = rest_behind(first.remaining, period, count);
+        self.list.remove(0);
+        self.list.remove(0);
+        self.lower(count);
+        self.put(first.unit, rest);
+        self.put(second.unit, rest);
     }
 
     /// The remaining time of the first event; 2^32 - 1 where none waits.

@@ -1,7 +1,7 @@
-ghost use Rattle.std.specs.Prelude.{◌≡◌, ◌<◌, ◌≤◌, [], false, None, length, option_map, slice_get, IfOk, IfSome};
+ghost use Rattle.std.specs.Prelude.{◌≡◌, ◌<◌, ◌≤◌, ◌-◌, [], false, Some, None, length, option_map, slice_get, IfOk, IfSome};
 ghost use Rattle.unit_trait.specs.Kinds.{units_of};
 ghost use Rattle.unit_trait.specs.Row.{IsLater, IsAgain};
-ghost use Rattle.event_queue.specs.Idle.{AreOthersLater, looked, idled};
+ghost use Rattle.event_queue.specs.Idle.{AreOthersLater, AreTwins, AreLaterThanTwo, looked, idled};
 ghost use Rattle.event_queue.specs.EventList.{Sound, activated, cancelled, wished, due, dues, served, lowered, ticked, IsApart, IsClear};
 
 use crate::entries::Entries;
@@ -157,14 +157,38 @@ impl Events {
         self.first = self.entries.first();
     }
 
-    /// Where an event is due, asks for the first one again after so many instructions, behind those that are due no
-    /// later.
-    #[tactic(auto, using(crate::proofs::Looks::again))]
+    /// The same, where the looks are those of the first two events' units, which come together.
+    #[tactic(auto, using(crate::proofs::Ticks::ticks))]
+    pub fn pass_twins(&mut self, count: u32, period: u32)
+        requires twins { AreTwins self.old }
+        requires others { AreLaterThanTwo count self.old }
+        requires period { 1 ≤ period }
+        ensures { self.new ≡ idled period count self.old }
+    {
+        self.entries.lower(self.ticks);
+        self.ticks = 0;
+        self.entries.pass_twins(count, period);
+        self.first = self.entries.first();
+    }
+
+    /// Asks for each event that is due again after so many instructions, behind those that are due no later.
+    #[tactic(auto, using(crate::proofs::Looks::lookings))]
     pub fn look(&mut self, period: u32)
         requires { 1 ≤ period }
         ensures { self.new ≡ looked period self.old }
     {
-        self.sound();
+        for _k in 0..self.len() {
+            self.look_first(period);
+        }
+    }
+
+    /// Asks for the event that is due first again, where one is due.
+    #[tactic(auto, using(crate::proofs::Looks::again))]
+    fn look_first(&mut self, period: u32)
+        requires { 1 ≤ period }
+        ensures looked { looked period self.new ≡ looked period self.old }
+        ensures fewer { length (dues self.new) ≤ length (dues self.old) - 1 }
+    {
         match self.next_due() {
             None => (),
             Some(unit) => self.activate(unit, period),
@@ -187,6 +211,29 @@ impl Events {
     {
         self.entries.sound();
         match self.entries.get(1) {
+            None => u32::MAX,
+            Some(entry) => entry.remaining.saturating_sub(self.ticks),
+        }
+    }
+
+    /// The unit of the second event, where that is due together with the first.
+    pub fn twin(&self) -> Option<UnitName>
+        ensures unit { IfSome result (λ u. option_map (λ e. e.unit) (slice_get self.now 1) ≡ Some u) }
+        ensures twins { IfSome result (λ u. AreTwins self.now) }
+    {
+        match (self.entries.get(0), self.entries.get(1)) {
+            (Some(first), Some(second)) if first.remaining == second.remaining => Some(second.unit),
+            _ => None,
+        }
+    }
+
+    /// How many instructions can pass, at least, before one in front of which an event is due that is none of the first
+    /// two.
+    pub fn later_than_two(&self) -> u32
+        ensures { AreLaterThanTwo result self.now }
+    {
+        self.entries.sound();
+        match self.entries.get(2) {
             None => u32::MAX,
             Some(entry) => entry.remaining.saturating_sub(self.ticks),
         }

@@ -27,7 +27,7 @@ const MACHINES: u32 = 300;
 
 /// How a machine goes on.
 #[derive(Clone, Copy)]
-enum Way {
+pub enum Way {
     Run,
     Turns,
 }
@@ -168,7 +168,7 @@ fn goes<U: Unit, S: Sink>(
     )
 }
 
-fn with_files<U: Unit, F: Files, L: Lines, S: Sink>(
+pub fn with_files<U: Unit, F: Files, L: Lines, S: Sink>(
     alloc: Global,
     machine: &mut Machine<U>,
     way: Way,
@@ -254,7 +254,7 @@ fn same_words(run: &Memory, turned: &Memory) -> bool {
     true
 }
 
-fn same_events(run: &Events, turned: &Events) -> bool {
+pub fn same_events(run: &Events, turned: &Events) -> bool {
     for place in 0..3usize {
         if run.in_order(place) != turned.in_order(place) {
             return false;

@@ -10,6 +10,8 @@ mod chance;
 #[cfg(test)]
 mod lines;
 #[cfg(test)]
+mod looks;
+#[cfg(test)]
 mod machines;
 #[cfg(test)]
 mod names;

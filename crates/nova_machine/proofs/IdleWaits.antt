@@ -1,15 +1,11 @@
--- Rounds of a loop that waits for a flag, and looks of the console's keyboard for which no key comes.
+-- Rounds of a loop that waits for a flag, and looks of the keyboards for which no key comes.
 use Rattle.std.proofs.Common.{◌≡◌, ℕ, zero, suc, ◌+◌, ◌-◌, ◌*◌, ◌<◌, ◌≤◌, Bool, false, List, Option, None, refl, ap, sym, ◌∙◌, arith}
-use Rattle.host_files.specs.Lists.{NamedBytes}
 use Rattle.nova_processor.specs.declared.burst.BurstEnd.TheVariants as burst_end
 use Rattle.nova_processor.specs.Processor.{ProcessorState}
 use Rattle.nova_processor.specs.InputOutput.{past}
 use Rattle.nova_processor.specs.Burst.{step}
 use Rattle.expect_actions.specs.Breaks.{has_break}
 use Rattle.expect_actions.specs.Watch.{WatchState}
-use Rattle.expect_actions.specs.Sends.{Send}
-use Rattle.host_lines.specs.Traffic.{Answer}
-use Rattle.host_lines.specs.State.{LineState}
 use Rattle.nova_machine.specs.Machine.{MachineState}
 use Rattle.nova_machine.specs.Notes.{RunNote, at_time}
 use Rattle.nova_machine.specs.Seen.{Seen, seen, beside, erased, with_machine}
@@ -23,7 +19,7 @@ use Rattle.nova_machine.specs.Looks.{IsIdle, idled_by, looked_at}
 use Rattle.nova_machine.proofs.Opened.{next-early}
 use Rattle.nova_machine.proofs.Bursts.{behind_step, IsUnbroken, turns-silent}
 use Rattle.nova_machine.proofs.Waits.{skip-is, back-is, past-at}
-use Rattle.nova_machine.proofs.Idling.{Looks, look-turn, look-next, idle-looks, idle-keyless, idle-early, idle-more, idle-processor, idle-none, idle-erased, erased-idle, idle_behind}
+use Rattle.nova_machine.proofs.Idling.{Looks, Idles, look-turn, look-next, idle-looks, idle-keyless, idle-early, idle-more, idle-processor, idle-none, idle-erased, erased-idle, idle_behind}
 
 waiting-looked : (period : ℕ) (m : MachineState) → IsWaiting m → IsWaiting (looked_at period m)
 unfolding looked_at
@@ -46,7 +42,7 @@ unfolding looked_at
 looked-processor period m = refl
 
 -- the skip, behind a look that may be due
-skip-look : (note : Option RunNote) (period : ℕ) (s : Seen) → Looks period s.machine → key_at s ≡ None → IsUnbroken s → s.machine.time < last_time → IsWaiting s.machine
+skip-look : (note : Option RunNote) (period : ℕ) (s : Seen) → Looks period s → key_at s ≡ None → IsUnbroken s → s.machine.time < last_time → IsWaiting s.machine
     → next_turn note false s ≡ silent None (with_machine s (behind_step (looked_at period s.machine) (past s.machine.processor)))
 skip-look note period s looks none unbroken early waiting =
     next-early note false s early ∙ look-turn (at_time s.machine.time note) period s looks none unbroken
@@ -58,7 +54,7 @@ at-unbroken period count s q none = ap (λ (p : ProcessorState). has_break p.cpu
 
 -- a round, behind so many instructions
 idle-round : (period : ℕ) (note : Option RunNote) (one : Bool) (count most left : ℕ) (s : Seen) → AreUnbroken s.watch s.machine → IsWaiting s.machine
-    → IsIdle most period s.machine s.watch.sends s.keys → suc count < most → s.machine.time + most ≤ last_time
+    → Idles most period s → suc count < most → s.machine.time + most ≤ last_time
     → turns note one false (suc (suc left)) (with_machine s (idle_behind period count s.machine s.machine.processor))
     ≡ turns note one false left (with_machine s (idle_behind period (suc (suc count)) s.machine s.machine.processor))
 idle-round period note one count most left s unbroken waiting idle within end =
@@ -67,9 +63,9 @@ idle-round period note one count most left s unbroken waiting idle within end =
     let at = with_machine s (idle_behind period count m p) in
     let mid = with_machine s (idle_behind period (suc count) m (past p)) in
     let before : count < most = omega (arith, within) in
-    let skips = skip-look note period at (idle-looks period count most m p s.watch.sends s.keys idle before) (idle-keyless period count most s p idle before)
+    let skips = skip-look note period at (idle-looks period count most s p idle before) (idle-keyless period count most s p idle before)
     (at-unbroken period count s p unbroken.test) (idle-early period count most m p before end) (waiting-idle period count m waiting) in
-    let jumps = look-next note period mid p (idle-looks period (suc count) most m (past p) s.watch.sends s.keys idle within) (idle-keyless period (suc count) most s (past p) idle within)
+    let jumps = look-next note period mid p (idle-looks period (suc count) most s (past p) idle within) (idle-keyless period (suc count) most s (past p) idle within)
     (at-unbroken period (suc count) s (past p) (past-at s.watch p unbroken.back)) (idle-early period (suc count) most m (past p) within end)
     (ap step (idle-processor period (suc count) m (past p)) ∙ back-is p waiting.back) in
     turns-silent note one (suc left) at (with_machine s (behind_step (looked_at period at.machine) (past at.machine.processor))) skips
@@ -79,7 +75,7 @@ idle-round period note one count most left s unbroken waiting idle within end =
     ∙ ap (λ (x : MachineState). turns note one false left (with_machine s x)) (idle-more period (suc count) m (past p) p)
 
 idle-rounds : (period : ℕ) (note : Option RunNote) (one : Bool) (rounds most left : ℕ) (s : Seen) → AreUnbroken s.watch s.machine → IsWaiting s.machine
-    → IsIdle most period s.machine s.watch.sends s.keys → rounds * 2 ≤ most → s.machine.time + most ≤ last_time
+    → Idles most period s → rounds * 2 ≤ most → s.machine.time + most ≤ last_time
     → turns note one false (rounds * 2 + left) s ≡ turns note one false left (with_machine s (idle_behind period (rounds * 2) s.machine s.machine.processor))
 idle-rounds period note one zero most left s unbroken waiting idle within end =
     let none : zero * 2 + left ≡ left = omega arith in
@@ -115,6 +111,6 @@ idle-waits period watch keys most rounds budget old new unbroken waiting idle en
     let s = seen (beside watch keys files lines) whole old in
     ap (λ (n : ℕ). turns note one false n s) all
     ∙ idle-rounds period note one rounds budget (most - rounds * 2) s (record { test = unbroken.test; back = unbroken.back }) (waiting-erased old waiting)
-    (idle-erased budget period old watch.sends keys idle) within end
+    (idle-erased budget period watch keys files lines whole old idle) within end
     ∙ ap (λ (x : MachineState). turns note one false (most - rounds * 2) (with_machine s x)) (erased-idle period (rounds * 2) old old.processor)
     ∙ ap (λ (x : MachineState). turns note one false (most - rounds * 2) (seen (beside watch keys files lines) whole x)) (behind-same period (rounds * 2) old ∙ sym is)

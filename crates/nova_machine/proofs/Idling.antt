@@ -1,16 +1,17 @@
--- Turns of instructions alone, and of looks of the console's keyboard for which no key comes.
-use Rattle.std.proofs.Common.{◌≡◌, ℕ, zero, suc, ◌+◌, ◌-◌, ◌<◌, ◌≤◌, ◌==◌, ◌&&◌, Bool, true, false, List, [], ◌∷◌, Option, Some, None, is_some, slice_get, option_map, refl, ap, sym, ◌∙◌, subst, arith, if◌then◌else◌}
+-- Turns of instructions alone, and of looks of the keyboards for which no key comes.
+use Rattle.std.specs.List.{AllByRecursion}
+use Rattle.std.proofs.Common.{map, ◌≡◌, ℕ, zero, suc, ◌+◌, ◌-◌, ◌<◌, ◌≤◌, ◌==◌, ◌&&◌, Bool, true, false, List, [], ◌∷◌, Option, Some, None, slice_get, option_map, refl, ap, sym, ◌∙◌, arith, if◌then◌else◌}
 use Rattle.std.proofs.lemmas.Bool.Decides.{nat_tests}
 use Rattle.host_files.specs.Lists.{NamedBytes}
 use Rattle.unit_trait.specs.declared.kind.UnitName.{UnitName}
-use Rattle.unit_trait.specs.declared.kind.Kind.TheVariants.{Tti}
-use Rattle.unit_trait.specs.declared.calls.Queue.{Queue}
-use Rattle.unit_trait.specs.declared.calls.Queue.TheVariants.{After}
-use Rattle.unit_trait.specs.Kinds.{code_of}
-use Rattle.unit_list.specs.Bus.{unit_at}
-use Rattle.event_queue.specs.EventList.{Event, Sound, due, dues, served, wished, activated, ticked as ticked_events}
-use Rattle.event_queue.specs.Idle.{looked, idled, AreOthersLater}
-use Rattle.event_queue.proofs.Looks.{LooksOrNot, is_look, no_look, look-behind, others-fewer}
+use Rattle.unit_trait.specs.declared.kind.Kind.{Kind}
+use Rattle.unit_trait.specs.declared.kind.Kind.TheVariants.{Tti, Tti1}
+use Rattle.unit_trait.specs.Calls.{UnitState}
+use Rattle.telnet_lines.specs.Line.{LineOf, unconnected}
+use Rattle.telnet_lines.specs.Joined.{seen_line}
+use Rattle.event_queue.specs.EventList.{Event, dues, ticked as ticked_events}
+use Rattle.event_queue.specs.Idle.{asked_again, looked, idled, AreLooks, AreOthersLater, AreTwins, AreLaterThanTwo}
+use Rattle.event_queue.proofs.Looks.{looks-behind, looks-fewer, looks-weaker, one-looks, two-look, others-fewer, two-fewer}
 use Rattle.nova_interrupts.specs.declared.interrupts.Ints.{Ints}
 use Rattle.nova_interrupts.specs.Interrupts.{released}
 use Rattle.nova_interrupts.specs.Requests.{requested}
@@ -18,11 +19,12 @@ use Rattle.nova_processor.specs.declared.burst.BurstEnd.{BurstEnd}
 use Rattle.nova_processor.specs.declared.burst.BurstEnd.TheVariants as burst_end
 use Rattle.nova_processor.specs.declared.burst.Step.TheVariants as step_end
 use Rattle.nova_processor.specs.Processor.{ProcessorState}
-use Rattle.nova_processor.specs.Burst.{Stepped, steps, step, Reaches, IsBurst}
+use Rattle.nova_processor.specs.Burst.{steps, step, Reaches, IsBurst}
 use Rattle.expect_actions.specs.Breaks.{has_break}
 use Rattle.expect_actions.specs.Watch.{WatchState}
 use Rattle.expect_actions.specs.Sends.{Send, due_send}
-use Rattle.host_lines.specs.Traffic.{Answer}
+use Rattle.expect_actions.specs.KeysFile.{due_key}
+use Rattle.host_lines.specs.Traffic.{Answer, Peer}
 use Rattle.host_lines.specs.State.{LineState}
 use Rattle.nova_machine.specs.declared.machine.Stop.TheVariants.{ChainLimit}
 use Rattle.nova_machine.specs.Machine.{MachineState}
@@ -31,54 +33,40 @@ use Rattle.nova_machine.specs.Seen.{Seen, seen, beside, erased, with_machine}
 use Rattle.nova_machine.specs.Parts.{Part, silent, then_part}
 use Rattle.nova_machine.specs.Turned.{Turned, still}
 use Rattle.nova_machine.specs.Wants.{first_key}
-use Rattle.nova_machine.specs.Service.{service, services, serving, taken, key_at}
-use Rattle.nova_machine.specs.Turn.{fetch, is_interrupted, interrupt, breaks_tested_unless, attended, prepared, turn}
+use Rattle.nova_machine.specs.Service.{services, taken, key_at}
+use Rattle.nova_machine.specs.Turn.{fetch, is_interrupted, interrupt, breaks_tested_unless, attended, turn}
 use Rattle.nova_machine.specs.Run.{last_time, next_turn, turns}
 use Rattle.nova_machine.specs.Bursts.{Bursts}
-use Rattle.nova_machine.specs.Looks.{keyboard, wish_of, looked_again, IsKeyless, IsLooking, IsIdle, idled_by, looked_at, idle_end}
-use Rattle.nova_machine.proofs.Opened.{turn-opened, services-none, next-early, turns-stop}
-use Rattle.nova_machine.proofs.Serving.{serving-some}
-use Rattle.nova_machine.proofs.Plain.{plain-attended, interrupt-none, breaks-none}
-use Rattle.nova_machine.proofs.Looks.{looks-change-nothing}
+use Rattle.nova_machine.specs.Looks.{IsUnheard, LooksEach, LooksAt, AreNext, IsKeyless, IsLooking, IsIdle, idled_by, looked_at, idle_end}
+use Rattle.nova_machine.proofs.Opened.{turn-opened, serving-is, services-none, services-some, next-early, turns-stop}
+use Rattle.nova_machine.proofs.Plain.{interrupt-none, breaks-none}
+use Rattle.nova_machine.proofs.Looks.{asked_for, each-look}
 use Rattle.nova_machine.proofs.Bursts.{behind_step, agrees-step, IsUnbroken, turns-silent, AreAtBreaks, released-if, never, on-if, mask-if, calm-ints}
 
--- what holds of a machine that may look: no interrupt comes, its keyboard is there and looks each so many instructions
-pub record Looks (period : ℕ) (m : MachineState) : Type 0 where
-  pub uninterrupted : is_interrupted m ≡ false
-  pub there : is_some (unit_at (code_of Tti) m.units) ≡ true
-  pub wish : wish_of m ≡ After period
-  pub turn_of : LooksOrNot keyboard period m.events
+-- what holds where looks may come: no interrupt comes, and each event that is due is a look each so many instructions
+pub record Looks (period : ℕ) (s : Seen) : Type 0 where
+  pub uninterrupted : is_interrupted s.machine ≡ false
+  pub each : AllByRecursion (LooksEach Peer period s.machine.units s.lines) (dues s.machine.events)
 
-look-serving : (note : Option UnitNote) (period : ℕ) (s : Seen) → Looks period s.machine → key_at s ≡ None
-    → due s.machine.events ≡ Some keyboard → dues (served s.machine.events) ≡ [] → activated keyboard period (served s.machine.events) ≡ looked period s.machine.events
-    → serving note s ≡ silent None (with_machine s (looked_at period s.machine))
-unfolding looked_at
-look-serving note period s looks none first alone same =
-    let m = s.machine in
-    let at = with_machine (taken s) (looked_again (taken s).machine) in
-    let wished_is : wished keyboard (wish_of m) (served m.events) ≡ looked period m.events =
-    ap (λ (q : Queue). wished keyboard q (served m.events)) looks.wish ∙ same in
-    serving-some note s keyboard first
-    ∙ ap (λ (p : Part). then_part p (λ next. services note (dues (served m.events)) next)) (looks-change-nothing (at_unit keyboard note) (taken s) looks.there none)
-    ∙ ap (λ (us : List UnitName). then_part (silent None at) (λ next. services note us next)) alone
-    ∙ ap (λ (p : Part). record { made = p.made; after = p.after; stop = p.stop }) (services-none note at)
-    ∙ ap (λ (es : List Event). silent None (with_machine s (record m { events = es }))) wished_is
+-- such looks, one behind another
+look-services : (note : Option UnitNote) (period : ℕ) (us : List UnitName) (s : Seen) → AllByRecursion (LooksEach Peer period s.machine.units s.lines) us → key_at s ≡ None
+    → services note us s ≡ silent None (with_machine s (record s.machine { events = asked_again period us s.machine.events }))
+look-services note period [] s each none = services-none note s
+look-services note period (u ∷ us) s each none =
+    let at = with_machine (taken s) (asked_for u period (taken s).machine) in
+    services-some note u us s
+    ∙ ap (λ (p : Part). then_part p (λ next. services note us next)) (each-look (at_unit u note) period (taken s) u each.0 none)
+    ∙ ap (λ (p : Part). record { made = p.made; after = p.after; stop = p.stop }) (look-services note period us at each.1 none)
 
-look-attended : (note : Option UnitNote) (period : ℕ) (s : Seen) → Looks period s.machine → key_at s ≡ None
+look-attended : (note : Option UnitNote) (period : ℕ) (s : Seen) → Looks period s → key_at s ≡ None
     → attended note s ≡ silent None (with_machine s (looked_at period s.machine))
 unfolding looked_at
-look-attended note period s looks none = by looks.turn_of
-  where
-    by : LooksOrNot keyboard period s.machine.events → attended note s ≡ silent None (with_machine s (looked_at period s.machine))
-    by (no_look nothing same) =
-        plain-attended note s (record { none = nothing; uninterrupted = looks.uninterrupted })
-        ∙ ap (λ (es : List Event). silent None (with_machine s (record s.machine { events = es }))) (sym same)
-    by (is_look first alone same later) =
-        (turn-opened note false s).attends
-        ∙ ap (λ (p : Part). then_part p (λ served. still served (interrupt served.machine))) (look-serving note period s looks none first alone same)
-        ∙ ap (λ (t : Turned). silent t.stop (with_machine s t.machine)) (interrupt-none (looked_at period s.machine) looks.uninterrupted)
+look-attended note period s looks none =
+    (turn-opened note false s).attends
+    ∙ ap (λ (p : Part). then_part p (λ served. still served (interrupt served.machine))) (serving-is note s ∙ look-services note period (dues s.machine.events) s looks.each none)
+    ∙ ap (λ (t : Turned). silent t.stop (with_machine s t.machine)) (interrupt-none (looked_at period s.machine) looks.uninterrupted)
 
-pub look-turn : (note : Option UnitNote) (period : ℕ) (s : Seen) → Looks period s.machine → key_at s ≡ None → IsUnbroken s
+pub look-turn : (note : Option UnitNote) (period : ℕ) (s : Seen) → Looks period s → key_at s ≡ None → IsUnbroken s
     → turn note false s ≡ still s (fetch (looked_at period s.machine))
 unfolding looked_at
 look-turn note period s looks none unbroken =
@@ -89,7 +77,7 @@ look-turn note period s looks none unbroken =
     ∙ ap (λ (p : Part). then_part p (λ x. breaks_tested_unless false x)) (look-attended note period s looks none)
     ∙ breaks-none at unbroken)
 
-pub look-next : (note : Option RunNote) (period : ℕ) (s : Seen) (q : ProcessorState) → Looks period s.machine → key_at s ≡ None → IsUnbroken s
+pub look-next : (note : Option RunNote) (period : ℕ) (s : Seen) (q : ProcessorState) → Looks period s → key_at s ≡ None → IsUnbroken s
     → s.machine.time < last_time → step s.machine.processor ≡ steps q
     → next_turn note false s ≡ silent None (with_machine s (behind_step (looked_at period s.machine) q))
 unfolding looked_at
@@ -97,7 +85,7 @@ look-next note period s q looks none unbroken early is =
     next-early note false s early ∙ look-turn (at_time s.machine.time note) period s looks none unbroken
     ∙ ap (λ (t : Turned). still s t) ((agrees-step (looked_at period s.machine)).executed_is q is)
 
-look-chain : (note : Option RunNote) (period : ℕ) (s : Seen) (q : ProcessorState) → Looks period s.machine → key_at s ≡ None → IsUnbroken s
+look-chain : (note : Option RunNote) (period : ℕ) (s : Seen) (q : ProcessorState) → Looks period s → key_at s ≡ None → IsUnbroken s
     → s.machine.time < last_time → step s.machine.processor ≡ record { processor = q; end = step_end.ChainLimit }
     → next_turn note false s ≡ silent (Some ChainLimit) (with_machine s (record (looked_at period s.machine) { processor = q }))
 unfolding looked_at
@@ -127,23 +115,29 @@ idle-more period count m mid q =
     ap (λ (n : ℕ). record m { processor = q; ints = released (if count == 0 then m.ints else released m.ints); time = n; events = events }) time
     ∙ ap (λ (i : Ints). record m { processor = q; ints = i; time = m.time + suc count; events = events }) ints
 
-pub idle-looks : (period count most : ℕ) (m : MachineState) (q : ProcessorState) (sends : List Send) (keys : List (ℕ × ℕ)) → IsIdle most period m sends keys → count < most
-    → Looks period (idle_behind period count m q)
+-- within so many instructions nothing comes but such looks, for which no key comes
+pub record Idles (most period : ℕ) (s : Seen) : Type 0 where
+  pub quiet : (s.machine.ints.on && requested s.machine.ints.mask s.machine.units) ≡ false
+  pub looks : AreLooks (LooksEach Peer period s.machine.units s.lines) most s.machine.events
+  pub keyless : (n : ℕ) → n < most → (due_send (s.machine.time + n) s.watch.sends ≡ None) × (due_key s.keys s.machine.taken (s.machine.time + n) ≡ None)
+
+pub idle-looks : (period count most : ℕ) (s : Seen) (q : ProcessorState) → Idles most period s → count < most
+    → Looks period (with_machine s (idle_behind period count s.machine q))
 unfolding idle_behind idled_by
-idle-looks period count most m q sends keys idle before = record {
-  uninterrupted =
-      calm-ints m.ints (if count == 0 then m.ints else released m.ints) m.units (on-if (count == 0) m.ints) (mask-if (count == 0) m.ints) idle.looking.quiet;
-  there = idle.looking.there;
-  wish = idle.looking.wish;
-  turn_of = look-behind keyboard period count most m.events idle.looking.some idle.looking.sound idle.looking.first idle.looking.later before;
-}
+idle-looks period count most s q idle before =
+    let m = s.machine in
+    record {
+      uninterrupted =
+          calm-ints m.ints (if count == 0 then m.ints else released m.ints) m.units (on-if (count == 0) m.ints) (mask-if (count == 0) m.ints) idle.quiet;
+      each = looks-behind (LooksEach Peer period m.units s.lines) period count most m.events before idle.looks;
+    }
 
 no-key : (sent typed : Option ℕ) → sent ≡ None → typed ≡ None → first_key sent typed ≡ None
 no-key None None none nothing = refl
 no-key (Some b) typed none nothing = absurd (cc)
 no-key None (Some b) none nothing = absurd (cc)
 
-pub idle-keyless : (period count most : ℕ) (s : Seen) (q : ProcessorState) → IsIdle most period s.machine s.watch.sends s.keys → count < most
+pub idle-keyless : (period count most : ℕ) (s : Seen) (q : ProcessorState) → Idles most period s → count < most
     → key_at (with_machine s (idle_behind period count s.machine q)) ≡ None
 unfolding idle_behind idled_by
 idle-keyless period count most s q idle before =
@@ -164,7 +158,7 @@ idle-unbroken period stops count s mid at passes =
     ap (λ (p : ProcessorState). has_break p.cpu.pc s.watch.breaks.list) (idle-processor period count s.machine mid) ∙ at mid.cpu.pc ∙ passes
 
 idle-turns : (period : ℕ) (stops : ℕ → Bool) (note : Option RunNote) (one : Bool) (count most left : ℕ) (s : Seen) (q : ProcessorState) → AreAtBreaks stops s.watch
-    → IsIdle most period s.machine s.watch.sends s.keys → count ≤ most → s.machine.time + most ≤ last_time → Reaches stops count s.machine.processor q
+    → Idles most period s → count ≤ most → s.machine.time + most ≤ last_time → Reaches stops count s.machine.processor q
     → turns note one false (count + left) s ≡ turns note one false left (with_machine s (idle_behind period count s.machine q))
 idle-turns period stops note one zero most left s q at_breaks idle within end reaches =
     let none : zero + left ≡ left = omega arith in
@@ -175,7 +169,7 @@ idle-turns period stops note one (suc count) most left s q at_breaks idle within
     let m = s.machine in
     let less : count < most = omega (arith, within) in
     let at = with_machine s (idle_behind period count m mid) in
-    let next = look-next note period at q (idle-looks period count most m mid s.watch.sends s.keys idle less) (idle-keyless period count most s mid idle less)
+    let next = look-next note period at q (idle-looks period count most s mid idle less) (idle-keyless period count most s mid idle less)
     (idle-unbroken period stops count s mid at_breaks passes) (idle-early period count most m mid less end) (ap step (idle-processor period count m mid) ∙ last) in
     ap (λ (n : ℕ). turns note one false n s) both
     ∙ idle-turns period stops note one count most (suc left) s mid at_breaks idle (omega (arith, within)) end before
@@ -188,17 +182,25 @@ pub idle-is : (period count : ℕ) (m : MachineState) (q : ProcessorState) → i
 unfolding idle_behind idled_by
 idle-is period count m q = refl
 
-pub idle-erased : (most period : ℕ) (m : MachineState) (sends : List Send) (keys : List (ℕ × ℕ)) → IsIdle most period m sends keys → IsIdle most period (erased m) sends keys
-idle-erased most period m sends keys idle = record {
-  looking = record {
-    quiet = idle.looking.quiet;
-    there = idle.looking.there;
-    wish = idle.looking.wish;
-    some = idle.looking.some;
-    sound = idle.looking.sound;
-    first = idle.looking.first;
-    later = idle.looking.later;
-  };
+-- the lines are seen with who is behind them: one without a port is the same
+closed-seen : (b : LineState) (lines : List (LineOf ℕ)) → slice_get lines 0 ≡ Some (unconnected None) → slice_get (map (seen_line b) lines) 0 ≡ Some (unconnected None)
+closed-seen b [] is = absurd (cc)
+closed-seen b (line ∷ lines) is =
+    let same : line ≡ unconnected None = grind arith in ap (λ (l : LineOf ℕ). Some (seen_line b l)) same
+
+unheard-seen : (b : LineState) (lines : List (LineOf ℕ)) (k : Kind) → IsUnheard k lines → IsUnheard k (map (seen_line b) lines)
+unheard-seen b lines Tti is = tt
+unheard-seen b lines Tti1 is = closed-seen b lines is
+unheard-seen b lines k is = absurd is
+
+each-seen : (b : LineState) (period : ℕ) (units : List UnitState) (lines : List (LineOf ℕ)) (u : UnitName) → LooksEach ℕ period units lines u → LooksEach Peer period units (map (seen_line b) lines) u
+each-seen b period units lines u looks = record { unheard = unheard-seen b lines u.kind looks.unheard; number = looks.number; wish = looks.wish }
+
+pub idle-erased : (most period : ℕ) (watch : WatchState) (keys : List (ℕ × ℕ)) (files : List NamedBytes) (lines : LineState) (whole : List Answer) (m : MachineState) → IsIdle most period m watch.sends keys
+    → Idles most period (seen (beside watch keys files lines) whole m)
+idle-erased most period watch keys files lines whole m idle = record {
+  quiet = idle.looking.quiet;
+  looks = looks-weaker (LooksEach ℕ period m.units m.lines) (LooksEach Peer period m.units (map (seen_line lines) m.lines)) most m.events (each-seen lines period m.units m.lines) idle.looking.looks;
   keyless = idle.keyless;
 }
 
@@ -215,7 +217,7 @@ went period stops watch note one keys files lines whole most done budget old new
     let all : most ≡ done + (most - done) = omega (arith, few, within) in
     let s = seen (beside watch keys files lines) whole old in
     ap (λ (n : ℕ). turns note one false n s) all
-    ∙ idle-turns period stops note one done budget (most - done) s q at_breaks (idle-erased budget period old watch.sends keys idle) within end reaches
+    ∙ idle-turns period stops note one done budget (most - done) s q at_breaks (idle-erased budget period watch keys files lines whole old idle) within end reaches
     ∙ ap (λ (x : MachineState). turns note one false (most - done) (with_machine s x)) (erased-idle period done old q)
     ∙ ap (λ (x : MachineState). turns note one false (most - done) (seen (beside watch keys files lines) whole x)) (sym (is ∙ idle-is period done old q))
 
@@ -241,9 +243,9 @@ ended period stops watch note one keys files lines whole most done budget old ne
     let all : most ≡ done + suc left = omega (arith, few, within) in
     let s = seen (beside watch keys files lines) whole old in
     let m = s.machine in
-    let quiet = idle-erased budget period old watch.sends keys idle in
+    let quiet = idle-erased budget period watch keys files lines whole old idle in
     let at = with_machine s (idle_behind period done m mid) in
-    let next = look-chain note period at q (idle-looks period done budget m mid watch.sends keys quiet within) (idle-keyless period done budget s mid quiet within)
+    let next = look-chain note period at q (idle-looks period done budget s mid quiet within) (idle-keyless period done budget s mid quiet within)
     (idle-unbroken period stops done s mid at_breaks passes) (idle-early period done budget m mid within end) (ap step (idle-processor period done m mid) ∙ chain) in
     ap (λ (n : ℕ). turns note one false n s) all
     ∙ idle-turns period stops note one done budget (suc left) s mid at_breaks quiet (omega (arith, within)) end reaches
@@ -295,15 +297,47 @@ pub idle-less : (less others period : ℕ) (m : MachineState) (sends : List Send
 idle-less less others period m sends keys within looking until keyless early = record {
   looking = record {
     quiet = looking.quiet;
-    there = looking.there;
-    wish = looking.wish;
     some = looking.some;
-    sound = looking.sound;
-    first = looking.first;
-    later = others-fewer less others m.events within looking.later;
+    looks = looks-fewer (LooksEach ℕ period m.units m.lines) less others m.events within looking.looks;
   };
   keyless = λ n before. keyless (m.time + n) (omega (arith, before, early));
 }
+
+pub next-one : (less others : ℕ) (es : List Event) → less ≤ others → AreNext false others es → AreOthersLater less es
+next-one less others es within next = others-fewer less others es within next
+
+pub next-two : (less others : ℕ) (es : List Event) → less ≤ others → AreNext true others es → AreTwins es × AreLaterThanTwo less es
+next-two less others es within next = (next.0, two-fewer less others es within next.1)
+
+pub ruleset nexts = (next-one, next-two)
+
+-- the first event is a look, and no other one is due so soon; or the first two are
+all-of-one : (period others : ℕ) (m : MachineState) → LooksAt period m (option_map (λ e. e.unit) (slice_get m.events 0)) → AreOthersLater others m.events
+    → AreLooks (LooksEach ℕ period m.units m.lines) others m.events
+all-of-one period others m first later = by (option_map (λ e. e.unit) (slice_get m.events 0)) refl first
+  where
+    by : (o : Option UnitName) → option_map (λ e. e.unit) (slice_get m.events 0) ≡ o → LooksAt period m o → AreLooks (LooksEach ℕ period m.units m.lines) others m.events
+    by None is looks = absurd looks
+    by (Some u) is looks = one-looks (LooksEach ℕ period m.units m.lines) others u m.events is looks later
+
+all-of-two : (period others : ℕ) (m : MachineState) → LooksAt period m (option_map (λ e. e.unit) (slice_get m.events 0)) → LooksAt period m (option_map (λ e. e.unit) (slice_get m.events 1))
+    → AreLaterThanTwo others m.events → AreLooks (LooksEach ℕ period m.units m.lines) others m.events
+all-of-two period others m first second later = by (option_map (λ e. e.unit) (slice_get m.events 0)) (option_map (λ e. e.unit) (slice_get m.events 1)) refl refl first second
+  where
+    by : (o x : Option UnitName) → option_map (λ e. e.unit) (slice_get m.events 0) ≡ o → option_map (λ e. e.unit) (slice_get m.events 1) ≡ x → LooksAt period m o → LooksAt period m x
+        → AreLooks (LooksEach ℕ period m.units m.lines) others m.events
+    by None x is next looks other = absurd looks
+    by (Some u) None is next looks other = absurd other
+    by (Some u) (Some v) is next looks other = two-look (LooksEach ℕ period m.units m.lines) others u v m.events is next looks other later
+
+pub looking-one : (period others : ℕ) (m : MachineState) → (m.ints.on && requested m.ints.mask m.units) ≡ false → 1 ≤ period
+    → LooksAt period m (option_map (λ e. e.unit) (slice_get m.events 0)) → AreOthersLater others m.events → IsLooking others period m
+looking-one period others m quiet some first later = record { quiet = quiet; some = some; looks = all-of-one period others m first later }
+
+pub looking-two : (period others : ℕ) (m : MachineState) → (m.ints.on && requested m.ints.mask m.units) ≡ false → 1 ≤ period
+    → LooksAt period m (option_map (λ e. e.unit) (slice_get m.events 0)) → LooksAt period m (option_map (λ e. e.unit) (slice_get m.events 1))
+    → AreLaterThanTwo others m.events → IsLooking others period m
+looking-two period others m quiet some first second later = record { quiet = quiet; some = some; looks = all-of-two period others m first second later }
 
 -- ---- until a key comes
 

@@ -8,9 +8,9 @@ use Rattle.unit_trait.specs.declared.calls.Queue.TheVariants.{Keep, Cancel, Afte
 use Rattle.unit_trait.specs.Kinds.{code_of}
 use Rattle.unit_trait.specs.Calls.{UnitState, Reset}
 use Rattle.unit_trait.specs.Row.{row}
-use Rattle.event_queue.specs.EventList.{Event, event, waits, placed, is_of_kind, cancelled, due, served, lowered, ticked, wished}
+use Rattle.event_queue.specs.EventList.{Event, event, waits, placed, activated, is_of_kind, cancelled, due, dues, served, lowered, ticked, wished}
 use Rattle.event_queue.specs.DueTimes.{scheduled}
-use Rattle.event_queue.specs.Idle.{looked, idled}
+use Rattle.event_queue.specs.Idle.{asked_again, looked, idled}
 use Rattle.unit_list.specs.declared.bus.BusAnswer.{BusAnswer}
 use Rattle.unit_list.specs.Bus.{unit_at, kinds_of}
 use Rattle.unit_list.specs.Reset.{first_unit, reset_events}
@@ -97,10 +97,25 @@ pub times_later : (now : ℕ) (es : List Event) → AllByRecursion (λ (x : ℕ 
 times_later now [] = tt
 times_later now (e ∷ es) = (omega arith, times_later now es)
 
+listed-activated : (ks : List Kind) (u : UnitName) (t : ℕ) (es : List Event) → IsAmong u.kind ks → AreListed ks es → AreListed ks (activated u t es)
+listed-activated ks u t es here all = if-listed ks (waits u es) es (placed u t es) all (listed-placed ks u t es here all)
+
+listed-again : (ks : List Kind) (period : ℕ) (us : List UnitName) (es : List Event) → AllByRecursion (λ (u : UnitName). IsAmong u.kind ks) us → AreListed ks es → AreListed ks (asked_again period us es)
+listed-again ks period [] es there all = all
+listed-again ks period (u ∷ us) es there all =
+    listed-again ks period us (activated u period (served es)) there.1 (listed-activated ks u period (served es) there.0 (listed-served ks es all))
+
+if-among : (ks : List Kind) (b : Bool) (u : UnitName) (us : List UnitName) → IsAmong u.kind ks → AllByRecursion (λ (v : UnitName). IsAmong v.kind ks) us
+    → AllByRecursion (λ (v : UnitName). IsAmong v.kind ks) (if b then u ∷ us else [])
+if-among ks true u us here there = (here, there)
+if-among ks false u us here there = tt
+
+listed-dues : (ks : List Kind) (es : List Event) → AreListed ks es → AllByRecursion (λ (u : UnitName). IsAmong u.kind ks) (dues es)
+listed-dues ks [] all = tt
+listed-dues ks (e ∷ es) all = if-among ks (e.remaining == 0) e.unit (dues es) all.0 (listed-dues ks es all.1)
+
 pub listed-looked : (ks : List Kind) (period : ℕ) (es : List Event) → AreListed ks es → AreListed ks (looked period es)
-listed-looked ks period [] all = tt
-listed-looked ks period (e ∷ es) all =
-    if-listed ks (e.remaining == 0) (placed e.unit period es) (e ∷ es) (listed-placed ks e.unit period es all.0 all.1) all
+listed-looked ks period es all = listed-again ks period (dues es) es (listed-dues ks es all) all
 
 pub listed-idled : (ks : List Kind) (period n : ℕ) (es : List Event) → AreListed ks es → AreListed ks (idled period n es)
 unfolding idled

@@ -1,17 +1,23 @@
--- A look of the console's keyboard for which no key comes.
-use Rattle.std.proofs.Common.{◌≡◌, ℕ, ◌==◌, Bool, true, false, List, [], ◌∷◌, nat_le, Option, Some, None, is_some, Ok, refl, ap, sym, subst, ◌∙◌, arith, if◌then◌else◌}
+-- Looks of the keyboards for which no key comes.
+use Rattle.std.proofs.Common.{◌≡◌, ℕ, ◌<◌, ◌==◌, Bool, true, false, List, [], ◌∷◌, nat_le, slice_get, slice_set, Option, Some, None, option_map, is_some, refl, ap, sym, subst, ◌∙◌, arith, if◌then◌else◌}
 use Rattle.std.proofs.lemmas.Bool.Decides.{nat_tests}
+use Rattle.host_lines.specs.Traffic.{Peer}
+use Rattle.telnet_lines.specs.Line.{LineOf, unconnected}
+use Rattle.telnet_lines.specs.Poll.{accepted, received, sent, polled}
 use Rattle.unit_trait.specs.declared.kind.Kind.{Kind}
-use Rattle.unit_trait.specs.declared.kind.Kind.TheVariants.{Tti}
+use Rattle.unit_trait.specs.declared.kind.Kind.TheVariants.{Tti, Tti1}
+use Rattle.unit_trait.specs.declared.kind.UnitName.{UnitName}
+use Rattle.unit_trait.specs.declared.calls.Queue.{Queue}
+use Rattle.unit_trait.specs.declared.calls.Queue.TheVariants.{After}
 use Rattle.unit_trait.specs.declared.calls.Want.{Want}
 use Rattle.unit_trait.specs.declared.calls.Want.TheVariants as want
 use Rattle.unit_trait.specs.declared.calls.Got.TheVariants.{NoKey}
 use Rattle.unit_trait.specs.declared.calls.UnitStop.{UnitStop}
 use Rattle.unit_trait.specs.declared.calls.UnitStop.TheVariants.{Go}
-use Rattle.event_queue.specs.EventList.{wished}
-use Rattle.unit_trait.specs.Kinds.{code_of}
+use Rattle.event_queue.specs.EventList.{activated, wished}
+use Rattle.unit_trait.specs.Kinds.{code_of, units_of}
 use Rattle.unit_trait.specs.Calls.{UnitState, UnitCall, Due, Answered}
-use Rattle.unit_trait.specs.Row.{row, row_of, moved}
+use Rattle.unit_trait.specs.Row.{row_of, moved}
 use Rattle.unit_trait.specs.Keyboard.{keyboard_row}
 use Rattle.unit_trait.proofs.Codes.{same-code}
 use Rattle.unit_list.specs.Bus.{unit_at, row_or_nothing, row_at, after_at}
@@ -23,66 +29,91 @@ use Rattle.nova_machine.specs.Seen.{Seen, with_machine, attached_in}
 use Rattle.nova_machine.specs.Parts.{Part, silent, behind_made}
 use Rattle.nova_machine.specs.Turned.{Turned, goes_on, still}
 use Rattle.nova_machine.specs.Wants.{answer_to, own_stop, prints, watch_after, files_after, typed_key, first_key, stop_by}
-use Rattle.nova_machine.specs.OnLines.{Lined, lined}
-use Rattle.nova_machine.specs.Service.{asked, answered, hosted, own_service, lined_at, service, replied, done_for, key_at, sent_at, typed_at, want_at}
-use Rattle.nova_machine.specs.Looks.{keyboard, wish_of, looked_again, LooksChangeNothing}
+use Rattle.nova_machine.specs.OnLines.{Lined, lined, lined_by}
+use Rattle.nova_machine.specs.Service.{asked, answered, hosted, own_service, line_service, service_by, lined_at, service, replied, done_for, key_at, sent_at, typed_at, want_at}
+use Rattle.nova_machine.specs.Looks.{keyboard, keyless_wish, IsKeyed, IsUnheard, LooksEach, LooksChangeNothing}
 use Rattle.nova_machine.proofs.EachService.{service-own}
 
--- the keyboard keeps its registers where it is asked, and where no key comes
-asked-keeps : (registers : List ℕ) → (row_of Tti registers (Due 0)).registers ≡ registers
-unfolding row_of keyboard_row
-asked-keeps registers = refl
+-- the unit of that kind
+abbrev pub keyboard_of : Kind → UnitName
+keyboard_of k = record { kind = k; unit = 0 }
 
-answer-keeps : (registers : List ℕ) → (row_of Tti registers (Answered 0 NoKey)).registers ≡ registers
+-- a keyboard keeps its registers where it is asked, and where no key comes
+asked-keeps : (k : Kind) → IsKeyed k → (registers : List ℕ) → (row_of k registers (Due 0)).registers ≡ registers
 unfolding row_of keyboard_row
-answer-keeps registers = refl
+asked-keeps Tti keyed registers = refl
+asked-keeps Tti1 keyed registers = refl
+asked-keeps k keyed registers = absurd keyed
 
-asked-wants : (registers : List ℕ) → (row_of Tti registers (Due 0)).want ≡ want.Key
+answer-keeps : (k : Kind) → IsKeyed k → (registers : List ℕ) → (row_of k registers (Answered 0 NoKey)).registers ≡ registers
 unfolding row_of keyboard_row
-asked-wants registers = refl
+answer-keeps Tti keyed registers = refl
+answer-keeps Tti1 keyed registers = refl
+answer-keeps k keyed registers = absurd keyed
 
-answer-goes : (registers : List ℕ) → (row_of Tti registers (Answered 0 NoKey)).stop ≡ Go
+-- the console's keyboard wants a key, and that of the second teletype one of its line
+abbrev key_of : Kind → Want
+key_of Tti1 = want.LineKey 0
+key_of k = want.Key
+
+asked-wants : (k : Kind) → IsKeyed k → (registers : List ℕ) → (row_of k registers (Due 0)).want ≡ key_of k
 unfolding row_of keyboard_row
-answer-goes registers = refl
+asked-wants Tti keyed registers = refl
+asked-wants Tti1 keyed registers = refl
+asked-wants k keyed registers = absurd keyed
 
-kept : (call : UnitCall) → ((registers : List ℕ) → (row_of Tti registers call).registers ≡ registers) → (u : UnitState) → u.kind ≡ Tti → moved u call ≡ u
-kept call keeps u is =
-    let same : (row_of u.kind u.registers call).registers ≡ u.registers = subst (λ (k : Kind). (row_of k u.registers call).registers ≡ u.registers) (sym is) (keeps u.registers) in
+answer-goes : (k : Kind) → IsKeyed k → (registers : List ℕ) → (row_of k registers (Answered 0 NoKey)).stop ≡ Go
+unfolding row_of keyboard_row
+answer-goes Tti keyed registers = refl
+answer-goes Tti1 keyed registers = refl
+answer-goes k keyed registers = absurd keyed
+
+kept : (k : Kind) (call : UnitCall) → ((registers : List ℕ) → (row_of k registers call).registers ≡ registers) → (u : UnitState) → u.kind ≡ k → moved u call ≡ u
+kept k call keeps u is =
+    let same : (row_of u.kind u.registers call).registers ≡ u.registers = subst (λ (x : Kind). (row_of x u.registers call).registers ≡ u.registers) (sym is) (keeps u.registers) in
     ap (λ (rs : List ℕ). record u { registers = rs }) same
 
-pub units-kept : (call : UnitCall) → ((registers : List ℕ) → (row_of Tti registers call).registers ≡ registers) → (us : List UnitState) → after_at (code_of Tti) call us ≡ us
-units-kept call keeps [] = refl
-units-kept call keeps (u ∷ us) = by (code_of u.kind == code_of Tti) (grind (arith, nat_tests)) (units-kept call keeps us)
+units-kept : (k : Kind) (call : UnitCall) → ((registers : List ℕ) → (row_of k registers call).registers ≡ registers) → (us : List UnitState) → after_at (code_of k) call us ≡ us
+units-kept k call keeps [] = refl
+units-kept k call keeps (u ∷ us) = by (code_of u.kind == code_of k) (grind (arith, nat_tests)) (units-kept k call keeps us)
   where
-    by : (b : Bool) → (b ≡ true → code_of u.kind ≡ code_of Tti) → after_at (code_of Tti) call us ≡ us → (if b then moved u call ∷ us else u ∷ after_at (code_of Tti) call us) ≡ u ∷ us
-    by true same rest = ap (λ (x : UnitState). x ∷ us) (kept call keeps u (same-code u.kind Tti (same refl)))
+    by : (b : Bool) → (b ≡ true → code_of u.kind ≡ code_of k) → after_at (code_of k) call us ≡ us → (if b then moved u call ∷ us else u ∷ after_at (code_of k) call us) ≡ u ∷ us
+    by true same rest = ap (λ (x : UnitState). x ∷ us) (kept k call keeps u (same-code u.kind k (same refl)))
     by false other rest = ap (λ (xs : List UnitState). u ∷ xs) rest
 
--- the unit with the keyboard's code is the keyboard
-found-kind : (us : List UnitState) (u : UnitState) → unit_at (code_of Tti) us ≡ Some u → u.kind ≡ Tti
-found-kind [] u is = absurd (cc)
-found-kind (x ∷ us) u is = by (code_of x.kind == code_of Tti) (grind (arith, nat_tests)) (λ h. found-kind us u h) is
+-- the unit with a keyboard's code is that keyboard
+found-kind : (k : Kind) (us : List UnitState) (u : UnitState) → unit_at (code_of k) us ≡ Some u → u.kind ≡ k
+found-kind k [] u is = absurd (cc)
+found-kind k (x ∷ us) u is = by (code_of x.kind == code_of k) (grind (arith, nat_tests)) (λ h. found-kind k us u h) is
   where
-    by : (b : Bool) → (b ≡ true → code_of x.kind ≡ code_of Tti) → (unit_at (code_of Tti) us ≡ Some u → u.kind ≡ Tti)
-        → (if b then Some x else unit_at (code_of Tti) us) ≡ Some u → u.kind ≡ Tti
-    by true same rest is = let e : x ≡ u = grind arith in subst (λ (y : UnitState). y.kind ≡ Tti) e (same-code x.kind Tti (same refl))
+    by : (b : Bool) → (b ≡ true → code_of x.kind ≡ code_of k) → (unit_at (code_of k) us ≡ Some u → u.kind ≡ k)
+        → (if b then Some x else unit_at (code_of k) us) ≡ Some u → u.kind ≡ k
+    by true same rest is = let e : x ≡ u = grind arith in subst (λ (y : UnitState). y.kind ≡ k) e (same-code x.kind k (same refl))
     by false other rest is = rest is
 
 of-some : {A : Type 0} (o : Option A) → is_some o ≡ true → (x : A) × (o ≡ Some x)
 of-some None there = absurd (cc)
 of-some (Some x) there = (x, refl)
 
-wants-key : (us : List UnitState) → is_some (unit_at (code_of Tti) us) ≡ true → (row_at (code_of Tti) (Due 0) us).want ≡ want.Key
-wants-key us there =
-    let (u, is) = of-some (unit_at (code_of Tti) us) there in
+wants-key : (k : Kind) → IsKeyed k → (us : List UnitState) → is_some (unit_at (code_of k) us) ≡ true → (row_at (code_of k) (Due 0) us).want ≡ key_of k
+wants-key k keyed us there =
+    let (u, is) = of-some (unit_at (code_of k) us) there in
     ap (λ (o : Option UnitState). (row_or_nothing (Due 0) o).want) is
-    ∙ ap (λ (k : Kind). (row_of k u.registers (Due 0)).want) (found-kind us u is) ∙ asked-wants u.registers
+    ∙ ap (λ (x : Kind). (row_of x u.registers (Due 0)).want) (found-kind k us u is) ∙ asked-wants k keyed u.registers
 
-goes-on : (us : List UnitState) → is_some (unit_at (code_of Tti) us) ≡ true → (row_at (code_of Tti) (Answered 0 NoKey) us).stop ≡ Go
-goes-on us there =
-    let (u, is) = of-some (unit_at (code_of Tti) us) there in
+goes-on : (k : Kind) → IsKeyed k → (us : List UnitState) → is_some (unit_at (code_of k) us) ≡ true → (row_at (code_of k) (Answered 0 NoKey) us).stop ≡ Go
+goes-on k keyed us there =
+    let (u, is) = of-some (unit_at (code_of k) us) there in
     ap (λ (o : Option UnitState). (row_or_nothing (Answered 0 NoKey) o).stop) is
-    ∙ ap (λ (k : Kind). (row_of k u.registers (Answered 0 NoKey)).stop) (found-kind us u is) ∙ answer-goes u.registers
+    ∙ ap (λ (x : Kind). (row_of x u.registers (Answered 0 NoKey)).stop) (found-kind k us u is) ∙ answer-goes k keyed u.registers
+
+-- a unit that wishes for an event is there
+wish-there : (k : Kind) (us : List UnitState) (period : ℕ) → keyless_wish (keyboard_of k) us ≡ After period → is_some (unit_at (code_of k) us) ≡ true
+wish-there k us period wish = by (unit_at (code_of k) us) wish
+  where
+    by : (o : Option UnitState) → (row_or_nothing (Answered 0 NoKey) o).queue ≡ After period → is_some o ≡ true
+    by None is = absurd (cc)
+    by (Some u) is = refl
 
 first-none : (sent typed : Option ℕ) → first_key sent typed ≡ None → (sent ≡ None) × (typed ≡ None)
 first-none None typed none = (refl, none)
@@ -128,30 +159,106 @@ unlooked : (fault : Option Failure) (s : Seen) → sends_left s.machine.time s.w
 unfolding look-of
 unlooked fault s left = ap (λ (sends : List Send). still (record s { watch = record s.watch { sends = sends } }) (answered keyboard NoKey (asked keyboard s.machine))) left
 
-pub asked-same : (m : MachineState) → asked keyboard m ≡ m
+pub asked-same : (k : Kind) → IsKeyed k → (m : MachineState) → asked (keyboard_of k) m ≡ m
 unfolding asked
-asked-same m = ap (λ (us : List UnitState). record m { units = us }) (units-kept (Due 0) asked-keeps m.units)
+asked-same k keyed m = ap (λ (us : List UnitState). record m { units = us }) (units-kept k (Due 0) (asked-keeps k keyed) m.units)
 
-pub answer-same : (us : List UnitState) → after_at (code_of Tti) (Answered 0 NoKey) us ≡ us
-answer-same us = units-kept (Answered 0 NoKey) answer-keeps us
+answer-kept : (k : Kind) → IsKeyed k → (us : List UnitState) → after_at (code_of k) (Answered 0 NoKey) us ≡ us
+answer-kept k keyed us = units-kept k (Answered 0 NoKey) (answer-keeps k keyed) us
 
-pub answered-same : (m : MachineState) → is_some (unit_at (code_of Tti) m.units) ≡ true → answered keyboard NoKey m ≡ goes_on (looked_again m)
+pub answer-same : (unit : UnitName) (us : List UnitState) → IsKeyed unit.kind → unit.unit ≡ 0 → after_at (code_of unit.kind) (Answered unit.unit NoKey) us ≡ us
+answer-same unit us keyed first = ap (λ (n : ℕ). after_at (code_of unit.kind) (Answered n NoKey) us) first ∙ answer-kept unit.kind keyed us
+
+-- the machine behind a look
+abbrev behind_look : Kind → MachineState → MachineState
+behind_look k m = record m { events = wished (keyboard_of k) (keyless_wish (keyboard_of k) m.units) m.events }
+
+answered-same : (k : Kind) → IsKeyed k → (m : MachineState) → is_some (unit_at (code_of k) m.units) ≡ true → answered (keyboard_of k) NoKey m ≡ goes_on (behind_look k m)
 unfolding answered
-answered-same m there =
-    ap (λ (us : List UnitState). record { machine = record m { units = us; events = wished keyboard (wish_of m) m.events }; stop = stop_by keyboard (row_at (code_of Tti) (Answered 0 NoKey) m.units).stop })
-    (units-kept (Answered 0 NoKey) answer-keeps m.units)
-    ∙ ap (λ (stop : UnitStop). record { machine = looked_again m; stop = stop_by keyboard stop }) (goes-on m.units there)
+answered-same k keyed m there =
+    ap (λ (us : List UnitState). record { machine = record m { units = us; events = wished (keyboard_of k) (keyless_wish (keyboard_of k) m.units) m.events }; stop = stop_by (keyboard_of k) (row_at (code_of k) (Answered 0 NoKey) m.units).stop })
+    (answer-kept k keyed m.units)
+    ∙ ap (λ (stop : UnitStop). record { machine = behind_look k m; stop = stop_by (keyboard_of k) stop }) (goes-on k keyed m.units there)
 
 pub looks-change-nothing : LooksChangeNothing
 looks-change-nothing fault s there none =
     let m = s.machine in
     let both = first-none (sent_at s) (typed_at s) none in
-    service-is fault s (wants-key m.units there)
-    ∙ ap (λ (w : Want). look-of fault s w (sent_at s) (typed_at s)) (wants-key m.units there)
+    service-is fault s (wants-key Tti tt m.units there)
+    ∙ ap (λ (w : Want). look-of fault s w (sent_at s) (typed_at s)) (wants-key Tti tt m.units there)
     ∙ ap (λ (k : Option ℕ). look-of fault s want.Key k (typed_at s)) both.0
     ∙ ap (λ (k : Option ℕ). look-of fault s want.Key None k) both.1
     ∙ unlooked fault s (none-sent m.time s.watch.sends both.0)
-    ∙ ap (λ (x : MachineState). still s (answered keyboard NoKey x)) (asked-same m)
-    ∙ ap (λ (t : Turned). still s t) (answered-same m there)
+    ∙ ap (λ (x : MachineState). still s (answered keyboard NoKey x)) (asked-same Tti tt m)
+    ∙ ap (λ (t : Turned). still s t) (answered-same Tti tt m there)
 
-pub ruleset answers = answer-same
+-- ---- the second teletype, whose line has no port
+
+set-same : {A : Type 0} (xs : List A) (x : A) → slice_get xs 0 ≡ Some x → slice_set xs 0 x ≡ xs
+set-same [] x is = absurd (cc)
+set-same (y ∷ xs) x is = let same : y ≡ x = grind arith in ap (λ (z : _). z ∷ xs) (sym same)
+
+-- nothing is done on such a line
+closed-lined : (s : Seen) → want_at (keyboard_of Tti1) s.machine ≡ want.LineKey 0 → slice_get s.lines 0 ≡ Some (unconnected None)
+    → lined_at (keyboard_of Tti1) s ≡ Some (record { got = NoKey; sent = []; lines = s.lines; ahead = s.ahead })
+unfolding lined polled accepted received sent
+closed-lined s wants closed =
+    ap (λ (w : Want). lined s.machine.time w s.lines s.ahead) wants
+    ∙ ap (λ (o : Option (LineOf Peer)). option_map (λ line. lined_by 0 s.lines (polled s.machine.time line s.ahead)) o) closed
+    ∙ ap (λ (lines : List (LineOf Peer)). Some (record { got = NoKey; sent = []; lines = lines; ahead = s.ahead })) (set-same s.lines (unconnected None) closed)
+
+service-line : (fault : Option Failure) (u : UnitName) (s : Seen) (l : Lined) → lined_at u s ≡ Some l → service fault u s ≡ line_service u l s
+unfolding service
+service-line fault u s l is = ap (λ (o : Option Lined). service_by o fault u s) is
+
+closed-service : (s : Seen) → line_service (keyboard_of Tti1) (record { got = NoKey; sent = []; lines = s.lines; ahead = s.ahead }) s
+    ≡ still s (answered (keyboard_of Tti1) NoKey (asked (keyboard_of Tti1) s.machine))
+unfolding line_service
+closed-service s = refl
+
+second-look : (fault : Option Failure) (s : Seen) → is_some (unit_at (code_of Tti1) s.machine.units) ≡ true → slice_get s.lines 0 ≡ Some (unconnected None)
+    → service fault (keyboard_of Tti1) s ≡ silent None (with_machine s (behind_look Tti1 s.machine))
+second-look fault s there closed =
+    let m = s.machine in
+    service-line fault (keyboard_of Tti1) s _ (closed-lined s (wants-key Tti1 tt m.units there) closed)
+    ∙ closed-service s
+    ∙ ap (λ (x : MachineState). still s (answered (keyboard_of Tti1) NoKey x)) (asked-same Tti1 tt m)
+    ∙ ap (λ (t : Turned). still s t) (answered-same Tti1 tt m there)
+
+-- ---- a look of either
+
+-- the machine behind a look that asks for its event again
+abbrev pub asked_for : UnitName → ℕ → MachineState → MachineState
+asked_for u period m = record m { events = activated u period m.events }
+
+kind-look : (fault : Option Failure) (period : ℕ) (s : Seen) (k : Kind) → IsUnheard k s.lines → keyless_wish (keyboard_of k) s.machine.units ≡ After period → key_at s ≡ None
+    → service fault (keyboard_of k) s ≡ silent None (with_machine s (asked_for (keyboard_of k) period s.machine))
+kind-look fault period s Tti unheard wish none =
+    looks-change-nothing fault s (wish-there Tti s.machine.units period wish) none
+    ∙ ap (λ (q : Queue). silent None (with_machine s (record s.machine { events = wished keyboard q s.machine.events }))) wish
+kind-look fault period s Tti1 unheard wish none =
+    second-look fault s (wish-there Tti1 s.machine.units period wish) unheard
+    ∙ ap (λ (q : Queue). silent None (with_machine s (record s.machine { events = wished (keyboard_of Tti1) q s.machine.events }))) wish
+kind-look fault period s k unheard wish none = absurd unheard
+
+-- a look asks for its event again, and changes nothing else
+pub each-look : (fault : Option Failure) (period : ℕ) (s : Seen) (u : UnitName) → LooksEach Peer period s.machine.units s.lines u → key_at s ≡ None
+    → service fault u s ≡ silent None (with_machine s (asked_for u period s.machine))
+each-look fault period s u looks none = by u.unit looks.number looks.wish
+  where
+    by : (n : ℕ) → n ≡ 0 → keyless_wish (record { kind = u.kind; unit = n }) s.machine.units ≡ After period
+        → service fault (record { kind = u.kind; unit = n }) s ≡ silent None (with_machine s (asked_for (record { kind = u.kind; unit = n }) period s.machine))
+    by n first wish =
+        let there : keyless_wish (keyboard_of u.kind) s.machine.units ≡ After period = subst (λ (m : ℕ). keyless_wish (record { kind = u.kind; unit = m }) s.machine.units ≡ After period) first wish in
+        subst (λ (m : ℕ). service fault (record { kind = u.kind; unit = m }) s ≡ silent None (with_machine s (asked_for (record { kind = u.kind; unit = m }) period s.machine))) (sym first)
+        (kind-look fault period s u.kind looks.unheard there none)
+
+pub keyed-low : (unit : UnitName) → IsKeyed unit.kind → unit.unit ≡ 0 → unit.unit < units_of unit.kind
+keyed-low unit keyed first = subst (λ (n : ℕ). n < units_of unit.kind) (sym first) (by unit.kind keyed)
+  where
+    by : (k : Kind) → IsKeyed k → 0 < units_of k
+    by Tti keyed = omega arith
+    by Tti1 keyed = omega arith
+    by k keyed = absurd keyed
+
+pub ruleset answers = (answer-same, keyed-low)

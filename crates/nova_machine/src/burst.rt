@@ -31,8 +31,8 @@ impl<U: Unit> Machine<U> {
     ghost use Rattle.nova_machine.specs.Bursts.{Bursts, IsCalm, passed_by};
     ghost use Rattle.nova_machine.specs.StopCauses.{BurstCause};
 
-    /// Makes turns, as many at the most, while nothing but an instruction of the processor alone can come, or a look of
-    /// the keyboard for which no key does. Where a word of input and output is next and begins a loop that waits for a
+    /// Makes turns, as many at the most, while nothing but an instruction of the processor alone can come, or looks of
+    /// the keyboards for which no key does. Where a word of input and output is next and begins a loop that waits for a
     /// flag, the rounds of the loop pass too.
     pub(crate) fn burst(&mut self, most: u64, watch: &Watch, keys: &Keys) -> Burst
         ensures few { result.done ≤ most }

@@ -39,7 +39,8 @@ impl<U: Unit> Machine<U> {
     ghost use Rattle.nova_machine.specs.StopCauses.{moment_of, Watches, RunCause};
 
     /// Makes turns until one stops, the count of the limit is reached, or time ends, and answers which. The instruction
-    /// of a HALT counts; one that stopped as `ChainLimit` or `UnknownDevice` does not, and PC stays there.
+    /// of a HALT counts; one that stopped as `ChainLimit` or `UnknownDevice` does not, and PC stays there. `lines` are
+    /// the ports and connections of the host, on which the machine's terminal lines are polled.
     pub fn run<S: Sink, F: Files, L: Lines>(
         &mut self,
         limit: RunLimit,

@@ -3,7 +3,7 @@ ghost use Rattle.std.specs.Prelude.{ℕ, List, ◌≡◌, ◌+◌, ◌≤◌, �
 ghost use Rattle.expect_actions.specs.Breaks.{has_break};
 ghost use Rattle.nova_processor.specs.Instruction.{following};
 ghost use Rattle.nova_machine.specs.Waits.{IsTest, AreUnbroken};
-ghost use Rattle.nova_machine.specs.Looks.{IsLooking};
+ghost use Rattle.nova_machine.specs.Looks.{IsLooking, AreNext};
 ghost use Rattle.nova_processor.specs.declared.burst.BurstEnd.TheVariants.{Transfer};
 
 use crate::idle::Looks;
@@ -58,11 +58,12 @@ impl<U: Unit> Machine<U> {
         rounds * 2
     }
 
-    /// Lets rounds of such a loop pass, and looks of the keyboard for which no key comes.
+    /// Lets rounds of such a loop pass, and looks of the keyboards for which no key comes.
     fn pass_rounds_and_looks(&mut self, most: u64, looks: Looks, watch: &Watch, keys: &Keys) -> u64
         requires unbroken { AreUnbroken watch.now self.old }
         requires waiting { IsWaiting self.old }
-        requires next { IsLooking looks.others looks.period self.old }
+        requires looks { IsLooking looks.others looks.period self.old }
+        requires next { AreNext looks.both looks.others self.old.events }
         ensures few { result ≤ most }
         ensures told { Bursts watch.now keys.now most result Transfer self.old self.new }
         ensures slots { self.new.slots ≡ self.old.slots }
@@ -72,7 +73,7 @@ impl<U: Unit> Machine<U> {
         ensures taken { self.new.taken ≡ self.old.taken }
     {
         let rounds = self.idle_budget(most, looks, watch, keys) / 2;
-        self.pass_looks((rounds * 2) as u32, looks.period);
+        self.pass_looks((rounds * 2) as u32, looks);
         rounds * 2
     }
 

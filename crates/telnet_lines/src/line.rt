@@ -79,6 +79,13 @@ impl Line {
         self.port
     }
 
+    /// Whether it has no port: nobody is connected then, and nothing waits.
+    pub fn is_closed(&self) -> bool
+        ensures { IsTrue result ↔ self.now ≡ unconnected None }
+    {
+        self.port.is_none()
+    }
+
     /// The connection that stands.
     pub fn connection(&self) -> Option<ConnId>
         ensures { option_map (λ c. c.0) result ≡ self.now.connection }

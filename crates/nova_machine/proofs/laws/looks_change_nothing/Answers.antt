@@ -1,5 +1,3 @@
-use Rattle.nova_machine.proofs.Idling.{idle-told, idled-time}
-use Rattle.nova_machine.proofs.Waits.{burst-then}
 use Rattle.nova_machine.proofs.Looks.{looks-change-nothing}
 use Rattle.nova_machine.proofs.laws.looks_change_nothing.Goals as goal
 

@@ -1,6 +1,6 @@
-use Rattle.std.proofs.Common.{◌≡◌, List, Some, false, remove, slice_get, sym, ap, subst, ◌∙◌, rules, arith}
+use Rattle.std.proofs.Common.{◌≡◌, Some, slice_get, ap, ◌∙◌, rules, arith}
 use Rattle.unit_trait.specs.declared.kind.UnitName.{UnitName}
-use Rattle.event_queue.specs.EventList.{Event, waits, lowered}
+use Rattle.event_queue.specs.EventList.{waits, lowered}
 use Rattle.event_queue.proofs.SoundLists.{sound-removed, first-alone}
 use Rattle.event_queue.proofs.entries.Entries.pass_looks.Goals as goal
 

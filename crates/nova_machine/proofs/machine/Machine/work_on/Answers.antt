@@ -1,4 +1,4 @@
-use Rattle.std.proofs.Common.{◌≡◌, ◌+◌, ◌≤◌, List, ap, refl, subst, ◌∙◌, arith, rules}
+use Rattle.std.proofs.Common.{◌≡◌, ◌+◌, List, ap, refl, subst, ◌∙◌, arith, rules}
 use Rattle.expect_actions.specs.declared.breaks.Break.{Break}
 use Rattle.expect_actions.specs.Breaks.{has_break}
 use Rattle.expect_actions.specs.Watch.{WatchState}
