@@ -3,7 +3,8 @@ use crate::play::all;
 use std::test::Fail;
 
 /// A program that loops, while the caller types one key.
-const TYPED: &str = "types=A | sent= | lines=ATTACH TTI1 4000~D 100 400~GO 100~E TTI1 BUF~ | prints=~Instruction limit, PC: 00100 (000400)~BUF:\t101~
+const TYPED: &str =
+    "types=A | sent= | lines=ATTACH TTI1 4000~D 100 400~GO 100~E TTI1 BUF~ | prints=~Instruction limit, PC: 00100 (000400)~BUF:\t101~
 ; the port is another one, and the caller waits
 types=A | lines=ATTACH TTI1 4001~D 100 400~GO 100~E TTI1 BUF~ | prints=~Instruction limit, PC: 00100 (000400)~BUF:\t000~
 ; nobody calls
@@ -48,7 +49,8 @@ fn a_connection_is_shown_and_dropped(rt: HostRuntime) -> Result<(), Fail> {
     all(&rt, rt.alloc(), "words=-q -l 250", SHOWN)
 }
 
-const REFUSED: &str = "lines=SHOW TTI1~DETACH TTI1~SET TTI1 DISCONNECT~DETACH ALL~ | prints=TTI1, not attached~Unit not attached~Unit not attached~
+const REFUSED: &str =
+    "lines=SHOW TTI1~DETACH TTI1~SET TTI1 DISCONNECT~DETACH ALL~ | prints=TTI1, not attached~Unit not attached~Unit not attached~
 lines=ATTACH TTI1 0~ATTACH TTI1 65536~ATTACH TTI1 18446744073709551616~SHOW TTI1~ | prints=Value out of range~Value out of range~Value out of range~TTI1, not attached~
 lines=ATTACH TTI1 4000~ATTACH TTI1 4000~ATTACH TTI1 0~SHOW TTI1~ | prints=Unit already attached~Unit already attached~TTI1, listening on port 4000~
 lines=ATTACH TTI1 65535~DETACH TTI1~DETACH TTI1~ATTACH TTI1 1~SHOW TTI1~ | prints=Unit not attached~TTI1, listening on port 1~
