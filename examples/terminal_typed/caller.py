@@ -1,5 +1,5 @@
-"""Callers of the second teletype of this session, over plain sockets. They type while the program of the Nova runs, and hear
-what it prints. Says nothing where all came as it should.
+"""Callers of the second teletype of this session, over plain sockets. They type while the program of the Nova runs, and
+hear what it prints. Says nothing where all came as it should.
 
     python3 caller.py PORT
 """

@@ -1,5 +1,5 @@
-// A session with a paper tape reader, a punch, the printer of the console and the keyboard of a second teletype, which has a
-// terminal line.
+// A session with a paper tape reader, a punch, the printer of the console and the keyboard of a second teletype, which
+// has a terminal line.
 ghost use Rattle.std.specs.Prelude.{◌≡◌, [], ◌∷◌, List, IfOk, map};
 ghost use Rattle.host_files.specs.State.{Opened};
 ghost use Rattle.unit_files.specs.Open.{AllOpen};
