@@ -37,8 +37,8 @@ fn calls(alloc: Global, lines: &mut MemLines, typed: &str) -> Result<(), AllocEr
     lines.add_hang_up(300, 1)
 }
 
-/// As many ports are listened on and as many calls have failed as the row says, or none. The caller of the row, if there
-/// is one, was sent the opening and what the row says, or still waits to be accepted.
+/// As many ports are listened on and as many calls have failed as the row says, or none. The caller of the row, if
+/// there is one, was sent the opening and what the row says, or still waits to be accepted.
 pub fn lines_stand(rt: &impl Abort, lines: &mut CountedPorts<MemLines>, row: Row<'_>) {
     holds(rt, lines.ports == number(row, "ports", 0), row.line);
     let lines = &mut lines.lines;
