@@ -56,6 +56,9 @@ fn fault_named(wanted: &str) -> Option<CommandFault> {
     match wanted {
         "OutOfRange" => Some(CommandFault::OutOfRange),
         "ReadOnlyName" => Some(CommandFault::ReadOnlyName),
+        "AlreadyAttached" => Some(CommandFault::AlreadyAttached),
+        "NotAttached" => Some(CommandFault::NotAttached),
+        "PortFailed" => Some(CommandFault::PortFailed),
         "AssertFailed" => Some(CommandFault::AssertFailed),
         "NoFile" => Some(CommandFault::NoFile),
         "Full" => Some(CommandFault::Full),

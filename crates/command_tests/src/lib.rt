@@ -18,6 +18,8 @@ mod lists;
 #[cfg(test)]
 mod media;
 #[cfg(test)]
+mod ports;
+#[cfg(test)]
 mod rows;
 #[cfg(test)]
 mod sessions;

@@ -62,13 +62,17 @@ fn does<U: Unit, F: Files>(
 {
     let mut command = Command::new();
     reads(rt, &mut command, row.line);
-    let mut lines = no_lines(alloc)?;
+    let mut lines = lines_of(alloc, row)?;
     answers(rt, alloc, session, &command, files, &mut lines, row)
 }
 
-/// Lines on which nothing comes and nothing is sent.
-fn no_lines(alloc: Global) -> Result<MemLines, AllocError> {
-    MemLines::with_room(alloc, 0)
+/// Lines on which nothing comes and nothing is sent, and whose first call fails where the answer is to say so.
+fn lines_of(alloc: Global, row: Row) -> Result<MemLines, AllocError> {
+    let mut lines = MemLines::with_room(alloc, 0)?;
+    if row.answer == "PortFailed" {
+        lines.fail_call(0)?;
+    }
+    Ok(lines)
 }
 
 fn reads(rt: &impl Abort, command: &mut Command, line: &str) {

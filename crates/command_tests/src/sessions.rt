@@ -1,8 +1,9 @@
-// A session with a paper tape reader, a punch and a teletype.
+// A session with a paper tape reader, a punch, the printer of the console and the keyboard of a second teletype, which
+// has a terminal line.
 ghost use Rattle.std.specs.Prelude.{◌≡◌, [], ◌∷◌, List, IfOk, map};
 ghost use Rattle.host_files.specs.State.{Opened};
 ghost use Rattle.unit_files.specs.Open.{AllOpen};
-ghost use Rattle.unit_trait.specs.declared.kind.Kind.TheVariants.{Ptr as readers, Ptp as punches, Tti as keyboards, Tto as teleprinters};
+ghost use Rattle.unit_trait.specs.declared.kind.Kind.TheVariants.{Ptr as readers, Ptp as punches, Tto as teleprinters, Tti1 as keyboards};
 ghost use Rattle.unit_trait.specs.Row.{initial_unit};
 
 use crate::boxes::{four, push_four};
@@ -16,7 +17,7 @@ use paper_tape::{Ptp, Ptr};
 use scp_commands::Session;
 use std::alloc::{AllocError, Global};
 use std::process::Abort;
-use tty_units::{Tti, Tto};
+use tty_units::{Tti1, Tto};
 use unit_trait::Unit;
 
 /// A note: its time, its call, and how many bytes were written.
@@ -51,12 +52,12 @@ pub fn play<F: Files>(
     table: &str,
     notes: &[Note],
 ) -> Result<(), AllocError> {
-    let (reader, punch, keyboard, teleprinter) = four(
+    let (reader, punch, teleprinter, keyboard) = four(
         alloc,
         Ptr::new(),
         Ptp::new(),
-        Tti::new(),
         Tto::new(),
+        Tti1::new(),
     )?;
     // The others become such boxes too, since they go into one list with it.
     let reader: Box<dyn Unit> = reader;
@@ -65,8 +66,8 @@ pub fn play<F: Files>(
         alloc,
         reader,
         punch,
-        keyboard,
         teleprinter,
+        keyboard,
         watched,
         files,
         table,
@@ -79,8 +80,8 @@ fn play_with<U: Unit, F: Files>(
     alloc: Global,
     reader: U,
     punch: U,
-    keyboard: U,
     teleprinter: U,
+    keyboard: U,
     watched: Watched,
     files: &mut F,
     table: &str,
@@ -88,10 +89,10 @@ fn play_with<U: Unit, F: Files>(
 ) -> Result<(), AllocError>
     requires reader { U.unit_state reader ≡ initial_unit readers }
     requires punch { U.unit_state punch ≡ initial_unit punches }
-    requires keyboard { U.unit_state keyboard ≡ initial_unit keyboards }
     requires teleprinter { U.unit_state teleprinter ≡ initial_unit teleprinters }
+    requires keyboard { U.unit_state keyboard ≡ initial_unit keyboards }
 {
-    let session = session_of(alloc, reader, punch, keyboard, teleprinter)?;
+    let session = session_of(alloc, reader, punch, teleprinter, keyboard)?;
     play_in(rt, alloc, session, watched, files, table, notes)
 }
 
@@ -115,22 +116,22 @@ fn session_of<U: Unit>(
     alloc: Global,
     reader: U,
     punch: U,
-    keyboard: U,
     teleprinter: U,
+    keyboard: U,
 ) -> Result<Session<U>, AllocError>
     requires reader { U.unit_state reader ≡ initial_unit readers }
     requires punch { U.unit_state punch ≡ initial_unit punches }
-    requires keyboard { U.unit_state keyboard ≡ initial_unit keyboards }
     requires teleprinter { U.unit_state teleprinter ≡ initial_unit teleprinters }
+    requires keyboard { U.unit_state keyboard ≡ initial_unit keyboards }
     ensures { IfOk result (λ s. (opened : List Opened) → AllOpen s.machine.slots opened) }
 {
     let mut units = Vec::new(alloc);
-    push_four(&mut units, reader, punch, keyboard, teleprinter)?;
+    push_four(&mut units, reader, punch, teleprinter, keyboard)?;
     opened(alloc, units)
 }
 
 fn opened<U: Unit>(alloc: Global, units: Vec<U>) -> Result<Session<U>, AllocError>
-    requires { map U.unit_state units.items ≡ map initial_unit (readers ∷ punches ∷ keyboards ∷ teleprinters ∷ []) }
+    requires { map U.unit_state units.items ≡ map initial_unit (readers ∷ punches ∷ teleprinters ∷ keyboards ∷ []) }
     ensures { IfOk result (λ s. (opened : List Opened) → AllOpen s.machine.slots opened) }
 {
     Session::new(alloc, units, Keys::none(alloc), 1 << 48)

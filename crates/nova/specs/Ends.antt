@@ -9,3 +9,6 @@ OfSomeEnd Said = (machine : Option MachineState) × (notes : List Note) × Said 
 
 abbrev pub OfSomeFaults : (Option MachineState → List FaultNote → Type 0) → Type 0
 OfSomeFaults Said = (machine : Option MachineState) × (faults : List FaultNote) × Said machine faults
+
+abbrev pub OfSomeMachine : (Option MachineState → Type 0) → Type 0
+OfSomeMachine Said = (machine : Option MachineState) × Said machine

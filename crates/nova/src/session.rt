@@ -7,8 +7,8 @@ ghost use Rattle.scp_commands.specs.Live.{beyond};
 ghost use Rattle.nova_top.specs.Standard.{IsStandard};
 ghost use Rattle.nova_top.specs.Words.{options_of, texts_of};
 ghost use Rattle.nova_top.specs.Ends.{IsOutcome, IsCutShort, StatusCause, IsComplete, NoneFailed, KeptUnwritten};
-ghost use Rattle.nova_top.specs.Ends.{HasWorkload, InputTells};
-ghost use Rattle.nova.specs.Ends.{OfSomeEnd, OfSomeFaults};
+ghost use Rattle.nova_top.specs.Ends.{LinesAtEnd, HasWorkload, InputTells};
+ghost use Rattle.nova.specs.Ends.{OfSomeEnd, OfSomeFaults, OfSomeMachine};
 
 use host_files::{Files, Sink, Source};
 use host_lines::Lines;
@@ -30,19 +30,19 @@ pub fn session<U: Unit, C: Source, S: Sink, F: Files, L: Lines>(
     lines: &mut L,
 ) -> ExitCode
     requires { IsStandard (map U.unit_state units.items) }
-    ensures outcome { InputTells (texts_of words.now) C.tells → IsTrue F.tells → IsTrue S.tells
+    ensures outcome { InputTells (texts_of words.now) C.tells → IsTrue F.tells → IsTrue L.tells → IsTrue S.tells
         → exit_status result ≢ 103
         → (whole : List LineAnswer) → IsFirst (record_in (L.state lines.new).told) whole
         → OfSomeEnd (λ machine notes. IsOutcome (texts_of words.now) (C.left input.old) (C.left input.new)
         (S.written output.old) (S.written output.new) (beyond (F.state files.old).files (L.state lines.old) whole)
         (beyond (F.state files.new).files (L.state lines.new) whole) (exit_status result) machine notes) }
-    ensures memory { InputTells (texts_of words.now) C.tells → IsTrue F.tells → IsTrue S.tells
+    ensures memory { InputTells (texts_of words.now) C.tells → IsTrue F.tells → IsTrue L.tells → IsTrue S.tells
         → exit_status result ≡ 103
         → (whole : List LineAnswer) → IsFirst (record_in (L.state lines.new).told) whole
         → OfSomeEnd (λ machine notes. IsCutShort (texts_of words.now) (C.left input.old) (C.left input.new)
         (S.written output.old) (S.written output.new) (beyond (F.state files.old).files (L.state lines.old) whole)
         (beyond (F.state files.new).files (L.state lines.new) whole) machine notes) }
-    ensures complete { InputTells (texts_of words.now) C.tells → IsTrue F.tells → IsTrue S.tells
+    ensures complete { InputTells (texts_of words.now) C.tells → IsTrue F.tells → IsTrue L.tells → IsTrue S.tells
         → exit_status result ≢ 103 → (Rose (S.fault_count output.old) (S.fault_count output.new) → ⊥)
         → (Rose (C.fault_count input.old) (C.fault_count input.new) → ⊥)
         → NoneFailed (F.state files.old) (F.state files.new)
@@ -50,7 +50,8 @@ pub fn session<U: Unit, C: Source, S: Sink, F: Files, L: Lines>(
         → OfSomeEnd (λ machine notes. IsComplete (texts_of words.now) (C.left input.old) (C.left input.new)
         (S.written output.old) (S.written output.new) (beyond (F.state files.old).files (L.state lines.old) whole)
         (beyond (F.state files.new).files (L.state lines.new) whole) (exit_status result) machine) }
-    ensures unasked { L.state lines.new ≡ L.state lines.old }
+    ensures ports { OfSomeMachine (λ machine. LinesAtEnd machine (L.state lines.old) (L.state lines.new)) }
+    ensures unasked { options_of (texts_of words.now) ≡ None → L.state lines.new ≡ L.state lines.old }
     ensures cause { StatusCause (texts_of words.now) (exit_status result) (S.fault_count output.old)
         (S.fault_count output.new) (C.fault_count input.old) (C.fault_count input.new) }
     ensures unwritten { exit_status result ≡ 107

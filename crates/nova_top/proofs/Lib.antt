@@ -5,5 +5,6 @@ pub mod WordFileLemmas
 pub mod ReadingLemmas
 pub mod UnreadLemmas
 pub mod StandardLemmas
+pub mod PortLemmas
 pub mod ProgramLemmas
 pub mod ValidProgram

@@ -12,7 +12,7 @@ use Rattle.host_files.specs.declared.files.FileId.{FileId}
 use Rattle.host_lines.specs.Traffic.{Gone, Ahead, Answer as LineAnswer}
 use Rattle.host_lines.specs.Told.{ahead_of}
 use Rattle.host_lines.specs.State.{LineState}
-use Rattle.telnet_lines.specs.Line.{renamed}
+use Rattle.telnet_lines.specs.Line.{renamed, unconnected}
 use Rattle.telnet_lines.specs.Joined.{seen_line}
 use Rattle.unit_trait.specs.declared.kind.UnitName.{UnitName}
 use Rattle.unit_trait.specs.Calls.{UnitState}
@@ -29,7 +29,6 @@ use Rattle.expect_actions.specs.Watch.{WatchState, empty_watch}
 use Rattle.nova_machine.specs.Machine.{MachineState, new_machine, reset_machine, reset_devices}
 use Rattle.nova_machine.specs.Seen.{seen, beside, erased, attached_in}
 use Rattle.nova_machine.specs.Comes.{Output, output}
-use Rattle.nova_machine.specs.LineChanges.{HaveNoPort}
 use Rattle.scp_commands.specs.Live.{Live, CommandState, Beyond, beyond, live_in}
 use Rattle.scp_commands.specs.Doing.{IsLate, ComeBehind}
 use Rattle.scp_script.specs.declared.progress.Finish.{Finish}
@@ -148,13 +147,14 @@ unfolding new_machine reset_machine reset_devices
 first-lines None s = refl
 first-lines (Some number) s = refl
 
-first-portless : (workload : Option ℕ) → HaveNoPort (with_workload workload (new_machine standard_units)).lines
+one-line : (workload : Option ℕ) → (with_workload workload (new_machine standard_units)).lines ≡ unconnected None ∷ []
 unfolding new_machine reset_machine reset_devices
-first-portless None = (refl, tt)
-first-portless (Some number) = (refl, tt)
+one-line None = refl
+one-line (Some number) = refl
 
-pub begun-portless : (tells : Bool) (words : List (List ℕ)) (options : Options) (s : CommandState) (o : Opening) (old mid : FileState) → Begun tells words options s o old mid → HaveNoPort s.machine.lines
-begun-portless tells words options s o old mid begun = subst (λ (m : MachineState). HaveNoPort m.lines) (sym begun.machine) (first-portless options.workload)
+pub begun-line : (tells : Bool) (words : List (List ℕ)) (options : Options) (s : CommandState) (o : Opening) (old mid : FileState) → Begun tells words options s o old mid
+    → s.machine.lines ≡ unconnected None ∷ []
+begun-line tells words options s o old mid begun = ap (λ (m : MachineState). m.lines) begun.machine ∙ one-line options.workload
 
 same-start : (tells : Bool) (words : List (List ℕ)) (options : Options) (s : CommandState) (o : Opening) (old mid : FileState) (lines : LineState) (whole : List LineAnswer) (input : List ℕ) (notes : List Note)
     → Begun tells words options s o old mid → IsTrue tells

@@ -20,8 +20,9 @@ use Rattle.expect_actions.specs.KeysFile.{Key}
 use Rattle.nova_machine.specs.Machine.{MachineState}
 use Rattle.nova_machine.specs.Seen.{erased}
 use Rattle.nova_machine.specs.Comes.{output}
-use Rattle.nova_machine.specs.LineChanges.{heard_with}
+use Rattle.nova_machine.specs.LineChanges.{HasConnection, heard_with}
 use Rattle.scp_commands.specs.Live.{Live, Beyond}
+use Rattle.scp_commands.specs.LinesLeft.{HasPort, AreListened}
 use Rattle.scp_script.specs.Perform.{RunsShort}
 use Rattle.nova_top.specs.declared.options.Options.{Options}
 use Rattle.nova_top.specs.Words.{options_of}
@@ -160,6 +161,20 @@ KeptUnwritten (Some m) notes old new = IsUnwritten m.slots notes old new
 abbrev pub FilesAtEnd : Option MachineState → List Opened → List Opened → Type 0
 FilesAtEnd None old new = new ≡ old
 FilesAtEnd (Some m) old new = AllOpen m.slots new × Around m.slots old new
+
+-- The machine has one line. Its port is listened on, where it has one; each port that is listened on and each connection that
+-- stands is that line's, or was there before; and the count of faults has not fallen.
+pub record PortAtEnd (lines : List (LineOf ℕ)) (old new : LineState) : Type 0 where
+  pub one : length lines ≡ 1
+  pub listened : AreListened new lines
+  pub ports : (port : ℕ) → IsTrue (new.listens port) → HasPort port lines ⊎ IsTrue (old.listens port)
+  pub owned : (conn : ℕ) → IsTrue (new.stands conn) → HasConnection conn lines ⊎ IsTrue (old.stands conn)
+  pub later : old.faults ≤ new.faults
+
+-- that, told or not; without a machine nothing was asked of the ports and connections
+abbrev pub LinesAtEnd : Option MachineState → LineState → LineState → Type 0
+LinesAtEnd None old new = new ≡ old
+LinesAtEnd (Some m) old new = PortAtEnd m.lines old new
 
 -- no call on a file has failed
 abbrev pub NoneFailed : FileState → FileState → Type 0

@@ -1,4 +1,4 @@
-ghost use Rattle.std.specs.Prelude.{◌≡◌, ◌≢◌, ◌≤◌, ◌^◌, List, [], map, Option, None};
+ghost use Rattle.std.specs.Prelude.{◌≡◌, ◌≢◌, ◌≤◌, ◌^◌, ◌∷◌, List, [], map, Option, None};
 ghost use Rattle.std.specs.Prelude.{true, false, IsTrue, IsSome, string_bytes};
 ghost use Rattle.std.specs.List.{AllByRecursion};
 ghost use Rattle.fault_counts.specs.Faults.{Rose, CountsFault};
@@ -12,9 +12,9 @@ ghost use Rattle.file_commands.specs.Counts.{AreCounted};
 ghost use Rattle.file_commands.specs.OwnFiles.{IsOwnNote, AreOwn};
 ghost use Rattle.host_lines.specs.Traffic.{Answer as LineAnswer};
 ghost use Rattle.host_lines.specs.Told.{IsFirst, record_in};
+ghost use Rattle.telnet_lines.specs.Line.{unconnected};
 ghost use Rattle.nova_machine.specs.Seen.{seen, beside};
 ghost use Rattle.nova_machine.specs.Comes.{output as heard_output};
-ghost use Rattle.nova_machine.specs.LineChanges.{HaveNoPort};
 ghost use Rattle.scp_commands.specs.Live.{beyond};
 ghost use Rattle.scp_script.specs.Loop.{FinishCause, AreKept};
 ghost use Rattle.scp_script.specs.Perform.{beginning, Performed};
@@ -22,7 +22,7 @@ ghost use Rattle.nova_top.specs.Standard.{IsStandard};
 ghost use Rattle.nova_top.specs.Words.{texts_of};
 ghost use Rattle.nova_top.specs.Outside.{usage_text, unopened_text, bad_keys_text};
 ghost use Rattle.nova_top.specs.Ends.{IsOutcome, IsCutShort, StatusCause, MachineThere, IsComplete, FilesAtEnd, KeptUnwritten};
-ghost use Rattle.nova_top.specs.Ends.{NoneFailed, HasWorkload, InputTells};
+ghost use Rattle.nova_top.specs.Ends.{LinesAtEnd, NoneFailed, HasWorkload, InputTells};
 ghost use Rattle.nova_top.specs.Unread.{IsUnopened, AreMeasured};
 ghost use Rattle.nova_top.specs.Program.{IsRefused, RefusedCause, RefusalCause, SessionEnds};
 ghost use Rattle.nova_top.specs.Program.{denial_of, IsDenied, DeniedCause, status_printed};
@@ -67,8 +67,9 @@ pub struct Ending<U: Unit> {
 /// are closed, behind writing back what the disk holds; at any other end they stay open, and where that can't be
 /// written back, which is status 107 at the end of the input.
 ///
-/// The machine has one terminal line, of its second teletype. No command gives it a port yet, so that nothing is asked
-/// of `lines`.
+/// The machine has one terminal line, of its second teletype. ATTACH gives it a port of `lines`. At EXIT and at the end
+/// of the input, where no file had to be kept, that is given up with its connection; at any other end, and behind the
+/// workload of `-g`, it stays.
 pub fn simulate<U: Unit, C: Source, S: Sink, F: Files, L: Lines>(
     alloc: Global,
     words: &[String],
@@ -79,27 +80,29 @@ pub fn simulate<U: Unit, C: Source, S: Sink, F: Files, L: Lines>(
     lines: &mut L,
 ) -> Ending<U>
     requires { IsStandard (map U.unit_state units.items) }
-    ensures outcome { InputTells (texts_of words.now) C.tells → IsTrue F.tells → IsTrue S.tells → result.status ≢ 103
+    ensures outcome { InputTells (texts_of words.now) C.tells → IsTrue F.tells → IsTrue L.tells → IsTrue S.tells
+        → result.status ≢ 103
         → (whole : List LineAnswer) → IsFirst (record_in (L.state lines.new).told) whole
         → IsOutcome (texts_of words.now) (C.left input.old) (C.left input.new) (S.written output.old)
         (S.written output.new) (beyond (F.state files.old).files (L.state lines.old) whole)
         (beyond (F.state files.new).files (L.state lines.new) whole) result.status result.machine
         (notes_said result.faults.items) }
-    ensures memory { InputTells (texts_of words.now) C.tells → IsTrue F.tells → IsTrue S.tells → result.status ≡ 103
+    ensures memory { InputTells (texts_of words.now) C.tells → IsTrue F.tells → IsTrue L.tells → IsTrue S.tells
+        → result.status ≡ 103
         → (whole : List LineAnswer) → IsFirst (record_in (L.state lines.new).told) whole
         → IsCutShort (texts_of words.now) (C.left input.old) (C.left input.new) (S.written output.old)
         (S.written output.new) (beyond (F.state files.old).files (L.state lines.old) whole)
         (beyond (F.state files.new).files (L.state lines.new) whole) result.machine
         (notes_said result.faults.items) }
-    ensures complete { InputTells (texts_of words.now) C.tells → IsTrue F.tells → IsTrue S.tells → result.status ≢ 103
-        → (Rose (S.fault_count output.old) (S.fault_count output.new) → ⊥)
+    ensures complete { InputTells (texts_of words.now) C.tells → IsTrue F.tells → IsTrue L.tells → IsTrue S.tells
+        → result.status ≢ 103 → (Rose (S.fault_count output.old) (S.fault_count output.new) → ⊥)
         → (Rose (C.fault_count input.old) (C.fault_count input.new) → ⊥)
         → NoneFailed (F.state files.old) (F.state files.new)
         → (whole : List LineAnswer) → IsFirst (record_in (L.state lines.new).told) whole
         → IsComplete (texts_of words.now) (C.left input.old) (C.left input.new) (S.written output.old)
         (S.written output.new) (beyond (F.state files.old).files (L.state lines.old) whole)
         (beyond (F.state files.new).files (L.state lines.new) whole) result.status result.machine }
-    ensures unasked { L.state lines.new ≡ L.state lines.old }
+    ensures ports { LinesAtEnd result.machine (L.state lines.old) (L.state lines.new) }
     ensures cause { StatusCause (texts_of words.now) result.status (S.fault_count output.old) (S.fault_count output.new)
         (C.fault_count input.old) (C.fault_count input.new) }
     ensures unopened { result.status ≡ 101 → IsUnopened F.tells (texts_of words.now) result.faults.items
@@ -244,7 +247,7 @@ fn refused<U: Unit>(
     }
 }
 
-/// Does all lines of a session on a machine whose terminal lines have no port.
+/// Does all lines of a session on a machine with one terminal line, which has no port.
 fn run_session<U: Unit, C: Source, S: Sink, F: Files, L: Lines>(
     alloc: Global,
     session: Session<U>,
@@ -257,10 +260,10 @@ fn run_session<U: Unit, C: Source, S: Sink, F: Files, L: Lines>(
     requires command { session.command ≡ 0 }
     requires budget { opening.now.budget ≤ 2 ^ 32 }
     requires open { AllOpen session.machine.slots (F.state files.old).opened }
-    requires portless { HaveNoPort session.machine.lines }
+    requires lines { session.machine.lines ≡ unconnected None ∷ [] }
     ensures ended { SessionEnds result.status result.machine
-        (λ finish watch now. (opening.now.reads ≡ true → IsTrue C.tells) → IsTrue F.tells → IsTrue S.tells
-        → (whole : List LineAnswer) → IsFirst (record_in (L.state lines.new).told) whole → Performed
+        (λ finish watch now. (opening.now.reads ≡ true → IsTrue C.tells) → IsTrue F.tells → IsTrue L.tells
+        → IsTrue S.tells → (whole : List LineAnswer) → IsFirst (record_in (L.state lines.new).told) whole → Performed
         (λ notes. beginning session (beyond (F.state files.old).files (L.state lines.old) whole) opening.now
         (C.left input.old) notes) finish
         (seen (beside watch session.keys (F.state files.new).files (L.state lines.new)) whole now) (C.left input.new)
@@ -269,7 +272,7 @@ fn run_session<U: Unit, C: Source, S: Sink, F: Files, L: Lines>(
         (notes_said session.notes) (notes_said result.faults.items))
         (λ finish. FinishCause finish (S.fault_count output.old) (S.fault_count output.new) (C.fault_count input.old)
         (C.fault_count input.new)) }
-    ensures unasked { L.state lines.new ≡ L.state lines.old }
+    ensures ports { LinesAtEnd result.machine (L.state lines.old) (L.state lines.new) }
     ensures keeps { AreKept session.notes result.faults.items (F.state files.old) (F.state files.new) }
     ensures whose { (slots : List (Option Held))
         × AreOwn session.machine.slots slots session.notes result.faults.items (F.state files.old) (F.state files.new) }

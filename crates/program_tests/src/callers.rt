@@ -2,21 +2,28 @@
 ghost use Rattle.std.specs.Prelude.{◌≡◌};
 
 use crate::checked::holds;
-use crate::row::{Row, add, text};
-use host_lines::{Lines, MemLines};
+use crate::counted_ports::CountedPorts;
+use crate::row::{Row, add, decimal, number, text};
+use host_lines::{Lines, MemLines, Sent};
 use std::alloc::{AllocError, Global};
 use std::process::Abort;
 
 /// The port to which the caller connects.
 const PORT: u16 = 4000;
 
-/// The lines of a row, with its caller, if it says what one types.
-pub fn lines_of(alloc: Global, row: Row<'_>) -> Result<MemLines, AllocError> {
+/// What is sent first on a connection.
+const OPENING: [u8; 12] = [255, 251, 1, 255, 251, 3, 255, 251, 0, 255, 253, 0];
+
+/// The lines of a row, with its caller, if it says what one types, and the calls on them that fail.
+pub fn lines_of(alloc: Global, row: Row<'_>) -> Result<CountedPorts<MemLines>, AllocError> {
     let mut lines = MemLines::with_room(alloc, 64)?;
     if let Some(typed) = text(row, "types") {
         calls(alloc, &mut lines, typed)?;
     }
-    Ok(lines)
+    if let Some(call) = text(row, "refuses") {
+        lines.fail_call(decimal(call))?;
+    }
+    Ok(CountedPorts::new(lines))
 }
 
 fn calls(alloc: Global, lines: &mut MemLines, typed: &str) -> Result<(), AllocError>
@@ -30,9 +37,41 @@ fn calls(alloc: Global, lines: &mut MemLines, typed: &str) -> Result<(), AllocEr
     lines.add_hang_up(300, 1)
 }
 
-/// Nothing was sent, and the caller of the row, if there is one, still waits to be accepted.
-pub fn lines_stand(rt: &impl Abort, lines: &mut MemLines, row: Row<'_>) {
-    holds(rt, lines.sent().is_empty() && lines.faults() == 0, row.line);
+/// As many ports are listened on and as many calls have failed as the row says, or none. The caller of the row, if
+/// there is one, was sent the opening and what the row says, or still waits to be accepted.
+pub fn lines_stand(rt: &impl Abort, lines: &mut CountedPorts<MemLines>, row: Row<'_>) {
+    holds(rt, lines.ports == number(row, "ports", 0), row.line);
+    let lines = &mut lines.lines;
+    holds(rt, lines.faults() == number(row, "lost", 0), row.line);
+    holds(rt, are_sent(lines.sent(), text(row, "sent")), row.line);
     let waits = matches!(lines.accept(PORT, 300), Ok(Some(_)));
-    holds(rt, waits == text(row, "types").is_some(), row.line);
+    let is_to_wait = text(row, "types").is_some() && text(row, "sent").is_none();
+    holds(rt, waits == is_to_wait, row.line);
+}
+
+fn are_sent(sent: &[Sent], wanted: Option<&str>) -> bool {
+    match wanted {
+        Some(text) => is_opened(sent) && is_heard(sent, text),
+        None => sent.is_empty(),
+    }
+}
+
+/// Whether caller 1 was sent the opening first.
+fn is_opened(sent: &[Sent]) -> bool {
+    for (sent, byte) in sent.iter().zip(OPENING.iter()) {
+        if sent.caller != 1 || sent.byte != *byte {
+            return false;
+        }
+    }
+    sent.len() >= OPENING.len()
+}
+
+/// Whether caller 1 was sent that text behind the opening, and nothing else was sent.
+fn is_heard(sent: &[Sent], text: &str) -> bool {
+    for (sent, letter) in sent.iter().skip(OPENING.len()).zip(text.chars()) {
+        if sent.caller != 1 || u32::from(sent.byte) != u32::from(letter) {
+            return false;
+        }
+    }
+    sent.len() == OPENING.len() + text.chars().count()
 }

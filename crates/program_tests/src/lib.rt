@@ -10,6 +10,8 @@ mod checked;
 #[cfg(test)]
 mod counted;
 #[cfg(test)]
+mod counted_ports;
+#[cfg(test)]
 mod disk;
 #[cfg(test)]
 mod files;
@@ -23,6 +25,8 @@ mod sessions;
 mod standard;
 #[cfg(test)]
 mod tapes;
+#[cfg(test)]
+mod terminals;
 #[cfg(test)]
 mod units;
 #[cfg(test)]

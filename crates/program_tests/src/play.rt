@@ -1,8 +1,10 @@
-// How a row is played. It says the words, which files are there before (`before`), which call on them fails and how many
-// bytes that writes (`fails`), which read of the input fails (`read`), how many bytes the console takes (`room`), and the
-// input (`lines` and `more`) and what a caller types (`types`); and then what is printed (`prints` and `then`, as far as there
-// is room), the status, the note of the failed call (`note`), what is left of the input (`left`), files behind it (`after`),
-// words of memory (`cells`) and that there is no machine (`machine=none`).
+// How a row is played. It says the words, which files are there before (`before`), which call on them fails and how
+// many bytes that writes (`fails`), which read of the input fails (`read`), how many bytes the console takes
+// (`room`), and the input (`lines` and `more`), what a caller types (`types`) and which call on terminal lines fails
+// (`refuses`); and then what is printed (`prints` and `then`, as far as there is room), the status, the note of the
+// failed call (`note`), what is left of the input (`left`), files behind it (`after`), words of memory (`cells`),
+// that there is no machine (`machine=none`), what the caller was sent behind the opening, where it was accepted
+// (`sent`), how many calls on lines have failed (`lost`) and how many ports are still listened on (`ports`).
 ghost use Rattle.std.specs.Prelude.{◌≡◌, map};
 ghost use Rattle.unit_trait.specs.declared.kind.Kind.TheVariants.{Dsk as disks, Mta as tapes, Lpt as printers, Ptr as readers};
 ghost use Rattle.unit_trait.specs.declared.kind.Kind.TheVariants.{Ptp as punches, Clk as clocks, Tti as keyboards};

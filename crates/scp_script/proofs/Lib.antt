@@ -1,4 +1,5 @@
 pub mod TextLemmas
+pub mod PortLemmas
 pub mod UndoneLemmas
 pub mod RoomLemmas
 pub mod EchoLemmas

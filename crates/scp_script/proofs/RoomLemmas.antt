@@ -1,8 +1,10 @@
 -- A command has a script next only where it is a DO.
-use Rattle.std.proofs.Common.{ℕ, ◌+◌, ◌<◌, ◌==◌, Bool, not, true, false, List, length, sym, subst, Option, Some, None, Result, Ok, Err, if◌then◌else◌, nat_le, nat_lt, ◌&&◌, ◌^◌, min, unwrap_or}
+use Rattle.std.proofs.Common.{ℕ, ◌+◌, ◌<◌, ◌==◌, Bool, not, true, false, List, length, sym, subst, Option, Some, None, Result, Ok, Err, if◌then◌else◌, nat_le, nat_lt, ◌&&◌, ◌^◌, min, unwrap_or, is_none, is_some}
 use Rattle.file_commands.specs.declared.note.Subject.TheVariants as subject
 use Rattle.file_commands.specs.Notes.{CommandNote, failure_now}
 use Rattle.unit_trait.specs.declared.kind.UnitName.{UnitName}
+use Rattle.host_lines.specs.Traffic.{Answer as LineAnswer, Failed, Peer, listening}
+use Rattle.telnet_lines.specs.Line.{LineOf}
 use Rattle.unit_files.specs.Acts.{AttachSaid, Attached, UnitHasFile, OnlyWrites, NotThere, TooLong, CallFailed, DetachSaid, HadNone, StillHeld, Detached}
 use Rattle.unit_files.specs.Acts.{attach_said, detach_said}
 use Rattle.nova_memory.specs.Memory.{fits_size}
@@ -25,6 +27,7 @@ use Rattle.scp_commands.specs.Reply.{Answer, Reply}
 use Rattle.scp_commands.specs.Doing.{Does}
 use Rattle.scp_commands.specs.RunEffects.{run_answer, run_failure, ran, address_fits, started, run_from, stepped, step_of, reset_reply}
 use Rattle.scp_commands.specs.ListEffects.{lacks_device, examine_after, examine_reply, handed, deposit_after, deposit_reply}
+use Rattle.scp_commands.specs.LineEffects.{is_terminal, terminal_line, is_port, listen_answer, attach_line, attach_port_reply, with_port, detach_port_reply, disconnect_reply, show_line}
 use Rattle.scp_commands.specs.FileEffects.{lacks_unit, mode_of, attach_answer, attach_reply}
 use Rattle.scp_commands.specs.FileEffects.{detach_answer, detach_reply, detach_all_reply, detach_one_or_all, emptied_all, kept_answer}
 use Rattle.expect_actions.specs.Expects.{most_expects}
@@ -118,6 +121,31 @@ unfolding detach_reply
 detach-none notes live unit =
     none-if (lacks_unit live.machine unit) _ _ tt (detach_answer-none unit (detach_said (failure_now live.machine.time (subject.Unit unit) notes) unit (attached_in live.machine) live.machine.disk))
 
+listen_answer-none : (answer : LineAnswer) → NoScript (listen_answer answer)
+listen_answer-none Failed = tt
+listen_answer-none answer = tt
+
+attach_line-none : (line : Option (LineOf Peer)) (port : ℕ) (live : Live) → NoScript (attach_line line port live).answer
+attach_line-none None port live = tt
+attach_line-none (Some line) port live =
+    none-if (is_some line.port) _ _ tt (none-if (is_port port) _ _ (listen_answer-none (listening live.ahead).answer) tt)
+
+attach_port-none : (live : Live) (port : ℕ) → NoScript (attach_port_reply live port).answer
+unfolding attach_port_reply
+attach_port-none live port = attach_line-none (terminal_line live.lines) port live
+
+with_port-none : (line : Option (LineOf Peer)) (reply : Reply) (live : Live) → NoScript reply.answer → NoScript (with_port line reply live).answer
+with_port-none None reply live none = tt
+with_port-none (Some line) reply live none = none-if (is_none line.port) _ _ tt none
+
+detach_port-none : (live : Live) → NoScript (detach_port_reply live).answer
+unfolding detach_port_reply
+detach_port-none live = with_port-none (terminal_line live.lines) _ live tt
+
+disconnect-none : (live : Live) → NoScript (disconnect_reply live).answer
+unfolding disconnect_reply
+disconnect-none live = with_port-none (terminal_line live.lines) _ live tt
+
 kept-none : (next : Next) (k : Option UnitName) → NoScript (Ok next) → NoScript (kept_answer k next)
 kept-none next None none = none
 kept-none next (Some u) none = tt
@@ -128,7 +156,11 @@ detach_all-none notes live = kept-none Go (emptied_all notes live).kept tt
 
 detach_where-none : (notes : List CommandNote) (live : Live) (unit : Option UnitName) → NoScript (detach_one_or_all notes live unit).answer
 detach_where-none notes live None = detach_all-none notes live
-detach_where-none notes live (Some unit) = detach-none notes live unit
+detach_where-none notes live (Some unit) = none-if (is_terminal unit) _ _ (detach_port-none live) (detach-none notes live unit)
+
+show_line-none : (line : Option (LineOf Peer)) (live : Live) → NoScript (show_line line live).answer
+show_line-none None live = tt
+show_line-none (Some line) live = tt
 
 show-none : (live : Live) (subject : Shown) → NoScript (show_reply live subject).answer
 unfolding show_reply
@@ -136,7 +168,7 @@ show-none live shown.Time = tt
 show-none live shown.Cpu = tt
 show-none live shown.Queue = tt
 show-none live shown.Version = tt
-show-none live (shown.Unit unit) = none-if (lacks_unit live.machine unit) _ _ tt tt
+show-none live (shown.Unit unit) = none-if (is_terminal unit) _ _ (show_line-none (terminal_line live.lines) live) (none-if (lacks_unit live.machine unit) _ _ tt tt)
 show-none live shown.Break = tt
 show-none live shown.Expect = tt
 show-none live shown.Send = tt
@@ -253,8 +285,10 @@ room-effect scripts limit notes live request.NoExpect fits = room-none scripts _
 room-effect scripts limit notes live (request.Send after delay text) fits = room-none scripts _ (send-none live after delay text)
 room-effect scripts limit notes live request.NoSend fits = room-none scripts _ (no_send-none live)
 room-effect scripts limit notes live (request.Attach option unit name) fits = room-none scripts _ (attach-none notes live option unit name)
+room-effect scripts limit notes live (request.AttachPort kind port) fits = room-none scripts _ (attach_port-none live port)
 room-effect scripts limit notes live (request.Detach unit) fits = room-none scripts _ (detach_where-none notes live unit)
 room-effect scripts limit notes live (request.SetSize k) fits = room-none scripts _ (set_size-none live k)
+room-effect scripts limit notes live (request.Disconnect kind) fits = room-none scripts _ (disconnect-none live)
 room-effect scripts limit notes live (request.Show subject) fits = room-none scripts _ (show-none live subject)
 room-effect scripts limit notes live (request.Assert test) fits = room-none scripts _ (assert-none live test)
 room-effect scripts limit notes live (request.Echo text) fits = room-none scripts _ (echo-none live text)

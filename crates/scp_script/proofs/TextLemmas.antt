@@ -1,15 +1,16 @@
 -- What the text of a line makes: the command's own, and the text of its fault.
-use Rattle.std.proofs.Common.{◌≡◌, ◌⊎◌, ⊎_elim, inl, inr, ℕ, ◌+◌, Bool, IsTrue, is_ok, List, [], ◌∷◌, ◌++◌, take, refl, ap, sym, ◌∙◌, append_assoc, append-nil, subst, length, Option, Some, None, Result, Ok, Err}
+use Rattle.std.proofs.Common.{◌≡◌, ◌⊎◌, ⊎_elim, inl, inr, ℕ, ◌+◌, Bool, true, false, if◌then◌else◌, IsTrue, is_ok, List, [], ◌∷◌, ◌++◌, take, refl, ap, sym, ◌∙◌, append_assoc, append-nil, subst, length, Option, Some, None, Result, Ok, Err}
 use Rattle.observations.specs.Observations.{Observation, Prints, text_of, reads_of, sent_of}
 use Rattle.observations.proofs.CutLemmas.{breaks-here, breaks-before, breaks-behind, before-sent, behind-sent, here-sent}
 use Rattle.observations.proofs.MadeLemmas.{text_of-append, reads_of-append, sent_of-append, stands-before, stands-behind}
 use Rattle.host_lines.specs.State.{LineState}
 use Rattle.host_lines.specs.Told.{Heard}
 use Rattle.telnet_lines.specs.Line.{LineOf}
+use Rattle.telnet_lines.specs.Many.{AreApart}
 use Rattle.nova_machine.specs.declared.machine.Stop.{Stop}
 use Rattle.nova_machine.specs.declared.machine.Stop.TheVariants.{Halt, ChainLimit, UnknownDevice, Break, Expect, Stepped, Limit, UnitEnd, UnitNone, BadImage, Wru, FileFault, ConsoleFault}
 use Rattle.nova_machine.specs.Comes.{Output}
-use Rattle.nova_machine.specs.LineChanges.{heard_with, AreLinesTold}
+use Rattle.nova_machine.specs.LineChanges.{heard_with}
 use Rattle.nova_machine.proofs.Hearing.{heard-nothing}
 use Rattle.unit_files.specs.Attachments.{Held}
 use Rattle.file_commands.specs.Notes.{CommandNote, Note}
@@ -26,7 +27,9 @@ use Rattle.scp_commands.specs.Live.{Live, Standing, standing}
 use Rattle.scp_commands.specs.Reply.{Answer, Reply, refused, bare_answer}
 use Rattle.scp_commands.specs.FaultText.{fault_text}
 use Rattle.scp_commands.specs.Effect.{Asked, effect, does}
-use Rattle.scp_commands.specs.Doing.{IsSaid, IsBrokenOff, Does, Did, IsTold}
+use Rattle.scp_commands.specs.LineEffects.{is_terminal}
+use Rattle.scp_commands.specs.Nature.Telling.{Nothing, Ported}
+use Rattle.scp_commands.specs.Doing.{IsSaid, IsBrokenOff, Does, Did, told_by, IsTold}
 use Rattle.scp_commands.proofs.EffectLemmas.{does-reads}
 use Rattle.scp_script.specs.declared.progress.Progress.{Progress}
 use Rattle.scp_script.specs.declared.progress.Progress.TheVariants.{GoesOn, IsOver}
@@ -211,6 +214,8 @@ denied texts what reply (fault.PastMemory origin) result texts' at tells before 
     denied-by texts what reply (fault.PastMemory origin) result texts' at tells before mid after sink sink_now open_now heard does told
 denied texts what reply (fault.FileFailed who) result texts' at tells before mid after sink sink_now open_now heard does told =
     denied-by texts what reply (fault.FileFailed who) result texts' at tells before mid after sink sink_now open_now heard does told
+denied texts what reply fault.PortFailed result texts' at tells before mid after sink sink_now open_now heard does told =
+    denied-by texts what reply fault.PortFailed result texts' at tells before mid after sink sink_now open_now heard does told
 denied texts what reply fault.Full result texts' at tells before mid after sink sink_now open_now heard does told =
     denied-by texts what reply fault.Full result texts' at tells before mid after sink sink_now open_now heard does told
 denied texts what reply fault.AssertFailed result texts' at tells before mid after sink sink_now open_now heard does told =
@@ -333,17 +338,26 @@ exit-followed texts what reply status texts' at tells before after (is, said) =
 -- ---- what comes of a text
 
 -- what is told where files and lines are told, is told of every command
-pub told-of : (tells : Bool) (slots : List (Option Held)) (line_tells : Bool) (ports : LineState) (lines : List (LineOf ℕ)) (r : Request) → IsTrue tells → AreLinesTold line_tells ports lines
+pub told-of : (tells : Bool) (slots : List (Option Held)) (line_tells : Bool) (ports : LineState) (lines : List (LineOf ℕ)) (r : Request) → IsTrue tells → IsTrue line_tells → AreApart ports lines
     → IsTold tells slots line_tells ports lines r
-told-of tells slots line_tells ports lines (Attach option unit name) told known = told
-told-of tells slots line_tells ports lines (request.Do echo strict name arguments) told known = told
-told-of tells slots line_tells ports lines (request.Load name) told known = told
-told-of tells slots line_tells ports lines (request.Dump from to name) told known = told
-told-of tells slots line_tells ports lines (request.Run address) told known = (inl told, known)
-told-of tells slots line_tells ports lines (request.Go address) told known = (inl told, known)
-told-of tells slots line_tells ports lines request.Cont told known = (inl told, known)
-told-of tells slots line_tells ports lines (request.Step count) told known = (inl told, known)
-told-of tells slots line_tells ports lines r told known = tt
+told-of tells slots line_tells ports lines (Attach option unit name) told telling apart = told
+told-of tells slots line_tells ports lines (request.AttachPort kind port) told telling apart = (telling, apart)
+told-of tells slots line_tells ports lines (request.Do echo strict name arguments) told telling apart = told
+told-of tells slots line_tells ports lines (request.Load name) told telling apart = told
+told-of tells slots line_tells ports lines (request.Dump from to name) told telling apart = told
+told-of tells slots line_tells ports lines (request.Run address) told telling apart = (inl told, inl (telling, apart))
+told-of tells slots line_tells ports lines (request.Go address) told telling apart = (inl told, inl (telling, apart))
+told-of tells slots line_tells ports lines request.Cont told telling apart = (inl told, inl (telling, apart))
+told-of tells slots line_tells ports lines (request.Step count) told telling apart = (inl told, inl (telling, apart))
+told-of tells slots line_tells ports lines (request.Detach None) told telling apart = inl (telling, apart)
+told-of tells slots line_tells ports lines (request.Detach (Some unit)) told telling apart = by (is_terminal unit)
+  where
+    by : (b : Bool) → told_by (if b then Ported else Nothing) tells slots line_tells ports lines
+    by true = inl (telling, apart)
+    by false = tt
+told-of tells slots line_tells ports lines (request.Disconnect kind) told telling apart = inl (telling, apart)
+told-of tells slots line_tells ports lines (request.Exit status) told telling apart = inl (telling, apart)
+told-of tells slots line_tells ports lines r told telling apart = tt
 
 -- a command was done, and then its answer was followed
 pub answers-of : (limit : ℕ) (old : Live) (texts : Texts) (r : Request) (number : ℕ) (answer : Answer) (result : Progress) (new : Live) (texts' : Texts) (tells : Bool) (before mid after : Output) (notes notes' : List Note)

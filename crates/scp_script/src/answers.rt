@@ -5,9 +5,10 @@ ghost use Rattle.file_commands.specs.OwnFiles.{AreOwn};
 ghost use Rattle.file_commands.specs.Notes.{CommandNote, Note, notes_said};
 ghost use Rattle.host_lines.specs.Traffic.{Answer as LineAnswer};
 ghost use Rattle.host_lines.specs.Told.{Heard, IsFirst, record_in};
+ghost use Rattle.telnet_lines.specs.Many.{AreApart};
 ghost use Rattle.nova_machine.specs.Comes.{output};
-ghost use Rattle.nova_machine.specs.LineChanges.{AreLinesTold, LinesGoOn};
 ghost use Rattle.scp_commands.specs.Live.{live_in, standing, Beyond, beyond};
+ghost use Rattle.scp_commands.specs.LinesLeft.{LinesLeft};
 ghost use Rattle.scp_commands.specs.Effect.{Asked, asked};
 ghost use Rattle.scp_commands.specs.Doing.{IsExitAnswer};
 ghost use Rattle.scp_commands.specs.FaultText.{fault_text};
@@ -46,20 +47,20 @@ pub fn answer<U: Unit, F: Files, L: Lines, S: Sink>(
     out: &mut S,
 ) -> Progress
     requires open { AllOpen session.old.machine.slots (F.state files.old).opened }
-    ensures told { IsTrue F.tells → AreLinesTold L.tells (L.state lines.old) session.old.machine.lines
+    ensures told { IsTrue F.tells → IsTrue L.tells → AreApart (L.state lines.old) session.old.machine.lines
         → (whole : List LineAnswer) → IsFirst (record_in (L.state lines.new).told) whole
         → Answers session.old.limit (live_in session.old (beyond (F.state files.old).files (L.state lines.old) whole))
         (coming texts.old) (asked line.now) session.old.command result
         (live_in session.new (beyond (F.state files.new).files (L.state lines.new) whole)) (coming texts.new) S.tells
         (output (S.written out.old) (L.state lines.old).sent) (output (S.written out.new) (L.state lines.new).sent)
         (notes_said session.old.notes) (notes_said session.new.notes) }
-    ensures short { IsTrue F.tells → (whole : List LineAnswer) (own : List Note)
+    ensures short { IsTrue F.tells → IsTrue L.tells → (whole : List LineAnswer) (own : List Note)
         → notes_said session.new.notes ≡ notes_said session.old.notes ++ own
         → IsShort (asked line.now) session.old.command result
         (live_in session.old (beyond (F.state files.old).files (L.state lines.old) whole))
         (live_in session.new (beyond (F.state files.new).files (L.state lines.new) whole)) own
         (output (S.written out.old) (L.state lines.old).sent) (output (S.written out.new) (L.state lines.new).sent) }
-    ensures lines { LinesGoOn L.tells (L.state lines.old) session.old.machine.lines (L.state lines.new)
+    ensures lines { LinesLeft L.tells (L.state lines.old) session.old.machine.lines (L.state lines.new)
         session.new.machine.lines }
     ensures counts { AnswerCounts result (S.fault_count out.old) (S.fault_count out.new) }
     ensures exit { HasExitStatus result }
@@ -95,20 +96,20 @@ fn obey<U: Unit, F: Files, L: Lines, S: Sink>(
     out: &mut S,
 ) -> Progress
     requires open { AllOpen session.old.machine.slots (F.state files.old).opened }
-    ensures told { IsTrue F.tells → AreLinesTold L.tells (L.state lines.old) session.old.machine.lines
+    ensures told { IsTrue F.tells → IsTrue L.tells → AreApart (L.state lines.old) session.old.machine.lines
         → (whole : List LineAnswer) → IsFirst (record_in (L.state lines.new).told) whole
         → Answers session.old.limit (live_in session.old (beyond (F.state files.old).files (L.state lines.old) whole))
         (coming texts.old) (Ok command.now) session.old.command result
         (live_in session.new (beyond (F.state files.new).files (L.state lines.new) whole)) (coming texts.new) S.tells
         (output (S.written out.old) (L.state lines.old).sent) (output (S.written out.new) (L.state lines.new).sent)
         (notes_said session.old.notes) (notes_said session.new.notes) }
-    ensures short { IsTrue F.tells → (whole : List LineAnswer) (own : List Note)
+    ensures short { IsTrue F.tells → IsTrue L.tells → (whole : List LineAnswer) (own : List Note)
         → notes_said session.new.notes ≡ notes_said session.old.notes ++ own
         → IsShort (Ok command.now) session.old.command result
         (live_in session.old (beyond (F.state files.old).files (L.state lines.old) whole))
         (live_in session.new (beyond (F.state files.new).files (L.state lines.new) whole)) own
         (output (S.written out.old) (L.state lines.old).sent) (output (S.written out.new) (L.state lines.new).sent) }
-    ensures lines { LinesGoOn L.tells (L.state lines.old) session.old.machine.lines (L.state lines.new)
+    ensures lines { LinesLeft L.tells (L.state lines.old) session.old.machine.lines (L.state lines.new)
         session.new.machine.lines }
     ensures counts { AnswerCounts result (S.fault_count out.old) (S.fault_count out.new) }
     ensures exit { HasExitStatus result }

@@ -7,9 +7,10 @@ ghost use Rattle.file_commands.specs.OwnFiles.{AreOwn};
 ghost use Rattle.file_commands.specs.Notes.{notes_said};
 ghost use Rattle.host_lines.specs.Traffic.{Answer as LineAnswer};
 ghost use Rattle.host_lines.specs.Told.{IsFirst, record_in};
+ghost use Rattle.telnet_lines.specs.Many.{AreApart};
 ghost use Rattle.nova_machine.specs.Comes.{output};
-ghost use Rattle.nova_machine.specs.LineChanges.{AreLinesTold, LinesGoOn};
 ghost use Rattle.scp_commands.specs.Live.{beyond};
+ghost use Rattle.scp_commands.specs.LinesLeft.{LinesLeft};
 ghost use Rattle.scp_script.specs.Reading.{IsReading, Pays};
 ghost use Rattle.scp_script.specs.Scripts.{cost_of_line};
 ghost use Rattle.scp_script.specs.Session.{prompt_text, spent_more};
@@ -43,7 +44,7 @@ pub fn next_line<U: Unit, C: Source, F: Files, L: Lines, S: Sink>(
 ) -> Progress
     requires open { AllOpen session.old.machine.slots (F.state files.old).opened }
     ensures told { NumbersSuffice session.old.command lines.old.budget → (lines.old.reads ≡ true → IsTrue C.tells)
-        → IsTrue F.tells → AreLinesTold L.tells (L.state ports.old) session.old.machine.lines → IsTrue S.tells
+        → IsTrue F.tells → IsTrue L.tells → AreApart (L.state ports.old) session.old.machine.lines → IsTrue S.tells
         → (whole : List LineAnswer) → IsFirst (record_in (L.state ports.new).told) whole → Stepped
         (session_of session.old (beyond (F.state files.old).files (L.state ports.old) whole) lines.old
         (C.left input.old)) result
@@ -51,7 +52,7 @@ pub fn next_line<U: Unit, C: Source, F: Files, L: Lines, S: Sink>(
         (C.left input.new)) (output (S.written out.old) (L.state ports.old).sent)
         (output (S.written out.new) (L.state ports.new).sent) (notes_said session.old.notes)
         (notes_said session.new.notes) }
-    ensures ports { LinesGoOn L.tells (L.state ports.old) session.old.machine.lines (L.state ports.new)
+    ensures ports { LinesLeft L.tells (L.state ports.old) session.old.machine.lines (L.state ports.new)
         session.new.machine.lines }
     ensures cause { ProgressCause result (S.fault_count out.old) (S.fault_count out.new) (C.fault_count input.old)
         (C.fault_count input.new) }
@@ -96,13 +97,13 @@ fn action<U: Unit, F: Files, L: Lines, S: Sink>(
     requires some { lines.old.texts.actions ≢ [] }
     requires open { AllOpen session.old.machine.slots (F.state files.old).opened }
     ensures told { NumbersSuffice session.old.command lines.old.budget → IsTrue F.tells
-        → AreLinesTold L.tells (L.state ports.old) session.old.machine.lines → IsTrue S.tells
+        → IsTrue L.tells → AreApart (L.state ports.old) session.old.machine.lines → IsTrue S.tells
         → (whole : List LineAnswer) → IsFirst (record_in (L.state ports.new).told) whole → (input : List ℕ) → Stepped
         (session_of session.old (beyond (F.state files.old).files (L.state ports.old) whole) lines.old input) result
         (session_of session.new (beyond (F.state files.new).files (L.state ports.new) whole) lines.new input)
         (output (S.written out.old) (L.state ports.old).sent) (output (S.written out.new) (L.state ports.new).sent)
         (notes_said session.old.notes) (notes_said session.new.notes) }
-    ensures ports { LinesGoOn L.tells (L.state ports.old) session.old.machine.lines (L.state ports.new)
+    ensures ports { LinesLeft L.tells (L.state ports.old) session.old.machine.lines (L.state ports.new)
         session.new.machine.lines }
     ensures cause { (source : ℕ) → ProgressCause result (S.fault_count out.old) (S.fault_count out.new) source source }
     ensures pays { PaysFor lines.old.budget result lines.new.budget }
@@ -139,7 +140,8 @@ fn action<U: Unit, F: Files, L: Lines, S: Sink>(
 }
 
 /// Does the next line of the input, where no script is open and there is room for notes: the prompt comes first where
-/// it is on, then the reading, and the command. Where the input has ended, all files are closed.
+/// it is on, then the reading, and the command. Where the input has ended, all files are closed, and the port of the
+/// second teletype is given up.
 fn input_line<U: Unit, C: Source, F: Files, L: Lines, S: Sink>(
     alloc: Global,
     session: &mut Session<U>,
@@ -155,7 +157,7 @@ fn input_line<U: Unit, C: Source, F: Files, L: Lines, S: Sink>(
     requires room { 16 ≤ session.old.spare }
     requires open { AllOpen session.old.machine.slots (F.state files.old).opened }
     ensures told { NumbersSuffice session.old.command lines.old.budget → IsTrue C.tells → IsTrue F.tells
-        → AreLinesTold L.tells (L.state ports.old) session.old.machine.lines → IsTrue S.tells
+        → IsTrue L.tells → AreApart (L.state ports.old) session.old.machine.lines → IsTrue S.tells
         → (whole : List LineAnswer) → IsFirst (record_in (L.state ports.new).told) whole → Stepped
         (session_of session.old (beyond (F.state files.old).files (L.state ports.old) whole) lines.old
         (C.left input.old)) result
@@ -163,7 +165,7 @@ fn input_line<U: Unit, C: Source, F: Files, L: Lines, S: Sink>(
         (C.left input.new)) (output (S.written out.old) (L.state ports.old).sent)
         (output (S.written out.new) (L.state ports.new).sent) (notes_said session.old.notes)
         (notes_said session.new.notes) }
-    ensures ports { LinesGoOn L.tells (L.state ports.old) session.old.machine.lines (L.state ports.new)
+    ensures ports { LinesLeft L.tells (L.state ports.old) session.old.machine.lines (L.state ports.new)
         session.new.machine.lines }
     ensures cause { ProgressCause result (S.fault_count out.old) (S.fault_count out.new) (C.fault_count input.old)
         (C.fault_count input.new) }
@@ -198,7 +200,7 @@ fn input_line<U: Unit, C: Source, F: Files, L: Lines, S: Sink>(
         ),
         Reading::TooLong => deny_line(session, TOO_LONG, &mut lines.texts, out),
         Reading::End => {
-            match session.detach_files(files) {
+            match session.detach_all(files, ports) {
                 Ok(()) => Progress::IsOver(Finish::EndOfInput),
                 Err(_fault) => Progress::IsOver(Finish::FlushFailed),
             }
@@ -224,7 +226,7 @@ fn script_line<U: Unit, F: Files, L: Lines, S: Sink>(
     requires scripts { length lines.old.texts.scripts < 10 }
     requires open { AllOpen session.old.machine.slots (F.state files.old).opened }
     ensures told { NumbersSuffice session.old.command lines.old.budget → IsTrue F.tells
-        → AreLinesTold L.tells (L.state ports.old) session.old.machine.lines → IsTrue S.tells
+        → IsTrue L.tells → AreApart (L.state ports.old) session.old.machine.lines → IsTrue S.tells
         → (whole : List LineAnswer) → IsFirst (record_in (L.state ports.new).told) whole
         → (input : List ℕ) → Stepped
         (session_of session.old (beyond (F.state files.old).files (L.state ports.old) whole)
@@ -233,7 +235,7 @@ fn script_line<U: Unit, F: Files, L: Lines, S: Sink>(
         (session_of session.new (beyond (F.state files.new).files (L.state ports.new) whole) lines.new input)
         (output (S.written out.old) (L.state ports.old).sent) (output (S.written out.new) (L.state ports.new).sent)
         (notes_said session.old.notes) (notes_said session.new.notes) }
-    ensures ports { LinesGoOn L.tells (L.state ports.old) session.old.machine.lines (L.state ports.new)
+    ensures ports { LinesLeft L.tells (L.state ports.old) session.old.machine.lines (L.state ports.new)
         session.new.machine.lines }
     ensures cause { (source : ℕ) → ProgressCause result (S.fault_count out.old) (S.fault_count out.new) source source }
     ensures pays { PaysFor lines.old.budget result lines.new.budget }

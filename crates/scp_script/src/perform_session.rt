@@ -6,9 +6,10 @@ ghost use Rattle.file_commands.specs.OwnFiles.{AreOwn};
 ghost use Rattle.file_commands.specs.Notes.{notes_said};
 ghost use Rattle.host_lines.specs.Traffic.{Answer as LineAnswer};
 ghost use Rattle.host_lines.specs.Told.{IsFirst, record_in};
+ghost use Rattle.telnet_lines.specs.Many.{AreApart};
 ghost use Rattle.nova_machine.specs.Comes.{output};
-ghost use Rattle.nova_machine.specs.LineChanges.{AreLinesTold, LinesGoOn};
 ghost use Rattle.scp_commands.specs.Live.{live_in, beyond};
+ghost use Rattle.scp_commands.specs.LinesLeft.{LinesLeft};
 ghost use Rattle.scp_script.specs.Loop.{NumbersSuffice, FinishCause, AreKept, KeptCause};
 ghost use Rattle.scp_script.specs.Scripts.{first_script};
 ghost use Rattle.scp_script.specs.Perform.{beginning, SpendsOf, Performed};
@@ -49,8 +50,9 @@ pub struct Opening {
 /// The notes that it keeps are those of the calls on files that failed in it, one for each, but for the closing that a
 /// refused ATTACH makes. Memory is taken for those of a command before its line is read.
 ///
-/// `lines` are the ports and connections of the host: a run polls them for the machine's terminal lines. Where none of
-/// these has a port, nothing is asked of the host.
+/// `lines` are the ports and connections of the host: a run polls them for the machine's terminal lines, and ATTACH of
+/// the second teletype listens on a port. At EXIT and at the end of the input, where no file had to be kept, that port
+/// is given up with its connection; at any other end it stays.
 pub fn perform<U: Unit, C: Source, F: Files, L: Lines, S: Sink>(
     alloc: Global,
     session: &mut Session<U>,
@@ -62,14 +64,14 @@ pub fn perform<U: Unit, C: Source, F: Files, L: Lines, S: Sink>(
 ) -> Finish
     requires open { AllOpen session.old.machine.slots (F.state files.old).opened }
     ensures told { NumbersSuffice session.old.command opening.now.budget → (opening.now.reads ≡ true → IsTrue C.tells)
-        → IsTrue F.tells → AreLinesTold L.tells (L.state lines.old) session.old.machine.lines → IsTrue S.tells
+        → IsTrue F.tells → IsTrue L.tells → AreApart (L.state lines.old) session.old.machine.lines → IsTrue S.tells
         → (whole : List LineAnswer) → IsFirst (record_in (L.state lines.new).told) whole → Performed
         (λ notes. beginning session.old (beyond (F.state files.old).files (L.state lines.old) whole) opening.now
         (C.left input.old) notes) result
         (live_in session.new (beyond (F.state files.new).files (L.state lines.new) whole)) (C.left input.new)
         (output (S.written out.old) (L.state lines.old).sent) (output (S.written out.new) (L.state lines.new).sent)
         (notes_said session.old.notes) (notes_said session.new.notes) }
-    ensures lines { LinesGoOn L.tells (L.state lines.old) session.old.machine.lines (L.state lines.new)
+    ensures lines { LinesLeft L.tells (L.state lines.old) session.old.machine.lines (L.state lines.new)
         session.new.machine.lines }
     ensures command { SpendsOf opening.now.budget session.old.command session.new.command }
     ensures cause { FinishCause result (S.fault_count out.old) (S.fault_count out.new) (C.fault_count input.old)

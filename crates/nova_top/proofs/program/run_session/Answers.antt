@@ -1,4 +1,4 @@
-use Rattle.std.proofs.Common.{refl, arith, inr, ap, sym, ◌∙◌, subst, List, Option}
+use Rattle.std.proofs.Common.{refl, arith, ap, sym, ◌∙◌, subst, List, Option}
 use Rattle.file_commands.specs.declared.note.FaultNote.{FaultNote}
 use Rattle.file_commands.specs.OwnFiles.{AreOwn}
 use Rattle.scp_script.specs.Loop.{KeptCause}
@@ -6,6 +6,8 @@ use Rattle.unit_files.specs.Open.{AllOpen, Around}
 use Rattle.unit_files.specs.Attachments.{Held}
 use Rattle.nova_machine.specs.Comes.{output}
 use Rattle.scp_commands.specs.Live.{CommandState, beyond}
+use Rattle.scp_commands.specs.LinesLeft.{LinesLeft}
+use Rattle.nova_top.proofs.PortLemmas.{apart-at-first, lines-at-end}
 use Rattle.nova_top.proofs.ProgramLemmas.{lines-told, unwritten-finish}
 use Rattle.nova_top.proofs.program.run_session.Goals as goal
 
@@ -16,17 +18,22 @@ returns-clause-ended g c = (
   c.session.inside.machine,
   c.status.ensures,
   refl,
-  (λ source files sink whole first. lines-told c.args.session c.perform-finish.new.session _ c.args.opening.now
+  (λ source files telling sink whole first. lines-told c.args.session c.perform-finish.new.session _ c.args.opening.now
       (beyond (g.F.Files.state c.args.files.now).files (g.L.Lines.state c.args.lines.now) whole) (beyond (g.F.Files.state c.perform-finish.new.files).files (g.L.Lines.state c.perform-finish.new.lines) whole)
       (g.C.Source.left c.args.input.now) (g.C.Source.left c.perform-finish.new.input) (output (g.S.Sink.written c.args.output.now) (g.L.Lines.state c.args.lines.now).sent)
       (output (g.S.Sink.written c.perform-finish.new.out) (g.L.Lines.state c.perform-finish.new.lines).sent) c.perform-finish.result
       c.session.view_is c.perform-finish.ensures.keys
-      (c.perform-finish.ensures.told (omega (arith, c.requires.command, c.requires.budget)) source files (inr c.requires.portless) sink whole first)),
+      (c.perform-finish.ensures.told (omega (arith, c.requires.command, c.requires.budget)) source files telling
+      (apart-at-first (g.L.Lines.state c.args.lines.now) c.args.session.machine.lines c.requires.lines) sink whole first)),
   c.perform-finish.ensures.cause,
 )
 
-pub returns-clause-unasked : goal.returns-clause-unasked
-returns-clause-unasked g c = (c.perform-finish.ensures.lines.idle c.requires.portless).0
+pub returns-clause-ports : goal.returns-clause-ports
+returns-clause-ports g c =
+    let old = g.L.Lines.state c.args.lines.now in
+    let new = g.L.Lines.state c.perform-finish.new.lines in
+    lines-at-end g.L.Lines.tells old new c.args.session.machine.lines c.session.inside.machine c.requires.lines
+    (subst (λ (s : CommandState). LinesLeft g.L.Lines.tells old c.args.session.machine.lines new s.machine.lines) (sym c.session.view_is) c.perform-finish.ensures.lines)
 
 pub returns-clause-unwritten : goal.returns-clause-unwritten
 returns-clause-unwritten g c = λ is.

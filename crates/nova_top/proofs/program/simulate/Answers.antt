@@ -15,8 +15,9 @@ use Rattle.nova_top.specs.declared.word_files.Refusal.{Refusal}
 use Rattle.nova_top.specs.Ends.{AreWordClosings, InputTells}
 use Rattle.nova_top.specs.Words.{texts_of}
 use Rattle.nova_top.specs.Workload.{with_workload}
-use Rattle.nova_top.proofs.ProgramLemmas.{Begun, Made, begun-files, begun-portless, new-slots, workload-given}
+use Rattle.nova_top.proofs.ProgramLemmas.{Begun, Made, begun-files, begun-line, new-slots, workload-given}
 use Rattle.nova_top.proofs.ProgramLemmas.{usage-answer, files-answer, files-memory, files-status, files-cause, session-answer, memory-answer, session-cause, session-status, refused-status, kept-counted, refused-counted, complete-answer, never-unwritten, denied-unwritten, unwritten-whole}
+use Rattle.nova_top.proofs.PortLemmas.{lines-unasked}
 use Rattle.nova_top.proofs.UnreadLemmas.{usage-opened, refused-unopened, refused-measured, session-opened, session-measured}
 use Rattle.nova_top.proofs.program.simulate.Given.{Over}
 use Rattle.nova_top.proofs.program.simulate.Goals as goal
@@ -25,25 +26,25 @@ use Rattle.nova_top.proofs.program.simulate.Goals.{After-run_session-arg-in-Ok-b
 -- ---- words outside their grammar
 
 pub returns-in_default-clause-outcome : goal.returns-in_default-clause-outcome
-returns-in_default-clause-outcome g c = λ source files sink other whole first.
+returns-in_default-clause-outcome g c = λ source files telling sink other whole first.
     usage-answer (texts_of c.args.words.now) (g.C.Source.left c.args.input.now) (g.S.Sink.written c.args.output.now) (g.S.Sink.written c.usage.new.output)
     (beyond (g.F.Files.state c.args.files.now).files (g.L.Lines.state c.args.lines.now) whole) c.usage.result.status c.usage.result.machine c.usage.result.faults.items
     (sym c.options_of.ensures.options ∙ c.in_default.is) c.usage.ensures.machine c.usage.ensures.notes (c.usage.ensures.told sink)
 
 pub returns-in_default-clause-complete : goal.returns-in_default-clause-complete
-returns-in_default-clause-complete g c = λ source files sink other quiet fed none whole first.
+returns-in_default-clause-complete g c = λ source files telling sink other quiet fed none whole first.
     let was = g.F.Files.state c.args.files.now in
     let old = beyond was.files (g.L.Lines.state c.args.lines.now) whole in
     let is = refused-status 100 c.usage.result.status (g.S.Sink.fault_count c.args.output.now) (g.S.Sink.fault_count c.usage.new.output) c.usage.ensures.cause quiet in
     complete-answer (texts_of c.args.words.now) (g.C.Source.left c.args.input.now) (g.C.Source.left c.args.input.now) (g.S.Sink.written c.args.output.now) (g.S.Sink.written c.usage.new.output) old old
     c.usage.result.status c.usage.result.machine c.usage.result.faults.items was was ((λ s. omega (arith, is, s)), (λ s. omega (arith, is, s)))
     (subst (λ (items : List FaultNote). AreCounted items was was) (sym c.usage.ensures.notes) (counted-none was)) none
-    (returns-in_default-clause-outcome g c source files sink other whole first)
+    (returns-in_default-clause-outcome g c source files telling sink other whole first)
 
 -- ---- a file that is refused
 
 pub returns-in-Err-clause-outcome : goal.returns-in-Err-clause-outcome
-returns-in-Err-clause-outcome g c = λ source files sink other whole first.
+returns-in-Err-clause-outcome g c = λ source files telling sink other whole first.
     let lines = g.L.Lines.state c.args.lines.now in
     files-answer (texts_of c.args.words.now) c.in-Some.options (g.C.Source.left c.args.input.now) (g.S.Sink.written c.args.output.now) (g.S.Sink.written c.refuse_files.new.output)
     (beyond (g.F.Files.state c.args.files.now).files lines whole) (beyond (g.F.Files.state c.begin.new.files).files lines whole) c.in-Err.refusal c.refuse_files.result.status c.refuse_files.result.machine
@@ -51,7 +52,7 @@ returns-in-Err-clause-outcome g c = λ source files sink other whole first.
     (ap (λ (f : List NamedBytes). beyond f lines whole) (c.begin.ensures.files files)) other (c.refuse_files.ensures.told sink) (c.refuse_files.ensures.notes ∙ c.notes_of.ensures)
 
 pub returns-in-Err-clause-complete : goal.returns-in-Err-clause-complete
-returns-in-Err-clause-complete g c = λ source files sink other quiet fed none whole first.
+returns-in-Err-clause-complete g c = λ source files telling sink other quiet fed none whole first.
     let was = g.F.Files.state c.args.files.now in
     let now = g.F.Files.state c.begin.new.files in
     let lines = g.L.Lines.state c.args.lines.now in
@@ -59,10 +60,10 @@ returns-in-Err-clause-complete g c = λ source files sink other quiet fed none w
     complete-answer (texts_of c.args.words.now) (g.C.Source.left c.args.input.now) (g.C.Source.left c.args.input.now) (g.S.Sink.written c.args.output.now) (g.S.Sink.written c.refuse_files.new.output)
     (beyond was.files lines whole) (beyond now.files lines whole) c.refuse_files.result.status c.refuse_files.result.machine c.refuse_files.result.faults.items was now status
     (refused-counted [] c.begin.new.notes.items c.refuse_files.result.faults.items was now refl (c.refuse_files.ensures.notes ∙ c.notes_of.ensures) c.begin.ensures.keeps) none
-    (returns-in-Err-clause-outcome g c source files sink other whole first)
+    (returns-in-Err-clause-outcome g c source files telling sink other whole first)
 
 pub returns-in-Err-clause-memory : goal.returns-in-Err-clause-memory
-returns-in-Err-clause-memory g c = λ source files sink memory whole first.
+returns-in-Err-clause-memory g c = λ source files telling sink memory whole first.
     let lines = g.L.Lines.state c.args.lines.now in
     files-memory (texts_of c.args.words.now) c.in-Some.options (g.C.Source.left c.args.input.now) (g.S.Sink.written c.args.output.now) (g.S.Sink.written c.refuse_files.new.output)
     (beyond (g.F.Files.state c.args.files.now).files lines whole) (beyond (g.F.Files.state c.begin.new.files).files lines whole) c.in-Err.refusal c.refuse_files.result.status c.refuse_files.result.machine
@@ -116,10 +117,10 @@ told-input g c tells on =
     tells (λ given.
     let off = c.in-Ok-begin.ensures.opens.reads ∙ workload-given (texts_of c.args.words.now) c.in-Some.options (sym c.options_of.ensures.options ∙ c.in-Some.is) given in absurd (cc (on, off)))
 
-pub run_session-requires-clause-portless : goal.run_session-requires-clause-portless
-run_session-requires-clause-portless g c =
-    begun-portless g.F.Files.tells (texts_of c.args.words.now) c.in-Some.options _ c.in-Ok-begin.field-0.opening (g.F.Files.state c.args.files.now) (g.F.Files.state c.begin.new.files)
-    (begun g (goal.at.run_session-requires-clause-portless g c).After-run_session-arg-in-Ok-begin-2-1)
+pub run_session-requires-clause-lines : goal.run_session-requires-clause-lines
+run_session-requires-clause-lines g c =
+    begun-line g.F.Files.tells (texts_of c.args.words.now) c.in-Some.options _ c.in-Ok-begin.field-0.opening (g.F.Files.state c.args.files.now) (g.F.Files.state c.begin.new.files)
+    (begun g (goal.at.run_session-requires-clause-lines g c).After-run_session-arg-in-Ok-begin-2-1)
 
 pub run_session-requires-clause-open : goal.run_session-requires-clause-open
 run_session-requires-clause-open g c = (begun g (goal.at.run_session-requires-clause-open g c).After-run_session-arg-in-Ok-begin-2-1).open_
@@ -135,22 +136,22 @@ returns-in-Ok-begin-clause-cause g c =
     (g.C.Source.fault_count c.args.input.now) (g.C.Source.fault_count c.run_session.new.input) (sym c.options_of.ensures.options ∙ c.in-Some.is) status cause
 
 pub returns-in-Ok-begin-clause-outcome : goal.returns-in-Ok-begin-clause-outcome
-returns-in-Ok-begin-clause-outcome g c = λ source files sink other whole first.
+returns-in-Ok-begin-clause-outcome g c = λ source files telling sink other whole first.
     let (finish, watch, now, status, machine, told, cause) = c.run_session.ensures.ended in
     let after = (goal.at.returns-in-Ok-begin-clause-outcome g c).After-run_session-arg-in-Ok-begin-2-1 in
     session-answer g.F.Files.tells (texts_of c.args.words.now) c.in-Some.options _ c.in-Ok-begin.field-0.opening (g.F.Files.state c.args.files.now) (g.F.Files.state c.begin.new.files) (g.L.Lines.state c.args.lines.now) whole
     (beyond (g.F.Files.state c.run_session.new.files).files (g.L.Lines.state c.run_session.new.lines) whole)
     (g.C.Source.left c.args.input.now) (g.C.Source.left c.run_session.new.input) (g.S.Sink.written c.args.output.now) (g.S.Sink.written c.run_session.new.output) finish watch now c.run_session.result.status c.run_session.result.machine
-    (notes_said c.run_session.result.faults.items) (sym c.options_of.ensures.options ∙ c.in-Some.is) (begun g after) files cause.exit status machine other (told (told-input g after source) files sink whole first)
+    (notes_said c.run_session.result.faults.items) (sym c.options_of.ensures.options ∙ c.in-Some.is) (begun g after) files cause.exit status machine other (told (told-input g after source) files telling sink whole first)
 
 pub returns-in-Ok-begin-clause-memory : goal.returns-in-Ok-begin-clause-memory
-returns-in-Ok-begin-clause-memory g c = λ source files sink memory whole first.
+returns-in-Ok-begin-clause-memory g c = λ source files telling sink memory whole first.
     let (finish, watch, now, status, machine, told, cause) = c.run_session.ensures.ended in
     let after = (goal.at.returns-in-Ok-begin-clause-memory g c).After-run_session-arg-in-Ok-begin-2-1 in
     memory-answer g.F.Files.tells (texts_of c.args.words.now) c.in-Some.options _ c.in-Ok-begin.field-0.opening (g.F.Files.state c.args.files.now) (g.F.Files.state c.begin.new.files) (g.L.Lines.state c.args.lines.now) whole
     (beyond (g.F.Files.state c.run_session.new.files).files (g.L.Lines.state c.run_session.new.lines) whole)
     (g.C.Source.left c.args.input.now) (g.C.Source.left c.run_session.new.input) (g.S.Sink.written c.args.output.now) (g.S.Sink.written c.run_session.new.output) finish watch now c.run_session.result.status c.run_session.result.machine
-    (notes_said c.run_session.result.faults.items) (sym c.options_of.ensures.options ∙ c.in-Some.is) (begun g after) files cause.exit status machine memory (told (told-input g after source) files sink whole first)
+    (notes_said c.run_session.result.faults.items) (sym c.options_of.ensures.options ∙ c.in-Some.is) (begun g after) files cause.exit status machine memory (told (told-input g after source) files telling sink whole first)
 
 pub returns-in-Ok-begin-clause-notes : goal.returns-in-Ok-begin-clause-notes
 returns-in-Ok-begin-clause-notes g c =
@@ -158,7 +159,7 @@ returns-in-Ok-begin-clause-notes g c =
     (subst (λ (s : CommandState). AreKept s.notes c.run_session.result.faults.items (g.F.Files.state c.begin.new.files) (g.F.Files.state c.run_session.new.files)) c.ready.ensures c.run_session.ensures.keeps)
 
 pub returns-in-Ok-begin-clause-complete : goal.returns-in-Ok-begin-clause-complete
-returns-in-Ok-begin-clause-complete g c = λ source files sink other quiet fed none whole first.
+returns-in-Ok-begin-clause-complete g c = λ source files telling sink other quiet fed none whole first.
     let (finish, watch, now, status, machine, told, cause) = c.run_session.ensures.ended in
     let was = g.F.Files.state c.args.files.now in
     let left = g.F.Files.state c.run_session.new.files in
@@ -169,7 +170,15 @@ returns-in-Ok-begin-clause-complete g c = λ source files sink other quiet fed n
     complete-answer (texts_of c.args.words.now) (g.C.Source.left c.args.input.now) (g.C.Source.left c.run_session.new.input) (g.S.Sink.written c.args.output.now) (g.S.Sink.written c.run_session.new.output)
     (beyond was.files (g.L.Lines.state c.args.lines.now) whole) (beyond left.files (g.L.Lines.state c.run_session.new.lines) whole)
     c.run_session.result.status c.run_session.result.machine c.run_session.result.faults.items was left ended (returns-in-Ok-begin-clause-notes g c) none
-    (returns-in-Ok-begin-clause-outcome g c source files sink other whole first)
+    (returns-in-Ok-begin-clause-outcome g c source files telling sink other whole first)
+
+-- ---- ports
+
+pub returns-in_default-clause-ports : goal.returns-in_default-clause-ports
+returns-in_default-clause-ports g c = lines-unasked c.usage.result.machine (g.L.Lines.state c.args.lines.now) c.usage.ensures.machine
+
+pub returns-in-Err-clause-ports : goal.returns-in-Err-clause-ports
+returns-in-Err-clause-ports g c = lines-unasked c.refuse_files.result.machine (g.L.Lines.state c.args.lines.now) c.refuse_files.ensures.machine
 
 -- ---- a disk that kept its file
 

@@ -2,10 +2,10 @@ use Rattle.std.proofs.Common.{Ok, Err, refl, ap, sym, ◌∙◌, subst}
 use Rattle.file_commands.specs.Notes.{notes_said}
 use Rattle.scp_commands.specs.declared.fault.CommandFault.{CommandFault}
 use Rattle.nova_machine.specs.Comes.{output}
-use Rattle.nova_machine.proofs.LineSteps.{lines-stay}
 use Rattle.scp_commands.specs.Live.{live_in, beyond}
 use Rattle.scp_commands.specs.Effect.{Asked, asked}
 use Rattle.scp_commands.proofs.AskedLemmas.{built-asked, unbuilt-asked}
+use Rattle.scp_commands.proofs.PortLemmas.{left-same}
 use Rattle.scp_script.specs.Scripts.{checked}
 use Rattle.scp_script.specs.Loop.{Answers, IsShort, coming}
 use Rattle.scp_script.proofs.TextLemmas.{answers-none}
@@ -13,7 +13,7 @@ use Rattle.scp_script.proofs.NoteLemmas.{never-short}
 use Rattle.scp_script.proofs.answers.answer.Goals as goal
 
 pub returns-then-not-is_built-clause-told : goal.returns-then-not-is_built-clause-told
-returns-then-not-is_built-clause-told g c = λ told known whole first.
+returns-then-not-is_built-clause-told g c = λ told telling apart whole first.
     let session = c.args.session.now in
     let texts = coming c.args.texts.now in
     let ports = g.L.Lines.state c.args.lines.now in
@@ -24,7 +24,7 @@ returns-then-not-is_built-clause-told g c = λ told known whole first.
     (λ behind. c.deny_line.ensures.told around ports.sent behind (asked c.args.line.now) (ap (checked texts.scripts) is))
 
 pub returns-in-Ok-clause-told : goal.returns-in-Ok-clause-told
-returns-in-Ok-clause-told g c = λ told known whole first.
+returns-in-Ok-clause-told g c = λ told telling apart whole first.
     let session = c.args.session.now in
     let ports = g.L.Lines.state c.args.lines.now in
     let ports' = g.L.Lines.state c.obey.new.lines in
@@ -33,10 +33,10 @@ returns-in-Ok-clause-told g c = λ told known whole first.
     let is = built-asked c.args.line.now (Ok c.read_command.new.into) (sym c.is_built.ensures ∙ c.if-not-is_built.false) c.in-Ok.ensures.exact in
     subst (λ (a : Asked). Answers session.limit live (coming c.args.texts.now) a session.command c.obey.result new (coming c.obey.new.texts) g.S.Sink.tells
     (output (g.S.Sink.written c.args.out.now) ports.sent) (output (g.S.Sink.written c.obey.new.out) ports'.sent) (notes_said session.notes) (notes_said c.obey.new.session.notes))
-    (sym is) (c.obey.ensures.told told known whole first)
+    (sym is) (c.obey.ensures.told told telling apart whole first)
 
 pub returns-in-Err-clause-told : goal.returns-in-Err-clause-told
-returns-in-Err-clause-told g c = λ told known whole first.
+returns-in-Err-clause-told g c = λ told telling apart whole first.
     let session = c.args.session.now in
     let texts = coming c.args.texts.now in
     let ports = g.L.Lines.state c.args.lines.now in
@@ -47,7 +47,7 @@ returns-in-Err-clause-told g c = λ told known whole first.
     (λ behind. c.deny_line-in-Err.ensures.told around ports.sent behind (asked c.args.line.now) (ap (checked texts.scripts) is))
 
 pub returns-then-not-is_built-clause-short : goal.returns-then-not-is_built-clause-short
-returns-then-not-is_built-clause-short g c = λ told whole own is.
+returns-then-not-is_built-clause-short g c = λ told telling whole own is.
     let session = c.args.session.now in
     let ports = g.L.Lines.state c.args.lines.now in
     let live = live_in session (beyond (g.F.Files.state c.args.files.now).files ports whole) in
@@ -55,7 +55,7 @@ returns-then-not-is_built-clause-short g c = λ told whole own is.
     (output (g.S.Sink.written c.deny_line.new.out) ports.sent) c.deny_line.ensures.memory
 
 pub returns-in-Ok-clause-short : goal.returns-in-Ok-clause-short
-returns-in-Ok-clause-short g c = λ told whole own noted.
+returns-in-Ok-clause-short g c = λ told telling whole own noted.
     let session = c.args.session.now in
     let ports = g.L.Lines.state c.args.lines.now in
     let ports' = g.L.Lines.state c.obey.new.lines in
@@ -63,10 +63,10 @@ returns-in-Ok-clause-short g c = λ told whole own noted.
     subst (λ (a : Asked). IsShort a session.command c.obey.result (live_in session (beyond (g.F.Files.state c.args.files.now).files ports whole))
     (live_in c.obey.new.session (beyond (g.F.Files.state c.obey.new.files).files ports' whole)) own (output (g.S.Sink.written c.args.out.now) ports.sent)
     (output (g.S.Sink.written c.obey.new.out) ports'.sent))
-    (sym is) (c.obey.ensures.short told whole own noted)
+    (sym is) (c.obey.ensures.short told telling whole own noted)
 
 pub returns-in-Err-clause-short : goal.returns-in-Err-clause-short
-returns-in-Err-clause-short g c = λ told whole own is.
+returns-in-Err-clause-short g c = λ told telling whole own is.
     let session = c.args.session.now in
     let ports = g.L.Lines.state c.args.lines.now in
     let live = live_in session (beyond (g.F.Files.state c.args.files.now).files ports whole) in
@@ -74,7 +74,7 @@ returns-in-Err-clause-short g c = λ told whole own is.
     (output (g.S.Sink.written c.deny_line-in-Err.new.out) ports.sent) c.deny_line-in-Err.ensures.memory
 
 pub returns-then-not-is_built-clause-lines : goal.returns-then-not-is_built-clause-lines
-returns-then-not-is_built-clause-lines g c = lines-stay g.L.Lines.tells (g.L.Lines.state c.args.lines.now) c.args.session.now.machine.lines
+returns-then-not-is_built-clause-lines g c = left-same g.L.Lines.tells (g.L.Lines.state c.args.lines.now) c.args.session.now.machine.lines
 
 pub returns-in-Err-clause-lines : goal.returns-in-Err-clause-lines
-returns-in-Err-clause-lines g c = lines-stay g.L.Lines.tells (g.L.Lines.state c.args.lines.now) c.args.session.now.machine.lines
+returns-in-Err-clause-lines g c = left-same g.L.Lines.tells (g.L.Lines.state c.args.lines.now) c.args.session.now.machine.lines

@@ -1,9 +1,9 @@
 use Rattle.std.proofs.Common.{◌≡◌, ◌<◌, ◌-◌, ℕ, List, [], ◌∷◌, refl, ap, sym, ◌∙◌, subst, arith, drop, take, ◌++◌}
 use Rattle.file_commands.specs.Notes.{Note, notes_said}
 use Rattle.nova_machine.specs.Comes.{output}
-use Rattle.nova_machine.specs.LineChanges.{AreLinesTold, LinesGoOn}
+use Rattle.telnet_lines.specs.Many.{AreApart}
 use Rattle.scp_commands.specs.Live.{CommandState, live_in, beyond}
-use Rattle.scp_commands.proofs.ObeyLemmas.{lines-kept}
+use Rattle.scp_commands.specs.LinesLeft.{LinesLeft}
 use Rattle.scp_commands.specs.Effect.{asked}
 use Rattle.scp_script.specs.declared.progress.CommandLoop.{CommandLoop}
 use Rattle.scp_script.specs.declared.progress.Progress.TheVariants.{IsOver}
@@ -14,10 +14,11 @@ use Rattle.scp_script.specs.Loop.{IsShort, Answers, coming, session_of}
 use Rattle.scp_script.proofs.SessionLemmas.{action-unpaid, asking-action}
 use Rattle.scp_script.proofs.LineLemmas.{text-unpaid}
 use Rattle.scp_script.proofs.NoteLemmas.{has-first, action-text, action-there, action-stepped, over-alone, left-at, same-read, answer-kept}
+use Rattle.scp_script.proofs.PortLemmas.{left-kept}
 use Rattle.scp_script.proofs.command_loop.action.Goals as goal
 
 pub returns-then-not-pay-clause-told : goal.returns-then-not-pay-clause-told
-returns-then-not-pay-clause-told g c = λ enough files known sink whole begins input.
+returns-then-not-pay-clause-told g c = λ enough files telling apart sink whole begins input.
     let session = c.args.session.now in
     let paid = c.pay.new.session in
     let now_state = record session { command = paid.command } in
@@ -37,7 +38,7 @@ returns-then-not-pay-clause-told g c = λ enough files known sink whole begins i
     (same-read lines.reader.open_ now.reader.open_ input input reader refl) refl))
 
 pub returns-in-Some-clause-told : goal.returns-in-Some-clause-told
-returns-in-Some-clause-told g c = λ enough files known sink whole begins input.
+returns-in-Some-clause-told g c = λ enough files telling apart sink whole begins input.
     let session = c.args.session.now in
     let paid = c.pay.new.session in
     let ports = g.L.Lines.state c.args.ports.now in
@@ -67,11 +68,11 @@ returns-in-Some-clause-told g c = λ enough files known sink whole begins input.
     let told = subst (λ (x : CommandState). Answers x.limit (live_in x named) (texts_of first.others lines.texts.scripts) what done.command result live (coming c.answer.new.texts) tells before after (notes_said x.notes) (notes_said done.notes)) is
     (subst (λ (t : Texts). Answers paid.limit (live_in paid named) t what done.command result live (coming c.answer.new.texts) tells before after (notes_said paid.notes) (notes_said done.notes)) left
     (subst (λ n. Answers paid.limit (live_in paid named) (texts_of c.take.new.self now.texts.scripts) what n result live (coming c.answer.new.texts) tells before after (notes_said paid.notes) (notes_said done.notes)) (sym c.answer.ensures.command)
-    (c.answer.ensures.told files (subst (λ (x : CommandState). AreLinesTold g.L.Lines.tells ports x.machine.lines) (sym is) known) whole begins))) in
+    (c.answer.ensures.told files telling (subst (λ (x : CommandState). AreApart ports x.machine.lines) (sym is) apart) whole begins))) in
     let short = λ (own : List Note) (e : notes_said done.notes ≡ notes_said session.notes ++ own).
     subst (λ (x : CommandState). IsShort what done.command result (live_in x named) live own before after) is
     (subst (λ n. IsShort what n result (live_in paid named) live own before after) (sym c.answer.ensures.command)
-    (c.answer.ensures.short files whole own (e ∙ ap (λ (x : CommandState). notes_said x.notes ++ own) (sym is)))) in
+    (c.answer.ensures.short files telling whole own (e ∙ ap (λ (x : CommandState). notes_said x.notes ++ own) (sym is)))) in
     let limit = c.answer.ensures.limit ∙ ap (λ (x : CommandState). x.limit) is in
     action-stepped (session_of session named lines input []) (session_of done (beyond (g.F.Files.state c.answer.new.files).files ports' whole) last input []) first.action first.others what result tells before after
     (notes_said session.notes) (notes_said done.notes) sink first.is paid_for.0 (ap asked (sym text))
@@ -91,21 +92,21 @@ returns-in-Some-clause-kept g c =
 
 -- an action is there
 pub returns-in-None-clause-told : goal.returns-in-None-clause-told
-returns-in-None-clause-told g c = λ enough files known sink whole begins input.
+returns-in-None-clause-told g c = λ enough files telling apart sink whole begins input.
     let first = has-first c.args.lines.now.texts.actions c.requires.some in
     absurd (action-there c.pay.new.lines.texts.actions first.action first.others (ap (λ (x : CommandLoop). x.texts.actions) c.pay.ensures.lines ∙ first.is) (sym c.in-None.is ∙ c.take.ensures.count))
 
 pub returns-then-not-pay-clause-ports : goal.returns-then-not-pay-clause-ports
 returns-then-not-pay-clause-ports g c =
-    lines-kept g.L.Lines.tells (g.L.Lines.state c.args.ports.now) c.args.session.now.machine.lines c.pay.new.session.machine.lines
+    left-kept g.L.Lines.tells (g.L.Lines.state c.args.ports.now) c.args.session.now.machine.lines c.pay.new.session.machine.lines
     (ap (λ (x : CommandState). x.machine.lines) c.pay.ensures.rest)
 
 pub returns-in-Some-clause-ports : goal.returns-in-Some-clause-ports
 returns-in-Some-clause-ports g c =
-    subst (λ (x : CommandState). LinesGoOn g.L.Lines.tells (g.L.Lines.state c.args.ports.now) x.machine.lines (g.L.Lines.state c.answer.new.lines) c.answer.new.session.machine.lines)
+    subst (λ (x : CommandState). LinesLeft g.L.Lines.tells (g.L.Lines.state c.args.ports.now) x.machine.lines (g.L.Lines.state c.answer.new.lines) c.answer.new.session.machine.lines)
     c.pay.ensures.rest c.answer.ensures.lines
 
 pub returns-in-None-clause-ports : goal.returns-in-None-clause-ports
 returns-in-None-clause-ports g c =
-    lines-kept g.L.Lines.tells (g.L.Lines.state c.args.ports.now) c.args.session.now.machine.lines c.pay.new.session.machine.lines
+    left-kept g.L.Lines.tells (g.L.Lines.state c.args.ports.now) c.args.session.now.machine.lines c.pay.new.session.machine.lines
     (ap (λ (x : CommandState). x.machine.lines) c.pay.ensures.rest)

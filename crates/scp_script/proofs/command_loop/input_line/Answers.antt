@@ -1,13 +1,13 @@
-use Rattle.std.proofs.Common.{Some, None, ◌≡◌, ◌<◌, [], Err, refl, ap, sym, ◌∙◌, subst, arith, ◌++◌, List}
+use Rattle.std.proofs.Common.{Some, None, inl, ◌≡◌, ◌<◌, [], Err, refl, ap, sym, ◌∙◌, subst, arith, ◌++◌, List}
 use Rattle.unit_files.specs.Open.{Around}
 use Rattle.file_commands.specs.Notes.{Note, notes_said}
 use Rattle.scp_parser.specs.declared.fault.ParseFault.TheVariants.{TooLong}
 use Rattle.scp_commands.specs.declared.fault.CommandFault.TheVariants.{Parse}
 use Rattle.nova_machine.specs.Comes.{output}
-use Rattle.nova_machine.specs.LineChanges.{AreLinesTold, LinesGoOn}
+use Rattle.telnet_lines.specs.Many.{AreApart}
 use Rattle.scp_commands.specs.Live.{CommandState, live_in, beyond}
-use Rattle.nova_machine.proofs.LineSteps.{lines-stay}
-use Rattle.scp_commands.proofs.ObeyLemmas.{lines-kept}
+use Rattle.scp_commands.specs.LinesLeft.{LinesLeft}
+use Rattle.scp_commands.proofs.PortLemmas.{left-same}
 use Rattle.scp_commands.specs.Doing.{Closes}
 use Rattle.scp_commands.specs.Effect.{asked}
 use Rattle.scp_commands.proofs.AskedLemmas.{long-asked}
@@ -19,10 +19,11 @@ use Rattle.scp_script.specs.Loop.{IsShort, Answers, coming, session_of}
 use Rattle.scp_script.proofs.TextLemmas.{answers-none}
 use Rattle.scp_script.proofs.LineLemmas.{none-read, prompt-refused, budget-spent, input-failed}
 use Rattle.scp_script.proofs.NoteLemmas.{line-stepped, over-alone, input-closed, left-at, never-short, spent-line, answer-kept}
+use Rattle.scp_script.proofs.PortLemmas.{left-kept}
 use Rattle.scp_script.proofs.command_loop.input_line.Goals as goal
 
 pub returns-in-Err-clause-told : goal.returns-in-Err-clause-told
-returns-in-Err-clause-told g c = λ enough source files known sink whole begins.
+returns-in-Err-clause-told g c = λ enough source files telling apart sink whole begins.
     let session = c.args.session.now in
     let input = g.C.Source.left c.args.input.now in
     let ports = g.L.Lines.state c.args.ports.now in
@@ -33,7 +34,7 @@ returns-in-Err-clause-told g c = λ enough source files known sink whole begins.
     (prompt-refused old old before after (λ i. texts_of (c.requires.actions i) (c.requires.scripts i)) c.requires.reads refl (none-read c.args.lines.now.reader.open_ input) (c.in-Err.ensures.told sink) refl)
 
 pub returns-in-Line-clause-told : goal.returns-in-Line-clause-told
-returns-in-Line-clause-told g c = λ enough source files known sink whole begins.
+returns-in-Line-clause-told g c = λ enough source files telling apart sink whole begins.
     let session = c.args.session.now in
     let paid = c.read_paid.new.session in
     let ports = g.L.Lines.state c.args.ports.now in
@@ -60,11 +61,11 @@ returns-in-Line-clause-told g c = λ enough source files known sink whole begins
     let told = subst (λ (x : CommandState). Answers x.limit (live_in x named) (texts_of [] []) what done.command result live (coming c.answer.new.texts) tells mid after (notes_said x.notes) (notes_said done.notes)) is
     (subst (λ (t : Texts). Answers paid.limit (live_in paid named) t what done.command result live (coming c.answer.new.texts) tells mid after (notes_said paid.notes) (notes_said done.notes)) none
     (subst (λ n. Answers paid.limit (live_in paid named) (coming now.texts) what n result live (coming c.answer.new.texts) tells mid after (notes_said paid.notes) (notes_said done.notes)) (sym c.answer.ensures.command)
-    (c.answer.ensures.told files (subst (λ (x : CommandState). AreLinesTold g.L.Lines.tells ports x.machine.lines) (sym is) known) whole begins))) in
+    (c.answer.ensures.told files telling (subst (λ (x : CommandState). AreApart ports x.machine.lines) (sym is) apart) whole begins))) in
     let short = λ (own : List Note) (e : notes_said done.notes ≡ notes_said session.notes ++ own).
     subst (λ (x : CommandState). IsShort what done.command result (live_in x named) live own mid after) is
     (subst (λ n. IsShort what n result (live_in paid named) live own mid after) (sym c.answer.ensures.command)
-    (c.answer.ensures.short files whole own (e ∙ ap (λ (x : CommandState). notes_said x.notes ++ own) (sym is)))) in
+    (c.answer.ensures.short files telling whole own (e ∙ ap (λ (x : CommandState). notes_said x.notes ++ own) (sym is)))) in
     let limit = c.answer.ensures.limit ∙ ap (λ (x : CommandState). x.limit) is in
     line-stepped (session_of session named lines input []) (session_of done (beyond (g.F.Files.state c.answer.new.files).files ports' whole) last left []) now.reader.line what result tells before mid after
     (notes_said session.notes) (notes_said done.notes) sink (λ i. texts_of (c.requires.actions i) (c.requires.scripts i)) c.requires.reads reads.0 (ap asked (sym c.line.ensures))
@@ -76,7 +77,7 @@ returns-in-Line-clause-around g c = λ base around.
     c.answer.ensures.around base (subst (λ (x : CommandState). Around x.machine.slots base (g.F.Files.state c.args.files.now).opened) (sym c.read_paid.ensures.rest) around)
 
 pub returns-in-TooLong-clause-told : goal.returns-in-TooLong-clause-told
-returns-in-TooLong-clause-told g c = λ enough source files known sink whole begins.
+returns-in-TooLong-clause-told g c = λ enough source files telling apart sink whole begins.
     let session = c.args.session.now in
     let paid = c.read_paid.new.session in
     let ports = g.L.Lines.state c.args.ports.now in
@@ -111,52 +112,54 @@ returns-in-TooLong-clause-told g c = λ enough source files known sink whole beg
     (record { spent = spent; limit = refl; budget = reads.3; open_ = reads.4; reading = c.read_paid.ensures.reading; prompt = c.read_paid.ensures.prompt; reads = reads.5 }) less
     (c.in-Ok.ensures.told sink) refl told short)
 
-pub returns-in-Ok-detach_files-clause-told : goal.returns-in-Ok-detach_files-clause-told
-returns-in-Ok-detach_files-clause-told g c = λ enough source files known sink whole begins.
+pub returns-in-Ok-detach_all-clause-told : goal.returns-in-Ok-detach_all-clause-told
+returns-in-Ok-detach_all-clause-told g c = λ enough source files telling apart sink whole begins.
     let session = c.args.session.now in
     let paid = c.read_paid.new.session in
     let ports = g.L.Lines.state c.args.ports.now in
+    let ports' = g.L.Lines.state c.detach_all.new.lines in
     let named = beyond (g.F.Files.state c.args.files.now).files ports whole in
     let lines = c.args.lines.now in
     let now = c.read_paid.new.lines in
     let input = g.C.Source.left c.args.input.now in
     let left = g.C.Source.left c.read_paid.new.input in
     let before = output (g.S.Sink.written c.args.out.now) ports.sent in
-    let after = output (g.S.Sink.written c.ask.new.out) ports.sent in
-    let done = c.detach_files.new.self in
+    let after = output (g.S.Sink.written c.ask.new.out) ports'.sent in
+    let done = c.detach_all.new.self in
     let is = c.read_paid.ensures.rest in
     let reads = c.in-End.ensures.reads source in
     let same : paid.command ≡ session.command = omega (arith, c.read_paid.ensures.command, reads.1) in
-    let now_live = live_in done (beyond (g.F.Files.state c.detach_files.new.files).files ports whole) in
+    let now_live = live_in done (beyond (g.F.Files.state c.detach_all.new.files).files ports' whole) in
     let closes = subst (λ n. Closes n (live_in session named) now_live None (notes_said session.notes) (notes_said done.notes)) same
-    (subst (λ (x : CommandState). Closes x.command (live_in x named) now_live None (notes_said x.notes) (notes_said done.notes)) is (c.in-Ok-detach_files.ensures.closes ports whole)) in
-    input-closed (session_of session named lines input []) (session_of done (beyond (g.F.Files.state c.detach_files.new.files).files ports whole) now left []) None before after
-    (notes_said session.notes) (notes_said done.notes) (λ i. texts_of (c.requires.actions i) (c.requires.scripts i)) c.requires.reads reads.0 closes reads.2 (c.in-Ok.ensures.told sink) refl
+    (subst (λ (x : CommandState). Closes x.command (live_in x named) now_live None (notes_said x.notes) (notes_said done.notes)) is (c.in-Ok-detach_all.ensures.closes (inl (telling, subst (λ (x : CommandState). AreApart ports x.machine.lines) (sym is) apart)) whole)) in
+    input-closed (session_of session named lines input []) (session_of done (beyond (g.F.Files.state c.detach_all.new.files).files ports' whole) now left []) None before after
+    (notes_said session.notes) (notes_said done.notes) (λ i. texts_of (c.requires.actions i) (c.requires.scripts i)) c.requires.reads reads.0 closes reads.2 (c.in-Ok.ensures.told sink) c.detach_all.ensures.sent
 
-pub returns-in-Err-detach_files-clause-told : goal.returns-in-Err-detach_files-clause-told
-returns-in-Err-detach_files-clause-told g c = λ enough source files known sink whole begins.
+pub returns-in-Err-detach_all-clause-told : goal.returns-in-Err-detach_all-clause-told
+returns-in-Err-detach_all-clause-told g c = λ enough source files telling apart sink whole begins.
     let session = c.args.session.now in
     let paid = c.read_paid.new.session in
     let ports = g.L.Lines.state c.args.ports.now in
+    let ports' = g.L.Lines.state c.detach_all.new.lines in
     let named = beyond (g.F.Files.state c.args.files.now).files ports whole in
     let lines = c.args.lines.now in
     let now = c.read_paid.new.lines in
     let input = g.C.Source.left c.args.input.now in
     let left = g.C.Source.left c.read_paid.new.input in
     let before = output (g.S.Sink.written c.args.out.now) ports.sent in
-    let after = output (g.S.Sink.written c.ask.new.out) ports.sent in
-    let done = c.detach_files.new.self in
+    let after = output (g.S.Sink.written c.ask.new.out) ports'.sent in
+    let done = c.detach_all.new.self in
     let is = c.read_paid.ensures.rest in
     let reads = c.in-End.ensures.reads source in
     let same : paid.command ≡ session.command = omega (arith, c.read_paid.ensures.command, reads.1) in
-    let now_live = live_in done (beyond (g.F.Files.state c.detach_files.new.files).files ports whole) in
-    let closes = subst (λ n. Closes n (live_in session named) now_live (Some c.in-Err-detach_files._fault.unit) (notes_said session.notes) (notes_said done.notes)) same
-    (subst (λ (x : CommandState). Closes x.command (live_in x named) now_live (Some c.in-Err-detach_files._fault.unit) (notes_said x.notes) (notes_said done.notes)) is (c.in-Err-detach_files.ensures.closes ports whole)) in
-    input-closed (session_of session named lines input []) (session_of done (beyond (g.F.Files.state c.detach_files.new.files).files ports whole) now left []) (Some c.in-Err-detach_files._fault.unit) before after
-    (notes_said session.notes) (notes_said done.notes) (λ i. texts_of (c.requires.actions i) (c.requires.scripts i)) c.requires.reads reads.0 closes reads.2 (c.in-Ok.ensures.told sink) refl
+    let now_live = live_in done (beyond (g.F.Files.state c.detach_all.new.files).files ports' whole) in
+    let closes = subst (λ n. Closes n (live_in session named) now_live (Some c.in-Err-detach_all._fault.unit) (notes_said session.notes) (notes_said done.notes)) same
+    (subst (λ (x : CommandState). Closes x.command (live_in x named) now_live (Some c.in-Err-detach_all._fault.unit) (notes_said x.notes) (notes_said done.notes)) is (c.in-Err-detach_all.ensures.closes (inl (telling, subst (λ (x : CommandState). AreApart ports x.machine.lines) (sym is) apart)) whole)) in
+    input-closed (session_of session named lines input []) (session_of done (beyond (g.F.Files.state c.detach_all.new.files).files ports' whole) now left []) (Some c.in-Err-detach_all._fault.unit) before after
+    (notes_said session.notes) (notes_said done.notes) (λ i. texts_of (c.requires.actions i) (c.requires.scripts i)) c.requires.reads reads.0 closes reads.2 (c.in-Ok.ensures.told sink) c.detach_all.ensures.sent
 
 pub returns-in-Unpaid-clause-told : goal.returns-in-Unpaid-clause-told
-returns-in-Unpaid-clause-told g c = λ enough source files known sink whole begins.
+returns-in-Unpaid-clause-told g c = λ enough source files telling apart sink whole begins.
     let session = c.args.session.now in
     let paid = c.read_paid.new.session in
     let ports = g.L.Lines.state c.args.ports.now in
@@ -177,7 +180,7 @@ returns-in-Unpaid-clause-told g c = λ enough source files known sink whole begi
     (budget-spent old new before after (λ i. texts_of (c.requires.actions i) (c.requires.scripts i)) c.requires.reads reads.0 refl reads.1 (c.in-Ok.ensures.told sink) refl))
 
 pub returns-in-Failed-clause-told : goal.returns-in-Failed-clause-told
-returns-in-Failed-clause-told g c = λ enough source files known sink whole begins.
+returns-in-Failed-clause-told g c = λ enough source files telling apart sink whole begins.
     let session = c.args.session.now in
     let paid = c.read_paid.new.session in
     let ports = g.L.Lines.state c.args.ports.now in
@@ -205,42 +208,42 @@ pub returns-in-TooLong-clause-kept : goal.returns-in-TooLong-clause-kept
 returns-in-TooLong-clause-kept g c =
     answer-kept c.deny_line.result _ _ _ _ (g.F.Files.state c.args.files.now) (g.F.Files.state c.args.files.now) c.deny_line.ensures.counts
 
-pub returns-in-Err-detach_files-clause-kept : goal.returns-in-Err-detach_files-clause-kept
-returns-in-Err-detach_files-clause-kept g c = c.in-Err-detach_files.ensures.cause
+pub returns-in-Err-detach_all-clause-kept : goal.returns-in-Err-detach_all-clause-kept
+returns-in-Err-detach_all-clause-kept g c = c.in-Err-detach_all.ensures.cause
 
-pub returns-in-Err-detach_files-clause-around : goal.returns-in-Err-detach_files-clause-around
-returns-in-Err-detach_files-clause-around g c = λ base around.
-    c.in-Err-detach_files.ensures.around base (subst (λ (x : CommandState). Around x.machine.slots base (g.F.Files.state c.args.files.now).opened) (sym c.read_paid.ensures.rest) around)
+pub returns-in-Err-detach_all-clause-around : goal.returns-in-Err-detach_all-clause-around
+returns-in-Err-detach_all-clause-around g c = λ base around.
+    c.in-Err-detach_all.ensures.around base (subst (λ (x : CommandState). Around x.machine.slots base (g.F.Files.state c.args.files.now).opened) (sym c.read_paid.ensures.rest) around)
 
 pub returns-in-Line-clause-ports : goal.returns-in-Line-clause-ports
 returns-in-Line-clause-ports g c =
-    subst (λ (x : CommandState). LinesGoOn g.L.Lines.tells (g.L.Lines.state c.args.ports.now) x.machine.lines (g.L.Lines.state c.answer.new.lines) c.answer.new.session.machine.lines)
+    subst (λ (x : CommandState). LinesLeft g.L.Lines.tells (g.L.Lines.state c.args.ports.now) x.machine.lines (g.L.Lines.state c.answer.new.lines) c.answer.new.session.machine.lines)
     c.read_paid.ensures.rest c.answer.ensures.lines
 
 pub returns-in-TooLong-clause-ports : goal.returns-in-TooLong-clause-ports
 returns-in-TooLong-clause-ports g c =
-    lines-kept g.L.Lines.tells (g.L.Lines.state c.args.ports.now) c.args.session.now.machine.lines c.read_paid.new.session.machine.lines
+    left-kept g.L.Lines.tells (g.L.Lines.state c.args.ports.now) c.args.session.now.machine.lines c.read_paid.new.session.machine.lines
     (ap (λ (x : CommandState). x.machine.lines) c.read_paid.ensures.rest)
 
 pub returns-in-Unpaid-clause-ports : goal.returns-in-Unpaid-clause-ports
 returns-in-Unpaid-clause-ports g c =
-    lines-kept g.L.Lines.tells (g.L.Lines.state c.args.ports.now) c.args.session.now.machine.lines c.read_paid.new.session.machine.lines
+    left-kept g.L.Lines.tells (g.L.Lines.state c.args.ports.now) c.args.session.now.machine.lines c.read_paid.new.session.machine.lines
     (ap (λ (x : CommandState). x.machine.lines) c.read_paid.ensures.rest)
 
 pub returns-in-Failed-clause-ports : goal.returns-in-Failed-clause-ports
 returns-in-Failed-clause-ports g c =
-    lines-kept g.L.Lines.tells (g.L.Lines.state c.args.ports.now) c.args.session.now.machine.lines c.read_paid.new.session.machine.lines
+    left-kept g.L.Lines.tells (g.L.Lines.state c.args.ports.now) c.args.session.now.machine.lines c.read_paid.new.session.machine.lines
     (ap (λ (x : CommandState). x.machine.lines) c.read_paid.ensures.rest)
 
-pub returns-in-Ok-detach_files-clause-ports : goal.returns-in-Ok-detach_files-clause-ports
-returns-in-Ok-detach_files-clause-ports g c =
-    lines-kept g.L.Lines.tells (g.L.Lines.state c.args.ports.now) c.args.session.now.machine.lines c.detach_files.new.self.machine.lines
-    (c.in-Ok-detach_files.ensures.terminals ∙ ap (λ (x : CommandState). x.machine.lines) c.read_paid.ensures.rest)
+pub returns-in-Ok-detach_all-clause-ports : goal.returns-in-Ok-detach_all-clause-ports
+returns-in-Ok-detach_all-clause-ports g c =
+    subst (λ (x : CommandState). LinesLeft g.L.Lines.tells (g.L.Lines.state c.args.ports.now) x.machine.lines (g.L.Lines.state c.detach_all.new.lines) c.detach_all.new.self.machine.lines)
+    c.read_paid.ensures.rest c.detach_all.ensures.left
 
-pub returns-in-Err-detach_files-clause-ports : goal.returns-in-Err-detach_files-clause-ports
-returns-in-Err-detach_files-clause-ports g c =
-    lines-kept g.L.Lines.tells (g.L.Lines.state c.args.ports.now) c.args.session.now.machine.lines c.detach_files.new.self.machine.lines
-    (c.in-Err-detach_files.ensures.terminals ∙ ap (λ (x : CommandState). x.machine.lines) c.read_paid.ensures.rest)
+pub returns-in-Err-detach_all-clause-ports : goal.returns-in-Err-detach_all-clause-ports
+returns-in-Err-detach_all-clause-ports g c =
+    subst (λ (x : CommandState). LinesLeft g.L.Lines.tells (g.L.Lines.state c.args.ports.now) x.machine.lines (g.L.Lines.state c.detach_all.new.lines) c.detach_all.new.self.machine.lines)
+    c.read_paid.ensures.rest c.detach_all.ensures.left
 
 pub returns-in-Err-clause-ports : goal.returns-in-Err-clause-ports
-returns-in-Err-clause-ports g c = lines-stay g.L.Lines.tells (g.L.Lines.state c.args.ports.now) c.args.session.now.machine.lines
+returns-in-Err-clause-ports g c = left-same g.L.Lines.tells (g.L.Lines.state c.args.ports.now) c.args.session.now.machine.lines

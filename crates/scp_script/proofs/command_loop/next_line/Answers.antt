@@ -1,19 +1,20 @@
 use Rattle.std.proofs.Common.{[], ◌∷◌, ap, sym, ◌∙◌, refl, subst, arith}
 use Rattle.file_commands.specs.Notes.{notes_said}
 use Rattle.nova_machine.specs.Comes.{output}
-use Rattle.nova_machine.specs.LineChanges.{AreLinesTold, LinesGoOn}
+use Rattle.telnet_lines.specs.Many.{AreApart}
 use Rattle.scp_commands.specs.Live.{CommandState, beyond}
-use Rattle.scp_commands.proofs.ObeyLemmas.{lines-kept}
+use Rattle.scp_commands.specs.LinesLeft.{LinesLeft}
 use Rattle.scp_script.specs.declared.progress.Progress.TheVariants.{IsOver}
 use Rattle.scp_script.specs.declared.progress.Finish.TheVariants.{Exit, OutOfMemory}
 use Rattle.scp_script.specs.Actions.{texts_of}
 use Rattle.scp_script.specs.Loop.{session_of, Stepped}
 use Rattle.scp_script.proofs.LineLemmas.{none-read, all-done}
 use Rattle.scp_script.proofs.NoteLemmas.{over-alone, room-refused, left-at, closed-before}
+use Rattle.scp_script.proofs.PortLemmas.{left-kept}
 use Rattle.scp_script.proofs.command_loop.next_line.Goals as goal
 
 pub returns-then-is_err-clause-told : goal.returns-then-is_err-clause-told
-returns-then-is_err-clause-told g c = λ enough source files known sink whole begins.
+returns-then-is_err-clause-told g c = λ enough source files telling apart sink whole begins.
     let session = c.args.session.now in
     let taken = record session { spare = c.take_room.new.self.spare } in
     let ports = g.L.Lines.state c.args.ports.now in
@@ -26,7 +27,7 @@ returns-then-is_err-clause-told g c = λ enough source files known sink whole be
     (over-alone old new OutOfMemory before before (notes_said session.notes) (notes_said session.notes) refl (room-refused old new before refl refl))
 
 pub returns-in-Some-clause-told : goal.returns-in-Some-clause-told
-returns-in-Some-clause-told g c = λ enough source files known sink whole begins.
+returns-in-Some-clause-told g c = λ enough source files telling apart sink whole begins.
     let session = c.args.session.now in
     let number = ap (λ (x : CommandState). x.command) c.take_room.ensures.rest in
     let ports = g.L.Lines.state c.args.ports.now in
@@ -40,10 +41,10 @@ returns-in-Some-clause-told g c = λ enough source files known sink whole begins
     let scripts = c.in-Some.script ∷ c.pop_open.new.self in
     closed-before (session_of session named lines left []) scripts c.script_line.result new before after (notes_said session.notes) (notes_said c.script_line.new.session.notes) (c.is_empty.ensures.0 c.if-not-is_empty.false) c.in-Some.ensures.taken
     (subst (λ (x : CommandState). Stepped (session_of x named (record lines { texts = record lines.texts { scripts = scripts } }) left) c.script_line.result new before after (notes_said x.notes) (notes_said c.script_line.new.session.notes))
-    c.take_room.ensures.rest (c.script_line.ensures.told (omega (arith, enough, number)) files (subst (λ (x : CommandState). AreLinesTold g.L.Lines.tells ports x.machine.lines) (sym c.take_room.ensures.rest) known) sink whole begins left))
+    c.take_room.ensures.rest (c.script_line.ensures.told (omega (arith, enough, number)) files telling (subst (λ (x : CommandState). AreApart ports x.machine.lines) (sym c.take_room.ensures.rest) apart) sink whole begins left))
 
 pub returns-in-None-clause-told : goal.returns-in-None-clause-told
-returns-in-None-clause-told g c = λ enough source files known sink whole begins.
+returns-in-None-clause-told g c = λ enough source files telling apart sink whole begins.
     let session = c.args.session.now in
     let number = ap (λ (x : CommandState). x.command) c.take_room.ensures.rest in
     let ports = g.L.Lines.state c.args.ports.now in
@@ -58,10 +59,10 @@ returns-in-None-clause-told g c = λ enough source files known sink whole begins
     closed-before (session_of session named lines left []) scripts c.input_line.result new before after (notes_said session.notes) (notes_said c.input_line.new.session.notes)
     (c.is_empty.ensures.0 c.if-not-is_empty.false) (c.in-None.ensures.taken.0 ∙ sym c.in-None.ensures.taken.1)
     (subst (λ (x : CommandState). Stepped (session_of x named (record lines { texts = record lines.texts { scripts = scripts } }) left) c.input_line.result new before after (notes_said x.notes) (notes_said c.input_line.new.session.notes))
-    c.take_room.ensures.rest (c.input_line.ensures.told (omega (arith, enough, number)) (source c.if-lines.true) files (subst (λ (x : CommandState). AreLinesTold g.L.Lines.tells ports x.machine.lines) (sym c.take_room.ensures.rest) known) sink whole begins))
+    c.take_room.ensures.rest (c.input_line.ensures.told (omega (arith, enough, number)) (source c.if-lines.true) files telling (subst (λ (x : CommandState). AreApart ports x.machine.lines) (sym c.take_room.ensures.rest) apart) sink whole begins))
 
 pub returns-then-not-is_empty-clause-told : goal.returns-then-not-is_empty-clause-told
-returns-then-not-is_empty-clause-told g c = λ enough source files known sink whole begins.
+returns-then-not-is_empty-clause-told g c = λ enough source files telling apart sink whole begins.
     let number = ap (λ (x : CommandState). x.command) c.take_room.ensures.rest in
     let ports = g.L.Lines.state c.args.ports.now in
     let ports' = g.L.Lines.state c.action.new.ports in
@@ -69,10 +70,10 @@ returns-then-not-is_empty-clause-told g c = λ enough source files known sink wh
     let left = g.C.Source.left c.args.input.now in
     let new = session_of c.action.new.session (beyond (g.F.Files.state c.action.new.files).files ports' whole) c.action.new.lines left in
     subst (λ (x : CommandState). Stepped (session_of x named c.args.lines.now left) c.action.result new (output (g.S.Sink.written c.args.out.now) ports.sent) (output (g.S.Sink.written c.action.new.out) ports'.sent) (notes_said x.notes) (notes_said c.action.new.session.notes))
-    c.take_room.ensures.rest (c.action.ensures.told (omega (arith, enough, number)) files (subst (λ (x : CommandState). AreLinesTold g.L.Lines.tells ports x.machine.lines) (sym c.take_room.ensures.rest) known) sink whole begins left)
+    c.take_room.ensures.rest (c.action.ensures.told (omega (arith, enough, number)) files telling (subst (λ (x : CommandState). AreApart ports x.machine.lines) (sym c.take_room.ensures.rest) apart) sink whole begins left)
 
 pub returns-in-None-2-clause-told : goal.returns-in-None-2-clause-told
-returns-in-None-2-clause-told g c = λ enough source files known sink whole begins.
+returns-in-None-2-clause-told g c = λ enough source files telling apart sink whole begins.
     let session = c.args.session.now in
     let taken = record session { spare = c.take_room.new.self.spare } in
     let ports = g.L.Lines.state c.args.ports.now in
@@ -93,25 +94,25 @@ returns-in-None-2-clause-told g c = λ enough source files known sink whole begi
 
 pub returns-then-is_err-clause-ports : goal.returns-then-is_err-clause-ports
 returns-then-is_err-clause-ports g c =
-    lines-kept g.L.Lines.tells (g.L.Lines.state c.args.ports.now) c.args.session.now.machine.lines c.take_room.new.self.machine.lines
+    left-kept g.L.Lines.tells (g.L.Lines.state c.args.ports.now) c.args.session.now.machine.lines c.take_room.new.self.machine.lines
     (ap (λ (x : CommandState). x.machine.lines) c.take_room.ensures.rest)
 
 pub returns-then-not-is_empty-clause-ports : goal.returns-then-not-is_empty-clause-ports
 returns-then-not-is_empty-clause-ports g c =
-    subst (λ (x : CommandState). LinesGoOn g.L.Lines.tells (g.L.Lines.state c.args.ports.now) x.machine.lines (g.L.Lines.state c.action.new.ports) c.action.new.session.machine.lines)
+    subst (λ (x : CommandState). LinesLeft g.L.Lines.tells (g.L.Lines.state c.args.ports.now) x.machine.lines (g.L.Lines.state c.action.new.ports) c.action.new.session.machine.lines)
     c.take_room.ensures.rest c.action.ensures.ports
 
 pub returns-in-Some-clause-ports : goal.returns-in-Some-clause-ports
 returns-in-Some-clause-ports g c =
-    subst (λ (x : CommandState). LinesGoOn g.L.Lines.tells (g.L.Lines.state c.args.ports.now) x.machine.lines (g.L.Lines.state c.script_line.new.ports) c.script_line.new.session.machine.lines)
+    subst (λ (x : CommandState). LinesLeft g.L.Lines.tells (g.L.Lines.state c.args.ports.now) x.machine.lines (g.L.Lines.state c.script_line.new.ports) c.script_line.new.session.machine.lines)
     c.take_room.ensures.rest c.script_line.ensures.ports
 
 pub returns-in-None-clause-ports : goal.returns-in-None-clause-ports
 returns-in-None-clause-ports g c =
-    subst (λ (x : CommandState). LinesGoOn g.L.Lines.tells (g.L.Lines.state c.args.ports.now) x.machine.lines (g.L.Lines.state c.input_line.new.ports) c.input_line.new.session.machine.lines)
+    subst (λ (x : CommandState). LinesLeft g.L.Lines.tells (g.L.Lines.state c.args.ports.now) x.machine.lines (g.L.Lines.state c.input_line.new.ports) c.input_line.new.session.machine.lines)
     c.take_room.ensures.rest c.input_line.ensures.ports
 
 pub returns-in-None-2-clause-ports : goal.returns-in-None-2-clause-ports
 returns-in-None-2-clause-ports g c =
-    lines-kept g.L.Lines.tells (g.L.Lines.state c.args.ports.now) c.args.session.now.machine.lines c.take_room.new.self.machine.lines
+    left-kept g.L.Lines.tells (g.L.Lines.state c.args.ports.now) c.args.session.now.machine.lines c.take_room.new.self.machine.lines
     (ap (λ (x : CommandState). x.machine.lines) c.take_room.ensures.rest)

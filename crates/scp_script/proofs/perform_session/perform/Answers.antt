@@ -11,8 +11,9 @@ use Rattle.scp_script.specs.Scripts.{first_script}
 use Rattle.scp_script.specs.Perform.{beginning, beginning_with}
 use Rattle.host_lines.specs.Told.{record_in}
 use Rattle.nova_machine.specs.Comes.{output}
-use Rattle.nova_machine.specs.LineChanges.{LinesGoOn}
-use Rattle.nova_machine.proofs.LineSteps.{first-through, lines-stay, lines-then}
+use Rattle.scp_commands.specs.LinesLeft.{LinesLeft}
+use Rattle.nova_machine.proofs.LineSteps.{first-through}
+use Rattle.scp_commands.proofs.PortLemmas.{left-same, left-then}
 use Rattle.scp_commands.specs.Live.{CommandState, beyond}
 use Rattle.scp_script.specs.Loop.{AreKept, session_of}
 use Rattle.scp_script.proofs.WholeLemmas.{ComesSoFar, begun, never-begun, further, over, kept-none, kept-both, causes-behind, kept-since}
@@ -30,12 +31,12 @@ lines-init g c =
       keys = refl;
       reads = ap (λ (x : CommandLoop). x.reads) started;
       unread = λ off. refl;
-      told = λ enough source files known sink whole begins.
+      told = λ enough source files telling apart sink whole begins.
           let ports = g.L.Lines.state c.args.lines.now in
           rw started (begun (session_of c.args.session.now (beyond (g.F.Files.state c.args.files.now).files ports whole)
           (record { texts = record { actions = []; scripts = first_script c.args.opening.now.script c.args.opening.now.arguments.items }; reads = c.args.opening.now.reads; reader = record { line = []; open_ = true }; budget = c.args.opening.now.budget; prompt = c.args.opening.now.prompt })
           (g.C.Source.left c.args.input.now)) (output (g.S.Sink.written c.args.out.now) ports.sent) (notes_said c.args.session.now.notes));
-      lines = lines-stay g.L.Lines.tells (g.L.Lines.state c.args.lines.now) c.args.session.now.machine.lines;
+      lines = left-same g.L.Lines.tells (g.L.Lines.state c.args.lines.now) c.args.session.now.machine.lines;
       source = refl;
       sink = refl;
       keeps = kept-none c.args.session.now.notes (g.F.Files.state c.args.files.now);
@@ -60,12 +61,12 @@ lines-preserved g c =
       keys = ap (λ (x : CommandState). x.keys) is ∙ c.in-GoesOn.ensures.keys ∙ c.lines.invariant.keys;
       reads = c.in-GoesOn.ensures.reads ∙ c.lines.invariant.reads;
       unread = λ off. c.in-GoesOn.ensures.unread (c.lines.invariant.reads ∙ off) ∙ c.lines.invariant.unread off;
-      told = λ enough source files known sink whole begins.
+      told = λ enough source files telling apart sink whole begins.
           let ports = g.L.Lines.state c.args.lines.now in
           let ports-mid = g.L.Lines.state c.lines.lines in
           let ports' = g.L.Lines.state c.next_line.new.ports in
-          let there = c.lines.invariant.lines.told known in
-          let more = c.in-GoesOn.ensures.ports.told there.0 in
+          let there = c.lines.invariant.lines.told telling apart in
+          let more = c.in-GoesOn.ensures.ports.told telling there.0 in
           let start : List Note → Session = λ notes. beginning c.args.session.now (beyond (g.F.Files.state c.args.files.now).files ports whole) c.args.opening.now (g.C.Source.left c.args.input.now) notes in
           subst (λ (x : CommandState). ComesSoFar start (session_of x (beyond new.files ports' whole) c.next_line.new.lines (g.C.Source.left c.next_line.new.input))
           (output (g.S.Sink.written c.args.out.now) ports.sent) (output (g.S.Sink.written c.next_line.new.out) ports'.sent) (notes_said c.args.session.now.notes) (notes_said x.notes)) (sym is)
@@ -74,13 +75,13 @@ lines-preserved g c =
           (session_of done (beyond new.files ports' whole) c.next_line.new.lines (g.C.Source.left c.next_line.new.input))
           (output (g.S.Sink.written c.args.out.now) ports.sent) (output (g.S.Sink.written c.lines.out) ports-mid.sent) (output (g.S.Sink.written c.next_line.new.out) ports'.sent)
           (notes_said c.args.session.now.notes) (notes_said c.lines.session.notes) (notes_said done.notes)
-          (c.lines.invariant.told enough source files known sink whole (first-through (record_in ports-mid.told) (record_in ports'.told) whole more.1 begins))
-          (c.in-GoesOn.ensures.told (omega (arith, enough, c.lines.invariant.command, c.lines.invariant.paid)) (λ on. source (sym c.lines.invariant.reads ∙ on)) files there.0 sink whole begins));
+          (c.lines.invariant.told enough source files telling apart sink whole (first-through (record_in ports-mid.told) (record_in ports'.told) whole more.1 begins))
+          (c.in-GoesOn.ensures.told (omega (arith, enough, c.lines.invariant.command, c.lines.invariant.paid)) (λ on. source (sym c.lines.invariant.reads ∙ on)) files telling there.0 sink whole begins));
       lines =
           let ports = g.L.Lines.state c.args.lines.now in
           let ports' = g.L.Lines.state c.next_line.new.ports in
-          subst (λ (x : CommandState). LinesGoOn g.L.Lines.tells ports c.args.session.now.machine.lines ports' x.machine.lines) (sym is)
-          (lines-then g.L.Lines.tells ports (g.L.Lines.state c.lines.lines) ports' c.args.session.now.machine.lines c.lines.session.machine.lines done.machine.lines
+          subst (λ (x : CommandState). LinesLeft g.L.Lines.tells ports c.args.session.now.machine.lines ports' x.machine.lines) (sym is)
+          (left-then g.L.Lines.tells ports (g.L.Lines.state c.lines.lines) ports' c.args.session.now.machine.lines c.lines.session.machine.lines done.machine.lines
           c.lines.invariant.lines c.in-GoesOn.ensures.ports);
       source = c.in-GoesOn.ensures.cause.1 ∙ c.lines.invariant.source;
       sink = c.in-GoesOn.ensures.cause.0 ∙ c.lines.invariant.sink;
@@ -101,27 +102,27 @@ lines-preserved g c =
     }
 
 pub returns-in-IsOver-clause-told : goal.returns-in-IsOver-clause-told
-returns-in-IsOver-clause-told g c = λ enough source files known sink whole begins.
+returns-in-IsOver-clause-told g c = λ enough source files telling apart sink whole begins.
     let ports = g.L.Lines.state c.args.lines.now in
     let ports-mid = g.L.Lines.state c.lines.lines in
     let ports' = g.L.Lines.state c.next_line.new.ports in
-    let there = c.lines.invariant.lines.told known in
-    let more = c.in-IsOver.ensures.ports.told there.0 in
+    let there = c.lines.invariant.lines.told telling apart in
+    let more = c.in-IsOver.ensures.ports.told telling there.0 in
     over (λ notes. beginning c.args.session.now (beyond (g.F.Files.state c.args.files.now).files ports whole) c.args.opening.now (g.C.Source.left c.args.input.now) notes)
     (session_of c.lines.session (beyond (g.F.Files.state c.lines.files).files ports-mid whole) c.lines.texts (g.C.Source.left c.lines.input))
     (session_of c.next_line.new.session (beyond (g.F.Files.state c.next_line.new.files).files ports' whole) c.next_line.new.lines (g.C.Source.left c.next_line.new.input) [])
     c.in-IsOver.finish (output (g.S.Sink.written c.args.out.now) ports.sent) (output (g.S.Sink.written c.lines.out) ports-mid.sent) (output (g.S.Sink.written c.next_line.new.out) ports'.sent)
     (notes_said c.args.session.now.notes) (notes_said c.lines.session.notes) (notes_said c.next_line.new.session.notes)
-    (c.lines.invariant.told enough source files known sink whole (first-through (record_in ports-mid.told) (record_in ports'.told) whole more.1 begins))
-    (c.in-IsOver.ensures.told (omega (arith, enough, c.lines.invariant.command, c.lines.invariant.paid)) (λ on. source (sym c.lines.invariant.reads ∙ on)) files there.0 sink whole begins)
+    (c.lines.invariant.told enough source files telling apart sink whole (first-through (record_in ports-mid.told) (record_in ports'.told) whole more.1 begins))
+    (c.in-IsOver.ensures.told (omega (arith, enough, c.lines.invariant.command, c.lines.invariant.paid)) (λ on. source (sym c.lines.invariant.reads ∙ on)) files telling there.0 sink whole begins)
 
 pub returns-in-IsOver-clause-lines : goal.returns-in-IsOver-clause-lines
 returns-in-IsOver-clause-lines g c =
-    lines-then g.L.Lines.tells (g.L.Lines.state c.args.lines.now) (g.L.Lines.state c.lines.lines) (g.L.Lines.state c.next_line.new.ports) c.args.session.now.machine.lines
+    left-then g.L.Lines.tells (g.L.Lines.state c.args.lines.now) (g.L.Lines.state c.lines.lines) (g.L.Lines.state c.next_line.new.ports) c.args.session.now.machine.lines
     c.lines.session.machine.lines c.next_line.new.session.machine.lines c.lines.invariant.lines c.in-IsOver.ensures.ports
 
 pub returns-in_default-clause-lines : goal.returns-in_default-clause-lines
-returns-in_default-clause-lines g c = lines-stay g.L.Lines.tells (g.L.Lines.state c.args.lines.now) c.args.session.now.machine.lines
+returns-in_default-clause-lines g c = left-same g.L.Lines.tells (g.L.Lines.state c.args.lines.now) c.args.session.now.machine.lines
 
 pub returns-in-IsOver-clause-command : goal.returns-in-IsOver-clause-command
 returns-in-IsOver-clause-command g c =
@@ -163,7 +164,7 @@ returns-in-IsOver-clause-kept g c =
 
 pub returns-in_default-clause-told : goal.returns-in_default-clause-told
 unfolding beginning beginning_with
-returns-in_default-clause-told g c = λ enough source files known sink whole begins.
+returns-in_default-clause-told g c = λ enough source files telling apart sink whole begins.
     let ports = g.L.Lines.state c.args.lines.now in
     never-begun (λ notes. beginning c.args.session.now (beyond (g.F.Files.state c.args.files.now).files ports whole) c.args.opening.now (g.C.Source.left c.args.input.now) notes)
     (output (g.S.Sink.written c.args.out.now) ports.sent) (notes_said c.args.session.now.notes) refl

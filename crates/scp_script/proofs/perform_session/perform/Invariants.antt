@@ -5,9 +5,10 @@ use Rattle.file_commands.specs.OwnFiles.{AreOwn}
 use Rattle.file_commands.specs.Notes.{notes_said}
 use Rattle.host_lines.specs.Traffic.{Answer}
 use Rattle.host_lines.specs.Told.{IsFirst, record_in}
+use Rattle.telnet_lines.specs.Many.{AreApart}
 use Rattle.nova_machine.specs.Comes.{output}
-use Rattle.nova_machine.specs.LineChanges.{AreLinesTold, LinesGoOn}
 use Rattle.scp_commands.specs.Live.{beyond}
+use Rattle.scp_commands.specs.LinesLeft.{LinesLeft}
 use Rattle.scp_script.specs.Session.{spent_more}
 use Rattle.scp_script.specs.Perform.{beginning}
 use Rattle.scp_script.specs.Loop.{AreKept, NumbersSuffice, session_of}
@@ -23,13 +24,13 @@ invariant-lines g l = record {
   reads : l.texts.reads ≡ l.fn.opening.reads;
   unread : l.fn.opening.reads ≡ false → l.input ≡ l.fn.input;
   told : NumbersSuffice l.fn.session.command l.fn.opening.budget → (l.fn.opening.reads ≡ true → IsTrue g.C.Source.tells) → IsTrue g.F.Files.tells
-      → AreLinesTold g.L.Lines.tells (g.L.Lines.state l.fn.lines) l.fn.session.machine.lines → IsTrue g.S.Sink.tells
+      → IsTrue g.L.Lines.tells → AreApart (g.L.Lines.state l.fn.lines) l.fn.session.machine.lines → IsTrue g.S.Sink.tells
       → (whole : List Answer) → IsFirst (record_in (g.L.Lines.state l.lines).told) whole → ComesSoFar
       (λ notes. beginning l.fn.session (beyond (g.F.Files.state l.fn.files).files (g.L.Lines.state l.fn.lines) whole) l.fn.opening (g.C.Source.left l.fn.input) notes)
       (session_of l.session (beyond (g.F.Files.state l.files).files (g.L.Lines.state l.lines) whole) l.texts (g.C.Source.left l.input))
       (output (g.S.Sink.written l.fn.out) (g.L.Lines.state l.fn.lines).sent) (output (g.S.Sink.written l.out) (g.L.Lines.state l.lines).sent)
       (notes_said l.fn.session.notes) (notes_said l.session.notes);
-  lines : LinesGoOn g.L.Lines.tells (g.L.Lines.state l.fn.lines) l.fn.session.machine.lines (g.L.Lines.state l.lines) l.session.machine.lines;
+  lines : LinesLeft g.L.Lines.tells (g.L.Lines.state l.fn.lines) l.fn.session.machine.lines (g.L.Lines.state l.lines) l.session.machine.lines;
   source : g.C.Source.fault_count l.input ≡ g.C.Source.fault_count l.fn.input;
   sink : g.S.Sink.fault_count l.out ≡ g.S.Sink.fault_count l.fn.out;
   keeps : AreKept l.fn.session.notes l.session.notes (g.F.Files.state l.fn.files) (g.F.Files.state l.files);
