@@ -2,7 +2,7 @@
 ghost use Rattle.std.specs.Prelude.{◌≡◌};
 
 use crate::checked::holds;
-use crate::row::{Row, add, text};
+use crate::row::{Row, add, number, text};
 use host_lines::{Lines, MemLines};
 use std::alloc::{AllocError, Global};
 use std::process::Abort;
@@ -30,9 +30,19 @@ fn calls(alloc: Global, lines: &mut MemLines, typed: &str) -> Result<(), AllocEr
     lines.add_hang_up(300, 1)
 }
 
-/// Nothing was sent, and the caller of the row, if there is one, still waits to be accepted.
+/// So many bytes were sent as the row says that its caller has heard, or none. Where none was, the caller, if there is one,
+/// still waits to be accepted.
 pub fn lines_stand(rt: &impl Abort, lines: &mut MemLines, row: Row<'_>) {
-    holds(rt, lines.sent().is_empty() && lines.faults() == 0, row.line);
+    let heard = number(row, "heard", 0);
+    holds(
+        rt,
+        lines.sent().len() as u64 == heard && lines.faults() == 0,
+        row.line,
+    );
     let waits = matches!(lines.accept(PORT, 300), Ok(Some(_)));
-    holds(rt, waits == text(row, "types").is_some(), row.line);
+    holds(
+        rt,
+        waits == (text(row, "types").is_some() && heard == 0),
+        row.line,
+    );
 }

@@ -2,7 +2,7 @@
 // bytes that writes (`fails`), which read of the input fails (`read`), how many bytes the console takes (`room`), and the
 // input (`lines` and `more`) and what a caller types (`types`); and then what is printed (`prints` and `then`, as far as there
 // is room), the status, the note of the failed call (`note`), what is left of the input (`left`), files behind it (`after`),
-// words of memory (`cells`) and that there is no machine (`machine=none`).
+// words of memory (`cells`), how many bytes the caller was sent (`heard`) and that there is no machine (`machine=none`).
 ghost use Rattle.std.specs.Prelude.{◌≡◌, map};
 ghost use Rattle.unit_trait.specs.declared.kind.Kind.TheVariants.{Dsk as disks, Mta as tapes, Lpt as printers, Ptr as readers};
 ghost use Rattle.unit_trait.specs.declared.kind.Kind.TheVariants.{Ptp as punches, Clk as clocks, Tti as keyboards};

@@ -102,6 +102,19 @@ fn a_caller_waits_where_no_port_is_attached(rt: HostRuntime) -> Result<(), Fail>
     all(&rt, rt.alloc(), LOOPS, CALLERS)
 }
 
+/// The second teletype has a port: a caller types on it, and hears the 12 bytes with which a connection begins.
+const PORTS: &str = "; SHOW tells the port, and whether somebody is connected
+types=A | heard=12 | lines=ATTACH TTI1 4000~ATTACH TTI1 4000~SHOW TTI1~D 100 400~D PC 100~STEP 150~E TTI1 BUF~SHOW TTI1~SET TTI1 DISCONNECT~SHOW TTI1~DETACH TTI1~SHOW TTI1~DETACH TTI1~ | prints=Unit already attached~TTI1, listening on port 4000~~Step expired, PC: 00100 (000400)~BUF:\t101~TTI1, listening on port 4000, connected~TTI1, listening on port 4000~TTI1, not attached~Unit not attached~
+; a guest program waits for a byte, writes it back and waits for the next one; the caller hangs up before it is sent
+types=AB | heard=12 | lines=ATTACH TTI1 4000~D 30 2~D 100 63650~D 101 777~D 102 60650~D 103 61151~D 104 63651~D 105 777~D 106 14030~D 107 771~D 110 63077~GO 100~E TTI1 BUF~SHOW TTI1~EXIT~ | prints=~HALT instruction, PC: 00111 (000000)~BUF:\t102~TTI1, listening on port 4000~
+; without a run nobody is accepted
+types=A | lines=ATTACH TTI1 4000~DETACH ALL~SHOW TTI1~ATTACH TTI1 0~ATTACH TTI1 65536~ATTACH TTI1 65535~SHOW TTI1~ | prints=TTI1, not attached~Value out of range~Value out of range~TTI1, listening on port 65535~";
+
+#[test]
+fn a_caller_is_connected_to_the_port_that_is_attached(rt: HostRuntime) -> Result<(), Fail> {
+    all(&rt, rt.alloc(), "words=-q", PORTS)
+}
+
 /// A run of one instruction.
 const STEPS: &str =
     "words=-q | lines=DEPOSIT 40 7~DEPOSIT 100 20040~DEPOSIT PC 100~STEP~EXAMINE AC0~EXIT~ | prints=~Step expired, PC: 00101 (000000)~AC0:\t000007~ | status=102";
