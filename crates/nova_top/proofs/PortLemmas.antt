@@ -1,11 +1,11 @@
 -- What a session leaves of the ports and the connections of the outside, from a machine that begins to the program's end.
-use Rattle.std.proofs.Common.{◌≡◌, ◌⊎◌, inl, inr, ◌∙◌, ap, sym, subst, absurd, arith, refl, ℕ, zero, suc, ◌≤◌, Bool, true, false, true≢false, IsTrue, List, [], ◌∷◌, length, slice_get, Option, Some, None, is_some}
+use Rattle.std.proofs.Common.{◌≡◌, inl, inr, ◌∙◌, ap, sym, subst, arith, refl, ℕ, zero, suc, Bool, true, false, true≢false, List, [], ◌∷◌, slice_get, Option, Some, None, is_some}
 use Rattle.std.proofs.lemmas.Option.{same_Some}
 use Rattle.host_lines.specs.State.{LineState}
 use Rattle.telnet_lines.specs.Line.{LineOf, unconnected}
 use Rattle.telnet_lines.specs.Many.{AreApart}
 use Rattle.nova_machine.specs.Machine.{MachineState}
-use Rattle.scp_commands.specs.LinesLeft.{LinesLeft, AreListened}
+use Rattle.scp_commands.specs.LinesLeft.{LinesLeft}
 use Rattle.nova_top.specs.Ends.{PortAtEnd, LinesAtEnd}
 
 -- nobody is connected to a machine that begins

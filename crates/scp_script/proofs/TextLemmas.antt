@@ -366,13 +366,13 @@ pub answers-of : (limit : ℕ) (old : Live) (texts : Texts) (r : Request) (numbe
     → IsAnswer (with_complaint texts.actions (settled texts.scripts (Ok r) (effect limit own old r))) (texts_behind texts (Ok r)) result texts' (standing used new) tells before after)
     → Answers limit old texts (Ok r) number result new texts' tells before after notes notes'
 unfolding text_reply does
-answers-of limit old texts r number answer result new texts' tells before mid after notes notes' fits did then = record {
+answers-of limit old texts r number answer result new texts' tells before mid after notes notes' fits did next = record {
   own = did.own;
   kept = did.kept;
   answers = λ behind come.
       let all = did.own ++ behind in
       subst (λ (a : Asked). IsAnswer (with_complaint texts.actions (settled texts.scripts (Ok r) (does limit all old a))) (texts_behind texts (Ok r)) result texts' (standing (length did.own) new) tells before after)
-      (sym fits) (then all (length did.own) (did.does behind come));
+      (sym fits) (next all (length did.own) (did.does behind come));
 }
 
 -- a text whose notes change nothing was answered, and kept none

@@ -7,7 +7,6 @@ use Rattle.scp_commands.specs.Nature.{nature}
 use Rattle.scp_commands.specs.declared.fault.CommandFault.{CommandFault}
 use Rattle.scp_commands.specs.declared.fault.CommandFault.TheVariants as fault
 use Rattle.scp_commands.specs.Remains.{Remains}
-use Rattle.scp_commands.specs.Reply.{Answer}
 use Rattle.scp_commands.specs.LinesLeft.{ListenCause}
 use Rattle.scp_commands.proofs.RemainLemmas.{remains, notes-remain}
 use Rattle.scp_commands.proofs.PortLemmas.{left-same}
