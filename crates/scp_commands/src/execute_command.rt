@@ -51,8 +51,8 @@ use unit_trait::Unit;
 /// notes can't be taken, and from BREAK, EXPECT, ATTACH, DO, LOAD and DUMP. A closing that fails then in DO or LOAD is
 /// noted.
 ///
-/// `lines` are the ports and connections of the host. Runs poll them for the machine's terminal lines; ATTACH of the second
-/// teletype listens on a port, which may fail and is counted then, and DETACH, DETACH ALL and EXIT give it up.
+/// `lines` are the ports and connections of the host. Runs poll them for the machine's terminal lines; ATTACH of the
+/// second teletype listens on a port, which may fail and is counted then, and DETACH, DETACH ALL and EXIT give it up.
 pub fn execute<U: Unit, F: Files, L: Lines, S: Sink>(
     alloc: Global,
     session: &mut Session<U>,

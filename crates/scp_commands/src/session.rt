@@ -102,8 +102,8 @@ impl<U: Unit> Session<U> {
         take_room(&mut self.notes)
     }
 
-    /// Takes the files of all units away, in bus order, and then the port of the second teletype with its connection, as
-    /// at the end of the input. What the disk holds is written back first; where that fails, it is noted and answered,
+    /// Takes the files of all units away, in bus order, and then the port of the second teletype with its connection,
+    /// as at the end of the input. What the disk holds is written back first; where that fails, it is noted and answered,
     /// and all units keep their files and the teletype its port. A closing that fails is noted, and the next one
     /// follows.
     pub fn detach_all<F: Files, L: Lines>(
