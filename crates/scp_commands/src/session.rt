@@ -103,9 +103,9 @@ impl<U: Unit> Session<U> {
     }
 
     /// Takes the files of all units away, in bus order, and then the port of the second teletype with its connection,
-    /// as at the end of the input. What the disk holds is written back first; where that fails, it is noted and answered,
-    /// and all units keep their files and the teletype its port. A closing that fails is noted, and the next one
-    /// follows.
+    /// as at the end of the input. What the disk holds is written back first; where that fails, it is noted and
+    /// answered, and all units keep their files and the teletype its port. A closing that fails is noted, and the next
+    /// one follows.
     pub fn detach_all<F: Files, L: Lines>(
         &mut self,
         files: &mut F,
