@@ -1,5 +1,5 @@
 -- What comes of a line is of bytes, and within its limits, where the line and what is still to come are so.
-use Rattle.std.proofs.Common.{◌≡◌, sym, subst, ℕ, zero, suc, ◌+◌, ◌≤◌, ◌==◌, ◌&&◌, Bool, true, false, List, [], ◌∷◌, ◌++◌, map, length, take, drop, remove, slice_get, slice_set, position, min, nat_le, Option, Some, None, IfSome, Ok, is_some, option_map, arith, if◌then◌else◌}
+use Rattle.std.proofs.Common.{◌≡◌, sym, subst, ℕ, zero, suc, ◌+◌, ◌≤◌, ◌==◌, ◌&&◌, Bool, true, false, List, [], ◌∷◌, ◌++◌, map, length, take, drop, remove, slice_get, slice_set, replicate, position, min, nat_le, Option, Some, None, IfSome, Ok, is_some, option_map, arith, if◌then◌else◌}
 use Rattle.std.specs.List.{AllByRecursion, list_any}
 use Rattle.std.proofs.lemmas.Bool.{cond_both, leb-false}
 use Rattle.std.proofs.lemmas.List.{length-append}
@@ -23,7 +23,7 @@ use Rattle.unit_trait.specs.declared.calls.Want.{Want}
 use Rattle.unit_trait.specs.declared.calls.Want.TheVariants as want
 use Rattle.unit_trait.specs.declared.calls.Got.{Got}
 use Rattle.unit_trait.specs.declared.calls.Got.TheVariants as got
-use Rattle.nova_machine.specs.Machine.{has_terminal, lines_for, new_machine, reset_machine, reset_devices}
+use Rattle.nova_machine.specs.Machine.{line_count, new_machine, reset_machine, reset_devices}
 use Rattle.nova_machine.specs.OnLines.{Lined, got_of_line, lined_by, put_line, put_got, lined}
 use Rattle.nova_machine.specs.Valid.{AreBytes, ValidLine, ValidAnswer, ValidTraffic, ValidAhead}
 use Rattle.nova_machine.proofs.ValidBytes.{IsByte, bytes-append, bytes-take, bytes-drop, every-drop, every-remove, every-set}
@@ -310,14 +310,14 @@ lined-valid time w lines ahead l byte all coming there = absurd (cc)
 
 -- ---- the beginning
 
-lines-begin : (s : LineState) (us : List UnitState) → AllByRecursion ValidLine (map (seen_line s) (lines_for us))
-lines-begin s us =
-    cond_both (has_terminal us) (unconnected None ∷ []) [] (λ (lines : List (LineOf ℕ)). AllByRecursion ValidLine (map (seen_line s) lines)) (λ _. (unconnected-valid None, tt)) (λ _. tt)
+lines-begin : (s : LineState) (count : ℕ) → AllByRecursion ValidLine (map (seen_line s) (replicate count (unconnected None)))
+lines-begin s zero = tt
+lines-begin s (suc count) = (unconnected-valid None, lines-begin s count)
 
 -- the lines of a new machine
 pub new-lines : (s : LineState) (us : List UnitState) → AllByRecursion ValidLine (map (seen_line s) (new_machine us).lines)
 unfolding new_machine reset_machine reset_devices
-new-lines s us = lines-begin s us
+new-lines s us = lines-begin s (line_count us)
 
 -- a settled line that holds bytes, whoever is behind its connection
 pub settled-valid : (s : LineState) (line : LineOf ℕ) → IsSettled line → AreBytes line.keys → AreBytes line.output → ValidLine (seen_line s line)

@@ -1,6 +1,6 @@
 -- The state of a machine, on which all that it does depends.
-use Rattle.std.specs.Prelude.{ℕ, Bool, false, ◌||◌, List, [], ◌∷◌, Option, None, is_some, slice_set, if◌then◌else◌}
-use Rattle.unit_trait.specs.declared.kind.Kind.TheVariants.{Tti1, Tto1}
+use Rattle.std.specs.Prelude.{ℕ, Bool, false, ◌||◌, List, [], ◌∷◌, Option, None, is_some, slice_set, replicate, if◌then◌else◌}
+use Rattle.unit_trait.specs.declared.kind.Kind.TheVariants.{Tti1, Tto1, Qty}
 use Rattle.unit_trait.specs.Calls.{UnitState}
 use Rattle.event_queue.specs.EventList.{Event}
 use Rattle.unit_trait.specs.Kinds.{code_of}
@@ -55,12 +55,19 @@ reset_devices m = record m {
 unfoldable pub reset_machine : MachineState → MachineState
 reset_machine m = record (reset_devices m) { ints = no_interrupts }
 
--- line 0 is there where one of the units of the second teletype is
 abbrev pub has_terminal : List UnitState → Bool
 has_terminal units = is_some (unit_at (code_of Tti1) units) || is_some (unit_at (code_of Tto1) units)
 
+abbrev pub has_multiplexer : List UnitState → Bool
+has_multiplexer units = is_some (unit_at (code_of Qty) units)
+
+-- Line 0 is there where one of the units of the second teletype is. Where the multiplexer is, its lines 1 to 64 stand behind
+-- line 0.
+abbrev pub line_count : List UnitState → ℕ
+line_count units = if has_multiplexer units then 65 else if has_terminal units then 1 else 0
+
 abbrev pub lines_for : List UnitState → List (LineOf ℕ)
-lines_for units = if has_terminal units then unconnected None ∷ [] else []
+lines_for units = replicate (line_count units) (unconnected None)
 
 -- a new machine with those units: every register 0, memory of 0, no instruction executed, no key taken, no file
 -- attached, no line with a port, and as a reset leaves it

@@ -1,4 +1,4 @@
-ghost use Rattle.std.specs.Prelude.{◌≡◌, ◌≤◌, ◌<◌, ◌^◌, ◌↔◌, List, [], map, None, IfOk, IsOk, OnOk, OnErr};
+ghost use Rattle.std.specs.Prelude.{◌≡◌, ◌≤◌, ◌<◌, ◌^◌, ◌↔◌, List, [], map, replicate, None, IfOk, IsOk, OnOk, OnErr};
 ghost use Rattle.event_queue.specs.EventList.{due};
 ghost use Rattle.unit_list.specs.Bus.{AllFit, kinds_of};
 ghost use Rattle.unit_list.specs.Places.{places_in};
@@ -6,7 +6,8 @@ ghost use Rattle.unit_list.specs.Reset.{reset_units, reset_events};
 ghost use Rattle.host_files.specs.State.{Opened};
 ghost use Rattle.unit_files.specs.Open.{AllOpen, Around};
 ghost use Rattle.nova_machine.specs.Core.{AreListed};
-ghost use Rattle.nova_machine.specs.Machine.{lines_for};
+ghost use Rattle.telnet_lines.specs.Line.{unconnected};
+ghost use Rattle.nova_machine.specs.Machine.{lines_for, line_count};
 ghost use Rattle.nova_machine.specs.Run.{last_time};
 
 use event_queue::Events;
@@ -136,7 +137,7 @@ impl<U: Unit> Machine<U> {
 
     /// A machine of 32768 words with those units, at time 0, as a reset leaves it. Memory is 0, and so is every
     /// register of the processor but `Size`. No key is taken, no file attached, and no line has a port: line 0 is there
-    /// where a unit of the second teletype is.
+    /// where a unit of the second teletype is, and line 0 with lines 1 to 64 where the multiplexer is.
     #[tactic(auto, unfolding(crate::specs::Machine::new_machine))]
     pub fn new(alloc: Global, units: Vec<U>) -> Result<Machine<U>, AllocError>
         requires { IsBusOrder (map U.unit_state units.items) }
@@ -267,15 +268,34 @@ impl<U: Unit> Machine<U> {
     }
 }
 
-/// The lines of a machine with those units: line 0, where one of them works on it.
+/// The lines of a machine with those units.
 fn lines_of<U: Unit>(alloc: Global, places: &Places, units: &[U]) -> Result<Vec<Line>, AllocError>
     requires { places.now ≡ places_in (kinds_of (map U.unit_state units.now)) }
     ensures { IfOk result (λ lines. lines.items ≡ lines_for (map U.unit_state units.now)) }
 {
+    new_lines(alloc, line_count(places, units))
+}
+
+/// How many lines a machine with those units has: line 0 for the second teletype, and behind it lines 1 to 64 for the
+/// multiplexer.
+fn line_count<U: Unit>(places: &Places, units: &[U]) -> usize
+    requires { places.now ≡ places_in (kinds_of (map U.unit_state units.now)) }
+    ensures { result ≡ line_count (map U.unit_state units.now) }
+{
+    if has_unit(places, units, code_of(Kind::Qty)) {
+        return 65;
+    }
+    let terminal = has_unit(places, units, code_of(Kind::Tti1))
+        || has_unit(places, units, code_of(Kind::Tto1));
+    if terminal { 1 } else { 0 }
+}
+
+/// So many lines without a port.
+fn new_lines(alloc: Global, count: usize) -> Result<Vec<Line>, AllocError>
+    ensures { IfOk result (λ lines. lines.items ≡ replicate count (unconnected None)) }
+{
     let mut lines = Vec::new(alloc);
-    if has_unit(places, units, code_of(Kind::Tti1))
-        || has_unit(places, units, code_of(Kind::Tto1))
-    {
+    while lines.len() < count {
         lines.push(Line::new(alloc)?)?;
     }
     Ok(lines)

@@ -27,6 +27,7 @@ pub mod SetLemmas
 pub mod AskedLemmas
 pub mod PortLemmas
 pub mod PortCommands
+pub mod AnswerLemmas
 pub mod PrintedLemmas
 pub mod QuotedLemmas
 pub mod WatchLines

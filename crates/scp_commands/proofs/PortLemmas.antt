@@ -17,7 +17,7 @@ use Rattle.host_lines.specs.declared.lines.ListenFault.TheVariants as listen
 use Rattle.nova_machine.specs.LineChanges.{ports_of, HaveNoPort, HasConnection, AreLinesTold, LinesGoOn}
 use Rattle.nova_machine.proofs.LineSteps.{lines-stay, first-same, first-through, no-ports-same}
 use Rattle.scp_commands.specs.LineEffects.{closed, closed_by, hung, hung_by, unported, hung_up, ported}
-use Rattle.scp_commands.specs.LinesLeft.{HasPort, AreListened, LinesLeft, GivesUp, SeenAs, without_port, Listened}
+use Rattle.scp_commands.specs.LinesLeft.{HasPort, AreListened, LinesLeft, GivesUp, SeenAs, without_any, Listened}
 
 -- ---- ports
 
@@ -121,7 +121,7 @@ left-run tells s new before after run = record {
 -- ---- a line loses its port or its connection
 
 -- one number was taken out of a set
-taken-out : (p : Option ℕ) (f : ℕ → Bool) (k : ℕ) → IsTrue (without_port p f k) → IsTrue (f k) × (p ≢ Some k)
+taken-out : (p : Option ℕ) (f : ℕ → Bool) (k : ℕ) → IsTrue (without_any p f k) → IsTrue (f k) × (p ≢ Some k)
 taken-out None f k is = (is, λ e. true≢false (ap is_some (sym e)))
 taken-out (Some n) f k is = by (k == n) (eqb_tells k n) is
   where
@@ -181,7 +181,7 @@ module _ (tells : Bool) (port : Option ℕ) (old new : LineState) (line after : 
           by-port : ((port ≡ line.port) × (after.port ≡ None)) ⊎ ((port ≡ None) × (after.port ≡ line.port)) → IsListenedAt new after.port
           by-port (inl closes) = subst (λ (p : Option ℕ). IsListenedAt new p) (sym closes.1) tt
           by-port (inr keeps) =
-              let same : new.listens ≡ old.listens = up.listens ∙ ap (λ (p : Option ℕ). without_port p old.listens) keeps.0 in
+              let same : new.listens ≡ old.listens = up.listens ∙ ap (λ (p : Option ℕ). without_any p old.listens) keeps.0 in
               subst (λ (p : Option ℕ). IsListenedAt new p) (sym keeps.1) (listened-at old new same line.port all.0)
 
       by : (ls : List (LineOf ℕ)) → length (line ∷ ls) ≤ 1 → AreListened new (after ∷ ls)

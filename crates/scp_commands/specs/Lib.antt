@@ -18,6 +18,7 @@ pub mod Unbuilt
 pub mod Effect
 pub mod Nature
 pub mod LinesLeft
+pub mod LineAnswers
 pub mod Remains
 pub mod Refusals
 pub mod RunStops

@@ -41,15 +41,16 @@ pub record LinesLeft (tells : Bool) (old : LineState) (before : List (LineOf ℕ
 
 -- ---- giving up a port and a connection
 
-abbrev pub without_port : Option ℕ → (ℕ → Bool) → ℕ → Bool
-without_port None listens = listens
-without_port (Some port) listens = without_one port listens
+-- all that some are, but that number, where there is one
+abbrev pub without_any : Option ℕ → (ℕ → Bool) → ℕ → Bool
+without_any None are = are
+without_any (Some number) are = without_one number are
 
 -- A port was given up, and a connection was ended, where there was one. Nothing that comes was taken, and nothing sent.
 pub record GivesUp (port connection : Option ℕ) (old new : LineState) : Type 0 where
   pub told : new.told ≡ old.told
-  pub listens : new.listens ≡ without_port port old.listens
-  pub stands : new.stands ≡ without_port connection old.stands
+  pub listens : new.listens ≡ without_any port old.listens
+  pub stands : new.stands ≡ without_any connection old.stands
   pub sent : new.sent ≡ old.sent
   pub faults : new.faults ≡ old.faults
 

@@ -10,6 +10,7 @@ ghost use Rattle.nova_machine.specs.LineChanges.{AreLinesTold};
 ghost use Rattle.scp_commands.specs.Live.{live_in, beyond};
 ghost use Rattle.scp_commands.specs.ExitEffects.{exit_reply};
 ghost use Rattle.scp_commands.specs.LinesLeft.{LinesLeft};
+ghost use Rattle.scp_commands.specs.LineAnswers.{ClosesAll};
 ghost use Rattle.scp_commands.specs.Doing.{Did, Keeps, IsPlain, IsExitAnswer, IsRefused, IsKept};
 
 use crate::fault::CommandFault;
@@ -50,6 +51,8 @@ pub fn exit<U: Unit, F: Files, L: Lines>(
     ensures left { LinesLeft L.tells (L.state lines.old) session.old.machine.lines (L.state lines.new)
         session.new.machine.lines }
     ensures unasked { IsRefused result → lines.new ≡ lines.old }
+    ensures line { ClosesAll result (L.state lines.old) session.old.machine.lines (L.state lines.new)
+        session.new.machine.lines }
     ensures sent { (L.state lines.new).sent ≡ (L.state lines.old).sent }
     ensures keys { session.new.keys ≡ session.old.keys }
     ensures limit { session.new.limit ≡ session.old.limit }

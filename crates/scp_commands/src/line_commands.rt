@@ -14,6 +14,7 @@ ghost use Rattle.scp_commands.specs.declared.fault.CommandFault.TheVariants.{Out
 ghost use Rattle.scp_commands.specs.Live.{live_in, beyond, standing};
 ghost use Rattle.scp_commands.specs.LineEffects.{closed, hung, unported, attach_port_reply, detach_port_reply, disconnect_reply};
 ghost use Rattle.scp_commands.specs.LinesLeft.{LinesLeft, SeenAs, GivesUp, Unlistened, AttachCause, attaches_by, needs_port};
+ghost use Rattle.scp_commands.specs.LineAnswers.{AttachesPort, DetachesPort, Disconnects, ClosesPort};
 ghost use Rattle.scp_commands.specs.Refusals.{IsUnrefused};
 ghost use Rattle.scp_commands.specs.Doing.{Does, IsOfPort, IsPlain, IsExitAnswer, IsRefused};
 
@@ -49,6 +50,8 @@ pub fn attach_port<U: Unit, L: Lines>(
     ensures sent { (L.state lines.new).sent ≡ (L.state lines.old).sent }
     ensures unasked { IsRefused result → (Unlistened result → ⊥) → lines.new ≡ lines.old }
     ensures cause { AttachCause L.tells result (L.state lines.old) (L.state lines.new) }
+    ensures line { AttachesPort L.tells port result (L.state lines.old) session.old.machine.lines (L.state lines.new)
+        session.new.machine.lines }
     ensures unrefused { result ≡ Err OutOfMemory
         → IsUnrefused (AttachPort Tti1 port) session.old.machine session.old.watch }
     ensures own { IsOfPort result }
@@ -78,6 +81,8 @@ pub fn detach_port<U: Unit, L: Lines>(
         session.new.machine.lines }
     ensures sent { (L.state lines.new).sent ≡ (L.state lines.old).sent }
     ensures unasked { IsRefused result → lines.new ≡ lines.old }
+    ensures line { DetachesPort result (L.state lines.old) session.old.machine.lines (L.state lines.new)
+        session.new.machine.lines }
     ensures own { IsPlain result }
     ensures port { IsOfPort result }
     ensures exit { IsExitAnswer result }
@@ -107,6 +112,8 @@ pub fn disconnect<U: Unit, L: Lines>(
         session.new.machine.lines }
     ensures sent { (L.state lines.new).sent ≡ (L.state lines.old).sent }
     ensures unasked { IsRefused result → lines.new ≡ lines.old }
+    ensures line { Disconnects result (L.state lines.old) session.old.machine.lines (L.state lines.new)
+        session.new.machine.lines }
     ensures own { IsPlain result }
     ensures port { IsOfPort result }
     ensures exit { IsExitAnswer result }
@@ -124,6 +131,7 @@ pub fn disconnect<U: Unit, L: Lines>(
 pub fn close_terminal<U: Unit, L: Lines>(machine: &mut Machine<U>, lines: &mut L)
     ensures machine { machine.new ≡ record machine.old { lines = unported machine.old.lines } }
     ensures left { LinesLeft L.tells (L.state lines.old) machine.old.lines (L.state lines.new) machine.new.lines }
+    ensures line { ClosesPort (L.state lines.old) machine.old.lines (L.state lines.new) machine.new.lines }
     ensures seen { AreLinesTold L.tells (L.state lines.old) machine.old.lines
         → SeenAs unported (L.state lines.old) machine.old.lines (L.state lines.new) machine.new.lines }
     ensures sent { (L.state lines.new).sent ≡ (L.state lines.old).sent }

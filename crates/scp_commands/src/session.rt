@@ -57,6 +57,7 @@ impl<U: Unit> Session<U> {
     ghost use Rattle.scp_commands.specs.FileEffects.{kept_answer};
     ghost use Rattle.file_commands.specs.AllUnits.{keeper, IsUnwritten};
     ghost use Rattle.file_commands.specs.OwnFiles.{AreOwn};
+    ghost use Rattle.scp_commands.specs.LineAnswers.{ClosesPort};
     ghost use Rattle.scp_commands.specs.Doing.{ClosesFiles, Closes, Keeps};
     ghost use Rattle.nova_machine.specs.LineChanges.{AreLinesTold};
     ghost use Rattle.scp_commands.specs.LinesLeft.{LinesLeft};
@@ -122,6 +123,8 @@ impl<U: Unit> Session<U> {
         ensures unasked { OnErr result (lines.new ≡ lines.old) }
         ensures sent { (L.state lines.new).sent ≡ (L.state lines.old).sent }
         ensures kept { OnErr result (self.new.machine.lines ≡ self.old.machine.lines) }
+        ensures line { OnOk result
+            (ClosesPort (L.state lines.old) self.old.machine.lines (L.state lines.new) self.new.machine.lines) }
         ensures keeps { Keeps self.old.command self.new.machine.time F.tells (kept_answer (keeper result) Go)
             self.old.notes self.new.notes (F.state files.old) (F.state files.new) }
         ensures cause { OnErr result

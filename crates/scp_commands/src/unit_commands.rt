@@ -19,6 +19,7 @@ ghost use Rattle.scp_commands.specs.FileEffects.{attach_reply, detach_reply, det
 ghost use Rattle.scp_parser.specs.Command.{Attach, Detach};
 ghost use Rattle.scp_commands.specs.Refusals.{IsUnrefused};
 ghost use Rattle.scp_commands.specs.LinesLeft.{LinesLeft};
+ghost use Rattle.scp_commands.specs.LineAnswers.{DetachesUnit, ClosesAll};
 ghost use Rattle.scp_commands.specs.Doing.{Did, IsTold, Keeps, IsUndone, IsOwn, IsPlain, IsExitAnswer, IsRefused, IsKept, IsRefusal, AttachNote};
 
 use crate::fault::CommandFault;
@@ -128,6 +129,8 @@ pub fn detach_one_or_every<U: Unit, F: Files, L: Lines>(
     ensures left { LinesLeft L.tells (L.state lines.old) session.old.machine.lines (L.state lines.new)
         session.new.machine.lines }
     ensures unasked { IsRefused result → lines.new ≡ lines.old }
+    ensures line { DetachesUnit unit result (L.state lines.old) session.old.machine.lines (L.state lines.new)
+        session.new.machine.lines }
     ensures sent { (L.state lines.new).sent ≡ (L.state lines.old).sent }
     ensures keys { session.new.keys ≡ session.old.keys }
     ensures limit { session.new.limit ≡ session.old.limit }
@@ -217,6 +220,8 @@ fn detach_every<U: Unit, F: Files, L: Lines>(
     ensures left { LinesLeft L.tells (L.state lines.old) session.old.machine.lines (L.state lines.new)
         session.new.machine.lines }
     ensures unasked { IsRefused result → lines.new ≡ lines.old }
+    ensures line { ClosesAll result (L.state lines.old) session.old.machine.lines (L.state lines.new)
+        session.new.machine.lines }
     ensures sent { (L.state lines.new).sent ≡ (L.state lines.old).sent }
     ensures keys { session.new.keys ≡ session.old.keys }
     ensures limit { session.new.limit ≡ session.old.limit }

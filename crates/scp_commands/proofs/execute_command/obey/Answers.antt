@@ -19,6 +19,8 @@ use Rattle.scp_commands.specs.FileEffects.{attach_reply, detach_one_or_all}
 use Rattle.scp_commands.specs.RunEffects.{run_from, running, step_of}
 use Rattle.nova_machine.specs.Comes.{output}
 use Rattle.scp_commands.specs.TapeEffects.{load_reply, dump_reply}
+use Rattle.scp_commands.specs.LineAnswers.{LinesAnswer}
+use Rattle.scp_commands.proofs.AnswerLemmas.{stays, untold-stays}
 use Rattle.scp_commands.proofs.execute_command.obey.Goals as goal
 
 pub returns-in-Attach-clause-told : goal.returns-in-Attach-clause-told
@@ -444,3 +446,84 @@ returns-in-Exit-clause-listening g c =
 pub returns-in_default-clause-listening : goal.returns-in_default-clause-listening
 returns-in_default-clause-listening g c =
     unlistened g.L.Lines.tells c.args.command.now c.obey_untold.result (g.L.Lines.state c.args.lines.now) c.obey_untold.ensures.no_port
+
+-- what each answer says of the lines
+
+pub returns-in-AttachPort-clause-line : goal.returns-in-AttachPort-clause-line
+returns-in-AttachPort-clause-line g c =
+    subst (λ (r : Request). LinesAnswer g.L.Lines.tells r c.attach_port.result (g.L.Lines.state c.args.lines.now) c.args.session.now.machine.lines (g.L.Lines.state c.attach_port.new.lines) c.attach_port.new.session.machine.lines)
+    (sym (sym c.command.view_is ∙ ap (request_of _) c.in-AttachPort.is)) c.attach_port.ensures.line
+
+pub returns-in-Detach-clause-line : goal.returns-in-Detach-clause-line
+returns-in-Detach-clause-line g c =
+    subst (λ (r : Request). LinesAnswer g.L.Lines.tells r c.detach_one_or_every.result (g.L.Lines.state c.args.lines.now) c.args.session.now.machine.lines (g.L.Lines.state c.detach_one_or_every.new.lines) c.detach_one_or_every.new.session.machine.lines)
+    (sym (sym c.command.view_is ∙ ap (request_of _) c.in-Detach.is)) c.detach_one_or_every.ensures.line
+
+pub returns-in-Disconnect-clause-line : goal.returns-in-Disconnect-clause-line
+returns-in-Disconnect-clause-line g c =
+    subst (λ (r : Request). LinesAnswer g.L.Lines.tells r c.disconnect.result (g.L.Lines.state c.args.lines.now) c.args.session.now.machine.lines (g.L.Lines.state c.disconnect.new.lines) c.disconnect.new.session.machine.lines)
+    (sym (sym c.command.view_is ∙ ap (request_of _) c.in-Disconnect.is)) c.disconnect.ensures.line
+
+pub returns-in-Exit-clause-line : goal.returns-in-Exit-clause-line
+returns-in-Exit-clause-line g c =
+    subst (λ (r : Request). LinesAnswer g.L.Lines.tells r c.exit.result (g.L.Lines.state c.args.lines.now) c.args.session.now.machine.lines (g.L.Lines.state c.exit.new.lines) c.exit.new.session.machine.lines)
+    (sym (sym c.command.view_is ∙ ap (request_of _) c.in-Exit.is)) c.exit.ensures.line
+
+pub returns-in-Run-clause-line : goal.returns-in-Run-clause-line
+returns-in-Run-clause-line g c =
+    subst (λ (r : Request). LinesAnswer g.L.Lines.tells r c.run_from.result (g.L.Lines.state c.args.lines.now) c.args.session.now.machine.lines (g.L.Lines.state c.run_from.new.lines) c.run_from.new.session.machine.lines)
+    (sym (sym c.command.view_is ∙ ap (request_of _) c.in-Run.is)) tt
+
+pub returns-in-Go-clause-line : goal.returns-in-Go-clause-line
+returns-in-Go-clause-line g c =
+    subst (λ (r : Request). LinesAnswer g.L.Lines.tells r c.run_from-in-Go.result (g.L.Lines.state c.args.lines.now) c.args.session.now.machine.lines (g.L.Lines.state c.run_from-in-Go.new.lines) c.run_from-in-Go.new.session.machine.lines)
+    (sym (sym c.command.view_is ∙ ap (request_of _) c.in-Go.is)) tt
+
+pub returns-in-Cont-clause-line : goal.returns-in-Cont-clause-line
+returns-in-Cont-clause-line g c =
+    subst (λ (r : Request). LinesAnswer g.L.Lines.tells r c.run.result (g.L.Lines.state c.args.lines.now) c.args.session.now.machine.lines (g.L.Lines.state c.run.new.lines) c.run.new.session.machine.lines)
+    (sym (sym c.command.view_is ∙ ap (request_of _) c.in-Cont.is)) tt
+
+pub returns-in-Step-clause-line : goal.returns-in-Step-clause-line
+returns-in-Step-clause-line g c =
+    subst (λ (r : Request). LinesAnswer g.L.Lines.tells r c.step.result (g.L.Lines.state c.args.lines.now) c.args.session.now.machine.lines (g.L.Lines.state c.step.new.lines) c.step.new.session.machine.lines)
+    (sym (sym c.command.view_is ∙ ap (request_of _) c.in-Step.is)) tt
+
+pub returns-in-Attach-clause-line : goal.returns-in-Attach-clause-line
+returns-in-Attach-clause-line g c =
+    subst (λ (r : Request). LinesAnswer g.L.Lines.tells r c.attach.result (g.L.Lines.state c.args.lines.now) c.args.session.now.machine.lines (g.L.Lines.state c.args.lines.now) c.attach.new.session.machine.lines)
+    (sym (sym c.command.view_is ∙ ap (request_of _) c.in-Attach.is)) (stays (g.L.Lines.state c.args.lines.now) c.args.session.now.machine.lines c.attach.new.session.machine.lines c.attach.ensures.terminals)
+
+pub returns-in-Do-clause-line : goal.returns-in-Do-clause-line
+returns-in-Do-clause-line g c =
+    subst (λ (r : Request). LinesAnswer g.L.Lines.tells r c.do_script.result (g.L.Lines.state c.args.lines.now) c.args.session.now.machine.lines (g.L.Lines.state c.args.lines.now) c.do_script.new.session.machine.lines)
+    (sym (sym c.command.view_is ∙ ap (request_of _) c.in-Do.is)) (stays (g.L.Lines.state c.args.lines.now) c.args.session.now.machine.lines c.do_script.new.session.machine.lines c.do_script.ensures.terminals)
+
+pub returns-in-Load-clause-line : goal.returns-in-Load-clause-line
+returns-in-Load-clause-line g c =
+    subst (λ (r : Request). LinesAnswer g.L.Lines.tells r c.load_file.result (g.L.Lines.state c.args.lines.now) c.args.session.now.machine.lines (g.L.Lines.state c.args.lines.now) c.load_file.new.session.machine.lines)
+    (sym (sym c.command.view_is ∙ ap (request_of _) c.in-Load.is)) (stays (g.L.Lines.state c.args.lines.now) c.args.session.now.machine.lines c.load_file.new.session.machine.lines c.load_file.ensures.terminals)
+
+pub returns-in-Dump-clause-line : goal.returns-in-Dump-clause-line
+returns-in-Dump-clause-line g c =
+    subst (λ (r : Request). LinesAnswer g.L.Lines.tells r c.dump_file.result (g.L.Lines.state c.args.lines.now) c.args.session.now.machine.lines (g.L.Lines.state c.args.lines.now) c.dump_file.new.session.machine.lines)
+    (sym (sym c.command.view_is ∙ ap (request_of _) c.in-Dump.is)) (stays (g.L.Lines.state c.args.lines.now) c.args.session.now.machine.lines c.dump_file.new.session.machine.lines c.dump_file.ensures.terminals)
+
+pub returns-in_default-clause-line : goal.returns-in_default-clause-line
+returns-in_default-clause-line g c =
+    let others : IsNoRunOrFile c.command.inside.verb = record {
+      run = c.in_default.not-Run;
+      go = c.in_default.not-Go;
+      cont = c.in_default.not-Cont;
+      step = c.in_default.not-Step;
+      attach = c.in_default.not-Attach;
+      attach_port = c.in_default.not-AttachPort;
+      detach = c.in_default.not-Detach;
+      disconnect = c.in_default.not-Disconnect;
+      exit = c.in_default.not-Exit;
+      do_ = c.in_default.not-Do;
+      load = c.in_default.not-Load;
+      dump = c.in_default.not-Dump;
+    } in
+    untold-stays g.L.Lines.tells c.args.command.now c.obey_untold.result (g.L.Lines.state c.args.lines.now) c.args.session.now.machine.lines c.obey_untold.new.session.machine.lines
+    (subst (λ (r : Request). IsUntold r) c.command.view_is (is-untold _ c.command.inside.verb others)) c.obey_untold.ensures.terminals

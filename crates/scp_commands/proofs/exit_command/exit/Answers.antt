@@ -1,4 +1,4 @@
-use Rattle.std.proofs.Common.{Some, None, Err, List, ap, sym, subst, arith}
+use Rattle.std.proofs.Common.{Some, None, Err, List, refl, ap, sym, subst, arith}
 use Rattle.file_commands.specs.Notes.{CommandNote}
 use Rattle.scp_commands.specs.Reply.{Answer}
 use Rattle.scp_commands.specs.ExitEffects.{exit_reply}
@@ -35,3 +35,9 @@ returns-in-Err-clause-told g c = λ told whole tells text.
 
 pub returns-in_default-clause-left : goal.returns-in_default-clause-left
 returns-in_default-clause-left g c = left-same g.L.Lines.tells (g.L.Lines.state c.args.lines.now) c.args.session.now.machine.lines
+
+pub returns-in-Err-clause-line : goal.returns-in-Err-clause-line
+returns-in-Err-clause-line g c = record { lines = c.in-Err.ensures.kept; outside = ap g.L.Lines.state c.in-Err.ensures.unasked }
+
+pub returns-in_default-clause-line : goal.returns-in_default-clause-line
+returns-in_default-clause-line g c = record { lines = refl; outside = refl }

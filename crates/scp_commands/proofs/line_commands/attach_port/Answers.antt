@@ -3,6 +3,7 @@ use Rattle.host_lines.specs.State.{LineState}
 use Rattle.scp_commands.specs.LinesLeft.{attaches_by}
 use Rattle.scp_commands.proofs.PortLemmas.{left-same}
 use Rattle.scp_commands.proofs.PortCommands.{attach-unbuilt, attach-does, attach-left, attach-refused, attach-sent, attach-cause, attach-unrefused}
+use Rattle.scp_commands.proofs.AnswerLemmas.{none-attaches, first-attaches}
 use Rattle.scp_commands.proofs.line_commands.attach_port.Goals as goal
 
 pub returns-in_default-clause-told : goal.returns-in_default-clause-told
@@ -51,4 +52,15 @@ returns-clause-unrefused g c =
     let at : slice_get c.session.inside.machine.lines 0 ≡ Some c.in-Some.line.now = sym c.in-Some.ensures.value in
     rw (← c.session.view_is)
     (attach-unrefused g.L.Lines.tells (g.L.Lines.state c.args.lines.now) (g.L.Lines.state c.attach_line.new.lines) c.session.inside.machine c.in-Some.line.now c.attach_line.new.line c.args.port c.attach_line.result at
+    c.attach_line.ensures.told)
+
+pub returns-in_default-clause-line : goal.returns-in_default-clause-line
+returns-in_default-clause-line g c =
+    rw (← c.session.view_is) (none-attaches (g.L.Lines.state c.args.lines.now) c.session.inside.machine.lines (sym c.in_default.ensures.value) g.L.Lines.tells c.args.port)
+
+pub returns-clause-line : goal.returns-clause-line
+returns-clause-line g c =
+    let at : slice_get c.session.inside.machine.lines 0 ≡ Some c.in-Some.line.now = sym c.in-Some.ensures.value in
+    rw (← c.session.view_is)
+    (first-attaches g.L.Lines.tells c.args.port c.attach_line.result (g.L.Lines.state c.args.lines.now) (g.L.Lines.state c.attach_line.new.lines) c.session.inside.machine.lines c.in-Some.line.now c.attach_line.new.line at
     c.attach_line.ensures.told)

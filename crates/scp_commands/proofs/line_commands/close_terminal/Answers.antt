@@ -1,6 +1,7 @@
 use Rattle.std.proofs.Common.{◌≡◌, refl, ap, sym, slice_get, Some, None}
 use Rattle.scp_commands.specs.LineEffects.{unported}
 use Rattle.scp_commands.proofs.PortLemmas.{left-same, seen-none, close-left, close-seen}
+use Rattle.scp_commands.proofs.AnswerLemmas.{none-closes, first-closes}
 use Rattle.scp_commands.proofs.line_commands.close_terminal.Goals as goal
 
 pub returns-in-None-clause-left : goal.returns-in-None-clause-left
@@ -22,3 +23,12 @@ returns-in-Some-clause-seen g c =
     let at : slice_get c.args.machine.now.lines 0 ≡ Some c.in-Some.line.now = sym c.in-Some.ensures.value in
     close-seen g.L.Lines.tells (g.L.Lines.state c.args.lines.now) (g.L.Lines.state c.close.new.lines) c.args.machine.now.lines c.in-Some.line.now c.close.new.line at
     (λ none. ap g.L.Lines.state (c.close.ensures.none none)) c.close.ensures.parties c.close.ensures.line c.close.ensures.outside
+
+pub returns-in-None-clause-line : goal.returns-in-None-clause-line
+returns-in-None-clause-line g c = none-closes (g.L.Lines.state c.args.lines.now) c.args.machine.now.lines (sym c.in-None.ensures.value)
+
+pub returns-in-Some-clause-line : goal.returns-in-Some-clause-line
+returns-in-Some-clause-line g c =
+    let at : slice_get c.args.machine.now.lines 0 ≡ Some c.in-Some.line.now = sym c.in-Some.ensures.value in
+    first-closes (g.L.Lines.state c.args.lines.now) (g.L.Lines.state c.close.new.lines) c.in-Some.line.now c.close.new.line (λ none. ap g.L.Lines.state (c.close.ensures.none none))
+    c.args.machine.now.lines at c.close.ensures.line c.close.ensures.outside

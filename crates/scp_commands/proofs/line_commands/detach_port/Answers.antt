@@ -4,6 +4,7 @@ use Rattle.nova_machine.specs.Machine.{MachineState}
 use Rattle.scp_commands.specs.Live.{CommandState}
 use Rattle.scp_commands.proofs.PortLemmas.{left-same, close-left, close-seen}
 use Rattle.scp_commands.proofs.PortCommands.{close-refused, detach-unbuilt, detach-does}
+use Rattle.scp_commands.proofs.AnswerLemmas.{none-detaches, first-detaches}
 use Rattle.scp_commands.proofs.line_commands.detach_port.Goals as goal
 
 pub returns-in_default-clause-told : goal.returns-in_default-clause-told
@@ -38,3 +39,13 @@ returns-clause-refused g c =
       close-refused c.session.inside.machine c.in-Some.line.now c.detach_line.new.line c.detach_line.result at c.detach_line.ensures.answer c.detach_line.ensures.line refused,
       refl,
     ))
+
+pub returns-in_default-clause-line : goal.returns-in_default-clause-line
+returns-in_default-clause-line g c = rw (← c.session.view_is) (none-detaches (g.L.Lines.state c.args.lines.now) c.session.inside.machine.lines (sym c.in_default.ensures.value))
+
+pub returns-clause-line : goal.returns-clause-line
+returns-clause-line g c =
+    let at : slice_get c.session.inside.machine.lines 0 ≡ Some c.in-Some.line.now = sym c.in-Some.ensures.value in
+    rw (← c.session.view_is)
+    (first-detaches (g.L.Lines.state c.args.lines.now) (g.L.Lines.state c.detach_line.new.lines) c.in-Some.line.now c.detach_line.new.line (λ none. ap g.L.Lines.state (c.detach_line.ensures.none none))
+    c.detach_line.result c.session.inside.machine.lines at c.detach_line.ensures.answer c.detach_line.ensures.line c.detach_line.ensures.outside)

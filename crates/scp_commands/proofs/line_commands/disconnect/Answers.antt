@@ -4,6 +4,7 @@ use Rattle.nova_machine.specs.Machine.{MachineState}
 use Rattle.scp_commands.specs.Live.{CommandState}
 use Rattle.scp_commands.proofs.PortLemmas.{left-same, hang-left, hang-seen}
 use Rattle.scp_commands.proofs.PortCommands.{hang-refused, disconnect-unbuilt, disconnect-does}
+use Rattle.scp_commands.proofs.AnswerLemmas.{none-disconnects, first-disconnects}
 use Rattle.scp_commands.proofs.line_commands.disconnect.Goals as goal
 
 pub returns-in_default-clause-told : goal.returns-in_default-clause-told
@@ -38,3 +39,13 @@ returns-clause-refused g c =
       hang-refused c.session.inside.machine c.in-Some.line.now c.disconnect_line.new.line c.disconnect_line.result at c.disconnect_line.ensures.answer c.disconnect_line.ensures.line refused,
       refl,
     ))
+
+pub returns-in_default-clause-line : goal.returns-in_default-clause-line
+returns-in_default-clause-line g c = rw (← c.session.view_is) (none-disconnects (g.L.Lines.state c.args.lines.now) c.session.inside.machine.lines (sym c.in_default.ensures.value))
+
+pub returns-clause-line : goal.returns-clause-line
+returns-clause-line g c =
+    let at : slice_get c.session.inside.machine.lines 0 ≡ Some c.in-Some.line.now = sym c.in-Some.ensures.value in
+    rw (← c.session.view_is)
+    (first-disconnects (g.L.Lines.state c.args.lines.now) (g.L.Lines.state c.disconnect_line.new.lines) c.in-Some.line.now c.disconnect_line.new.line (λ none. ap g.L.Lines.state (c.disconnect_line.ensures.none none))
+    c.disconnect_line.result c.session.inside.machine.lines at c.disconnect_line.ensures.answer c.disconnect_line.ensures.line c.disconnect_line.ensures.outside)

@@ -26,3 +26,6 @@ returns-in-Err-clause-told g c = λ told whole tells text.
     (live_in after.self (beyond (g.F.Files.state after.files).files (g.L.Lines.state after.lines) whole)) tells text text (notes_said before.notes) (notes_said after.self.notes)) (sym (ap Err c.of_detach.ensures))
     (all-did Go before.command (live_in before (beyond (g.F.Files.state c.args.files.now).files (g.L.Lines.state c.args.lines.now) whole)) (live_in after.self (beyond (g.F.Files.state after.files).files (g.L.Lines.state after.lines) whole)) (Some c.in-Err.fault.unit) tells text
     (notes_said before.notes) (notes_said after.self.notes) refl (λ at reply both. both) (c.in-Err.ensures.closes told whole))
+
+pub returns-in-Err-clause-line : goal.returns-in-Err-clause-line
+returns-in-Err-clause-line g c = record { lines = c.in-Err.ensures.kept; outside = ap g.L.Lines.state c.in-Err.ensures.unasked }

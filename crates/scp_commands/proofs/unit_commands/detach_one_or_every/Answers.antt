@@ -10,6 +10,8 @@ use Rattle.scp_commands.specs.Nature.Telling.{Nothing, Ported}
 use Rattle.scp_commands.specs.Doing.{told_by, IsTold}
 use Rattle.scp_commands.proofs.DidLemmas.{did-as, did-of}
 use Rattle.scp_commands.proofs.ObeyLemmas.{lines-kept, keeps-none, port-no-file}
+use Rattle.scp_commands.specs.LineAnswers.{DetachesUnit, detaches_by}
+use Rattle.scp_commands.proofs.AnswerLemmas.{stays}
 use Rattle.scp_commands.proofs.unit_commands.detach_one_or_every.Goals as goal
 
 pub returns-in-None-clause-told : goal.returns-in-None-clause-told
@@ -60,3 +62,28 @@ returns-in-Some-2-clause-told g c = λ told whole tells text.
 pub returns-in-Some-2-clause-left : goal.returns-in-Some-2-clause-left
 returns-in-Some-2-clause-left g c =
     lines-kept g.L.Lines.tells (g.L.Lines.state c.args.lines.now) c.args.session.now.machine.lines c.detach.new.session.machine.lines c.detach.ensures.terminals
+
+pub returns-in-None-clause-line : goal.returns-in-None-clause-line
+returns-in-None-clause-line g c =
+    subst (λ (u : Option UnitName). DetachesUnit u c.detach_every.result (g.L.Lines.state c.args.lines.now) c.args.session.now.machine.lines (g.L.Lines.state c.detach_every.new.lines) c.detach_every.new.session.machine.lines)
+    (sym c.in-None.is) c.detach_every.ensures.line
+
+pub returns-in-Some-clause-line : goal.returns-in-Some-clause-line
+returns-in-Some-clause-line g c =
+    let old = g.L.Lines.state c.args.lines.now in
+    let new = g.L.Lines.state c.detach_port.new.lines in
+    let lines = c.args.session.now.machine.lines in
+    let lines' = c.detach_port.new.session.machine.lines in
+    let is : is_terminal c.in-Some.unit ≡ true = sym c.is_terminal.ensures ∙ c.if-is_terminal.true in
+    subst (λ (u : Option UnitName). DetachesUnit u c.detach_port.result old lines new lines') (sym c.in-Some.is)
+    (subst (λ (b : Bool). detaches_by b c.detach_port.result old lines new lines') (sym is) c.detach_port.ensures.line)
+
+pub returns-in-Some-2-clause-line : goal.returns-in-Some-2-clause-line
+returns-in-Some-2-clause-line g c =
+    let old = g.L.Lines.state c.args.lines.now in
+    let lines = c.args.session.now.machine.lines in
+    let lines' = c.detach.new.session.machine.lines in
+    let same : c.in-Some.unit ≡ c.in-Some-2.unit = same_Some c.in-Some.unit c.in-Some-2.unit (sym c.in-Some.is ∙ c.in-Some-2.is) in
+    let other : is_terminal c.in-Some-2.unit ≡ false = ap is_terminal (sym same) ∙ sym c.is_terminal.ensures ∙ c.if-is_terminal.false in
+    subst (λ (u : Option UnitName). DetachesUnit u c.detach.result old lines old lines') (sym c.in-Some-2.is)
+    (subst (λ (b : Bool). detaches_by b c.detach.result old lines old lines') (sym other) (stays old lines lines' c.detach.ensures.terminals))

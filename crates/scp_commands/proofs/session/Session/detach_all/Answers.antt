@@ -12,6 +12,7 @@ use Rattle.scp_commands.specs.Doing.{ClosesFiles}
 use Rattle.scp_commands.proofs.ObeyLemmas.{lines-kept}
 use Rattle.scp_commands.proofs.PortCommands.{unported-live}
 use Rattle.scp_commands.proofs.CloseLemmas.{closes-ported}
+use Rattle.scp_commands.specs.LineAnswers.{ClosesPort}
 use Rattle.scp_commands.proofs.session.Session.detach_all.Goals as goal
 
 pub returns-in_err-detach_files-clause-left : goal.returns-in_err-detach_files-clause-left
@@ -42,3 +43,8 @@ returns-clause-around g c = λ base around.
     subst (λ (slots : List (Option Held)). Around slots base (g.F.Files.state c.detach_files.new.files).opened)
     (sym (ap (λ (x : CommandState). x.machine.slots) c.self.view_is) ∙ sym (ap (λ (x : MachineState). x.slots) c.close_terminal.ensures.machine))
     (c.in_ok-detach_files.ensures.around base around)
+
+pub returns-clause-line : goal.returns-clause-line
+returns-clause-line g c =
+    let same = ap (λ (x : CommandState). x.machine.lines) c.self.view_is ∙ c.detach_files.ensures.terminals in
+    subst (λ (ls : List (LineOf ℕ)). ClosesPort (g.L.Lines.state c.args.lines.now) ls (g.L.Lines.state c.close_terminal.new.lines) c.close_terminal.new.machine.lines) same c.close_terminal.ensures.line
