@@ -1,6 +1,6 @@
 -- What comes of a line is of bytes, and within its limits, where the line and what is still to come are so.
 use Rattle.std.proofs.Common.{◌≡◌, sym, subst, ℕ, zero, suc, ◌+◌, ◌≤◌, ◌==◌, ◌&&◌, Bool, true, false, List, [], ◌∷◌, ◌++◌, map, length, take, drop, remove, slice_get, slice_set, replicate, position, min, nat_le, Option, Some, None, IfSome, Ok, is_some, option_map, arith, if◌then◌else◌}
-use Rattle.std.specs.List.{AllByRecursion, list_any}
+use Rattle.std.specs.List.{AllByRecursion}
 use Rattle.std.proofs.lemmas.Bool.{cond_both, leb-false}
 use Rattle.std.proofs.lemmas.List.{length-append}
 use Rattle.host_lines.specs.declared.entry.CallerAct.{CallerAct}
@@ -16,9 +16,7 @@ use Rattle.telnet_lines.specs.Line.{LineOf, unconnected, connected, full_output,
 use Rattle.telnet_lines.specs.Poll.{Met, met, longest_received, after_accept, accepted_on, accepted, after_receive, received_on, received, piece_of, after_send, sent_on, sent, Polled, polled}
 use Rattle.telnet_lines.specs.Joined.{seen_line}
 use Rattle.telnet_lines.proofs.Cutting.{keys_cut, no_keys}
-use Rattle.unit_trait.specs.declared.kind.Kind.{Kind}
 use Rattle.unit_trait.specs.Calls.{UnitState}
-use Rattle.unit_list.specs.Bus.{kinds_of}
 use Rattle.unit_trait.specs.declared.calls.Want.{Want}
 use Rattle.unit_trait.specs.declared.calls.Want.TheVariants as want
 use Rattle.unit_trait.specs.declared.calls.Got.{Got}

@@ -1,5 +1,5 @@
 -- The state of a machine, on which all that it does depends.
-use Rattle.std.specs.Prelude.{ℕ, Bool, false, ◌||◌, List, [], ◌∷◌, Option, None, is_some, slice_set, replicate, if◌then◌else◌}
+use Rattle.std.specs.Prelude.{ℕ, Bool, false, ◌||◌, List, [], Option, None, is_some, slice_set, replicate, if◌then◌else◌}
 use Rattle.unit_trait.specs.declared.kind.Kind.TheVariants.{Tti1, Tto1, Qty}
 use Rattle.unit_trait.specs.Calls.{UnitState}
 use Rattle.event_queue.specs.EventList.{Event}
