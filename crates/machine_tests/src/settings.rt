@@ -3,7 +3,7 @@ use crate::machines::console_units;
 use crate::row::check;
 use event_queue::Events;
 use nova_machine::{CpuReg, Machine};
-use std::alloc::Global;
+use std::alloc::{AllocError, Global};
 use std::test::Fail;
 use unit_trait::{Kind, Unit, UnitName};
 
@@ -45,6 +45,28 @@ fn asks_for_three<U: Unit>(machine: &mut Machine<U>) -> bool {
     ask(machine, Kind::Clk, 1);
     ask(machine, Kind::Lpt, 1);
     none && stand_in_order(machine.events())
+}
+
+/// Whether a unit has these registers, and no more.
+fn has_registers<U: Unit>(
+    alloc: Global,
+    machine: &Machine<U>,
+    kind: Kind,
+    values: &[u32],
+) -> Result<bool, AllocError> {
+    let found = machine.unit_regs(alloc, kind)?;
+    Ok(found.as_slice() == values)
+}
+
+#[test]
+fn the_registers_of_a_unit_are_set_together(rt: HostRuntime) -> Result<(), Fail> {
+    let mut machine = machine(rt.alloc())?;
+    machine.set_unit_regs(Kind::Clk, &[1, 0, 3]);
+    let clock = has_registers(rt.alloc(), &machine, Kind::Clk, &[1, 0, 3])?;
+    check(&rt, clock, "the clock");
+    let none = has_registers(rt.alloc(), &machine, Kind::Lpt, &[])?;
+    check(&rt, none, "a unit that is not there");
+    Ok(())
 }
 
 const WORDS: [u16; 4096] = [7; 4096];
