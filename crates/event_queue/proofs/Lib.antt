@@ -1,3 +1,4 @@
+pub mod Agendas
 pub mod Dues
 pub mod SoundLists
 pub mod Looks

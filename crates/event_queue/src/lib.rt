@@ -7,5 +7,5 @@ pub mod events;
 pub mod laws;
 
 pub use events::Events;
-pub use laws::{lists_stay_sound, remaining_times_are_due_times};
+pub use laws::{agenda_stands_again, lists_stay_sound, remaining_times_are_due_times};
 pub use std::alloc::AllocError as OutOfMemory;

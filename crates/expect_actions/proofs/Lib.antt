@@ -8,3 +8,4 @@ pub mod ResultLemmas
 pub mod ActionLemmas
 pub mod BreakLemmas
 pub mod ExpectLemmas
+pub mod FilledLemmas

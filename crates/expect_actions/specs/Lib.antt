@@ -4,3 +4,4 @@ pub mod Actions
 pub mod Breaks
 pub mod Expects
 pub mod Watch
+pub mod Filled

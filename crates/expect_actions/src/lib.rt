@@ -21,4 +21,4 @@ pub use full::{AddFault, Full};
 pub use keys::{Keys, KeysFault, keys_files_have_one_answer};
 pub use sends::{Sends, sends_stay_in_time};
 pub use std::alloc::AllocError as OutOfMemory;
-pub use watch::Watch;
+pub use watch::{Watch, tables_are_filled};

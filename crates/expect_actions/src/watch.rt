@@ -1,4 +1,5 @@
 ghost use Rattle.std.specs.Prelude.{◌≡◌, IfOk};
+ghost use Rattle.expect_actions.specs.Filled.{TablesAreFilled};
 ghost use Rattle.expect_actions.specs.Watch.{empty_watch, forgotten};
 
 use crate::breaks::Breaks;
@@ -44,3 +45,9 @@ impl Watch {
         self.expects.forget();
     }
 }
+
+/// The law that tables to which the entries of others are added in their order have the same entries: breaks with their
+/// counts and actions, expects with theirs, and bytes each at its time.
+pub fn tables_are_filled()
+    ensures { TablesAreFilled }
+{}

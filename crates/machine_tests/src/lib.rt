@@ -28,6 +28,8 @@ mod row;
 #[cfg(test)]
 mod runs;
 #[cfg(test)]
+mod settings;
+#[cfg(test)]
 mod stands;
 #[cfg(test)]
 mod tapes;

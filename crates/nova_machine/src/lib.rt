@@ -13,6 +13,7 @@ mod registers;
 mod run;
 mod sector;
 mod service;
+mod settings;
 mod tape;
 mod transfer;
 mod turn;

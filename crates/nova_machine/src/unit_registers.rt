@@ -1,12 +1,16 @@
-ghost use Rattle.std.specs.Prelude.{◌≡◌, ◌↔◌, IsOk, OnOk, OnErr, IsTrue, is_some};
+ghost use Rattle.std.specs.Prelude.{◌≡◌, ◌↔◌, IfOk, IsOk, OnOk, OnErr, IsTrue, is_some};
 
 use crate::machine::Machine;
-use unit_list::{has_unit, reg_at, set_reg_at};
+use std::alloc::{AllocError, Global};
+use unit_list::{has_unit, reg_at, regs_at, set_reg_at, set_regs_at};
 use unit_trait::{Kind, RegFault, Unit, code_of};
 
 impl<U: Unit> Machine<U> {
     ghost use Rattle.unit_trait.specs.Kinds.{code_of};
+    ghost use Rattle.unit_trait.specs.Registers.{registers};
+    ghost use Rattle.unit_trait.specs.Row.{InRange};
     ghost use Rattle.unit_list.specs.Bus.{unit_at, register_in, takes_value_in, with_register_in};
+    ghost use Rattle.unit_list.specs.Whole.{registers_in, with_registers_in};
 
     /// Whether there is a unit of that kind.
     pub fn has_unit(&self, kind: Kind) -> bool
@@ -31,5 +35,23 @@ impl<U: Unit> Machine<U> {
     {
         self.quiet = false;
         set_reg_at(&self.places, self.units.as_mut_slice(), kind, i, value)
+    }
+
+    /// What all registers of a unit hold, in the order of their numbers; nothing where there is no such unit. The error
+    /// is that there was no memory for them.
+    pub fn unit_regs(&self, alloc: Global, kind: Kind) -> Result<Vec<u32>, AllocError>
+        ensures { IfOk result (λ values. values.items ≡ registers_in kind self.now.units) }
+    {
+        regs_at(alloc, &self.places, self.units.as_slice(), kind)
+    }
+
+    /// Sets all registers of a unit, in the order of their numbers, to values within their limits. Nothing changes
+    /// where there is no such unit. No event changes.
+    pub fn set_unit_regs(&mut self, kind: Kind, values: &[u32])
+        requires { InRange (registers kind) values.now }
+        ensures { self.new ≡ record self.old { units = with_registers_in kind values.now self.old.units } }
+    {
+        self.quiet = false;
+        set_regs_at(&self.places, self.units.as_mut_slice(), kind, values);
     }
 }

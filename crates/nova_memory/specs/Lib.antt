@@ -1,3 +1,4 @@
 pub mod Address
 pub mod Lending
 pub mod Memory
+pub mod Whole

@@ -1,4 +1,4 @@
-ghost use Rattle.std.specs.Prelude.{◌≡◌, ℕ, ◌<◌, ◌≤◌, ◌^◌, IfOk, nat_lt, if◌then◌else◌};
+ghost use Rattle.std.specs.Prelude.{◌≡◌, ℕ, ◌<◌, ◌≤◌, ◌^◌, IfOk, length, take, slice_index, nat_lt, if◌then◌else◌};
 ghost use Rattle.std.specs.Result.{result_ok};
 ghost use Rattle.std.specs.Borrow.{sem};
 ghost use Rattle.nova_memory.specs.Lending.{LendsWords};
@@ -26,6 +26,7 @@ impl Model for Memory {
 
 impl Memory {
     ghost use Rattle.nova_memory.specs.Memory.{IsMemory, IsSize, get, put, blank, resized};
+    ghost use Rattle.nova_memory.specs.Whole.{memory_of};
 
     /// A memory of 32768 words of 0.
     pub fn new(alloc: Global) -> Result<Memory, AllocError>
@@ -69,6 +70,24 @@ impl Memory {
         ensures words { (a : ℕ) → get self.new a ≡ (if nat_lt a words then get self.old a else 0) }
     {
         self.inside.set_size(words);
+    }
+
+    /// The words that the machine has, from address 0 on: as many as its size says.
+    pub fn as_slice(&self) -> &[u16]
+        ensures words { result.now ≡ take self.now.size self.now.words }
+        ensures size { length result.now ≡ self.now.size }
+    {
+        self.inside.as_slice()
+    }
+
+    /// Gives the machine these words, from address 0 on, and no others: their number is its size, a multiple of 4096
+    /// from 4096 to 32768. What stood there is lost.
+    pub fn set_words(&mut self, words: &[u16])
+        requires { IsSize (length words.now) }
+        ensures whole { self.new ≡ memory_of words.now }
+        ensures words { (a : ℕ) → get self.new a ≡ slice_index words.now a }
+    {
+        self.inside.set_words(words);
     }
 
     /// The effective address of the memory reference `word`, which stands at `pc`.

@@ -1,4 +1,4 @@
-ghost use Rattle.std.specs.Prelude.{◌≡◌, ◌↔◌, ℕ, ◌*◌, ◌<◌, ◌^◌, IsTrue, nat_lt, if◌then◌else◌};
+ghost use Rattle.std.specs.Prelude.{◌≡◌, ◌↔◌, ℕ, ◌*◌, ◌<◌, ◌^◌, IsTrue, length, take, nat_lt, if◌then◌else◌};
 ghost use Rattle.nova_memory.specs.Memory.{blank_words, IsSize, fits_size};
 
 use nova_word::{Addr, Word};
@@ -24,6 +24,7 @@ impl Model for Words {
 
 impl Words {
     ghost use Rattle.nova_memory.specs.Memory.{IsMemory, get, put, blank, resized};
+    ghost use Rattle.nova_memory.specs.Whole.{memory_of};
 
     /// 32768 words of 0.
     pub(crate) fn new() -> Words
@@ -73,6 +74,25 @@ impl Words {
     {
         self.words[usize::from(words)..].fill(0);
         self.size = words;
+    }
+
+    /// The words that the machine has, from address 0 on.
+    pub(crate) fn as_slice(&self) -> &[u16]
+        ensures words { result.now ≡ take self.now.size self.now.words }
+        ensures size { length result.now ≡ self.now.size }
+    {
+        &self.words[..usize::from(self.size)]
+    }
+
+    /// Gives the machine these words, from address 0 on, and no others.
+    pub(crate) fn set_words(&mut self, words: &[u16])
+        requires { IsSize (length words.now) }
+        ensures { self.new ≡ memory_of words.now }
+    {
+        let count = words.len();
+        self.words[..count].copy_from_slice(words);
+        self.words[count..].fill(0);
+        self.size = count as u16;
     }
 }
 

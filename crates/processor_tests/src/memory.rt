@@ -165,3 +165,25 @@ fn a_number_of_k_is_a_size(rt: HostRuntime) {
     holds(&rt, all_are_sizes(), "the sizes");
     holds(&rt, none_is_a_size(), "other numbers");
 }
+
+/// The words of a machine of 4K.
+const WORDS: [u16; 4096] = [0o123456; 4096];
+
+fn has_no_more(memory: &Memory) -> bool {
+    memory.size() == 4096
+        && memory.as_slice() == WORDS.as_slice()
+        && has(memory, 0o7777, 0o123456)
+        && has(memory, 0o10000, 0)
+}
+
+#[test]
+fn a_memory_is_given_all_its_words(rt: HostRuntime) -> Result<(), Fail> {
+    let mut memory = Memory::new(rt.alloc())?;
+    fill(&mut memory);
+    holds(&rt, memory.as_slice().len() == 32768, "the words before");
+    memory.set_words(&WORDS);
+    holds(&rt, has_no_more(&memory), "the words then");
+    holds(&rt, set_size(&mut memory, 32), "32K");
+    holds(&rt, has(&memory, 0o20000, 0), "the words behind them");
+    Ok(())
+}

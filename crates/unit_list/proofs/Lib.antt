@@ -5,3 +5,4 @@ pub mod Resets
 pub mod Room
 pub mod Standing
 pub mod Table
+pub mod Wholes

@@ -2,3 +2,4 @@ pub mod Bus
 pub mod Places
 pub mod Reset
 pub mod Laws
+pub mod Whole

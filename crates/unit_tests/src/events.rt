@@ -76,6 +76,32 @@ fn ties_keep_the_order_of_activation(rt: HostRuntime) -> Result<(), Fail> {
     Ok(())
 }
 
+/// Asks in another list for each event of this one, in its order.
+fn ask_again(events: &Events, again: &mut Events) {
+    for place in 0..events.len() {
+        if let Some((unit, left)) = events.in_order(place) {
+            again.activate(unit, u32::try_from(left).unwrap_or(u32::MAX));
+        }
+    }
+}
+
+#[test]
+fn events_that_are_asked_for_again_stand_as_they_stood(rt: HostRuntime) -> Result<(), Fail> {
+    const ORDER: [Row; 5] = [
+        (Kind::Lpt, 0, 1),
+        (Kind::Ptp, 0, 2),
+        (Kind::Clk, 0, 3),
+        (Kind::Tti, 0, 3),
+        (Kind::Mta, 7, 3),
+    ];
+    let mut events = five(rt.alloc())?;
+    let mut again = Events::new(rt.alloc())?;
+    pass(&mut events, 2);
+    ask_again(&events, &mut again);
+    assert!(rt; stand(&again, &ORDER));
+    Ok(())
+}
+
 /// Whether the next event that is due is that unit's, and is taken; none: that none is due.
 fn takes(events: &mut Events, wanted: Option<Kind>) -> bool {
     match events.next_due() {

@@ -7,7 +7,7 @@ use std::alloc::{AllocError, Global};
 use std::test::Fail;
 use unit_list::{
     Places, all_fit, calls_reach_one_unit, due_at, flags_at, got_at, has_unit, io_at, reg_at,
-    reset_all, set_reg_at,
+    register_count, regs_at, reset_all, set_reg_at, set_regs_at,
 };
 use unit_trait::{Got, IoOp, Kind, Pulse, Queue, UnitName, UnitStop, Want, units_of};
 
@@ -103,6 +103,33 @@ fn is_kept(units: &mut [Keys]) -> bool {
 #[test]
 fn a_table_of_places_is_made_once(rt: HostRuntime) {
     assert!(rt; is_kept(&mut keyboards()));
+}
+
+/// Whether a unit has these registers, and no more.
+fn has_all(
+    alloc: Global,
+    units: &[Keys],
+    kind: Kind,
+    registers: &[u32],
+) -> Result<bool, AllocError> {
+    let found = regs_at(alloc, &Places::new(units), units, kind)?;
+    Ok(found.as_slice() == registers && usize::from(register_count(kind)) >= registers.len())
+}
+
+#[test]
+fn all_registers_of_a_unit_are_set_at_once(rt: HostRuntime) -> Result<(), Fail> {
+    let mut units = keyboards();
+    set_regs_at(
+        &Places::new(&units),
+        &mut units,
+        Kind::Tti,
+        &[1, 0, 50, 0o303],
+    );
+    let set = has_all(rt.alloc(), &units, Kind::Tti, &[1, 0, 50, 0o303])?;
+    let other = has_all(rt.alloc(), &units, Kind::Tti1, &[0, 0, 100, 0])?;
+    let none = has_all(rt.alloc(), &units, Kind::Clk, &[])?;
+    assert!(rt; set && other && none);
+    Ok(())
 }
 
 fn wants(units: &mut [Keys], unit: UnitName, wanted: Want) -> bool {

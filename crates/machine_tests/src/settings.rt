@@ -1,0 +1,91 @@
+// Parts of a machine that are set while it stands: its clock, its events and its memory.
+use crate::machines::console_units;
+use crate::row::check;
+use event_queue::Events;
+use nova_machine::{CpuReg, Machine};
+use std::alloc::{AllocError, Global};
+use std::test::Fail;
+use unit_trait::{Kind, Unit, UnitName};
+
+fn machine(alloc: Global) -> Result<Machine<Box<dyn Unit>>, Fail> {
+    Ok(Machine::new(alloc, console_units(alloc)?)?)
+}
+
+/// Whether the time and the number of taken keys are those that were set.
+fn goes_from_there<U: Unit>(machine: &mut Machine<U>) -> bool {
+    machine.set_clock(1 << 60, 3);
+    machine.time() == 1 << 60 && machine.keys_taken() == 3
+}
+
+/// Asks for an event of a unit, where the machine has it.
+fn ask<U: Unit>(machine: &mut Machine<U>, kind: Kind, remaining: u32) {
+    if machine.has_unit(kind) {
+        machine.activate(UnitName { kind, unit: 0 }, remaining);
+    }
+}
+
+fn stands(events: &Events, place: usize, kind: Kind, remaining: u64) -> bool {
+    events.in_order(place) == Some((UnitName { kind, unit: 0 }, remaining))
+}
+
+/// Whether three events wait, two of them of one time, in the order in which they were asked for.
+fn stand_in_order(events: &Events) -> bool {
+    events.len() == 3
+        && stands(events, 0, Kind::Tto, 2)
+        && stands(events, 1, Kind::Tti, 7)
+        && stands(events, 2, Kind::Clk, 7)
+}
+
+fn asks_for_three<U: Unit>(machine: &mut Machine<U>) -> bool {
+    machine.clear_events();
+    let none = machine.events().len() == 0;
+    ask(machine, Kind::Tti, 7);
+    ask(machine, Kind::Tto, 2);
+    ask(machine, Kind::Clk, 7);
+    ask(machine, Kind::Clk, 1);
+    ask(machine, Kind::Lpt, 1);
+    none && stand_in_order(machine.events())
+}
+
+/// Whether a unit has these registers, and no more.
+fn has_registers<U: Unit>(
+    alloc: Global,
+    machine: &Machine<U>,
+    kind: Kind,
+    values: &[u32],
+) -> Result<bool, AllocError> {
+    let found = machine.unit_regs(alloc, kind)?;
+    Ok(found.as_slice() == values)
+}
+
+#[test]
+fn the_registers_of_a_unit_are_set_together(rt: HostRuntime) -> Result<(), Fail> {
+    let mut machine = machine(rt.alloc())?;
+    machine.set_unit_regs(Kind::Clk, &[1, 0, 3]);
+    let clock = has_registers(rt.alloc(), &machine, Kind::Clk, &[1, 0, 3])?;
+    check(&rt, clock, "the clock");
+    let none = has_registers(rt.alloc(), &machine, Kind::Lpt, &[])?;
+    check(&rt, none, "a unit that is not there");
+    Ok(())
+}
+
+const WORDS: [u16; 4096] = [7; 4096];
+
+fn has_the_words<U: Unit>(machine: &mut Machine<U>) -> bool {
+    machine.memory_mut().set_words(&WORDS);
+    machine.cpu_reg(CpuReg::Size) == 4096 && machine.memory().as_slice() == WORDS.as_slice()
+}
+
+#[test]
+fn a_machine_goes_on_from_what_is_set(rt: HostRuntime) -> Result<(), Fail> {
+    let mut machine = machine(rt.alloc())?;
+    check(&rt, asks_for_three(&mut machine), "events");
+    check(&rt, goes_from_there(&mut machine), "the clock");
+    check(
+        &rt,
+        stand_in_order(machine.events()),
+        "events behind the clock",
+    );
+    check(&rt, has_the_words(&mut machine), "memory");
+    Ok(())
+}
