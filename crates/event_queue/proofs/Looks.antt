@@ -1,16 +1,16 @@
 -- Looks that pass at once.
-use Rattle.std.proofs.Common.{◌≡◌, ◌⊎◌, inl, inr, subst, ℕ, zero, suc, ◌+◌, ◌-◌, ◌%◌, ◌<◌, ◌≤◌, ◌==◌, ◌||◌, nat_le, eqb, Bool, true, false, List, [], ◌∷◌, length, remove, slice_get, Some, None, option_map, if◌then◌else◌, refl, sym, ap, ◌∙◌, arith}
+use Rattle.std.proofs.Common.{◌≡◌, ◌⊎◌, inl, inr, subst, ℕ, zero, suc, ◌+◌, ◌-◌, ◌%◌, ◌<◌, ◌≤◌, ◌==◌, ◌||◌, nat_le, eqb, Bool, true, false, List, [], ◌∷◌, length, remove, slice_get, slice_set, ◌^◌, IfSome, Some, None, option_map, if◌then◌else◌, refl, sym, ap, ◌∙◌, arith}
 use Rattle.std.proofs.Math.Nat.{mod-eq_of_lt, mod-lt, mod_self, suc-mod}
 use Rattle.std.proofs.lemmas.Bool.{cases_lt, cond_both, eqb-true}
 use Rattle.std.proofs.lemmas.Bool.Decides.{nat_tests}
 use Rattle.std.specs.List.{AllByRecursion}
 use Rattle.unit_trait.specs.declared.kind.UnitName.{UnitName}
 use Rattle.unit_trait.specs.Kinds.{same_unit}
-use Rattle.event_queue.specs.EventList.{Event, event, waits, placed, activated, due, dues, served, lowered, ticked, Sound}
+use Rattle.event_queue.specs.EventList.{Event, event, waits, placed, activated, due, dues, served, lowered, ticked, Rising, Sound}
 use Rattle.event_queue.specs.Idle.{AreOthersLater, AreTwins, AreLaterThanTwo, AreLooks, asked_again, looked, idled, rest_behind}
 use Rattle.event_queue.proofs.Ticks.{lowered-none, lowered-more}
 use Rattle.event_queue.proofs.Dues.{dues-placed, dues-activated, dues-some, dues-none}
-use Rattle.event_queue.proofs.SoundLists.{all-placed, first-apart, two-apart, same-unit-flips, waits-lowered, waits-placed}
+use Rattle.event_queue.proofs.SoundLists.{all-placed, first-apart, two-apart, same-unit-flips, sound-placed, sound-removed, waits-lowered, waits-placed}
 
 -- how many instructions remain to an event that has so many left, and is asked for again each so many, behind a count
 pub rest_of : ℕ → ℕ → ℕ → ℕ
@@ -441,6 +441,58 @@ twins-lowered n e f (x ∷ y ∷ es) first second same =
     let one : x ≡ e = grind arith in
     let two : y ≡ f = grind arith in
     ap (λ (r : ℕ). r - n) (ap (λ (z : Event). z.remaining) two ∙ sym same ∙ sym (ap (λ (z : Event). z.remaining) one))
+
+-- ---- two events that are due, and then stand in front of the others
+
+in-front : (u : UnitName) (period : ℕ) (xs : List Event) → IfSome (slice_get xs 0) (λ g. period < g.remaining) → placed u period xs ≡ event u period ∷ xs
+in-front u period [] later = refl
+in-front u period (g ∷ xs) later = grind (arith, nat_tests, later)
+
+behind-first : (u v : UnitName) (period : ℕ) (xs : List Event) → placed v period (event u period ∷ xs) ≡ event u period ∷ placed v period xs
+behind-first u v period xs = grind (arith, nat_tests)
+
+all-later-than : (period : ℕ) (xs : List Event) → Rising xs → 1 ≤ period → IfSome (slice_get xs 0) (λ g. period < g.remaining) → AreAtLeast 1 xs
+all-later-than period [] rising some later = tt
+all-later-than period (g ∷ xs) rising some later =
+    let least : 1 ≤ g.remaining = omega (arith, some, later) in (least, fewer 1 g.remaining xs least rising.0)
+
+pub both-asked : (period : ℕ) (e f : Event) (es : List Event) → 1 ≤ period → Sound es → slice_get es 0 ≡ Some e → slice_get es 1 ≡ Some f → e.remaining ≡ 0 → f.remaining ≡ 0
+    → IfSome (slice_get es 2) (λ g. period < g.remaining) → looked period es ≡ placed f.unit period (placed e.unit period (remove (remove es 0) 0))
+both-asked period e f [] some sound first second none nothing later = absurd (cc)
+both-asked period e f (x ∷ []) some sound first second none nothing later = absurd (cc)
+both-asked period e f (x ∷ y ∷ es) some sound first second none nothing later =
+    let same : x ≡ e = grind arith in
+    let other : y ≡ f = grind arith in
+    let apart = two-apart x y es sound in
+    ap (λ (r : ℕ). looked period (event x.unit r ∷ y ∷ es)) (ap (λ (z : Event). z.remaining) same ∙ none)
+    ∙ ap (λ (r : ℕ). looked period (event x.unit 0 ∷ event y.unit r ∷ es)) (ap (λ (z : Event). z.remaining) other ∙ nothing)
+    ∙ two-asked x.unit y.unit period es (all-later-than period es sound.rising.1.1 some later) (same-unit-flips x.unit y.unit ∙ apart.0) apart.0 apart.1
+    ∙ ap (λ (z : Event). placed y.unit period (placed z.unit period es)) same
+    ∙ ap (λ (z : Event). placed z.unit period (placed e.unit period es)) other
+
+pub both-set : (period : ℕ) (e f : Event) (es : List Event) → slice_get es 0 ≡ Some e → slice_get es 1 ≡ Some f → IfSome (slice_get es 2) (λ g. period < g.remaining)
+    → slice_set (slice_set es 0 (event e.unit period)) 1 (event f.unit period) ≡ placed f.unit period (placed e.unit period (remove (remove es 0) 0))
+both-set period e f [] first second later = absurd (cc)
+both-set period e f (x ∷ []) first second later = absurd (cc)
+both-set period e f (x ∷ y ∷ es) first second later =
+    sym
+    (ap (λ (xs : List Event). placed f.unit period xs) (in-front e.unit period es later) ∙ behind-first e.unit f.unit period es
+    ∙ ap (λ (xs : List Event). event e.unit period ∷ xs) (in-front f.unit period es later))
+
+pub both-sound : (period : ℕ) (e f : Event) (es : List Event) → period < 2 ^ 32 → Sound es → slice_get es 0 ≡ Some e → slice_get es 1 ≡ Some f
+    → Sound (placed f.unit period (placed e.unit period (remove (remove es 0) 0)))
+both-sound period e f [] short sound first second = absurd (cc)
+both-sound period e f (x ∷ []) short sound first second = absurd (cc)
+both-sound period e f (x ∷ y ∷ es) short sound first second =
+    let same : x ≡ e = grind arith in
+    let other : y ≡ f = grind arith in
+    let apart = two-apart x y es sound in
+    let rest : Sound es = record { rising = sound.rising.1.1; distinct = (sound-removed (y ∷ es) (sound-removed (x ∷ y ∷ es) sound)).distinct; units = sound.units.1.1; times = sound.times.1.1 } in
+    let placed_both : Sound (placed y.unit period (placed x.unit period es)) =
+    sound-placed y.unit period (placed x.unit period es) sound.units.1.0 short (waits-placed y.unit x.unit period es (same-unit-flips x.unit y.unit ∙ apart.0) apart.1.1)
+    (sound-placed x.unit period es sound.units.0 short apart.1.0 rest) in
+    subst (λ (z : Event). Sound (placed z.unit period (placed e.unit period es))) other
+    (subst (λ (z : Event). Sound (placed y.unit period (placed z.unit period es))) same placed_both)
 
 pub ruleset again = (again-due, again-none, fewer-due, none-fewer)
 

@@ -1,6 +1,6 @@
-ghost use Rattle.std.specs.Prelude.{◌≡◌, ◌<◌, ◌≤◌, [], length, insert, not, false, None, slice_get, is_some, IfOk, IfSome};
+ghost use Rattle.std.specs.Prelude.{◌≡◌, ◌<◌, ◌≤◌, [], length, insert, not, true, false, None, slice_get, is_some, IfOk, IfSome};
 ghost use Rattle.unit_trait.specs.Kinds.{units_of};
-ghost use Rattle.event_queue.specs.Idle.{AreOthersLater, AreTwins, AreLaterThanTwo, idled, rest_behind};
+ghost use Rattle.event_queue.specs.Idle.{AreOthersLater, AreTwins, AreLaterThanTwo, looked, idled, rest_behind};
 ghost use Rattle.event_queue.specs.EventList.{Sound, event, waits, placed, activated, is_of_kind, cancelled, due, dues, served, lowered, IsApart, IsFirst};
 
 use crate::entry::Entry;
@@ -144,6 +144,30 @@ impl Entries {
         self.put(second.unit, rest);
     }
 
+    /// Asks for the first two events again after so many instructions, where they are due and then stand in front of the
+    /// others; answers whether.
+    pub(crate) fn look_both(&mut self, period: u32) -> bool
+        requires { 1 ≤ period }
+        ensures looked { result ≡ true → self.new ≡ looked period self.old }
+        ensures same { result ≡ false → self.new ≡ self.old }
+    {
+        let (Some(first), Some(second)) = (self.get(0), self.get(1)) else {
+            return false;
+        };
+        if first.remaining > 0 || second.remaining > 0 || !is_later(self.get(2), period) {
+            return false;
+        }
+        self.list[0] = Entry {
+            unit: first.unit,
+            remaining: period,
+        };
+        self.list[1] = Entry {
+            unit: second.unit,
+            remaining: period,
+        };
+        true
+    }
+
     /// The remaining time of the first event; 2^32 - 1 where none waits.
     pub(crate) fn first(&self) -> u32
         ensures { IsFirst self.now result }
@@ -205,6 +229,16 @@ fn rest_behind(left: u32, period: u32, count: u32) -> u32
 {
     let over = (count - left) % period;
     if over == 0 { 0 } else { period - over }
+}
+
+/// Whether more than so many instructions remain to an event, where there is one.
+fn is_later(entry: Option<Entry>, period: u32) -> bool
+    ensures { result ≡ true → IfSome entry (λ e. period < e.remaining) }
+{
+    match entry {
+        Some(entry) => entry.remaining > period,
+        None => true,
+    }
 }
 
 /// Whether an event is not of a unit of that kind.

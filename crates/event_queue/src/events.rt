@@ -1,4 +1,4 @@
-ghost use Rattle.std.specs.Prelude.{◌≡◌, ◌<◌, ◌≤◌, ◌-◌, [], false, Some, None, length, option_map, slice_get, IfOk, IfSome};
+ghost use Rattle.std.specs.Prelude.{◌≡◌, ◌<◌, ◌≤◌, ◌-◌, [], true, false, Some, None, length, option_map, slice_get, IfOk, IfSome};
 ghost use Rattle.unit_trait.specs.Kinds.{units_of};
 ghost use Rattle.unit_trait.specs.Row.{IsLater, IsAgain};
 ghost use Rattle.event_queue.specs.Idle.{AreOthersLater, AreTwins, AreLaterThanTwo, looked, idled};
@@ -177,9 +177,26 @@ impl Events {
         requires { 1 ≤ period }
         ensures { self.new ≡ looked period self.old }
     {
+        if self.look_both(period) {
+            return;
+        }
         for _k in 0..self.len() {
             self.look_first(period);
         }
+    }
+
+    /// The same, where two events are due that then stand in front of the others; answers whether.
+    #[tactic(auto, using(crate::proofs::Ticks::ticks))]
+    fn look_both(&mut self, period: u32) -> bool
+        requires { 1 ≤ period }
+        ensures looked { result ≡ true → self.new ≡ looked period self.old }
+        ensures same { result ≡ false → self.new ≡ self.old }
+    {
+        self.entries.lower(self.ticks);
+        self.ticks = 0;
+        let both = self.entries.look_both(period);
+        self.first = self.entries.first();
+        both
     }
 
     /// Asks for the event that is due first again, where one is due.

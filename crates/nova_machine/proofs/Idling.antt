@@ -132,7 +132,7 @@ idle-looks period count most s q idle before =
       each = looks-behind (LooksEach Peer period m.units s.lines) period count most m.events before idle.looks;
     }
 
-no-key : (sent typed : Option ℕ) → sent ≡ None → typed ≡ None → first_key sent typed ≡ None
+pub no-key : (sent typed : Option ℕ) → sent ≡ None → typed ≡ None → first_key sent typed ≡ None
 no-key None None none nothing = refl
 no-key (Some b) typed none nothing = absurd (cc)
 no-key None (Some b) none nothing = absurd (cc)

@@ -11,7 +11,7 @@ use Rattle.unit_trait.specs.declared.calls.Queue.{Queue}
 use Rattle.unit_trait.specs.declared.calls.Queue.TheVariants.{After}
 use Rattle.unit_trait.specs.declared.calls.Want.{Want}
 use Rattle.unit_trait.specs.declared.calls.Want.TheVariants as want
-use Rattle.unit_trait.specs.declared.calls.Got.TheVariants.{NoKey}
+use Rattle.unit_trait.specs.declared.calls.Got.TheVariants.{NoKey, Key}
 use Rattle.unit_trait.specs.declared.calls.UnitStop.{UnitStop}
 use Rattle.unit_trait.specs.declared.calls.UnitStop.TheVariants.{Go}
 use Rattle.event_queue.specs.EventList.{activated, wished}
@@ -52,7 +52,7 @@ answer-keeps Tti1 keyed registers = refl
 answer-keeps k keyed registers = absurd keyed
 
 -- the console's keyboard wants a key, and that of the second teletype one of its line
-abbrev key_of : Kind → Want
+abbrev pub key_of : Kind → Want
 key_of Tti1 = want.LineKey 0
 key_of k = want.Key
 
@@ -95,7 +95,7 @@ of-some : {A : Type 0} (o : Option A) → is_some o ≡ true → (x : A) × (o �
 of-some None there = absurd (cc)
 of-some (Some x) there = (x, refl)
 
-wants-key : (k : Kind) → IsKeyed k → (us : List UnitState) → is_some (unit_at (code_of k) us) ≡ true → (row_at (code_of k) (Due 0) us).want ≡ key_of k
+pub wants-key : (k : Kind) → IsKeyed k → (us : List UnitState) → is_some (unit_at (code_of k) us) ≡ true → (row_at (code_of k) (Due 0) us).want ≡ key_of k
 wants-key k keyed us there =
     let (u, is) = of-some (unit_at (code_of k) us) there in
     ap (λ (o : Option UnitState). (row_or_nothing (Due 0) o).want) is
@@ -107,8 +107,20 @@ goes-on k keyed us there =
     ap (λ (o : Option UnitState). (row_or_nothing (Answered 0 NoKey) o).stop) is
     ∙ ap (λ (x : Kind). (row_of x u.registers (Answered 0 NoKey)).stop) (found-kind k us u is) ∙ answer-goes k keyed u.registers
 
+-- the second teletype's keyboard does not stop the machine where a key comes
+key-answer-goes : (key : ℕ) (registers : List ℕ) → (row_of Tti1 registers (Answered 0 (Key key))).stop ≡ Go
+unfolding row_of keyboard_row
+key-answer-goes key registers = refl
+
+pub key-goes : (key : ℕ) (us : List UnitState) → is_some (unit_at (code_of Tti1) us) ≡ true → stop_by (keyboard_of Tti1) (row_at (code_of Tti1) (Answered 0 (Key key)) us).stop ≡ None
+key-goes key us there =
+    let (u, is) = of-some (unit_at (code_of Tti1) us) there in
+    ap (λ (o : Option UnitState). stop_by (keyboard_of Tti1) (row_or_nothing (Answered 0 (Key key)) o).stop) is
+    ∙ ap (λ (x : Kind). stop_by (keyboard_of Tti1) (row_of x u.registers (Answered 0 (Key key))).stop) (found-kind Tti1 us u is)
+    ∙ ap (stop_by (keyboard_of Tti1)) (key-answer-goes key u.registers)
+
 -- a unit that wishes for an event is there
-wish-there : (k : Kind) (us : List UnitState) (period : ℕ) → keyless_wish (keyboard_of k) us ≡ After period → is_some (unit_at (code_of k) us) ≡ true
+pub wish-there : (k : Kind) (us : List UnitState) (period : ℕ) → keyless_wish (keyboard_of k) us ≡ After period → is_some (unit_at (code_of k) us) ≡ true
 wish-there k us period wish = by (unit_at (code_of k) us) wish
   where
     by : (o : Option UnitState) → (row_or_nothing (Answered 0 NoKey) o).queue ≡ After period → is_some o ≡ true
@@ -170,10 +182,10 @@ pub answer-same : (unit : UnitName) (us : List UnitState) → IsKeyed unit.kind 
 answer-same unit us keyed first = ap (λ (n : ℕ). after_at (code_of unit.kind) (Answered n NoKey) us) first ∙ answer-kept unit.kind keyed us
 
 -- the machine behind a look
-abbrev behind_look : Kind → MachineState → MachineState
+abbrev pub behind_look : Kind → MachineState → MachineState
 behind_look k m = record m { events = wished (keyboard_of k) (keyless_wish (keyboard_of k) m.units) m.events }
 
-answered-same : (k : Kind) → IsKeyed k → (m : MachineState) → is_some (unit_at (code_of k) m.units) ≡ true → answered (keyboard_of k) NoKey m ≡ goes_on (behind_look k m)
+pub answered-same : (k : Kind) → IsKeyed k → (m : MachineState) → is_some (unit_at (code_of k) m.units) ≡ true → answered (keyboard_of k) NoKey m ≡ goes_on (behind_look k m)
 unfolding answered
 answered-same k keyed m there =
     ap (λ (us : List UnitState). record { machine = record m { units = us; events = wished (keyboard_of k) (keyless_wish (keyboard_of k) m.units) m.events }; stop = stop_by (keyboard_of k) (row_at (code_of k) (Answered 0 NoKey) m.units).stop })

@@ -21,6 +21,7 @@ pub mod Bursts
 pub mod Looks
 pub mod Waits
 pub mod Comes
+pub mod LineLooks
 pub mod Quiet
 pub mod Laws
 pub mod StopLaws

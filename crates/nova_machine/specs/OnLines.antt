@@ -28,6 +28,12 @@ IsOfLine got.NoFile = ⊥
 IsOfLine (got.Tape tape) = ⊥
 IsOfLine other = Unit {0}
 
+-- an answer of a poll
+abbrev pub IsOfPoll : Got → Type 0
+IsOfPoll (got.Key key) = Unit {0}
+IsOfPoll got.NoKey = Unit {0}
+IsOfPoll other = ⊥
+
 -- the line with that number was polled
 abbrev pub lined_by : ℕ → List (LineOf Peer) → Polled → Lined
 lined_by n lines p = record { got = got_of_line p.key; sent = p.sent; lines = slice_set lines n p.line; ahead = p.ahead }

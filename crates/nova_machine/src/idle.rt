@@ -45,6 +45,13 @@ impl<U: Unit> Machine<U> {
         ensures taken { self.new.taken ≡ self.old.taken }
         ensures cause { BurstCause result.end most result.done self.new }
     {
+        // Where a second event comes at once, and the second teletype's line has a port, there are none.
+        if !self.is_closed() && self.events.others_later() == 0 {
+            return Burst {
+                done: 0,
+                end: BurstEnd::Spent,
+            };
+        }
         match self.looks() {
             None => Burst {
                 done: 0,
@@ -190,7 +197,7 @@ impl<U: Unit> Machine<U> {
     }
 
     /// A time before which no key comes.
-    fn keyless_until(&self, watch: &Watch, keys: &Keys) -> u64
+    pub(crate) fn keyless_until(&self, watch: &Watch, keys: &Keys) -> u64
         ensures { IsKeyless result self.now.taken watch.now.sends keys.now }
     {
         let sent = match watch.sends.in_order(0) {
@@ -233,7 +240,7 @@ impl<U: Unit> Machine<U> {
 
     /// Lets the looks that are due pass, where some are.
     #[tactic(auto, using(crate::proofs::Listed::listings), unfolding(crate::specs::Looks::looked_at))]
-    fn look(&mut self, period: u32)
+    pub(crate) fn look(&mut self, period: u32)
         requires { 1 ≤ period }
         ensures { self.new ≡ looked_at period self.old }
     {
@@ -258,7 +265,7 @@ fn pass_events(events: &mut Events, count: u32, looks: Looks)
 
 /// After how many instructions a keyboard looks again, where no key comes: it says so, and stays as it was.
 #[tactic(auto, using(crate::proofs::Looks::answers))]
-fn period_of<U: Unit>(places: &Places, units: &mut [U], unit: UnitName) -> Option<u32>
+pub(crate) fn period_of<U: Unit>(places: &Places, units: &mut [U], unit: UnitName) -> Option<u32>
     requires places { places.now ≡ places_in (kinds_of (map U.unit_state units.old)) }
     requires keyed { IsKeyed unit.kind }
     requires number { unit.unit ≡ 0 }

@@ -7,6 +7,7 @@ mod idle;
 mod instruction_end;
 pub mod laws;
 mod lending;
+mod line_looks;
 pub mod machine;
 mod on_line;
 mod registers;

@@ -7,7 +7,7 @@ ghost use Rattle.telnet_lines.specs.Line.{IsSettled};
 ghost use Rattle.telnet_lines.specs.Joined.{seen_line};
 ghost use Rattle.unit_list.specs.Bus.{IsBelowEnd};
 ghost use Rattle.unit_trait.specs.declared.calls.Want.TheVariants as wants;
-ghost use Rattle.nova_machine.specs.OnLines.{lined, got_of_line, put_line, put_got, IsOfLine};
+ghost use Rattle.nova_machine.specs.OnLines.{lined, got_of_line, put_line, put_got, IsOfLine, IsOfPoll};
 ghost use Rattle.nova_machine.specs.LineChanges.{AreLinesTold, LinesGoOn, DoneOnLine};
 
 use crate::machine::Machine;
@@ -47,7 +47,7 @@ impl<U: Unit> Machine<U> {
     }
 
     /// Takes the key of one poll of that line, where it is there.
-    fn key_of_line<L: Lines>(&mut self, number: u8, lines: &mut L) -> Option<Got>
+    pub(crate) fn key_of_line<L: Lines>(&mut self, number: u8, lines: &mut L) -> Option<Got>
         ensures machine { self.new ≡ record self.old { lines = self.new.lines } }
         ensures lines { LinesGoOn L.tells (L.state lines.old) self.old.lines (L.state lines.new) self.new.lines }
         ensures told { AreLinesTold L.tells (L.state lines.old) self.old.lines
@@ -57,6 +57,7 @@ impl<U: Unit> Machine<U> {
         ensures none { result ≡ None → (self.new ≡ self.old) × (lines.new ≡ lines.old) }
         ensures below { IfSome result (λ got. IsBelowEnd (wants.LineKey number) got) }
         ensures of { IfSome result IsOfLine }
+        ensures poll { IfSome result IsOfPoll }
     {
         if number as usize >= self.lines.len() {
             return None;
@@ -88,6 +89,7 @@ impl<U: Unit> Machine<U> {
 fn got_of(key: Option<u8>) -> Got
     ensures got { result ≡ got_of_line key }
     ensures of { IsOfLine result }
+    ensures poll { IsOfPoll result }
 {
     match key {
         None => Got::NoKey,

@@ -77,7 +77,7 @@ impl<U: Unit> Machine<U> {
                 Turn::Executed => (),
             }
             first = false;
-            let burst = self.burst(left - 1, watch, keys);
+            let burst = self.go_on(left - 1, watch, keys, lines);
             match burst.end {
                 BurstEnd::ChainLimit => return Stop::ChainLimit,
                 BurstEnd::Spent | BurstEnd::Transfer | BurstEnd::AtStop => {

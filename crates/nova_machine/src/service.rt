@@ -74,7 +74,7 @@ impl<U: Unit> Machine<U> {
 
     /// Takes the event that is due first.
     #[tactic(auto, using(crate::proofs::Listed::listings))]
-    fn take_due(&mut self) -> Option<UnitName>
+    pub(crate) fn take_due(&mut self) -> Option<UnitName>
         ensures unit { result ≡ due self.old.events }
         ensures taken { self.new ≡ record self.old { events = served self.old.events } }
         ensures low { IfSome result (λ u. u.unit < units_of u.kind) }
@@ -158,7 +158,7 @@ impl<U: Unit> Machine<U> {
 
     /// Gives a unit the machine's answer.
     #[tactic(auto, unfolding(crate::specs::Service::answered))]
-    fn answer(&mut self, unit: UnitName, got: Got) -> Option<Stop>
+    pub(crate) fn answer(&mut self, unit: UnitName, got: Got) -> Option<Stop>
         requires number { unit.unit < units_of unit.kind }
         requires room { TakesAnswerIn unit.kind got self.old.units }
         requires listed { IsAmong unit.kind (kinds_of self.old.units) }

@@ -11,7 +11,8 @@ use Rattle.nova_machine.specs.Comes.{AreTold, Comes, output}
 use Rattle.nova_machine.specs.Turn.{turn}
 use Rattle.nova_machine.specs.Run.{last_time, turns, run}
 use Rattle.nova_machine.proofs.Quiet.{told-same, quiet-same, quiet-then, cause-behind}
-use Rattle.nova_machine.proofs.Runs.{last-of, ended-of, expired-of, burst-of, chain-of, burst-goes, burst-ends, note-here, note-coming, note-own, not-now, still-later}
+use Rattle.nova_machine.proofs.LineLooks.{on-chain, any-spent}
+use Rattle.nova_machine.proofs.Runs.{last-of, turn-of, ended-of, expired-of, note-here, note-coming, note-own, not-now, still-later}
 use Rattle.nova_processor.specs.declared.burst.BurstEnd.{BurstEnd}
 use Rattle.nova_machine.specs.StopCauses.{moment_of, BurstCause}
 use Rattle.nova_machine.proofs.Causes.{watches-still, watches-then, watches-left}
@@ -45,23 +46,27 @@ returns-in-Stopped-clause-told g c = λ told lt whole first-of.
 pub returns-in-ChainLimit-clause-told : goal.returns-in-ChainLimit-clause-told
 returns-in-ChainLimit-clause-told g c = λ told lt whole first-of.
     let before = g.L.Lines.state c.turns.lines in
+    let between = g.L.Lines.state c.turn.new.lines in
+    let new = g.L.Lines.state c.go_on-burst.new.lines in
     let lt-now = (c.turns.invariant.lines.told lt).0 in
-    let new = g.L.Lines.state c.turn.new.lines in
-    let earlier = first-through (record_in before.told) (record_in new.told) whole (c.in-Executed.ensures.lines.told lt-now).1 first-of in
+    let turned = c.in-Executed.ensures.lines.told lt-now in
+    let later = first-through (record_in between.told) (record_in new.told) whole (c.go_on-burst.ensures.lines.told turned.0).1 first-of in
+    let earlier = first-through (record_in before.told) (record_in between.told) whole turned.1 later in
     let early : c.turns.self.time < last_time = search rules in
     let one : c.turns.left ≡ suc (c.turns.left - 1) = search rules in
-    let ends : c.burst-burst.result.end ≡ burst_end.ChainLimit = search rules in
+    let ends : c.go_on-burst.result.end ≡ burst_end.ChainLimit = search rules in
     let now : AreTold g.F.Files.tells c.turns.self.slots = told-same g.F.Files.tells _ _ (search rules) told in
     let keys = c.args.keys.now in
     let files = (g.F.Files.state c.turn.new.files).files in
-    let s = seen (beside c.turns.watch keys (g.F.Files.state c.turns.files).files (g.L.Lines.state c.turns.lines)) whole c.turns.self in
-    let mid = seen (beside c.turn.new.watch keys files new) whole c.turn.new.self in
-    let last = seen (beside c.turn.new.watch keys files new) whole c.burst-burst.new.self in
-    c.turns.invariant.told told lt None (Some ChainLimit) last (output (g.S.Sink.written c.turn.new.out) (g.L.Lines.state c.turn.new.lines).sent) whole earlier tt
-    (chain-of None c.args.limit.step c.turns.first c.turns.left (c.turns.left - 1) s mid last g.S.Sink.tells
-    (output (g.S.Sink.written c.turns.out) (g.L.Lines.state c.turns.lines).sent) (output (g.S.Sink.written c.turn.new.out) (g.L.Lines.state c.turn.new.lines).sent) early one (c.in-Executed.ensures.told now lt-now whole first-of)
-    (burst-ends c.turn.new.watch None (c.turns.left - 1) c.burst-burst.result.done c.burst-burst.result.end c.turn.new.self c.burst-burst.new.self c.args.limit.step keys files new whole ends
-    c.burst-burst.ensures.told))
+    let console = g.S.Sink.written c.turn.new.out in
+    let s = seen (beside c.turns.watch keys (g.F.Files.state c.turns.files).files before) whole c.turns.self in
+    let mid = seen (beside c.turn.new.watch keys files between) whole c.turn.new.self in
+    let last = seen (beside c.turn.new.watch keys files new) whole c.go_on-burst.new.self in
+    c.turns.invariant.told told lt None (Some ChainLimit) last (output console new.sent) whole earlier tt
+    (turn-of None c.args.limit.step c.turns.first false c.turns.left (c.turns.left - 1) s mid (Some ChainLimit) last g.S.Sink.tells
+    (output (g.S.Sink.written c.turns.out) before.sent) (output console between.sent) (output console new.sent) early refl one (c.in-Executed.ensures.told now lt-now whole later)
+    (on-chain c.turn.new.watch keys (c.turns.left - 1) c.go_on-burst.result.done c.go_on-burst.result.end between c.turn.new.self new c.go_on-burst.new.self ends (c.go_on-burst.ensures.told turned.0)
+    None c.args.limit.step files g.S.Sink.tells console whole first-of))
 
 pub returns-in-ChainLimit-clause-file_cause : goal.returns-in-ChainLimit-clause-file_cause
 returns-in-ChainLimit-clause-file_cause g c =
@@ -75,55 +80,62 @@ pub turns-preserved : goal.turns-preserved
 turns-preserved g c =
     let early : c.turns.self.time < last_time = search rules in
     let one : c.turns.left ≡ suc (c.turns.left - 1) = search rules in
-    let other : c.burst-burst.result.end ≢ burst_end.ChainLimit = search rules in
+    let other : c.go_on-burst.result.end ≢ burst_end.ChainLimit = search rules in
     let keys = c.args.keys.now in
     let files = (g.F.Files.state c.turn.new.files).files in
     let step = c.args.limit.step in
-    let rest : c.turns.left - 1 - c.burst-burst.result.done ≡ c.turns.left - (1 + c.burst-burst.result.done) = omega arith in
+    let rest : c.turns.left - (1 + c.go_on-burst.result.done) ≡ c.turns.left - 1 - c.go_on-burst.result.done = omega arith in
     let time : c.turn.new.self.time ≡ c.turns.self.time + 1 = search rules in
-    let grows : c.turn.new.self.time ≤ c.burst-burst.new.self.time = search rules in
+    let grows = c.go_on-burst.ensures.time in
     record {
       told = λ told lt note r last after whole first-of still more.
           let before = g.L.Lines.state c.turns.lines in
+          let between = g.L.Lines.state c.turn.new.lines in
+          let new = g.L.Lines.state c.go_on-burst.new.lines in
           let lt-now = (c.turns.invariant.lines.told lt).0 in
-          let new = g.L.Lines.state c.turn.new.lines in
-          let earlier = first-through (record_in before.told) (record_in new.told) whole (c.in-Executed.ensures.lines.told lt-now).1 first-of in
-          let s = seen (beside c.turns.watch keys (g.F.Files.state c.turns.files).files (g.L.Lines.state c.turns.lines)) whole c.turns.self in
-          let mid = seen (beside c.turn.new.watch keys files new) whole c.turn.new.self in
-          let next = seen (beside c.turn.new.watch keys files new) whole c.burst-burst.new.self in
+          let turned = c.in-Executed.ensures.lines.told lt-now in
+          let behind = first-through (record_in between.told) (record_in new.told) whole (c.go_on-burst.ensures.lines.told turned.0).1 first-of in
+          let earlier = first-through (record_in before.told) (record_in between.told) whole turned.1 behind in
+          let console = g.S.Sink.written c.turn.new.out in
+          let s = seen (beside c.turns.watch keys (g.F.Files.state c.turns.files).files before) whole c.turns.self in
+          let mid = seen (beside c.turn.new.watch keys files between) whole c.turn.new.self in
+          let next = seen (beside c.turn.new.watch keys files new) whole c.go_on-burst.new.self in
           let now : AreTold g.F.Files.tells c.turns.self.slots = told-same g.F.Files.tells _ _ (search rules) told in
-          let later : c.turns.self.time < c.burst-burst.new.self.time = omega (arith, time, grows) in
-          let sooner : c.turns.self.time ≤ c.burst-burst.new.self.time = omega (arith, time, grows) in
-          let none : at_time c.turns.self.time note ≡ None = not-now note c.turns.self.time c.burst-burst.new.self.time later still in
-          let P : Option UnitNote → Type 0 = λ x. Comes (turn x c.turns.first s) None mid g.S.Sink.tells (output (g.S.Sink.written c.turns.out) (g.L.Lines.state c.turns.lines).sent) (output (g.S.Sink.written c.turn.new.out) (g.L.Lines.state c.turn.new.lines).sent) in
-          let goes = burst-goes c.turn.new.watch note (c.turns.left - 1) c.burst-burst.result.done c.burst-burst.result.end c.turn.new.self c.burst-burst.new.self step keys files new whole other
-          c.burst-burst.ensures.told in
-          c.turns.invariant.told told lt note r last after whole earlier (still-later note c.turns.self.time c.burst-burst.new.self.time sooner still)
-          (burst-of note step c.turns.first c.turns.left (c.turns.left - 1) (c.turns.left - (1 + c.burst-burst.result.done)) s mid next r last
-          g.S.Sink.tells (output (g.S.Sink.written c.turns.out) (g.L.Lines.state c.turns.lines).sent) (output (g.S.Sink.written c.turn.new.out) (g.L.Lines.state c.turn.new.lines).sent) after early one (subst P (sym none) (c.in-Executed.ensures.told now lt-now whole first-of))
-          (goes ∙ ap (λ (n : ℕ). turns note step false n next) rest) more);
+          let later : c.turns.self.time < c.go_on-burst.new.self.time = omega (arith, time, grows) in
+          let sooner : c.turns.self.time ≤ c.go_on-burst.new.self.time = omega (arith, time, grows) in
+          let none : at_time c.turns.self.time note ≡ None = not-now note c.turns.self.time c.go_on-burst.new.self.time later still in
+          let P : Option UnitNote → Type 0 = λ x. Comes (turn x c.turns.first s) None mid g.S.Sink.tells (output (g.S.Sink.written c.turns.out) before.sent) (output console between.sent) in
+          let on = any-spent c.turn.new.watch keys (c.turns.left - 1) c.go_on-burst.result.done c.go_on-burst.result.end between c.turn.new.self new c.go_on-burst.new.self other
+          (c.go_on-burst.ensures.told turned.0) in
+          let Q : ℕ → Type 0 = λ n. Comes (turns note step false n next) r last g.S.Sink.tells (output console new.sent) after in
+          c.turns.invariant.told told lt note r last after whole earlier (still-later note c.turns.self.time c.go_on-burst.new.self.time sooner still)
+          (turn-of note step c.turns.first false c.turns.left (c.turns.left - 1) s mid r last g.S.Sink.tells (output (g.S.Sink.written c.turns.out) before.sent) (output console between.sent) after
+          early refl one (subst P (sym none) (c.in-Executed.ensures.told now lt-now whole behind))
+          (on note step files g.S.Sink.tells console r last after whole first-of (subst Q rest more)));
       slots = search rules;
       lines =
           let before = g.L.Lines.state c.turns.lines in
-          let new = g.L.Lines.state c.turn.new.lines in
-          subst (λ (ls : List (LineOf ℕ)). LinesGoOn g.L.Lines.tells (g.L.Lines.state c.args.lines.now) c.args.self.now.lines new ls) (sym c.burst-burst.ensures.lines)
-          (lines-then g.L.Lines.tells (g.L.Lines.state c.args.lines.now) before new c.args.self.now.lines c.turns.self.lines c.turn.new.self.lines c.turns.invariant.lines c.in-Executed.ensures.lines);
+          let between = g.L.Lines.state c.turn.new.lines in
+          let new = g.L.Lines.state c.go_on-burst.new.lines in
+          lines-then g.L.Lines.tells (g.L.Lines.state c.args.lines.now) between new c.args.self.now.lines c.turn.new.self.lines c.go_on-burst.new.self.lines
+          (lines-then g.L.Lines.tells (g.L.Lines.state c.args.lines.now) before between c.args.self.now.lines c.turns.self.lines c.turn.new.self.lines c.turns.invariant.lines c.in-Executed.ensures.lines)
+          c.go_on-burst.ensures.lines;
       opened = c.in-Executed.ensures.opened ∙ c.turns.invariant.opened;
       is_open = search rules;
       counts = c.in-Executed.ensures.counts ∙ c.turns.invariant.counts;
       quiet = quiet-then _ _ _ c.turns.invariant.quiet c.in-Executed.ensures.file_cause;
       watches =
           let text = g.S.Sink.written in
-          watches-left None None (moment_of c.args.watch.now c.args.self.now) (moment_of c.turn.new.watch c.turn.new.self) (moment_of c.turn.new.watch c.burst-burst.new.self) g.S.Sink.tells
-          (text c.args.out.now) (text c.turn.new.out) refl tt refl c.burst-burst.ensures.taken
+          watches-left None None (moment_of c.args.watch.now c.args.self.now) (moment_of c.turn.new.watch c.turn.new.self) (moment_of c.turn.new.watch c.go_on-burst.new.self) g.S.Sink.tells
+          (text c.args.out.now) (text c.turn.new.out) refl tt refl c.go_on-burst.ensures.taken
           (watches-then None (moment_of c.args.watch.now c.args.self.now) (moment_of c.turns.watch c.turns.self) (moment_of c.turn.new.watch c.turn.new.self) g.S.Sink.tells
           (text c.args.out.now) (text c.turns.out) (text c.turn.new.out) c.turns.invariant.watches c.in-Executed.ensures.watches);
       within =
           let within = c.turns.invariant.within in
           let all = within.rest in
           let begun = within.later in
-          let few = c.burst-burst.ensures.few in
-          let grown = c.burst-burst.ensures.time in
+          let few = c.go_on-burst.ensures.few in
+          let grown = c.go_on-burst.ensures.time in
           record { rest = omega (arith, all, few, grown, time, one); later = omega (arith, begun, grown, time); began = λ _. omega (arith, begun, grown, time) };
     }
 
@@ -180,21 +192,21 @@ returns-in-Stopped-clause-cause g c =
 pub returns-in-ChainLimit-clause-watches : goal.returns-in-ChainLimit-clause-watches
 returns-in-ChainLimit-clause-watches g c =
     let text = g.S.Sink.written in
-    watches-left (Some ChainLimit) None (moment_of c.args.watch.now c.args.self.now) (moment_of c.turn.new.watch c.turn.new.self) (moment_of c.turn.new.watch c.burst-burst.new.self) g.S.Sink.tells
-    (text c.args.out.now) (text c.turn.new.out) refl tt refl c.burst-burst.ensures.taken
+    watches-left (Some ChainLimit) None (moment_of c.args.watch.now c.args.self.now) (moment_of c.turn.new.watch c.turn.new.self) (moment_of c.turn.new.watch c.go_on-burst.new.self) g.S.Sink.tells
+    (text c.args.out.now) (text c.turn.new.out) refl tt refl c.go_on-burst.ensures.taken
     (watches-then None (moment_of c.args.watch.now c.args.self.now) (moment_of c.turns.watch c.turns.self) (moment_of c.turn.new.watch c.turn.new.self) g.S.Sink.tells
     (text c.args.out.now) (text c.turns.out) (text c.turn.new.out) c.turns.invariant.watches c.in-Executed.ensures.watches)
 
 pub returns-in-ChainLimit-clause-cause : goal.returns-in-ChainLimit-clause-cause
 returns-in-ChainLimit-clause-cause g c =
     let one : c.turns.left ≡ suc (c.turns.left - 1) = search rules in
-    let ends : c.burst-burst.result.end ≡ burst_end.ChainLimit = search rules in
+    let ends : c.go_on-burst.result.end ≡ burst_end.ChainLimit = search rules in
     let time : c.turn.new.self.time ≡ c.turns.self.time + 1 = search rules in
     let all = c.turns.invariant.within.rest in
     let begun = c.turns.invariant.within.later in
-    let grown = c.burst-burst.ensures.time in
-    let cause : BurstCause burst_end.ChainLimit (c.turns.left - 1) c.burst-burst.result.done c.burst-burst.new.self =
-    subst (λ (e : BurstEnd). BurstCause e (c.turns.left - 1) c.burst-burst.result.done c.burst-burst.new.self) ends c.burst-burst.ensures.cause in
+    let grown = c.go_on-burst.ensures.time in
+    let cause : BurstCause burst_end.ChainLimit (c.turns.left - 1) c.go_on-burst.result.done c.go_on-burst.new.self =
+    subst (λ (e : BurstEnd). BurstCause e (c.turns.left - 1) c.go_on-burst.result.done c.go_on-burst.new.self) ends c.go_on-burst.ensures.cause in
     let within = cause.1 in
     (inl cause.0, record { least = omega (arith, begun, grown, time); most = omega (arith, all, within, grown, time, one); last = cause.2 })
 
@@ -216,7 +228,8 @@ returns-in-Stopped-clause-lines g c =
 
 pub returns-in-ChainLimit-clause-lines : goal.returns-in-ChainLimit-clause-lines
 returns-in-ChainLimit-clause-lines g c =
-    let new = g.L.Lines.state c.turn.new.lines in
-    subst (λ (ls : List (LineOf ℕ)). LinesGoOn g.L.Lines.tells (g.L.Lines.state c.args.lines.now) c.args.self.now.lines new ls) (sym c.burst-burst.ensures.lines)
-    (lines-then g.L.Lines.tells (g.L.Lines.state c.args.lines.now) (g.L.Lines.state c.turns.lines) new c.args.self.now.lines c.turns.self.lines c.turn.new.self.lines c.turns.invariant.lines
-    c.in-Executed.ensures.lines)
+    let between = g.L.Lines.state c.turn.new.lines in
+    let new = g.L.Lines.state c.go_on-burst.new.lines in
+    lines-then g.L.Lines.tells (g.L.Lines.state c.args.lines.now) between new c.args.self.now.lines c.turn.new.self.lines c.go_on-burst.new.self.lines
+    (lines-then g.L.Lines.tells (g.L.Lines.state c.args.lines.now) (g.L.Lines.state c.turns.lines) between c.args.self.now.lines c.turns.self.lines c.turn.new.self.lines c.turns.invariant.lines
+    c.in-Executed.ensures.lines) c.go_on-burst.ensures.lines

@@ -1,0 +1,20 @@
+use Rattle.std.proofs.Common.{◌≡◌, ◌≤◌, ◌+◌, ◌-◌, ℕ}
+use Rattle.nova_processor.specs.declared.burst.BurstEnd.TheVariants as burst_end
+use Rattle.nova_machine.specs.LineChanges.{AreLinesTold, LinesGoOn}
+use Rattle.nova_machine.specs.LineLooks.{GoesOn}
+use Rattle.nova_machine.proofs.machine.Machine.go_on.Given as goal
+
+-- what the turns that are left come to, they all come to
+abbrev pub invariant-bursts : goal.invariant-bursts
+invariant-bursts g l = record {
+  told : AreLinesTold g.L.Lines.tells (g.L.Lines.state l.fn.lines) l.fn.self.lines
+      → GoesOn l.watch l.keys l.most l.done burst_end.Spent (g.L.Lines.state l.fn.lines) l.fn.self (g.L.Lines.state l.lines) l.self;
+  lines : LinesGoOn g.L.Lines.tells (g.L.Lines.state l.fn.lines) l.fn.self.lines (g.L.Lines.state l.lines) l.self.lines;
+  slots : l.self.slots ≡ l.fn.self.slots;
+  taken : l.self.taken ≡ l.fn.self.taken;
+  few : l.done ≤ l.most;
+  time : l.self.time ≡ l.fn.self.time + l.done;
+}
+
+abbrev pub decreases-bursts : goal.decreases-bursts
+decreases-bursts g l = l.most - l.done

@@ -1,0 +1,49 @@
+use Rattle.std.proofs.Common.{◌≡◌, ◌∙◌, ℕ, List, ap, sym, subst}
+use Rattle.telnet_lines.specs.Line.{LineOf}
+use Rattle.event_queue.specs.EventList.{dues}
+use Rattle.unit_trait.specs.declared.calls.Got.TheVariants.{Key}
+use Rattle.nova_machine.specs.Machine.{MachineState}
+use Rattle.nova_machine.specs.LineChanges.{LinesGoOn}
+use Rattle.nova_machine.specs.LineLooks.{second_keyboard, first_looked}
+use Rattle.nova_machine.proofs.Idling.{looked-slots, looked-lines, looked-time}
+use Rattle.nova_machine.proofs.LineLooks.{silent-poll, key-poll, looking-with, looked-left, looked-taken}
+use Rattle.nova_machine.proofs.ServiceCauses.{answered-taken}
+use Rattle.nova_machine.proofs.machine.Machine.poll_both.Goals as goal
+
+pub returns-in-None-key_in-clause-told : goal.returns-in-None-key_in-clause-told
+returns-in-None-key_in-clause-told g c = λ is told watch keys keyless.
+    silent-poll c.args.period watch keys (g.L.Lines.state c.args.lines.now) (g.L.Lines.state c.key_of_line.new.lines) c.args.self.now c.key_of_line.new.self c.look.new.self c.in-Some.got
+    c.requires.looking keyless c.in-Some.ensures.machine c.look.ensures (c.in-None-key_in.ensures c.in-Some.ensures.poll) (c.in-Some.ensures.told told)
+
+pub returns-in-None-key_in-clause-rest : goal.returns-in-None-key_in-clause-rest
+returns-in-None-key_in-clause-rest g c = λ is.
+    let n = c.key_of_line.new.self in
+    ap (λ (m : MachineState). dues m.events) c.look.ensures ∙ looked-left c.args.period n (looking-with c.args.period c.args.self.now n c.in-Some.ensures.machine c.requires.looking)
+
+pub returns-in-None-key_in-clause-slots : goal.returns-in-None-key_in-clause-slots
+returns-in-None-key_in-clause-slots g c =
+    ap (λ (m : MachineState). m.slots) c.look.ensures ∙ looked-slots c.args.period c.key_of_line.new.self ∙ ap (λ (m : MachineState). m.slots) c.in-Some.ensures.machine
+
+pub returns-in-None-key_in-clause-lines : goal.returns-in-None-key_in-clause-lines
+returns-in-None-key_in-clause-lines g c =
+    let same = ap (λ (m : MachineState). m.lines) c.look.ensures ∙ looked-lines c.args.period c.key_of_line.new.self in
+    subst (λ (ls : List (LineOf ℕ)). LinesGoOn g.L.Lines.tells (g.L.Lines.state c.args.lines.now) c.args.self.now.lines (g.L.Lines.state c.key_of_line.new.lines) ls) (sym same) c.in-Some.ensures.lines
+
+pub returns-in-None-key_in-clause-time : goal.returns-in-None-key_in-clause-time
+returns-in-None-key_in-clause-time g c =
+    ap (λ (m : MachineState). m.time) c.look.ensures ∙ looked-time c.args.period c.key_of_line.new.self ∙ ap (λ (m : MachineState). m.time) c.in-Some.ensures.machine
+
+pub returns-in-None-key_in-clause-taken : goal.returns-in-None-key_in-clause-taken
+returns-in-None-key_in-clause-taken g c =
+    ap (λ (m : MachineState). m.taken) c.look.ensures ∙ looked-taken c.args.period c.key_of_line.new.self ∙ ap (λ (m : MachineState). m.taken) c.in-Some.ensures.machine
+
+pub returns-in-Some-key_in-clause-told : goal.returns-in-Some-key_in-clause-told
+returns-in-Some-key_in-clause-told g c = λ is told watch keys keyless.
+    key-poll c.args.period watch keys (g.L.Lines.state c.args.lines.now) (g.L.Lines.state c.key_of_line.new.lines) c.args.self.now c.key_of_line.new.self c.take_key_of_line.new.self c.in-Some.got
+    c.in-Some-key_in.key c.requires.looking keyless c.in-Some.ensures.machine c.take_key_of_line.ensures.machine (c.in-Some-key_in.ensures c.in-Some.ensures.poll) (c.in-Some.ensures.told told)
+
+pub returns-in-Some-key_in-clause-taken : goal.returns-in-Some-key_in-clause-taken
+returns-in-Some-key_in-clause-taken g c =
+    ap (λ (m : MachineState). m.taken) c.take_key_of_line.ensures.machine
+    ∙ answered-taken second_keyboard (Key c.in-Some-key_in.key) (first_looked c.args.period c.key_of_line.new.self)
+    ∙ ap (λ (m : MachineState). m.taken) c.in-Some.ensures.machine
