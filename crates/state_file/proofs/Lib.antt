@@ -12,3 +12,4 @@ pub mod SealLaws
 pub mod LooseLaws
 pub mod FitLaws
 pub mod EndLaws
+pub mod PutBackLemmas

@@ -1,0 +1,350 @@
+-- What was saved of a session is put back.
+use Rattle.std.proofs.Common.{◌≡◌, ◌≢◌, ℕ, zero, suc, ◌+◌, ◌-◌, ◌*◌, ◌/◌, ◌%◌, ◌^◌, ◌<◌, ◌≤◌, Bool, true, false, List, [], ◌∷◌, ◌++◌, length, take, drop, map, replicate, get_or, Option, Some, None, refl, sym, ap, ◌∙◌, arith}
+use Rattle.std.specs.Prelude.{◌==◌, option_map, slice_index, IfSome}
+use Rattle.std.specs.List.{AllByRecursion}
+use Rattle.std.proofs.lemmas.List.{take-append-drop, get_or-drop, length-drop, length-map}
+use Rattle.host_files.specs.Lists.{NamedBytes, bytes_of}
+use Rattle.host_lines.specs.Traffic.{Peer}
+use Rattle.telnet_lines.specs.Line.{LineOf, unconnected}
+use Rattle.unit_trait.specs.declared.kind.Kind.{Kind}
+use Rattle.unit_trait.specs.declared.kind.Kind.TheVariants.{Dsk, Mta, Lpt, Ptr, Ptp, Clk, Tti, Tto, Tti1, Tto1, Qty}
+use Rattle.unit_trait.specs.declared.kind.UnitName.{UnitName}
+use Rattle.unit_trait.specs.Calls.{UnitState}
+use Rattle.event_queue.specs.EventList.{Event}
+use Rattle.unit_files.specs.Attachments.{Attachment, Held, attachments_of, no_attachments, attachment_at, with_attachment, file_units}
+use Rattle.unit_files.specs.Buffer.{Buffer, no_buffer, disk_unit}
+use Rattle.file_commands.specs.AllUnits.{attachable}
+use Rattle.nova_memory.specs.Memory.{MemoryState, IsMemory, IsSize}
+use Rattle.expect_actions.specs.declared.breaks.Break.{Break}
+use Rattle.expect_actions.specs.declared.expects.Expect.{Expect}
+use Rattle.expect_actions.specs.Sends.{Send}
+use Rattle.expect_actions.specs.Watch.{WatchState, forgotten}
+use Rattle.nova_machine.specs.BusOrder.{place_of}
+use Rattle.nova_machine.specs.Machine.{MachineState}
+use Rattle.nova_machine.specs.Seen.{Seen, unnumbered, erased, attached_in}
+use Rattle.nova_machine.specs.Valid.{CopyIsFile}
+use Rattle.state_file.specs.Parts.{FilePart}
+use Rattle.state_file.specs.Ranges.{kind_at}
+use Rattle.state_file.specs.Session.{flag_of, saved_unit, saved_event, saved_machine, saved_file, with_saved, saved_files_of, saved_files, port_number, saved_port, saved_break, saved_expect, saved_send, saved_watch, saved}
+use Rattle.state_file.specs.PutBack.{is_set, memory_from, unit_from, unit_named, event_from, attachment_from, attached_from, disk_from, held_from, machine_from, port_from, lines_from, break_from, expect_from, send_from, watch_from, put_back, IsIdleLine, CanBeSaved, SavingPutsBack}
+
+-- ---- numbers and lists
+
+flag-back : (b : Bool) → is_set (flag_of b) ≡ b
+flag-back true = refl
+flag-back false = refl
+
+pub kind-back : (k : Kind) → kind_at (place_of k) ≡ k
+unfolding kind_at
+kind-back Dsk = refl
+kind-back Mta = refl
+kind-back Lpt = refl
+kind-back Ptr = refl
+kind-back Ptp = refl
+kind-back Clk = refl
+kind-back Tti = refl
+kind-back Tto = refl
+kind-back Tti1 = refl
+kind-back Tto1 = refl
+kind-back Qty = refl
+
+name-back : (u : UnitName) → unit_named (place_of u.kind) u.unit ≡ u
+name-back u = λ i. record { kind = kind-back u.kind i; unit = u.unit }
+
+units-back : (us : List UnitState) → map unit_from (map saved_unit us) ≡ us
+units-back [] = refl
+units-back (u ∷ us) = λ i. record { kind = kind-back u.kind i; registers = u.registers } ∷ units-back us i
+
+events-back : (es : List Event) → map event_from (map saved_event es) ≡ es
+events-back [] = refl
+events-back (e ∷ es) = λ i. record { unit = name-back e.unit i; remaining = e.remaining } ∷ events-back es i
+
+-- ---- memory
+
+all-zero : (n : ℕ) (l : List ℕ) → length l ≡ n → ((i : ℕ) → get_or l i 0 ≡ 0) → l ≡ replicate n 0
+all-zero zero [] size h = refl
+all-zero zero (x ∷ l) size h = absurd (omega (arith, size))
+all-zero (suc n) [] size h = absurd (omega (arith, size))
+all-zero (suc n) (x ∷ l) size h = λ i. h 0 i ∷ all-zero n l (omega (arith, size)) (λ k. h (suc k)) i
+
+pub size-back : (size : ℕ) → IsSize size → 1024 * (size / 1024) ≡ size
+size-back size is = let step = is.step in omega (arith, step)
+
+memory-back : (m : MemoryState) → IsMemory m → IsSize m.size → memory_from (m.size / 1024) (take m.size m.words) ≡ m
+memory-back m is size =
+    let back = size-back m.size size in
+    let whole = is.whole in
+    let rest : drop m.size m.words ≡ replicate (2 ^ 15 - m.size) 0 =
+        all-zero (2 ^ 15 - m.size) (drop m.size m.words) (omega (arith, length-drop m.size m.words, whole))
+        (λ k. rw get_or-drop (is.beyond (m.size + k) (omega arith))) in
+    let words : take m.size m.words ++ replicate (2 ^ 15 - 1024 * (m.size / 1024)) 0 ≡ m.words =
+        ap (λ (n : ℕ). take m.size m.words ++ replicate (2 ^ 15 - n) 0) back
+        ∙ ap (λ (l : List ℕ). take m.size m.words ++ l) (sym rest) ∙ take-append-drop m.size m.words in
+    λ i. record { words = words i; size = back i }
+
+-- ---- files
+
+-- what is attached once that is attached to a unit, where there is something
+placed : List (Option Attachment) → UnitName → Option Attachment → List (Option Attachment)
+placed base unit None = base
+placed base unit (Some a) = with_attachment base unit (Some a)
+
+placed_all : List (Option Attachment) → List UnitName → List (Option Attachment) → List (Option Attachment)
+placed_all base [] attached = base
+placed_all base (unit ∷ units) attached = placed_all (placed base unit (attachment_at attached unit)) units attached
+
+attachment-back : (files : List NamedBytes) (unit : UnitName) (a : Attachment) → attachment_from (saved_file files unit a) ≡ a
+attachment-back files unit a = λ i. record { name = a.name; read_only = flag-back a.read_only i }
+
+from-one : (files : List NamedBytes) (base : List (Option Attachment)) (unit : UnitName) (a : Option Attachment) (rest : List FilePart)
+    → attached_from base (with_saved files unit a rest) ≡ attached_from (placed base unit a) rest
+unfolding placed
+from-one files base unit None rest = refl
+from-one files base unit (Some a) rest =
+    λ i. attached_from (with_attachment base (name-back unit i) (Some (attachment-back files unit a i))) rest
+
+from-all : (files : List NamedBytes) (base attached : List (Option Attachment)) (units : List UnitName)
+    → attached_from base (saved_files_of files attached units) ≡ placed_all base units attached
+unfolding placed_all
+from-all files base attached [] = refl
+from-all files base attached (unit ∷ units) =
+    from-one files base unit (attachment_at attached unit) (saved_files_of files attached units)
+    ∙ from-all files (placed base unit (attachment_at attached unit)) attached units
+
+put-0 : (x : Option Attachment)
+    → placed (None ∷ None ∷ None ∷ None ∷ None ∷ None ∷ None ∷ None ∷ None ∷ None ∷ None ∷ None ∷ [])
+    (record { kind = Dsk; unit = 0 }) x
+    ≡ x ∷ None ∷ None ∷ None ∷ None ∷ None ∷ None ∷ None ∷ None ∷ None ∷ None ∷ None ∷ []
+unfolding placed
+put-0 None = refl
+put-0 (Some a) = refl
+
+put-1 : (a0 : Option Attachment) (x : Option Attachment)
+    → placed (a0 ∷ None ∷ None ∷ None ∷ None ∷ None ∷ None ∷ None ∷ None ∷ None ∷ None ∷ None ∷ [])
+    (record { kind = Mta; unit = 0 }) x
+    ≡ a0 ∷ x ∷ None ∷ None ∷ None ∷ None ∷ None ∷ None ∷ None ∷ None ∷ None ∷ None ∷ []
+unfolding placed
+put-1 a0 None = refl
+put-1 a0 (Some a) = refl
+
+put-2 : (a0 a1 : Option Attachment) (x : Option Attachment)
+    → placed (a0 ∷ a1 ∷ None ∷ None ∷ None ∷ None ∷ None ∷ None ∷ None ∷ None ∷ None ∷ None ∷ [])
+    (record { kind = Mta; unit = 1 }) x
+    ≡ a0 ∷ a1 ∷ x ∷ None ∷ None ∷ None ∷ None ∷ None ∷ None ∷ None ∷ None ∷ None ∷ []
+unfolding placed
+put-2 a0 a1 None = refl
+put-2 a0 a1 (Some a) = refl
+
+put-3 : (a0 a1 a2 : Option Attachment) (x : Option Attachment)
+    → placed (a0 ∷ a1 ∷ a2 ∷ None ∷ None ∷ None ∷ None ∷ None ∷ None ∷ None ∷ None ∷ None ∷ [])
+    (record { kind = Mta; unit = 2 }) x
+    ≡ a0 ∷ a1 ∷ a2 ∷ x ∷ None ∷ None ∷ None ∷ None ∷ None ∷ None ∷ None ∷ None ∷ []
+unfolding placed
+put-3 a0 a1 a2 None = refl
+put-3 a0 a1 a2 (Some a) = refl
+
+put-4 : (a0 a1 a2 a3 : Option Attachment) (x : Option Attachment)
+    → placed (a0 ∷ a1 ∷ a2 ∷ a3 ∷ None ∷ None ∷ None ∷ None ∷ None ∷ None ∷ None ∷ None ∷ [])
+    (record { kind = Mta; unit = 3 }) x
+    ≡ a0 ∷ a1 ∷ a2 ∷ a3 ∷ x ∷ None ∷ None ∷ None ∷ None ∷ None ∷ None ∷ None ∷ []
+unfolding placed
+put-4 a0 a1 a2 a3 None = refl
+put-4 a0 a1 a2 a3 (Some a) = refl
+
+put-5 : (a0 a1 a2 a3 a4 : Option Attachment) (x : Option Attachment)
+    → placed (a0 ∷ a1 ∷ a2 ∷ a3 ∷ a4 ∷ None ∷ None ∷ None ∷ None ∷ None ∷ None ∷ None ∷ [])
+    (record { kind = Mta; unit = 4 }) x
+    ≡ a0 ∷ a1 ∷ a2 ∷ a3 ∷ a4 ∷ x ∷ None ∷ None ∷ None ∷ None ∷ None ∷ None ∷ []
+unfolding placed
+put-5 a0 a1 a2 a3 a4 None = refl
+put-5 a0 a1 a2 a3 a4 (Some a) = refl
+
+put-6 : (a0 a1 a2 a3 a4 a5 : Option Attachment) (x : Option Attachment)
+    → placed (a0 ∷ a1 ∷ a2 ∷ a3 ∷ a4 ∷ a5 ∷ None ∷ None ∷ None ∷ None ∷ None ∷ None ∷ [])
+    (record { kind = Mta; unit = 5 }) x
+    ≡ a0 ∷ a1 ∷ a2 ∷ a3 ∷ a4 ∷ a5 ∷ x ∷ None ∷ None ∷ None ∷ None ∷ None ∷ []
+unfolding placed
+put-6 a0 a1 a2 a3 a4 a5 None = refl
+put-6 a0 a1 a2 a3 a4 a5 (Some a) = refl
+
+put-7 : (a0 a1 a2 a3 a4 a5 a6 : Option Attachment) (x : Option Attachment)
+    → placed (a0 ∷ a1 ∷ a2 ∷ a3 ∷ a4 ∷ a5 ∷ a6 ∷ None ∷ None ∷ None ∷ None ∷ None ∷ [])
+    (record { kind = Mta; unit = 6 }) x
+    ≡ a0 ∷ a1 ∷ a2 ∷ a3 ∷ a4 ∷ a5 ∷ a6 ∷ x ∷ None ∷ None ∷ None ∷ None ∷ []
+unfolding placed
+put-7 a0 a1 a2 a3 a4 a5 a6 None = refl
+put-7 a0 a1 a2 a3 a4 a5 a6 (Some a) = refl
+
+put-8 : (a0 a1 a2 a3 a4 a5 a6 a7 : Option Attachment) (x : Option Attachment)
+    → placed (a0 ∷ a1 ∷ a2 ∷ a3 ∷ a4 ∷ a5 ∷ a6 ∷ a7 ∷ None ∷ None ∷ None ∷ None ∷ [])
+    (record { kind = Mta; unit = 7 }) x
+    ≡ a0 ∷ a1 ∷ a2 ∷ a3 ∷ a4 ∷ a5 ∷ a6 ∷ a7 ∷ x ∷ None ∷ None ∷ None ∷ []
+unfolding placed
+put-8 a0 a1 a2 a3 a4 a5 a6 a7 None = refl
+put-8 a0 a1 a2 a3 a4 a5 a6 a7 (Some a) = refl
+
+put-9 : (a0 a1 a2 a3 a4 a5 a6 a7 a8 : Option Attachment) (x : Option Attachment)
+    → placed (a0 ∷ a1 ∷ a2 ∷ a3 ∷ a4 ∷ a5 ∷ a6 ∷ a7 ∷ a8 ∷ None ∷ None ∷ None ∷ [])
+    (record { kind = Lpt; unit = 0 }) x
+    ≡ a0 ∷ a1 ∷ a2 ∷ a3 ∷ a4 ∷ a5 ∷ a6 ∷ a7 ∷ a8 ∷ x ∷ None ∷ None ∷ []
+unfolding placed
+put-9 a0 a1 a2 a3 a4 a5 a6 a7 a8 None = refl
+put-9 a0 a1 a2 a3 a4 a5 a6 a7 a8 (Some a) = refl
+
+put-10 : (a0 a1 a2 a3 a4 a5 a6 a7 a8 a9 : Option Attachment) (x : Option Attachment)
+    → placed (a0 ∷ a1 ∷ a2 ∷ a3 ∷ a4 ∷ a5 ∷ a6 ∷ a7 ∷ a8 ∷ a9 ∷ None ∷ None ∷ [])
+    (record { kind = Ptr; unit = 0 }) x
+    ≡ a0 ∷ a1 ∷ a2 ∷ a3 ∷ a4 ∷ a5 ∷ a6 ∷ a7 ∷ a8 ∷ a9 ∷ x ∷ None ∷ []
+unfolding placed
+put-10 a0 a1 a2 a3 a4 a5 a6 a7 a8 a9 None = refl
+put-10 a0 a1 a2 a3 a4 a5 a6 a7 a8 a9 (Some a) = refl
+
+put-11 : (a0 a1 a2 a3 a4 a5 a6 a7 a8 a9 a10 : Option Attachment) (x : Option Attachment)
+    → placed (a0 ∷ a1 ∷ a2 ∷ a3 ∷ a4 ∷ a5 ∷ a6 ∷ a7 ∷ a8 ∷ a9 ∷ a10 ∷ None ∷ [])
+    (record { kind = Ptp; unit = 0 }) x
+    ≡ a0 ∷ a1 ∷ a2 ∷ a3 ∷ a4 ∷ a5 ∷ a6 ∷ a7 ∷ a8 ∷ a9 ∷ a10 ∷ x ∷ []
+unfolding placed
+put-11 a0 a1 a2 a3 a4 a5 a6 a7 a8 a9 a10 None = refl
+put-11 a0 a1 a2 a3 a4 a5 a6 a7 a8 a9 a10 (Some a) = refl
+
+cells-back : (a0 a1 a2 a3 a4 a5 a6 a7 a8 a9 a10 a11 : Option Attachment)
+    → placed_all no_attachments attachable (a0 ∷ a1 ∷ a2 ∷ a3 ∷ a4 ∷ a5 ∷ a6 ∷ a7 ∷ a8 ∷ a9 ∷ a10 ∷ a11 ∷ [])
+    ≡ a0 ∷ a1 ∷ a2 ∷ a3 ∷ a4 ∷ a5 ∷ a6 ∷ a7 ∷ a8 ∷ a9 ∷ a10 ∷ a11 ∷ []
+unfolding placed_all
+cells-back a0 a1 a2 a3 a4 a5 a6 a7 a8 a9 a10 a11 =
+    let e0 : placed no_attachments (record { kind = Dsk; unit = 0 }) a0 ≡ a0 ∷ None ∷ None ∷ None ∷ None ∷ None ∷ None ∷ None ∷ None ∷ None ∷ None ∷ None ∷ [] =
+        put-0 a0 in
+    let e1 = ap (λ (b : List (Option Attachment)). placed b (record { kind = Mta; unit = 0 }) a1) e0
+        ∙ put-1 a0 a1 in
+    let e2 = ap (λ (b : List (Option Attachment)). placed b (record { kind = Mta; unit = 1 }) a2) e1
+        ∙ put-2 a0 a1 a2 in
+    let e3 = ap (λ (b : List (Option Attachment)). placed b (record { kind = Mta; unit = 2 }) a3) e2
+        ∙ put-3 a0 a1 a2 a3 in
+    let e4 = ap (λ (b : List (Option Attachment)). placed b (record { kind = Mta; unit = 3 }) a4) e3
+        ∙ put-4 a0 a1 a2 a3 a4 in
+    let e5 = ap (λ (b : List (Option Attachment)). placed b (record { kind = Mta; unit = 4 }) a5) e4
+        ∙ put-5 a0 a1 a2 a3 a4 a5 in
+    let e6 = ap (λ (b : List (Option Attachment)). placed b (record { kind = Mta; unit = 5 }) a6) e5
+        ∙ put-6 a0 a1 a2 a3 a4 a5 a6 in
+    let e7 = ap (λ (b : List (Option Attachment)). placed b (record { kind = Mta; unit = 6 }) a7) e6
+        ∙ put-7 a0 a1 a2 a3 a4 a5 a6 a7 in
+    let e8 = ap (λ (b : List (Option Attachment)). placed b (record { kind = Mta; unit = 7 }) a8) e7
+        ∙ put-8 a0 a1 a2 a3 a4 a5 a6 a7 a8 in
+    let e9 = ap (λ (b : List (Option Attachment)). placed b (record { kind = Lpt; unit = 0 }) a9) e8
+        ∙ put-9 a0 a1 a2 a3 a4 a5 a6 a7 a8 a9 in
+    let e10 = ap (λ (b : List (Option Attachment)). placed b (record { kind = Ptr; unit = 0 }) a10) e9
+        ∙ put-10 a0 a1 a2 a3 a4 a5 a6 a7 a8 a9 a10 in
+    let e11 = ap (λ (b : List (Option Attachment)). placed b (record { kind = Ptp; unit = 0 }) a11) e10
+        ∙ put-11 a0 a1 a2 a3 a4 a5 a6 a7 a8 a9 a10 a11 in
+    e11
+
+attached-back : (attached : List (Option Attachment)) → length attached ≡ 12 → placed_all no_attachments attachable attached ≡ attached
+attached-back [] size = absurd (omega (arith, size))
+attached-back (a0 ∷ []) size = absurd (omega (arith, size))
+attached-back (a0 ∷ a1 ∷ []) size = absurd (omega (arith, size))
+attached-back (a0 ∷ a1 ∷ a2 ∷ []) size = absurd (omega (arith, size))
+attached-back (a0 ∷ a1 ∷ a2 ∷ a3 ∷ []) size = absurd (omega (arith, size))
+attached-back (a0 ∷ a1 ∷ a2 ∷ a3 ∷ a4 ∷ []) size = absurd (omega (arith, size))
+attached-back (a0 ∷ a1 ∷ a2 ∷ a3 ∷ a4 ∷ a5 ∷ []) size = absurd (omega (arith, size))
+attached-back (a0 ∷ a1 ∷ a2 ∷ a3 ∷ a4 ∷ a5 ∷ a6 ∷ []) size = absurd (omega (arith, size))
+attached-back (a0 ∷ a1 ∷ a2 ∷ a3 ∷ a4 ∷ a5 ∷ a6 ∷ a7 ∷ []) size = absurd (omega (arith, size))
+attached-back (a0 ∷ a1 ∷ a2 ∷ a3 ∷ a4 ∷ a5 ∷ a6 ∷ a7 ∷ a8 ∷ []) size = absurd (omega (arith, size))
+attached-back (a0 ∷ a1 ∷ a2 ∷ a3 ∷ a4 ∷ a5 ∷ a6 ∷ a7 ∷ a8 ∷ a9 ∷ []) size = absurd (omega (arith, size))
+attached-back (a0 ∷ a1 ∷ a2 ∷ a3 ∷ a4 ∷ a5 ∷ a6 ∷ a7 ∷ a8 ∷ a9 ∷ a10 ∷ []) size = absurd (omega (arith, size))
+attached-back (a0 ∷ a1 ∷ a2 ∷ a3 ∷ a4 ∷ a5 ∷ a6 ∷ a7 ∷ a8 ∷ a9 ∷ a10 ∷ a11 ∷ []) size =
+    cells-back a0 a1 a2 a3 a4 a5 a6 a7 a8 a9 a10 a11
+attached-back (a0 ∷ a1 ∷ a2 ∷ a3 ∷ a4 ∷ a5 ∷ a6 ∷ a7 ∷ a8 ∷ a9 ∷ a10 ∷ a11 ∷ a12 ∷ more) size =
+    absurd (omega (arith, size))
+
+pub files-back : (files : List NamedBytes) (attached : List (Option Attachment)) → length attached ≡ 12 → attached_from no_attachments (saved_files files attached) ≡ attached
+unfolding saved_files
+files-back files attached size = from-all files no_attachments attached attachable ∙ attached-back attached size
+
+numbers-back : (slots : List (Option Held)) → map held_from (attachments_of slots) ≡ map unnumbered slots
+numbers-back [] = refl
+numbers-back (None ∷ slots) = ap (λ (l : List (Option Held)). None ∷ l) (numbers-back slots)
+numbers-back (Some h ∷ slots) = ap (λ (l : List (Option Held)). Some (record { file = 0; attachment = h.attachment }) ∷ l) (numbers-back slots)
+
+copy-back : (a : Option Attachment) (disk : Buffer) (files : List NamedBytes) → CopyIsFile a disk files → disk.written ≡ false → disk_from a files ≡ disk
+copy-back None disk files copy written = sym copy
+copy-back (Some a) disk files copy written = λ i. record { bytes = sym (copy written) i; written = sym written i }
+
+-- ---- the machine
+
+machine-back : (s : Seen) → CanBeSaved s
+    → machine_from (saved_machine s.machine) (attached_from no_attachments (saved_files s.files (attached_in s.machine))) s.files ≡ s.machine
+unfolding saved_machine machine_from
+machine-back s can =
+    let m = s.machine in
+    let memory = memory-back m.processor.memory can.memory can.size in
+    let twelve : length (attached_in m) ≡ 12 = length-map m.slots _ ∙ can.places in
+    let attached = files-back s.files (attached_in m) twelve in
+    let slots = ap (map held_from) attached ∙ numbers-back m.slots ∙ ap (λ (x : MachineState). x.slots) can.seen in
+    let disk = ap (λ (l : List (Option Attachment)). disk_from (attachment_at l disk_unit) s.files) attached
+        ∙ copy-back (attachment_at (attached_in m) disk_unit) m.disk s.files can.copy can.written in
+    let lines = ap (λ (x : MachineState). x.lines) can.seen in
+    λ i. record {
+      processor = record {
+        cpu = record { accumulators = m.processor.cpu.accumulators; carry = flag-back m.processor.cpu.carry i; pc = m.processor.cpu.pc };
+        memory = memory i;
+      };
+      ints = record { mask = m.ints.mask; on = flag-back m.ints.on i; hold = flag-back m.ints.hold i };
+      sr = m.sr;
+      stop_dev = flag-back m.stop_dev i;
+      units = units-back m.units i;
+      events = events-back m.events i;
+      time = m.time;
+      taken = m.taken;
+      slots = slots i;
+      disk = disk i;
+      lines = lines i;
+    }
+
+-- ---- what a run watches
+
+breaks-back : (bs : List Break) → map break_from (map saved_break bs) ≡ bs
+breaks-back [] = refl
+breaks-back (b ∷ bs) = ap (λ (l : List Break). b ∷ l) (breaks-back bs)
+
+expects-back : (es : List Expect) → map expect_from (map saved_expect es) ≡ es
+expects-back [] = refl
+expects-back (e ∷ es) = ap (λ (l : List Expect). e ∷ l) (expects-back es)
+
+sends-back : (sends : List Send) → map send_from (map saved_send sends) ≡ sends
+sends-back [] = refl
+sends-back (send ∷ sends) = ap (λ (l : List Send). send ∷ l) (sends-back sends)
+
+watch-back : (w : WatchState) → w ≡ forgotten w → watch_from (saved_watch w) ≡ w
+unfolding saved_watch watch_from
+watch-back w forgot =
+    (λ i. record {
+      breaks = record { list = breaks-back w.breaks.list i; actions = [] };
+      expects = record { list = expects-back w.expects.list i; tail = w.expects.tail; actions = [] };
+      sends = sends-back w.sends i;
+    }) ∙ sym forgot
+
+-- ---- the port
+
+port-back : (port : Option ℕ) → port ≢ Some 0 → port_from (port_number port) ≡ port
+port-back None some = refl
+port-back (Some zero) some = absurd (some refl)
+port-back (Some (suc n)) some = refl
+
+lines-back : (lines present : List (LineOf Peer)) → length lines ≡ 1 → AllByRecursion IsIdleLine lines → length present ≡ length lines → lines_from (saved_port lines) present ≡ lines
+unfolding saved_port
+lines-back [] present one idle same = absurd (omega (arith, one))
+lines-back (line ∷ []) [] one idle same = absurd (omega (arith, same))
+lines-back (line ∷ []) (p ∷ []) one idle same =
+    let port = port-back line.port idle.0.port in
+    ap (λ (x : Option ℕ). unconnected x ∷ []) port ∙ ap (λ (x : LineOf Peer). x ∷ []) (sym idle.0.nobody)
+lines-back (line ∷ []) (p ∷ q ∷ others) one idle same = absurd (omega (arith, same))
+lines-back (line ∷ next ∷ lines) present one idle same = absurd (omega (arith, one))
+
+-- ---- the whole
+
+pub saving-puts-back : SavingPutsBack
+saving-puts-back s present can same as_many =
+    let machine = ap (machine_from (saved_machine s.machine) (attached_from no_attachments (saved_files s.files (attached_in s.machine)))) same ∙ machine-back s can in
+    let watch = watch-back s.watch can.watch in
+    let lines = lines-back s.lines present.lines can.line can.idle as_many in
+    λ i. record { machine = machine i; watch = watch i; keys = present.keys; files = same i; lines = lines i; ahead = present.ahead }
