@@ -1,5 +1,6 @@
 ghost use Rattle.state_file.specs.Laws.{OneToOne, TextsAreRead};
 ghost use Rattle.state_file.specs.PutBack.{SavingPutsBack};
+ghost use Rattle.state_file.specs.SavedValid.{SavedIsValid};
 
 /// The law that no text is that of two saved sessions.
 pub fn state_texts_are_one_to_one()
@@ -15,4 +16,10 @@ pub fn valid_states_are_read()
 /// still to come on its lines.
 pub fn saving_puts_back()
     ensures { SavingPutsBack }
+{}
+
+/// The law that what is saved of a session of a standard machine is valid, so that it has a text, which is read back and
+/// puts the session back.
+pub fn saved_is_valid()
+    ensures { SavedIsValid }
 {}
