@@ -1,8 +1,9 @@
 -- What was saved of a session is put back.
-use Rattle.std.proofs.Common.{◌≡◌, ◌≢◌, ℕ, zero, suc, ◌+◌, ◌-◌, ◌*◌, ◌/◌, ◌%◌, ◌^◌, ◌<◌, ◌≤◌, Bool, true, false, List, [], ◌∷◌, ◌++◌, length, take, drop, map, replicate, get_or, Option, Some, None, refl, sym, ap, ◌∙◌, arith}
-use Rattle.std.specs.Prelude.{◌==◌, option_map, slice_index, IfSome}
+use Rattle.std.proofs.Common.{◌≡◌, ◌≢◌, ℕ, zero, suc, ◌+◌, ◌-◌, ◌*◌, ◌/◌, ◌%◌, ◌^◌, ◌<◌, ◌≤◌, Bool, true, false, List, [], ◌∷◌, ◌++◌, length, take, drop, map, replicate, get_or, Option, Some, None, refl, sym, ap, subst, ◌∙◌, arith}
+use Rattle.std.specs.Prelude.{option_map, slice_set}
 use Rattle.std.specs.List.{AllByRecursion}
-use Rattle.std.proofs.lemmas.List.{take-append-drop, get_or-drop, length-drop, length-map}
+use Rattle.std.proofs.Math.Seq.{get_or-append_seam, set-append_seam}
+use Rattle.std.proofs.lemmas.List.{take-append-drop, get_or-drop, length-drop, length-map, length-append, append_assoc}
 use Rattle.host_files.specs.Lists.{NamedBytes, bytes_of}
 use Rattle.host_lines.specs.Traffic.{Peer}
 use Rattle.telnet_lines.specs.Line.{LineOf, unconnected}
@@ -11,7 +12,7 @@ use Rattle.unit_trait.specs.declared.kind.Kind.TheVariants.{Dsk, Mta, Lpt, Ptr, 
 use Rattle.unit_trait.specs.declared.kind.UnitName.{UnitName}
 use Rattle.unit_trait.specs.Calls.{UnitState}
 use Rattle.event_queue.specs.EventList.{Event}
-use Rattle.unit_files.specs.Attachments.{Attachment, Held, attachments_of, no_attachments, attachment_at, with_attachment, file_units}
+use Rattle.unit_files.specs.Attachments.{Attachment, Held, attachments_of, no_attachments, attachment_at, with_attachment, file_place, file_units}
 use Rattle.unit_files.specs.Buffer.{Buffer, no_buffer, disk_unit}
 use Rattle.file_commands.specs.AllUnits.{attachable}
 use Rattle.nova_memory.specs.Memory.{MemoryState, IsMemory, IsSize}
@@ -111,152 +112,59 @@ from-all files base attached (unit ∷ units) =
     from-one files base unit (attachment_at attached unit) (saved_files_of files attached units)
     ∙ from-all files (placed base unit (attachment_at attached unit)) attached units
 
-put-0 : (x : Option Attachment)
-    → placed (None ∷ None ∷ None ∷ None ∷ None ∷ None ∷ None ∷ None ∷ None ∷ None ∷ None ∷ None ∷ [])
-    (record { kind = Dsk; unit = 0 }) x
-    ≡ x ∷ None ∷ None ∷ None ∷ None ∷ None ∷ None ∷ None ∷ None ∷ None ∷ None ∷ None ∷ []
+-- where what is attached to a unit stands behind so much, it is put there
+placed-here : (front rest : List (Option Attachment)) (unit : UnitName) (x : Option Attachment) → file_place unit ≡ length front
+    → placed (front ++ None ∷ rest) unit x ≡ front ++ x ∷ rest
 unfolding placed
-put-0 None = refl
-put-0 (Some a) = refl
+placed-here front rest unit None here = refl
+placed-here front rest unit (Some a) here =
+    ap (λ (n : ℕ). slice_set (front ++ None ∷ rest) n (Some a)) here ∙ set-append_seam front None rest (Some a)
 
-put-1 : (a0 : Option Attachment) (x : Option Attachment)
-    → placed (a0 ∷ None ∷ None ∷ None ∷ None ∷ None ∷ None ∷ None ∷ None ∷ None ∷ None ∷ None ∷ [])
-    (record { kind = Mta; unit = 0 }) x
-    ≡ a0 ∷ x ∷ None ∷ None ∷ None ∷ None ∷ None ∷ None ∷ None ∷ None ∷ None ∷ None ∷ []
-unfolding placed
-put-1 a0 None = refl
-put-1 a0 (Some a) = refl
+-- as many units as there are here, and nothing is attached to them
+empty : List (Option Attachment) → List (Option Attachment)
+empty [] = []
+empty (x ∷ rest) = None ∷ empty rest
 
-put-2 : (a0 a1 : Option Attachment) (x : Option Attachment)
-    → placed (a0 ∷ a1 ∷ None ∷ None ∷ None ∷ None ∷ None ∷ None ∷ None ∷ None ∷ None ∷ None ∷ [])
-    (record { kind = Mta; unit = 1 }) x
-    ≡ a0 ∷ a1 ∷ x ∷ None ∷ None ∷ None ∷ None ∷ None ∷ None ∷ None ∷ None ∷ None ∷ []
-unfolding placed
-put-2 a0 a1 None = refl
-put-2 a0 a1 (Some a) = refl
+-- the units have the places from one on
+HavePlaces : ℕ → List UnitName → Type 0
+HavePlaces n [] = Unit {0}
+HavePlaces n (unit ∷ units) = (file_place unit ≡ n) × HavePlaces (n + 1) units
 
-put-3 : (a0 a1 a2 : Option Attachment) (x : Option Attachment)
-    → placed (a0 ∷ a1 ∷ a2 ∷ None ∷ None ∷ None ∷ None ∷ None ∷ None ∷ None ∷ None ∷ None ∷ [])
-    (record { kind = Mta; unit = 2 }) x
-    ≡ a0 ∷ a1 ∷ a2 ∷ x ∷ None ∷ None ∷ None ∷ None ∷ None ∷ None ∷ None ∷ None ∷ []
-unfolding placed
-put-3 a0 a1 a2 None = refl
-put-3 a0 a1 a2 (Some a) = refl
+cells-back : (front rest : List (Option Attachment)) (units : List UnitName) → length units ≡ length rest → HavePlaces (length front) units
+    → placed_all (front ++ empty rest) units (front ++ rest) ≡ front ++ rest
+unfolding placed_all empty HavePlaces
+cells-back front [] [] same places = refl
+cells-back front [] (unit ∷ units) same places = absurd (omega (arith, same))
+cells-back front (x ∷ rest) [] same places = absurd (omega (arith, same))
+cells-back front (x ∷ rest) (unit ∷ units) same places =
+    let there : attachment_at (front ++ x ∷ rest) unit ≡ x =
+        ap (λ (n : ℕ). get_or (front ++ x ∷ rest) n None) places.0 ∙ get_or-append_seam front x rest None in
+    let one : placed (front ++ None ∷ empty rest) unit (attachment_at (front ++ x ∷ rest) unit) ≡ front ++ x ∷ [] ++ empty rest =
+        ap (placed (front ++ None ∷ empty rest) unit) there ∙ placed-here front (empty rest) unit x places.0
+        ∙ sym (append_assoc front (x ∷ []) (empty rest)) in
+    let all : front ++ x ∷ [] ++ rest ≡ front ++ x ∷ rest = append_assoc front (x ∷ []) rest in
+    let longer : length front + 1 ≡ length (front ++ x ∷ []) = sym (length-append front (x ∷ [])) in
+    (λ i. placed_all (one i) units (sym all i))
+    ∙ cells-back (front ++ x ∷ []) rest units (omega (arith, same)) (subst (λ (n : ℕ). HavePlaces n units) longer places.1) ∙ all
 
-put-4 : (a0 a1 a2 a3 : Option Attachment) (x : Option Attachment)
-    → placed (a0 ∷ a1 ∷ a2 ∷ a3 ∷ None ∷ None ∷ None ∷ None ∷ None ∷ None ∷ None ∷ None ∷ [])
-    (record { kind = Mta; unit = 3 }) x
-    ≡ a0 ∷ a1 ∷ a2 ∷ a3 ∷ x ∷ None ∷ None ∷ None ∷ None ∷ None ∷ None ∷ None ∷ []
-unfolding placed
-put-4 a0 a1 a2 a3 None = refl
-put-4 a0 a1 a2 a3 (Some a) = refl
+none-of : (n : ℕ) (rest : List (Option Attachment)) → length rest ≡ n → empty rest ≡ replicate n None
+unfolding empty
+none-of zero [] size = refl
+none-of zero (x ∷ rest) size = absurd (omega (arith, size))
+none-of (suc n) [] size = absurd (omega (arith, size))
+none-of (suc n) (x ∷ rest) size = ap (λ (l : List (Option Attachment)). None ∷ l) (none-of n rest (omega (arith, size)))
 
-put-5 : (a0 a1 a2 a3 a4 : Option Attachment) (x : Option Attachment)
-    → placed (a0 ∷ a1 ∷ a2 ∷ a3 ∷ a4 ∷ None ∷ None ∷ None ∷ None ∷ None ∷ None ∷ None ∷ [])
-    (record { kind = Mta; unit = 4 }) x
-    ≡ a0 ∷ a1 ∷ a2 ∷ a3 ∷ a4 ∷ x ∷ None ∷ None ∷ None ∷ None ∷ None ∷ None ∷ []
-unfolding placed
-put-5 a0 a1 a2 a3 a4 None = refl
-put-5 a0 a1 a2 a3 a4 (Some a) = refl
+places-are : HavePlaces 0 attachable
+unfolding HavePlaces
+places-are = (refl, (refl, (refl, (refl, (refl, (refl, (refl, (refl, (refl, (refl, (refl, (refl, tt))))))))))))
 
-put-6 : (a0 a1 a2 a3 a4 a5 : Option Attachment) (x : Option Attachment)
-    → placed (a0 ∷ a1 ∷ a2 ∷ a3 ∷ a4 ∷ a5 ∷ None ∷ None ∷ None ∷ None ∷ None ∷ None ∷ [])
-    (record { kind = Mta; unit = 5 }) x
-    ≡ a0 ∷ a1 ∷ a2 ∷ a3 ∷ a4 ∷ a5 ∷ x ∷ None ∷ None ∷ None ∷ None ∷ None ∷ []
-unfolding placed
-put-6 a0 a1 a2 a3 a4 a5 None = refl
-put-6 a0 a1 a2 a3 a4 a5 (Some a) = refl
+attached-back : (attached : List (Option Attachment)) → length attached ≡ file_units → placed_all no_attachments attachable attached ≡ attached
+attached-back attached size =
+    ap (λ (l : List (Option Attachment)). placed_all l attachable attached) (sym (none-of file_units attached size))
+    ∙ cells-back [] attached attachable (sym size) places-are
 
-put-7 : (a0 a1 a2 a3 a4 a5 a6 : Option Attachment) (x : Option Attachment)
-    → placed (a0 ∷ a1 ∷ a2 ∷ a3 ∷ a4 ∷ a5 ∷ a6 ∷ None ∷ None ∷ None ∷ None ∷ None ∷ [])
-    (record { kind = Mta; unit = 6 }) x
-    ≡ a0 ∷ a1 ∷ a2 ∷ a3 ∷ a4 ∷ a5 ∷ a6 ∷ x ∷ None ∷ None ∷ None ∷ None ∷ []
-unfolding placed
-put-7 a0 a1 a2 a3 a4 a5 a6 None = refl
-put-7 a0 a1 a2 a3 a4 a5 a6 (Some a) = refl
-
-put-8 : (a0 a1 a2 a3 a4 a5 a6 a7 : Option Attachment) (x : Option Attachment)
-    → placed (a0 ∷ a1 ∷ a2 ∷ a3 ∷ a4 ∷ a5 ∷ a6 ∷ a7 ∷ None ∷ None ∷ None ∷ None ∷ [])
-    (record { kind = Mta; unit = 7 }) x
-    ≡ a0 ∷ a1 ∷ a2 ∷ a3 ∷ a4 ∷ a5 ∷ a6 ∷ a7 ∷ x ∷ None ∷ None ∷ None ∷ []
-unfolding placed
-put-8 a0 a1 a2 a3 a4 a5 a6 a7 None = refl
-put-8 a0 a1 a2 a3 a4 a5 a6 a7 (Some a) = refl
-
-put-9 : (a0 a1 a2 a3 a4 a5 a6 a7 a8 : Option Attachment) (x : Option Attachment)
-    → placed (a0 ∷ a1 ∷ a2 ∷ a3 ∷ a4 ∷ a5 ∷ a6 ∷ a7 ∷ a8 ∷ None ∷ None ∷ None ∷ [])
-    (record { kind = Lpt; unit = 0 }) x
-    ≡ a0 ∷ a1 ∷ a2 ∷ a3 ∷ a4 ∷ a5 ∷ a6 ∷ a7 ∷ a8 ∷ x ∷ None ∷ None ∷ []
-unfolding placed
-put-9 a0 a1 a2 a3 a4 a5 a6 a7 a8 None = refl
-put-9 a0 a1 a2 a3 a4 a5 a6 a7 a8 (Some a) = refl
-
-put-10 : (a0 a1 a2 a3 a4 a5 a6 a7 a8 a9 : Option Attachment) (x : Option Attachment)
-    → placed (a0 ∷ a1 ∷ a2 ∷ a3 ∷ a4 ∷ a5 ∷ a6 ∷ a7 ∷ a8 ∷ a9 ∷ None ∷ None ∷ [])
-    (record { kind = Ptr; unit = 0 }) x
-    ≡ a0 ∷ a1 ∷ a2 ∷ a3 ∷ a4 ∷ a5 ∷ a6 ∷ a7 ∷ a8 ∷ a9 ∷ x ∷ None ∷ []
-unfolding placed
-put-10 a0 a1 a2 a3 a4 a5 a6 a7 a8 a9 None = refl
-put-10 a0 a1 a2 a3 a4 a5 a6 a7 a8 a9 (Some a) = refl
-
-put-11 : (a0 a1 a2 a3 a4 a5 a6 a7 a8 a9 a10 : Option Attachment) (x : Option Attachment)
-    → placed (a0 ∷ a1 ∷ a2 ∷ a3 ∷ a4 ∷ a5 ∷ a6 ∷ a7 ∷ a8 ∷ a9 ∷ a10 ∷ None ∷ [])
-    (record { kind = Ptp; unit = 0 }) x
-    ≡ a0 ∷ a1 ∷ a2 ∷ a3 ∷ a4 ∷ a5 ∷ a6 ∷ a7 ∷ a8 ∷ a9 ∷ a10 ∷ x ∷ []
-unfolding placed
-put-11 a0 a1 a2 a3 a4 a5 a6 a7 a8 a9 a10 None = refl
-put-11 a0 a1 a2 a3 a4 a5 a6 a7 a8 a9 a10 (Some a) = refl
-
-cells-back : (a0 a1 a2 a3 a4 a5 a6 a7 a8 a9 a10 a11 : Option Attachment)
-    → placed_all no_attachments attachable (a0 ∷ a1 ∷ a2 ∷ a3 ∷ a4 ∷ a5 ∷ a6 ∷ a7 ∷ a8 ∷ a9 ∷ a10 ∷ a11 ∷ [])
-    ≡ a0 ∷ a1 ∷ a2 ∷ a3 ∷ a4 ∷ a5 ∷ a6 ∷ a7 ∷ a8 ∷ a9 ∷ a10 ∷ a11 ∷ []
-unfolding placed_all
-cells-back a0 a1 a2 a3 a4 a5 a6 a7 a8 a9 a10 a11 =
-    let e0 : placed no_attachments (record { kind = Dsk; unit = 0 }) a0 ≡ a0 ∷ None ∷ None ∷ None ∷ None ∷ None ∷ None ∷ None ∷ None ∷ None ∷ None ∷ None ∷ [] =
-        put-0 a0 in
-    let e1 = ap (λ (b : List (Option Attachment)). placed b (record { kind = Mta; unit = 0 }) a1) e0
-        ∙ put-1 a0 a1 in
-    let e2 = ap (λ (b : List (Option Attachment)). placed b (record { kind = Mta; unit = 1 }) a2) e1
-        ∙ put-2 a0 a1 a2 in
-    let e3 = ap (λ (b : List (Option Attachment)). placed b (record { kind = Mta; unit = 2 }) a3) e2
-        ∙ put-3 a0 a1 a2 a3 in
-    let e4 = ap (λ (b : List (Option Attachment)). placed b (record { kind = Mta; unit = 3 }) a4) e3
-        ∙ put-4 a0 a1 a2 a3 a4 in
-    let e5 = ap (λ (b : List (Option Attachment)). placed b (record { kind = Mta; unit = 4 }) a5) e4
-        ∙ put-5 a0 a1 a2 a3 a4 a5 in
-    let e6 = ap (λ (b : List (Option Attachment)). placed b (record { kind = Mta; unit = 5 }) a6) e5
-        ∙ put-6 a0 a1 a2 a3 a4 a5 a6 in
-    let e7 = ap (λ (b : List (Option Attachment)). placed b (record { kind = Mta; unit = 6 }) a7) e6
-        ∙ put-7 a0 a1 a2 a3 a4 a5 a6 a7 in
-    let e8 = ap (λ (b : List (Option Attachment)). placed b (record { kind = Mta; unit = 7 }) a8) e7
-        ∙ put-8 a0 a1 a2 a3 a4 a5 a6 a7 a8 in
-    let e9 = ap (λ (b : List (Option Attachment)). placed b (record { kind = Lpt; unit = 0 }) a9) e8
-        ∙ put-9 a0 a1 a2 a3 a4 a5 a6 a7 a8 a9 in
-    let e10 = ap (λ (b : List (Option Attachment)). placed b (record { kind = Ptr; unit = 0 }) a10) e9
-        ∙ put-10 a0 a1 a2 a3 a4 a5 a6 a7 a8 a9 a10 in
-    let e11 = ap (λ (b : List (Option Attachment)). placed b (record { kind = Ptp; unit = 0 }) a11) e10
-        ∙ put-11 a0 a1 a2 a3 a4 a5 a6 a7 a8 a9 a10 a11 in
-    e11
-
-attached-back : (attached : List (Option Attachment)) → length attached ≡ 12 → placed_all no_attachments attachable attached ≡ attached
-attached-back [] size = absurd (omega (arith, size))
-attached-back (a0 ∷ []) size = absurd (omega (arith, size))
-attached-back (a0 ∷ a1 ∷ []) size = absurd (omega (arith, size))
-attached-back (a0 ∷ a1 ∷ a2 ∷ []) size = absurd (omega (arith, size))
-attached-back (a0 ∷ a1 ∷ a2 ∷ a3 ∷ []) size = absurd (omega (arith, size))
-attached-back (a0 ∷ a1 ∷ a2 ∷ a3 ∷ a4 ∷ []) size = absurd (omega (arith, size))
-attached-back (a0 ∷ a1 ∷ a2 ∷ a3 ∷ a4 ∷ a5 ∷ []) size = absurd (omega (arith, size))
-attached-back (a0 ∷ a1 ∷ a2 ∷ a3 ∷ a4 ∷ a5 ∷ a6 ∷ []) size = absurd (omega (arith, size))
-attached-back (a0 ∷ a1 ∷ a2 ∷ a3 ∷ a4 ∷ a5 ∷ a6 ∷ a7 ∷ []) size = absurd (omega (arith, size))
-attached-back (a0 ∷ a1 ∷ a2 ∷ a3 ∷ a4 ∷ a5 ∷ a6 ∷ a7 ∷ a8 ∷ []) size = absurd (omega (arith, size))
-attached-back (a0 ∷ a1 ∷ a2 ∷ a3 ∷ a4 ∷ a5 ∷ a6 ∷ a7 ∷ a8 ∷ a9 ∷ []) size = absurd (omega (arith, size))
-attached-back (a0 ∷ a1 ∷ a2 ∷ a3 ∷ a4 ∷ a5 ∷ a6 ∷ a7 ∷ a8 ∷ a9 ∷ a10 ∷ []) size = absurd (omega (arith, size))
-attached-back (a0 ∷ a1 ∷ a2 ∷ a3 ∷ a4 ∷ a5 ∷ a6 ∷ a7 ∷ a8 ∷ a9 ∷ a10 ∷ a11 ∷ []) size =
-    cells-back a0 a1 a2 a3 a4 a5 a6 a7 a8 a9 a10 a11
-attached-back (a0 ∷ a1 ∷ a2 ∷ a3 ∷ a4 ∷ a5 ∷ a6 ∷ a7 ∷ a8 ∷ a9 ∷ a10 ∷ a11 ∷ a12 ∷ more) size =
-    absurd (omega (arith, size))
-
-pub files-back : (files : List NamedBytes) (attached : List (Option Attachment)) → length attached ≡ 12 → attached_from no_attachments (saved_files files attached) ≡ attached
+pub files-back : (files : List NamedBytes) (attached : List (Option Attachment)) → length attached ≡ file_units
+    → attached_from no_attachments (saved_files files attached) ≡ attached
 unfolding saved_files
 files-back files attached size = from-all files no_attachments attached attachable ∙ attached-back attached size
 
@@ -277,7 +185,7 @@ unfolding saved_machine machine_from
 machine-back s can =
     let m = s.machine in
     let memory = memory-back m.processor.memory can.memory can.size in
-    let twelve : length (attached_in m) ≡ 12 = length-map m.slots _ ∙ can.places in
+    let twelve : length (attached_in m) ≡ file_units = length-map m.slots _ ∙ can.places in
     let attached = files-back s.files (attached_in m) twelve in
     let slots = ap (map held_from) attached ∙ numbers-back m.slots ∙ ap (λ (x : MachineState). x.slots) can.seen in
     let disk = ap (λ (l : List (Option Attachment)). disk_from (attachment_at l disk_unit) s.files) attached

@@ -18,7 +18,7 @@ pub fn saving_puts_back()
     ensures { SavingPutsBack }
 {}
 
-/// The law that what is saved of a session of a standard machine is valid, so that it has a text, which is read back and
+/// The law that what is saved of a session of a standard machine is valid, so that it has a text, which is read and
 /// puts the session back.
 pub fn saved_is_valid()
     ensures { SavedIsValid }
