@@ -49,6 +49,19 @@ kind-back Tti1 = refl
 kind-back Tto1 = refl
 kind-back Qty = refl
 
+pub place-low : (k : Kind) → place_of k < 2 ^ 8
+place-low Dsk = omega arith
+place-low Mta = omega arith
+place-low Lpt = omega arith
+place-low Ptr = omega arith
+place-low Ptp = omega arith
+place-low Clk = omega arith
+place-low Tti = omega arith
+place-low Tto = omega arith
+place-low Tti1 = omega arith
+place-low Tto1 = omega arith
+place-low Qty = omega arith
+
 name-back : (u : UnitName) → unit_named (place_of u.kind) u.unit ≡ u
 name-back u = λ i. record { kind = kind-back u.kind i; unit = u.unit }
 
@@ -76,11 +89,11 @@ memory-back m is size =
     let back = size-back m.size size in
     let whole = is.whole in
     let rest : drop m.size m.words ≡ replicate (2 ^ 15 - m.size) 0 =
-        all-zero (2 ^ 15 - m.size) (drop m.size m.words) (omega (arith, length-drop m.size m.words, whole))
-        (λ k. rw get_or-drop (is.beyond (m.size + k) (omega arith))) in
+    all-zero (2 ^ 15 - m.size) (drop m.size m.words) (omega (arith, length-drop m.size m.words, whole))
+    (λ k. rw get_or-drop (is.beyond (m.size + k) (omega arith))) in
     let words : take m.size m.words ++ replicate (2 ^ 15 - 1024 * (m.size / 1024)) 0 ≡ m.words =
-        ap (λ (n : ℕ). take m.size m.words ++ replicate (2 ^ 15 - n) 0) back
-        ∙ ap (λ (l : List ℕ). take m.size m.words ++ l) (sym rest) ∙ take-append-drop m.size m.words in
+    ap (λ (n : ℕ). take m.size m.words ++ replicate (2 ^ 15 - n) 0) back
+    ∙ ap (λ (l : List ℕ). take m.size m.words ++ l) (sym rest) ∙ take-append-drop m.size m.words in
     λ i. record { words = words i; size = back i }
 
 -- ---- files
@@ -94,10 +107,12 @@ placed_all : List (Option Attachment) → List UnitName → List (Option Attachm
 placed_all base [] attached = base
 placed_all base (unit ∷ units) attached = placed_all (placed base unit (attachment_at attached unit)) units attached
 
-attachment-back : (files : List NamedBytes) (unit : UnitName) (a : Attachment) → attachment_from (saved_file files unit a) ≡ a
+attachment-back : (files : List NamedBytes) (unit : UnitName) (a : Attachment)
+    → attachment_from (saved_file files unit a) ≡ a
 attachment-back files unit a = λ i. record { name = a.name; read_only = flag-back a.read_only i }
 
-from-one : (files : List NamedBytes) (base : List (Option Attachment)) (unit : UnitName) (a : Option Attachment) (rest : List FilePart)
+from-one : (files : List NamedBytes) (base : List (Option Attachment)) (unit : UnitName) (a : Option Attachment)
+    (rest : List FilePart)
     → attached_from base (with_saved files unit a rest) ≡ attached_from (placed base unit a) rest
 unfolding placed
 from-one files base unit None rest = refl
@@ -113,7 +128,8 @@ from-all files base attached (unit ∷ units) =
     ∙ from-all files (placed base unit (attachment_at attached unit)) attached units
 
 -- where what is attached to a unit stands behind so much, it is put there
-placed-here : (front rest : List (Option Attachment)) (unit : UnitName) (x : Option Attachment) → file_place unit ≡ length front
+placed-here : (front rest : List (Option Attachment)) (unit : UnitName) (x : Option Attachment)
+    → file_place unit ≡ length front
     → placed (front ++ None ∷ rest) unit x ≡ front ++ x ∷ rest
 unfolding placed
 placed-here front rest unit None here = refl
@@ -130,7 +146,8 @@ HavePlaces : ℕ → List UnitName → Type 0
 HavePlaces n [] = Unit {0}
 HavePlaces n (unit ∷ units) = (file_place unit ≡ n) × HavePlaces (n + 1) units
 
-cells-back : (front rest : List (Option Attachment)) (units : List UnitName) → length units ≡ length rest → HavePlaces (length front) units
+cells-back : (front rest : List (Option Attachment)) (units : List UnitName) → length units ≡ length rest
+    → HavePlaces (length front) units
     → placed_all (front ++ empty rest) units (front ++ rest) ≡ front ++ rest
 unfolding placed_all empty HavePlaces
 cells-back front [] [] same places = refl
@@ -138,14 +155,16 @@ cells-back front [] (unit ∷ units) same places = absurd (omega (arith, same))
 cells-back front (x ∷ rest) [] same places = absurd (omega (arith, same))
 cells-back front (x ∷ rest) (unit ∷ units) same places =
     let there : attachment_at (front ++ x ∷ rest) unit ≡ x =
-        ap (λ (n : ℕ). get_or (front ++ x ∷ rest) n None) places.0 ∙ get_or-append_seam front x rest None in
-    let one : placed (front ++ None ∷ empty rest) unit (attachment_at (front ++ x ∷ rest) unit) ≡ front ++ x ∷ [] ++ empty rest =
-        ap (placed (front ++ None ∷ empty rest) unit) there ∙ placed-here front (empty rest) unit x places.0
-        ∙ sym (append_assoc front (x ∷ []) (empty rest)) in
+    ap (λ (n : ℕ). get_or (front ++ x ∷ rest) n None) places.0 ∙ get_or-append_seam front x rest None in
+    let one : placed (front ++ None ∷ empty rest) unit
+    (attachment_at (front ++ x ∷ rest) unit) ≡ front ++ x ∷ [] ++ empty rest =
+    ap (placed (front ++ None ∷ empty rest) unit) there ∙ placed-here front (empty rest) unit x places.0
+    ∙ sym (append_assoc front (x ∷ []) (empty rest)) in
     let all : front ++ x ∷ [] ++ rest ≡ front ++ x ∷ rest = append_assoc front (x ∷ []) rest in
     let longer : length front + 1 ≡ length (front ++ x ∷ []) = sym (length-append front (x ∷ [])) in
     (λ i. placed_all (one i) units (sym all i))
-    ∙ cells-back (front ++ x ∷ []) rest units (omega (arith, same)) (subst (λ (n : ℕ). HavePlaces n units) longer places.1) ∙ all
+    ∙ cells-back (front ++ x ∷ []) rest units (omega (arith, same))
+    (subst (λ (n : ℕ). HavePlaces n units) longer places.1) ∙ all
 
 none-of : (n : ℕ) (rest : List (Option Attachment)) → length rest ≡ n → empty rest ≡ replicate n None
 unfolding empty
@@ -158,7 +177,8 @@ places-are : HavePlaces 0 attachable
 unfolding HavePlaces
 places-are = (refl, (refl, (refl, (refl, (refl, (refl, (refl, (refl, (refl, (refl, (refl, (refl, tt))))))))))))
 
-attached-back : (attached : List (Option Attachment)) → length attached ≡ file_units → placed_all no_attachments attachable attached ≡ attached
+attached-back : (attached : List (Option Attachment)) → length attached ≡ file_units
+    → placed_all no_attachments attachable attached ≡ attached
 attached-back attached size =
     ap (λ (l : List (Option Attachment)). placed_all l attachable attached) (sym (none-of file_units attached size))
     ∙ cells-back [] attached attachable (sym size) places-are
@@ -171,16 +191,19 @@ files-back files attached size = from-all files no_attachments attached attachab
 numbers-back : (slots : List (Option Held)) → map held_from (attachments_of slots) ≡ map unnumbered slots
 numbers-back [] = refl
 numbers-back (None ∷ slots) = ap (λ (l : List (Option Held)). None ∷ l) (numbers-back slots)
-numbers-back (Some h ∷ slots) = ap (λ (l : List (Option Held)). Some (record { file = 0; attachment = h.attachment }) ∷ l) (numbers-back slots)
+numbers-back (Some h ∷ slots) = ap
+    (λ (l : List (Option Held)). Some (record { file = 0; attachment = h.attachment }) ∷ l) (numbers-back slots)
 
-copy-back : (a : Option Attachment) (disk : Buffer) (files : List NamedBytes) → CopyIsFile a disk files → disk.written ≡ false → disk_from a files ≡ disk
+copy-back : (a : Option Attachment) (disk : Buffer) (files : List NamedBytes) → CopyIsFile a disk files
+    → disk.written ≡ false → disk_from a files ≡ disk
 copy-back None disk files copy written = sym copy
 copy-back (Some a) disk files copy written = λ i. record { bytes = sym (copy written) i; written = sym written i }
 
 -- ---- the machine
 
 machine-back : (s : Seen) → CanBeSaved s
-    → machine_from (saved_machine s.machine) (attached_from no_attachments (saved_files s.files (attached_in s.machine))) s.files ≡ s.machine
+    → machine_from (saved_machine s.machine)
+    (attached_from no_attachments (saved_files s.files (attached_in s.machine))) s.files ≡ s.machine
 unfolding saved_machine machine_from
 machine-back s can =
     let m = s.machine in
@@ -189,11 +212,15 @@ machine-back s can =
     let attached = files-back s.files (attached_in m) twelve in
     let slots = ap (map held_from) attached ∙ numbers-back m.slots ∙ ap (λ (x : MachineState). x.slots) can.seen in
     let disk = ap (λ (l : List (Option Attachment)). disk_from (attachment_at l disk_unit) s.files) attached
-        ∙ copy-back (attachment_at (attached_in m) disk_unit) m.disk s.files can.copy can.written in
+    ∙ copy-back (attachment_at (attached_in m) disk_unit) m.disk s.files can.copy can.written in
     let lines = ap (λ (x : MachineState). x.lines) can.seen in
     λ i. record {
       processor = record {
-        cpu = record { accumulators = m.processor.cpu.accumulators; carry = flag-back m.processor.cpu.carry i; pc = m.processor.cpu.pc };
+        cpu = record {
+          accumulators = m.processor.cpu.accumulators;
+          carry = flag-back m.processor.cpu.carry i;
+          pc = m.processor.cpu.pc;
+        };
         memory = memory i;
       };
       ints = record { mask = m.ints.mask; on = flag-back m.ints.on i; hold = flag-back m.ints.hold i };
@@ -238,7 +265,8 @@ port-back None some = refl
 port-back (Some zero) some = absurd (some refl)
 port-back (Some (suc n)) some = refl
 
-lines-back : (lines present : List (LineOf Peer)) → length lines ≡ 1 → AllByRecursion IsIdleLine lines → length present ≡ length lines → lines_from (saved_port lines) present ≡ lines
+lines-back : (lines present : List (LineOf Peer)) → length lines ≡ 1 → AllByRecursion IsIdleLine lines
+    → length present ≡ length lines → lines_from (saved_port lines) present ≡ lines
 unfolding saved_port
 lines-back [] present one idle same = absurd (omega (arith, one))
 lines-back (line ∷ []) [] one idle same = absurd (omega (arith, same))
@@ -252,7 +280,15 @@ lines-back (line ∷ next ∷ lines) present one idle same = absurd (omega (arit
 
 pub saving-puts-back : SavingPutsBack
 saving-puts-back s present can same as_many =
-    let machine = ap (machine_from (saved_machine s.machine) (attached_from no_attachments (saved_files s.files (attached_in s.machine)))) same ∙ machine-back s can in
+    let attached = attached_from no_attachments (saved_files s.files (attached_in s.machine)) in
+    let machine = ap (machine_from (saved_machine s.machine) attached) same ∙ machine-back s can in
     let watch = watch-back s.watch can.watch in
     let lines = lines-back s.lines present.lines can.line can.idle as_many in
-    λ i. record { machine = machine i; watch = watch i; keys = present.keys; files = same i; lines = lines i; ahead = present.ahead }
+    λ i. record {
+      machine = machine i;
+      watch = watch i;
+      keys = present.keys;
+      files = same i;
+      lines = lines i;
+      ahead = present.ahead;
+    }

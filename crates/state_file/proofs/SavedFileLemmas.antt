@@ -21,7 +21,7 @@ use Rattle.state_file.specs.Valid.{AreBytes, Follow, IsFile, AreFiles}
 use Rattle.state_file.specs.Reading.{place_of as file_place, behind_file}
 use Rattle.state_file.specs.Session.{flag_of, saved_file, with_saved, saved_files_of, saved_files}
 use Rattle.state_file.specs.SavedValid.{IsTaken, AreTaken}
-use Rattle.state_file.proofs.PutBackLemmas.{kind-back}
+use Rattle.state_file.proofs.PutBackLemmas.{kind-back, place-low}
 
 -- ---- digests
 
@@ -35,7 +35,8 @@ word-bytes n = (omega arith, (omega arith, (omega arith, (omega arith, tt))))
 digest-bytes : (h : List ℕ) (n : ℕ) → AreBytes (digest_bytes h n)
 unfolding digest_bytes
 digest-bytes h zero = tt
-digest-bytes h (suc n) = bytes-both (digest_bytes h n) (to_be_bytes w32 (slice_index h n)) (digest-bytes h n) (word-bytes (slice_index h n))
+digest-bytes h (suc n) = bytes-both (digest_bytes h n) (to_be_bytes w32 (slice_index h n)) (digest-bytes h n)
+    (word-bytes (slice_index h n))
 
 pub sha256-bytes : (m : List ℕ) → AreBytes (sha256 m)
 unfolding sha256
@@ -43,19 +44,16 @@ sha256-bytes m = digest-bytes _ 8
 
 -- ---- a file
 
-place-low : (k : Kind) → place_of k < 2 ^ 8
-place-low k =
-    every-kind (λ (x : Kind). place_of x < 2 ^ 8)
-    (omega arith, omega arith, omega arith, omega arith, omega arith, omega arith, omega arith, omega arith, omega arith, omega arith, omega arith) k
-
 same-writes : (k : Kind) → only_writes k ≡ unit_files.only_writes k
 same-writes k =
-    every-kind (λ (x : Kind). only_writes x ≡ unit_files.only_writes x) (refl, refl, refl, refl, refl, refl, refl, refl, refl, refl, refl) k
+    every-kind (λ (x : Kind). only_writes x ≡ unit_files.only_writes x)
+    (refl, refl, refl, refl, refl, refl, refl, refl, refl, refl, refl) k
 
 same-longest : (k : Kind) → longest_file_of k ≡ longest_file k
 unfolding longest_file_of longest_file
 same-longest k =
-    every-kind (λ (x : Kind). longest_file_of x ≡ longest_file x) (refl, refl, refl, refl, refl, refl, refl, refl, refl, refl, refl) k
+    every-kind (λ (x : Kind). longest_file_of x ≡ longest_file x)
+    (refl, refl, refl, refl, refl, refl, refl, refl, refl, refl, refl) k
 
 -- a unit can have the next file, from a place on
 is_next : FilePlace → UnitName → Bool
@@ -65,24 +63,28 @@ not-writes : (b : Bool) → (b ≡ true → true ≡ false) → not b ≡ true
 not-writes false writes = refl
 not-writes true writes = sym (writes refl)
 
-mode-is : (k : Kind) (only : Bool) → (unit_files.only_writes k ≡ true → only ≡ false) → is_read_only_of k (flag_of only) ≡ true
+mode-is : (k : Kind) (only : Bool) → (unit_files.only_writes k ≡ true → only ≡ false)
+    → is_read_only_of k (flag_of only) ≡ true
 mode-is k false writes = refl
 mode-is k true writes = not-writes (only_writes k) (λ is. writes (sym (same-writes k) ∙ is))
 
 name-length-is : (n : ℕ) → 1 ≤ n → n ≤ 255 → is_name_length n ≡ true
 name-length-is n some few = and_from _ _ (le-leb 1 n some) (le-leb n 255 few)
 
-file-is : (files : List NamedBytes) (least : FilePlace) (unit : UnitName) (a : Attachment) → is_next least unit ≡ true → IsTaken files unit a
+file-is : (files : List NamedBytes) (least : FilePlace) (unit : UnitName) (a : Attachment) → is_next least unit ≡ true
+    → IsTaken files unit a
     → IsFile least (saved_file files unit a)
 unfolding is_next
 file-is files least unit a next taken =
-    let parts = and_parts (takes_file_at least (place_of unit.kind)) (is_next_unit least (place_of unit.kind) unit.unit) next in
+    let parts = and_parts (takes_file_at least (place_of unit.kind))
+    (is_next_unit least (place_of unit.kind) unit.unit) next in
     let kind = kind-back unit.kind in
     record {
       byte = place-low unit.kind;
       position = parts.0;
       unit = parts.1;
-      read_only = ap (λ (k : Kind). is_read_only_of k (flag_of a.read_only)) kind ∙ mode-is unit.kind a.read_only taken.writes;
+      read_only = ap (λ (k : Kind). is_read_only_of k (flag_of a.read_only)) kind
+          ∙ mode-is unit.kind a.read_only taken.writes;
       long = name-length-is (length a.name) taken.long.0 taken.long.1;
       name = taken.bytes;
       utf8 = taken.utf8;
@@ -108,14 +110,17 @@ in_order : List UnitName → Bool
 in_order [] = true
 in_order (unit ∷ units) = all_next (place-behind unit) units && in_order units
 
-slot-follows : (files : List NamedBytes) (least : FilePlace) (unit : UnitName) (a : Option Attachment) (rest : List FilePart)
+slot-follows : (files : List NamedBytes) (least : FilePlace) (unit : UnitName) (a : Option Attachment)
+    (rest : List FilePart)
     → is_next least unit ≡ true → IfSome a (IsTaken files unit) → Follow IsFile behind_file least rest
-    → Follow IsFile behind_file (place-behind unit) rest → Follow IsFile behind_file least (with_saved files unit a rest)
+    → Follow IsFile behind_file (place-behind unit) rest
+    → Follow IsFile behind_file least (with_saved files unit a rest)
 unfolding place-behind
 slot-follows files least unit None rest next taken without with = without
 slot-follows files least unit (Some a) rest next taken without with = (file-is files least unit a next taken, with)
 
-files-follow : (files : List NamedBytes) (attached : List (Option Attachment)) (least : FilePlace) (units : List UnitName)
+files-follow : (files : List NamedBytes) (attached : List (Option Attachment)) (least : FilePlace)
+    (units : List UnitName)
     → all_next least units ≡ true → in_order units ≡ true → AreTaken files attached units
     → Follow IsFile behind_file least (saved_files_of files attached units)
 unfolding all_next in_order
@@ -140,7 +145,8 @@ as-most files attached (unit ∷ units) =
     let here = slot-adds files unit (attachment_at attached unit) (saved_files_of files attached units) in
     omega (arith, more, here)
 
-pub files-valid : (files : List NamedBytes) (attached : List (Option Attachment)) → AreTaken files attached attachable → AreFiles (saved_files files attached)
+pub files-valid : (files : List NamedBytes) (attached : List (Option Attachment)) → AreTaken files attached attachable
+    → AreFiles (saved_files files attached)
 unfolding saved_files kind_at is_next all_next in_order place-behind
 files-valid files attached taken =
     let most = as-most files attached attachable in

@@ -44,6 +44,7 @@ saved-is-valid = record {
   fits = λ s is. texts-are-read.fits (saved s) (saved-valid s is);
   read = λ s is. texts-are-read.read (saved s) (saved-valid s is);
   restored = λ s present is can files lines.
-      subst (λ (r : Result State StateFault). IfOk r (λ v. put_back v present ≡ record s { keys = present.keys; ahead = present.ahead }))
+      subst (λ (r : Result State StateFault). IfOk r
+      (λ v. put_back v present ≡ record s { keys = present.keys; ahead = present.ahead }))
       (sym (texts-are-read.read (saved s) (saved-valid s is))) (saving-puts-back s present can files lines);
 }

@@ -17,25 +17,33 @@ use Rattle.state_file.specs.Reading.{behind_break, behind_send}
 use Rattle.state_file.specs.Session.{saved_break, saved_expect, saved_send, saved_watch}
 use Rattle.state_file.specs.SavedValid.{IsGivenBreak, IsGivenExpect, AreGiven}
 
-pub all-weaker : {A : Type 0} (P Q : A → Type 0) → ((x : A) → P x → Q x) → (xs : List A) → AllByRecursion P xs → AllByRecursion Q xs
+pub all-weaker : {A : Type 0} (P Q : A → Type 0) → ((x : A) → P x → Q x) → (xs : List A) → AllByRecursion P xs
+    → AllByRecursion Q xs
 all-weaker P Q gives [] all = tt
 all-weaker P Q gives (x ∷ xs) all = (gives x all.0, all-weaker P Q gives xs all.1)
 
 -- at most so many of them
-pub few : {A B : Type 0} (f : A → B) (xs : List A) (most : ℕ) → length xs ≤ most → nat_le (length (map f xs)) most ≡ true
+pub few : {A B : Type 0} (f : A → B) (xs : List A) (most : ℕ) → length xs ≤ most
+    → nat_le (length (map f xs)) most ≡ true
 few f xs most le = le-leb (length (map f xs)) most (let same = length-map xs f in omega (arith, same, le))
 
 is-address : (least a : ℕ) → least ≤ a → a < 2 ^ 15 → (nat_le least a && is_address a) ≡ true
 is-address least a least_le below = grind (arith, nat_tests)
 
 breaks-follow : (least : ℕ) (bs : List Break) → AllByRecursion (λ (b : Break). least ≤ b.address) bs → Rising bs
-    → AllByRecursion ValidBreak bs → AllByRecursion IsGivenBreak bs → Follow IsBreak behind_break least (map saved_break bs)
+    → AllByRecursion ValidBreak bs → AllByRecursion IsGivenBreak bs
+    → Follow IsBreak behind_break least (map saved_break bs)
 breaks-follow least [] from rising valid given = tt
 breaks-follow least (b ∷ bs) from rising valid given = (
-  record { address = is-address least b.address from.0 valid.0.address; count = given.0.count; actions = given.0.actions },
+  record {
+    address = is-address least b.address from.0 valid.0.address;
+    count = given.0.count;
+    actions = given.0.actions;
+  },
   breaks-follow (b.address + 1) bs
-  (all-weaker (λ (x : Break). b.address < x.address) (λ (x : Break). b.address + 1 ≤ x.address) (λ x lt. omega (arith, lt)) bs rising.0)
-  rising.1 valid.1 given.1,
+      (all-weaker (λ (x : Break). b.address < x.address) (λ (x : Break). b.address + 1 ≤ x.address)
+      (λ x lt. omega (arith, lt)) bs rising.0)
+      rising.1 valid.1 given.1,
 )
 
 from-zero : (bs : List Break) → AllByRecursion (λ (b : Break). 0 ≤ b.address) bs

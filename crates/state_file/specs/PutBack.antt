@@ -118,8 +118,8 @@ watch_from w = record {
 
 -- ---- all of it
 
--- What a session works on once a saved one was put back: the keys, the bytes of files and what is still to come on lines
--- are the present ones.
+-- What a session works on once a saved one was put back: the keys, the bytes of files and what is still to come on
+-- lines are the present ones.
 abbrev pub put_back : State → Seen → Seen
 put_back s present = record present {
   machine = machine_from s.machine (attached_from no_attachments s.files) present.files;
@@ -135,8 +135,8 @@ pub record IsIdleLine (line : LineOf Peer) : Type 0 where
   pub port : line.port ≢ Some 0
 
 -- The memory is one, of a size that a machine may have, and each unit that takes files has its place. The machine is
--- without numbers of files and without its lines, as it is seen. The disk's copy is that of its file, and nothing is to be
--- written back. The actions of the stop that came last are forgotten. There is one line, with nobody connected to it.
+-- without numbers of files and without its lines, as it is seen. The disk's copy is that of its file, and nothing is to
+-- be written back. The actions of the stop that came last are forgotten. There is one line, with nobody on it.
 pub record CanBeSaved (s : Seen) : Type 0 where
   pub memory : IsMemory s.machine.processor.memory
   pub size : IsSize s.machine.processor.memory.size
@@ -148,8 +148,8 @@ pub record CanBeSaved (s : Seen) : Type 0 where
   pub line : length s.lines ≡ 1
   pub idle : AllByRecursion IsIdleLine s.lines
 
--- What was saved is put back into a session whose files have the same bytes and whose machine has as many lines: then all
--- but the keys and what is still to come on lines is as it was saved.
+-- What was saved is put back into a session whose files have the same bytes and whose machine has as many lines: then
+-- all but the keys and what is still to come on lines is as it was saved.
 abbrev pub SavingPutsBack : Type 0
 SavingPutsBack =
     (s present : Seen) → CanBeSaved s → present.files ≡ s.files → length present.lines ≡ length s.lines

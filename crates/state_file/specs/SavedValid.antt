@@ -29,8 +29,8 @@ use Rattle.state_file.specs.PutBack.{put_back, CanBeSaved}
 abbrev pub AreStandard : List UnitState → Type 0
 AreStandard units = kinds_of units ≡ take standard_kinds all_kinds
 
--- What is attached to a unit is what its kind takes: its name is one of a file, in UTF-8, its file is no longer than one of
--- that kind may be, and where the kind only writes it is not read only.
+-- What is attached to a unit is what its kind takes: its name is one of a file, in UTF-8, its file is no longer than
+-- one of that kind may be, and where the kind only writes it is not read only.
 pub record IsTaken (files : List NamedBytes) (unit : UnitName) (a : Attachment) : Type 0 where
   pub long : IsFileName a.name
   pub bytes : AreBytes a.name
@@ -63,8 +63,8 @@ pub record AreGiven (w : WatchState) : Type 0 where
 abbrev pub HasPort16 : LineOf Peer → Type 0
 HasPort16 line = IfSome line.port (λ (port : ℕ). port < 2 ^ 16)
 
--- All is in range, time has not passed its end, and no more keys are known than a session takes. The units are those of a
--- standard machine, what is attached is what its kind takes, and breaks, expects and ports are as commands give them.
+-- All is in range, time has not passed its end, and no more keys are known than a session takes. The units are those of
+-- a standard machine, what is attached is what its kind takes, and breaks, texts and ports are as commands give them.
 pub record IsStandard (s : Seen) : Type 0 where
   pub valid : ValidSeen s
   pub time : s.machine.time ≤ last_time
@@ -74,8 +74,8 @@ pub record IsStandard (s : Seen) : Type 0 where
   pub watch : AreGiven s.watch
   pub ports : AllByRecursion HasPort16 s.lines
 
--- What is saved of such a session is valid. So it has a text, which is read as that and nothing else, and what is read of it
--- puts the session back.
+-- What is saved of such a session is valid. So it has a text, which is read as that and nothing else, and what is read
+-- of it puts the session back.
 pub record SavedIsValid : Type 0 where
   pub valid : (s : Seen) → IsStandard s → Valid (saved s)
   pub fits : (s : Seen) → IsStandard s → Fits (saved s)
@@ -83,4 +83,4 @@ pub record SavedIsValid : Type 0 where
   pub restored : (s present : Seen) → IsStandard s → CanBeSaved s → present.files ≡ s.files
       → length present.lines ≡ length s.lines
       → IfOk (reading (text (saved s)))
-        (λ v. put_back v present ≡ record s { keys = present.keys; ahead = present.ahead })
+      (λ v. put_back v present ≡ record s { keys = present.keys; ahead = present.ahead })
