@@ -6,7 +6,9 @@ use Rattle.std.proofs.Math.Seq.{get_or-append_seam, set-append_seam}
 use Rattle.std.proofs.lemmas.List.{take-append-drop, get_or-drop, length-drop, length-map, length-append, append_assoc}
 use Rattle.host_files.specs.Lists.{NamedBytes, bytes_of}
 use Rattle.host_lines.specs.Traffic.{Peer}
-use Rattle.telnet_lines.specs.Line.{LineOf, unconnected}
+use Rattle.host_lines.specs.State.{LineState}
+use Rattle.telnet_lines.specs.Line.{LineOf, unconnected, IsSettled}
+use Rattle.telnet_lines.specs.Joined.{seen_line}
 use Rattle.unit_trait.specs.declared.kind.Kind.{Kind}
 use Rattle.unit_trait.specs.declared.kind.Kind.TheVariants.{Dsk, Mta, Lpt, Ptr, Ptp, Clk, Tti, Tto, Tti1, Tto1, Qty}
 use Rattle.unit_trait.specs.declared.kind.UnitName.{UnitName}
@@ -278,8 +280,9 @@ lines-back (line ∷ next ∷ lines) present one idle same = absurd (omega (arit
 
 -- ---- the whole
 
-pub saving-puts-back : SavingPutsBack
-saving-puts-back s present can same as_many =
+back : (s present : Seen) → CanBeSaved s → present.files ≡ s.files → length present.lines ≡ length s.lines
+    → put_back (saved s) present ≡ record s { keys = present.keys; ahead = present.ahead }
+back s present can same as_many =
     let attached = attached_from no_attachments (saved_files s.files (attached_in s.machine)) in
     let machine = ap (machine_from (saved_machine s.machine) attached) same ∙ machine-back s can in
     let watch = watch-back s.watch can.watch in
@@ -292,3 +295,21 @@ saving-puts-back s present can same as_many =
       lines = lines i;
       ahead = present.ahead;
     }
+
+-- ---- what is seen
+
+no-numbers-twice : (slots : List (Option Held)) → map unnumbered (map unnumbered slots) ≡ map unnumbered slots
+no-numbers-twice [] = refl
+no-numbers-twice (None ∷ slots) = ap (λ (l : List (Option Held)). None ∷ l) (no-numbers-twice slots)
+no-numbers-twice (Some h ∷ slots) =
+    ap (λ (l : List (Option Held)). Some (record h { file = 0 }) ∷ l) (no-numbers-twice slots)
+
+erased-twice : (m : MachineState) → erased (erased m) ≡ erased m
+erased-twice m = λ i. record m { slots = no-numbers-twice m.slots i; lines = [] }
+
+settled-idle : (s : LineState) (line : LineOf ℕ) → IsSettled line → line.connection ≡ None → line.port ≢ Some 0
+    → IsIdleLine (seen_line s line)
+settled-idle s line settled none port = record { nobody = ap (seen_line s) (settled.nothing none); port = port }
+
+pub saving-puts-back : SavingPutsBack
+saving-puts-back = record { back = back; seen = λ b whole m. erased-twice m; idle = settled-idle }

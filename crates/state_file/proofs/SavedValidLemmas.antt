@@ -46,5 +46,5 @@ saved-is-valid = record {
   restored = λ s present is can files lines.
       subst (λ (r : Result State StateFault). IfOk r
       (λ v. put_back v present ≡ record s { keys = present.keys; ahead = present.ahead }))
-      (sym (texts-are-read.read (saved s) (saved-valid s is))) (saving-puts-back s present can files lines);
+      (sym (texts-are-read.read (saved s) (saved-valid s is))) (saving-puts-back.back s present can files lines);
 }

@@ -2,8 +2,10 @@
 use Rattle.std.specs.Prelude.{◌≡◌, ◌≢◌, ℕ, zero, suc, ◌-◌, ◌*◌, ◌^◌, ◌==◌, Bool, true, false, List, [], ◌∷◌, ◌++◌, length, map, replicate, Option, Some, None, option_map}
 use Rattle.std.specs.List.{AllByRecursion}
 use Rattle.host_files.specs.Lists.{NamedBytes, bytes_of}
-use Rattle.host_lines.specs.Traffic.{Peer}
-use Rattle.telnet_lines.specs.Line.{LineOf, unconnected}
+use Rattle.host_lines.specs.Traffic.{Peer, Answer}
+use Rattle.host_lines.specs.State.{LineState}
+use Rattle.telnet_lines.specs.Line.{LineOf, unconnected, IsSettled}
+use Rattle.telnet_lines.specs.Joined.{seen_line}
 use Rattle.unit_trait.specs.declared.kind.UnitName.{UnitName}
 use Rattle.unit_trait.specs.Calls.{UnitState}
 use Rattle.event_queue.specs.EventList.{Event}
@@ -17,7 +19,7 @@ use Rattle.expect_actions.specs.declared.expects.Expect.{Expect}
 use Rattle.expect_actions.specs.Sends.{Send}
 use Rattle.expect_actions.specs.Watch.{WatchState, forgotten}
 use Rattle.nova_machine.specs.Machine.{MachineState}
-use Rattle.nova_machine.specs.Seen.{Seen, erased}
+use Rattle.nova_machine.specs.Seen.{Seen, erased, Beside, seen}
 use Rattle.nova_machine.specs.Valid.{DiskIsItsFile}
 use Rattle.state_file.specs.declared.saved.SavedCpu.{SavedCpu}
 use Rattle.state_file.specs.declared.saved.SavedEvent.{SavedEvent}
@@ -148,9 +150,14 @@ pub record CanBeSaved (s : Seen) : Type 0 where
   pub line : length s.lines ≡ 1
   pub idle : AllByRecursion IsIdleLine s.lines
 
--- What was saved is put back into a session whose files have the same bytes and whose machine has as many lines: then
--- all but the keys and what is still to come on lines is as it was saved.
-abbrev pub SavingPutsBack : Type 0
-SavingPutsBack =
-    (s present : Seen) → CanBeSaved s → present.files ≡ s.files → length present.lines ≡ length s.lines
-    → put_back (saved s) present ≡ record s { keys = present.keys; ahead = present.ahead }
+-- What was saved is put back.
+pub record SavingPutsBack : Type 0 where
+  -- into a session whose files have the same bytes and whose machine has as many lines: then all but the keys and what is
+  -- still to come on lines is as it was saved
+  pub back : (s present : Seen) → CanBeSaved s → present.files ≡ s.files → length present.lines ≡ length s.lines
+      → put_back (saved s) present ≡ record s { keys = present.keys; ahead = present.ahead }
+  -- of the premises of that: every machine is seen without numbers of files and without its lines
+  pub seen : (b : Beside) (whole : List Answer) (m : MachineState) → erased (seen b whole m).machine ≡ (seen b whole m).machine
+  -- and a settled line to which nobody is connected is one that can be saved, where its port is not 0
+  pub idle : (s : LineState) (line : LineOf ℕ) → IsSettled line → line.connection ≡ None → line.port ≢ Some 0
+      → IsIdleLine (seen_line s line)
