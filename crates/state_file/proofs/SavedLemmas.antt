@@ -1,13 +1,12 @@
 -- A machine is valid as it is saved.
-use Rattle.std.proofs.Common.{◌≡◌, ◌⊎◌, ℕ, zero, suc, ◌+◌, ◌*◌, ◌/◌, ◌%◌, ◌<◌, ◌≤◌, ◌^◌, ◌==◌, ◌&&◌, ◌||◌, eqb, not, Bool, true, false, IsTrue, List, [], ◌∷◌, ◌++◌, length, map, take, All, Option, Some, None, inl, inr, refl, sym, ap, subst, ◌∙◌, arith}
-use Rattle.std.specs.Prelude.{nat_le, nat_lt, slice_get, slice_index_or, option_map}
+use Rattle.std.proofs.Common.{◌≡◌, ℕ, suc, ◌+◌, ◌/◌, ◌%◌, ◌<◌, ◌≤◌, ◌^◌, ◌&&◌, eqb, Bool, true, false, List, [], ◌∷◌, ◌++◌, length, map, take, All, Option, Some, inl, inr, refl, sym, ap, subst, ◌∙◌, arith}
+use Rattle.std.specs.Prelude.{nat_lt, slice_get, option_map}
 use Rattle.std.specs.List.{AllByRecursion, IsDistinct, list_any}
 use Rattle.std.proofs.lemmas.Bool.{and_from, and_parts, or_from, not_from_false, false_from_ne_true, both_ways, le-leb, lt-ltb, ltb-true, eq-eqb, eqb-true}
 use Rattle.std.proofs.lemmas.Bool.Decides.{nat_tests}
 use Rattle.std.proofs.lemmas.List.{length-map, length-take-le}
 use Rattle.std.proofs.lemmas.List.Elements.{All-take}
 use Rattle.unit_trait.specs.declared.kind.Kind.{Kind}
-use Rattle.unit_trait.specs.declared.kind.Kind.TheVariants.{Dsk, Mta, Lpt, Ptr, Ptp, Clk, Tti, Tto, Tti1, Tto1, Qty}
 use Rattle.unit_trait.specs.declared.kind.UnitName.{UnitName}
 use Rattle.unit_trait.specs.Kinds.{all_kinds, units_of, code_of, same_unit}
 use Rattle.unit_trait.specs.Registers.{Register, registers, register_at}
@@ -18,7 +17,7 @@ use Rattle.unit_list.specs.Bus.{AllFit, kinds_of}
 use Rattle.event_queue.specs.EventList.{Event, waits, waiting, Sound}
 use Rattle.event_queue.proofs.SoundLists.{same-unit-flips}
 use Rattle.event_queue.proofs.Numbers.{room}
-use Rattle.nova_memory.specs.Memory.{MemoryState, IsMemory, IsSize}
+use Rattle.nova_memory.specs.Memory.{IsSize}
 use Rattle.nova_machine.specs.BusOrder.{place_of}
 use Rattle.nova_machine.specs.Core.{IsAmong, AreListed}
 use Rattle.nova_machine.specs.Machine.{MachineState}
@@ -26,7 +25,7 @@ use Rattle.nova_machine.specs.Run.{last_time}
 use Rattle.nova_machine.specs.Valid.{ValidMachine}
 use Rattle.expect_actions.specs.KeysFile.{most_keys}
 use Rattle.state_file.specs.declared.saved.SavedEvent.{SavedEvent}
-use Rattle.state_file.specs.Ranges.{is_flag, is_size, is_address, is_time, is_key_count, kind_at, standard_kinds, is_position, register_count, within_limits, holds_value, most_events, is_event_of, is_free, can_wait, is_later, comes_last}
+use Rattle.state_file.specs.Ranges.{is_flag, is_size, is_address, kind_at, standard_kinds, is_position, register_count, within_limits, holds_value, most_events, is_event_of, is_later}
 use Rattle.state_file.specs.Valid.{AreWords, Follow, IsCpu, CanHold, IsUnit, IsEvent, IsMachine}
 use Rattle.state_file.specs.Reading.{next_number, with_event}
 use Rattle.state_file.specs.Session.{flag_of, saved_cpu, saved_unit, saved_event, saved_machine}

@@ -1,10 +1,9 @@
 -- What is saved of a session of a standard machine is valid, and puts it back once it is read.
-use Rattle.std.proofs.Common.{◌≡◌, ℕ, ◌<◌, ◌≤◌, ◌^◌, List, [], ◌∷◌, length, Option, Some, None, sym, subst, arith}
-use Rattle.std.specs.Prelude.{IfSome, IfOk, Result, Ok}
+use Rattle.std.proofs.Common.{◌≡◌, ℕ, ◌<◌, ◌^◌, List, [], ◌∷◌, Option, Some, None, sym, subst, arith}
+use Rattle.std.specs.Prelude.{IfSome, IfOk, Result}
 use Rattle.std.specs.List.{AllByRecursion}
 use Rattle.host_lines.specs.Traffic.{Peer}
 use Rattle.telnet_lines.specs.Line.{LineOf}
-use Rattle.expect_actions.specs.KeysFile.{most_keys}
 use Rattle.nova_machine.specs.Seen.{Seen, attached_in}
 use Rattle.state_file.specs.declared.fault.StateFault.{StateFault}
 use Rattle.state_file.specs.Parts.{State}

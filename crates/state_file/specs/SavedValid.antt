@@ -18,7 +18,7 @@ use Rattle.expect_actions.specs.Watch.{WatchState}
 use Rattle.nova_machine.specs.Run.{last_time}
 use Rattle.nova_machine.specs.Seen.{Seen, attached_in}
 use Rattle.nova_machine.specs.Valid.{Valid as ValidSeen}
-use Rattle.state_file.specs.Ranges.{standard_kinds, longest_text, is_text_length}
+use Rattle.state_file.specs.Ranges.{standard_kinds, is_text_length}
 use Rattle.state_file.specs.Text.{text}
 use Rattle.state_file.specs.Valid.{AreBytes, AreActions, Valid, Fits}
 use Rattle.state_file.specs.Reading.{reading}
