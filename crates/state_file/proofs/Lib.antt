@@ -12,3 +12,8 @@ pub mod SealLaws
 pub mod LooseLaws
 pub mod FitLaws
 pub mod EndLaws
+pub mod PutBackLemmas
+pub mod SavedWatchLemmas
+pub mod SavedLemmas
+pub mod SavedFileLemmas
+pub mod SavedValidLemmas

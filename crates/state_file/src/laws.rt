@@ -1,4 +1,6 @@
 ghost use Rattle.state_file.specs.Laws.{OneToOne, TextsAreRead};
+ghost use Rattle.state_file.specs.PutBack.{SavingPutsBack};
+ghost use Rattle.state_file.specs.SavedValid.{SavedIsValid};
 
 /// The law that no text is that of two saved sessions.
 pub fn state_texts_are_one_to_one()
@@ -8,4 +10,16 @@ pub fn state_texts_are_one_to_one()
 /// The law that valid sessions are those that are read, each from its own text.
 pub fn valid_states_are_read()
     ensures { TextsAreRead }
+{}
+
+/// The law that a session that is put back from what was saved of it is that session, but for its keys and for what is
+/// still to come on its lines.
+pub fn saving_puts_back()
+    ensures { SavingPutsBack }
+{}
+
+/// The law that what is saved of a session of a standard machine is valid, so that it has a text, which is read and
+/// puts the session back.
+pub fn saved_is_valid()
+    ensures { SavedIsValid }
 {}

@@ -13,7 +13,9 @@ mod watch_fields;
 mod writing;
 
 pub use fault::StateFault;
-pub use laws::{state_texts_are_one_to_one, valid_states_are_read};
+pub use laws::{
+    saved_is_valid, saving_puts_back, state_texts_are_one_to_one, valid_states_are_read,
+};
 pub use reading::read_state;
 pub use saved::{
     Saved, SavedBreak, SavedCpu, SavedEvent, SavedExpect, SavedFile, SavedSend, SavedUnit,

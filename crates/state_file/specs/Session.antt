@@ -1,0 +1,128 @@
+-- What is saved of a session: its machine, its watch tables, the files that are attached, and the port of the second
+-- teletype. The keys of the console and what is still to come on lines are not saved, nor is a connection.
+use Rattle.std.specs.Prelude.{ℕ, ◌/◌, Bool, true, false, List, [], ◌∷◌, length, map, take, slice_get, Option, Some, None}
+use Rattle.sha2.specs.Sha256.{sha256}
+use Rattle.host_files.specs.Lists.{NamedBytes, bytes_of}
+use Rattle.host_lines.specs.Traffic.{Peer}
+use Rattle.telnet_lines.specs.Line.{LineOf}
+use Rattle.unit_trait.specs.declared.kind.UnitName.{UnitName}
+use Rattle.unit_trait.specs.Calls.{UnitState}
+use Rattle.event_queue.specs.EventList.{Event}
+use Rattle.unit_files.specs.Attachments.{Attachment, attachment_at}
+use Rattle.file_commands.specs.AllUnits.{attachable}
+use Rattle.expect_actions.specs.declared.breaks.Break.{Break}
+use Rattle.expect_actions.specs.declared.expects.Expect.{Expect}
+use Rattle.expect_actions.specs.Sends.{Send}
+use Rattle.expect_actions.specs.Watch.{WatchState}
+use Rattle.nova_machine.specs.BusOrder.{place_of}
+use Rattle.nova_machine.specs.Machine.{MachineState}
+use Rattle.nova_machine.specs.Seen.{Seen, attached_in}
+use Rattle.state_file.specs.declared.saved.SavedCpu.{SavedCpu}
+use Rattle.state_file.specs.declared.saved.SavedEvent.{SavedEvent}
+use Rattle.state_file.specs.declared.saved.SavedSend.{SavedSend}
+use Rattle.state_file.specs.Parts.{UnitPart, FilePart, BreakPart, ExpectPart, MachinePart, WatchPart, State}
+
+-- ---- the machine
+
+abbrev pub flag_of : Bool → ℕ
+flag_of true = 1
+flag_of false = 0
+
+abbrev pub saved_cpu : MachineState → SavedCpu
+saved_cpu m = record {
+  size_k = m.processor.memory.size / 1024;
+  acs = m.processor.cpu.accumulators;
+  carry = flag_of m.processor.cpu.carry;
+  pc = m.processor.cpu.pc;
+  on = flag_of m.ints.on;
+  hold = flag_of m.ints.hold;
+  mask = m.ints.mask;
+  sr = m.sr;
+  stop_dev = flag_of m.stop_dev;
+  time = m.time;
+  keys_taken = m.taken;
+}
+
+abbrev pub saved_unit : UnitState → UnitPart
+saved_unit u = record { position = place_of u.kind; registers = u.registers }
+
+abbrev pub saved_event : Event → SavedEvent
+saved_event e = record { position = place_of e.unit.kind; unit = e.unit.unit; remaining = e.remaining }
+
+-- of memory the words below its size
+unfoldable pub saved_machine : MachineState → MachinePart
+saved_machine m = record {
+  cpu = saved_cpu m;
+  words = take m.processor.memory.size m.processor.memory.words;
+  units = map saved_unit m.units;
+  agenda = map saved_event m.events;
+}
+
+-- ---- the attached files
+
+abbrev pub saved_file : List NamedBytes → UnitName → Attachment → FilePart
+saved_file files unit a = record {
+  position = place_of unit.kind;
+  unit = unit.unit;
+  read_only = flag_of a.read_only;
+  name = a.name;
+  size = length (bytes_of files a.name);
+  digest = sha256 (bytes_of files a.name);
+}
+
+abbrev pub with_saved : List NamedBytes → UnitName → Option Attachment → List FilePart → List FilePart
+with_saved files unit None rest = rest
+with_saved files unit (Some a) rest = saved_file files unit a ∷ rest
+
+-- those of these units, in their order
+abbrev pub saved_files_of : List NamedBytes → List (Option Attachment) → List UnitName → List FilePart
+saved_files_of files attached [] = []
+saved_files_of files attached (unit ∷ units) =
+    with_saved files unit (attachment_at attached unit) (saved_files_of files attached units)
+
+-- in bus order, drives by their numbers
+unfoldable pub saved_files : List NamedBytes → List (Option Attachment) → List FilePart
+saved_files files attached = saved_files_of files attached attachable
+
+-- ---- the port of line 0
+
+abbrev pub port_number : Option ℕ → ℕ
+port_number None = 0
+port_number (Some port) = port
+
+abbrev pub port_of : Option (LineOf Peer) → ℕ
+port_of None = 0
+port_of (Some line) = port_number line.port
+
+unfoldable pub saved_port : List (LineOf Peer) → ℕ
+saved_port lines = port_of (slice_get lines 0)
+
+-- ---- what a run watches
+
+abbrev pub saved_break : Break → BreakPart
+saved_break b = record { address = b.address; count = b.count; actions = b.actions }
+
+abbrev pub saved_expect : Expect → ExpectPart
+saved_expect e = record { count = e.count; text = e.text; actions = e.actions }
+
+abbrev pub saved_send : Send → SavedSend
+saved_send send = record { time = send.0; byte = send.1 }
+
+-- the actions of the stop that came last are not saved
+unfoldable pub saved_watch : WatchState → WatchPart
+saved_watch w = record {
+  breaks = map saved_break w.breaks.list;
+  expects = map saved_expect w.expects.list;
+  tail = w.expects.tail;
+  sends = map saved_send w.sends;
+}
+
+-- ---- all of it
+
+abbrev pub saved : Seen → State
+saved s = record {
+  machine = saved_machine s.machine;
+  files = saved_files s.files (attached_in s.machine);
+  port = saved_port s.lines;
+  watch = saved_watch s.watch;
+}
