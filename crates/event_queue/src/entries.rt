@@ -144,8 +144,8 @@ impl Entries {
         self.put(second.unit, rest);
     }
 
-    /// Asks for the first two events again after so many instructions, where they are due and then stand in front of the
-    /// others; answers whether.
+    /// Asks for the first two events again after so many instructions, where they are due and then stand in front of
+    /// the others; answers whether.
     pub(crate) fn look_both(&mut self, period: u32) -> bool
         requires { 1 ≤ period }
         ensures looked { result ≡ true → self.new ≡ looked period self.old }

@@ -1,5 +1,5 @@
-// Looks of both keyboards at one time, where the line of the second teletype has a port: it is polled between bursts, and
-// no turn is made for it.
+// Looks of both keyboards at one time, where the line of the second teletype has a port: it is polled between bursts,
+// and no turn is made for it.
 ghost use Rattle.std.specs.Prelude.{◌≡◌, ◌≢◌, ◌<◌, ◌≤◌, ◌+◌, ℕ, List, [], ◌∷◌, true, false, None, Some, IfSome, option_map};
 ghost use Rattle.event_queue.specs.EventList.{dues};
 ghost use Rattle.host_lines.specs.State.{LineState};
@@ -36,8 +36,8 @@ const SECOND_KEYBOARD: UnitName = UnitName {
 impl<U: Unit> Machine<U> {
     ghost use Rattle.nova_machine.specs.StopCauses.{BurstCause};
 
-    /// Makes turns, as many at the most, in bursts. Looks of both keyboards that are due between two of them pass, with a
-    /// poll of the line of the second teletype.
+    /// Makes turns, as many at the most, in bursts. Looks of both keyboards that are due between two of them pass, with
+    /// a poll of the line of the second teletype.
     pub(crate) fn go_on<L: Lines>(
         &mut self,
         most: u64,
@@ -73,8 +73,8 @@ impl<U: Unit> Machine<U> {
         }
     }
 
-    /// Lets the looks of both keyboards pass that are due, where no other event is, with a poll of the line of the second
-    /// teletype; answers whether.
+    /// Lets the looks of both keyboards pass that are due, where no other event is, with a poll of the line of the
+    /// second teletype; answers whether.
     fn look_on_line<L: Lines>(&mut self, watch: &Watch, keys: &Keys, lines: &mut L) -> bool
         ensures told { result ≡ true → AreLinesTold L.tells (L.state lines.old) self.old.lines
             → AreServed watch.now keys.now (L.state lines.old) self.old (L.state lines.new) self.new }
@@ -86,6 +86,9 @@ impl<U: Unit> Machine<U> {
         ensures time { self.new.time ≡ self.old.time }
         ensures taken { self.new.taken ≡ self.old.taken }
     {
+        if !self.are_both_due() {
+            return false;
+        }
         if self.time >= LAST_TIME {
             return false;
         }
@@ -100,12 +103,10 @@ impl<U: Unit> Machine<U> {
 
     /// After how many instructions both keyboards look again, where they look now, and no other event is due.
     fn both_look(&mut self) -> Option<u32>
+        requires due { dues self.old.events ≡ keyboard ∷ second_keyboard ∷ [] }
         ensures looking { IfSome result (λ period. AreLooking period self.old) }
         ensures same { self.new ≡ self.old }
     {
-        if !self.are_both_due() {
-            return None;
-        }
         let first = period_of(&self.places, self.units.as_mut_slice(), KEYBOARD);
         let second = period_of(&self.places, self.units.as_mut_slice(), SECOND_KEYBOARD);
         match (first, second) {
@@ -127,7 +128,8 @@ impl<U: Unit> Machine<U> {
         is_later(self.events.in_order(2))
     }
 
-    /// Polls the line, and lets both looks pass; answers false where the line is not there, and then nothing has changed.
+    /// Polls the line, and lets both looks pass; answers false where the line is not there, and then nothing has
+    /// changed.
     fn poll_both<L: Lines>(&mut self, period: u32, lines: &mut L) -> bool
         requires looking { AreLooking period self.old }
         ensures told { result ≡ true → AreLinesTold L.tells (L.state lines.old) self.old.lines
