@@ -17,3 +17,6 @@ pub mod SavedWatchLemmas
 pub mod SavedLemmas
 pub mod SavedFileLemmas
 pub mod SavedValidLemmas
+pub mod PutBackWatchLemmas
+pub mod PutBackMachineLemmas
+pub mod PutBackValidLemmas

@@ -9,3 +9,4 @@ pub mod Laws
 pub mod Session
 pub mod PutBack
 pub mod SavedValid
+pub mod PutBackValid
