@@ -12,3 +12,8 @@ pub mod SealLaws
 pub mod LooseLaws
 pub mod FitLaws
 pub mod EndLaws
+pub mod Digesting
+pub mod Attaching
+pub mod Together
+pub mod ValidFiles
+pub mod RestoreCounts

@@ -6,3 +6,6 @@ pub mod Valid
 pub mod Readers
 pub mod Reading
 pub mod Laws
+pub mod Restoring
+pub mod RestoringOne
+pub mod RestoreCauses
