@@ -9,3 +9,5 @@ pub mod Laws
 pub mod Restoring
 pub mod RestoringOne
 pub mod RestoreCauses
+pub mod Saving
+pub mod SavingOne

@@ -11,6 +11,7 @@ mod machine_fields;
 mod reading;
 pub mod restoring;
 pub mod saved;
+pub mod saving;
 pub mod unit_digest;
 mod watch_fields;
 mod writing;
@@ -23,5 +24,6 @@ pub use restoring::attach_all;
 pub use saved::{
     Saved, SavedBreak, SavedCpu, SavedEvent, SavedExpect, SavedFile, SavedSend, SavedUnit,
 };
+pub use saving::digest_all;
 pub use std::alloc::AllocError as OutOfMemory;
 pub use writing::write_state;
