@@ -1,22 +1,22 @@
 -- The files of units are digested one behind another, behind the writing back of the disk's copy.
-use Rattle.std.proofs.Common.{◌≡◌, ◌≢◌, ◌⊎◌, inl, inr, ℕ, ◌+◌, ◌<◌, ◌≤◌, Bool, true, false, cond, zero, suc, List, [], ◌∷◌, ◌++◌, length}
-use Rattle.std.proofs.Common.{Option, Some, None, Result, Ok, Err, take, drop, refl, sym, ap, subst, ◌∙◌, arith, if◌then◌else◌}
+use Rattle.std.proofs.Common.{◌≡◌, inl, inr, ℕ, ◌+◌, ◌≤◌, Bool, true, false, cond, suc, List, [], ◌∷◌, ◌++◌, length}
+use Rattle.std.proofs.Common.{Option, Some, None, Err, take, refl, sym, ap, subst, ◌∙◌, arith, if◌then◌else◌}
 use Rattle.std.specs.Prelude.{IsTrue, is_some, map, get_or, nat_lt, nat_le, ◌&&◌, ◌==◌}
-use Rattle.std.specs.List.{AllByRecursion, flat_map}
+use Rattle.std.specs.List.{AllByRecursion}
 use Rattle.std.proofs.lemmas.Bool.{and_parts}
 use Rattle.std.proofs.lemmas.Bool.Decides.{nat_tests}
 use Rattle.sha2.specs.Sha256.{sha256}
 use Rattle.host_files.specs.declared.files.FileCall.{FileCall}
-use Rattle.host_files.specs.declared.files.FileCall.TheVariants.{Length, Read, Write}
+use Rattle.host_files.specs.declared.files.FileCall.TheVariants.{Write}
 use Rattle.host_files.specs.Lists.{NamedBytes, bytes_of}
 use Rattle.unit_trait.specs.declared.kind.UnitName.{UnitName}
 use Rattle.unit_trait.specs.Kinds.{same_unit}
 use Rattle.unit_trait.proofs.Codes.{same-self}
 use Rattle.unit_files.specs.declared.digest.FileDigest.{FileDigest}
 use Rattle.unit_files.specs.declared.faults.UnitFault.{UnitFault}
-use Rattle.unit_files.specs.Attachments.{Attachment, attachment_at, attachments_of, takes_attachment, is_disk, file_place}
+use Rattle.unit_files.specs.Attachments.{Attachment, attachment_at, attachments_of, takes_attachment, file_place}
 use Rattle.unit_files.specs.Buffer.{AttachedFiles, Buffer, disk_unit}
-use Rattle.unit_files.specs.Acts.{Failure, same_call, failure_at, is_due_back, flushed_as, FlushSaid, NotFlushed, flush_said}
+use Rattle.unit_files.specs.Acts.{Failure, same_call, failure_at, is_due_back, flushed_as, FlushSaid, flush_said}
 use Rattle.unit_files.specs.Acts.{flush_files, buffer_flushed}
 use Rattle.unit_files.specs.Answers.{failure_in}
 use Rattle.unit_files.specs.Digests.{DigestSaid, NothingToDigest, NotDigested, Digested, digest_read, digest_measured, digest_flushed}
@@ -80,16 +80,18 @@ can-each a (p ∷ ps) clean takes =
     one : (o : Option Attachment) → attachment_at (attachments_of a.slots) (unit_at p) ≡ o → (rest : List FilePart)
         → AllByRecursion (CanDigest a) rest → AllByRecursion (CanDigest a) (unread_at p o ++ rest)
     one None is rest others = others
-    one (Some x) is rest others =
-        (record {
-          unit = takes.0;
-          there = is ∙ ap (λ (y : Attachment). Some y) (sym (same-attachment p x));
-          clean = λ disk.
-              let place = disk-place (kind_at p.position) p.unit disk takes.0 in
-              let same : attachment_at (attachments_of a.slots) disk_unit ≡ Some x =
-              ap (λ (n : ℕ). get_or (attachments_of a.slots) n None) (sym place) ∙ is in
-              clean (subst (λ (y : Option Attachment). IsTrue (is_some y)) (sym same) refl);
-        }, others)
+    one (Some x) is rest others = (
+      record {
+        unit = takes.0;
+        there = is ∙ ap (λ (y : Attachment). Some y) (sym (same-attachment p x));
+        clean = λ disk.
+            let place = disk-place (kind_at p.position) p.unit disk takes.0 in
+            let same : attachment_at (attachments_of a.slots) disk_unit ≡ Some x =
+            ap (λ (n : ℕ). get_or (attachments_of a.slots) n None) (sym place) ∙ is in
+            clean (subst (λ (y : Option Attachment). IsTrue (is_some y)) (sym same) refl);
+      },
+      others,
+    )
 
 all-take : AllByRecursion Takes file_places
 unfolding file_places kind_at

@@ -1,6 +1,6 @@
 -- The files of units as they are saved: the disk's copy is written back, and then the files of all units that have one are
 -- digested, in bus order.
-use Rattle.std.specs.Prelude.{◌≡◌, ℕ, Bool, true, false, List, [], ◌∷◌, length, Option, Some, None, Result, Ok, Err}
+use Rattle.std.specs.Prelude.{ℕ, Bool, true, false, List, [], ◌∷◌, length, Option, Some, None, Result, Err}
 use Rattle.std.specs.List.{flat_map}
 use Rattle.sha2.specs.Sha256.{sha256}
 use Rattle.host_files.specs.Lists.{NamedBytes, bytes_of}

@@ -1,5 +1,5 @@
 -- What the calls want and answer that save the files of units: their names are taken first, and then each is digested.
-use Rattle.std.specs.Prelude.{◌≡◌, ℕ, Bool, true, false, IsTrue, is_some, List, [], ◌∷◌, map, length, replicate, Option, Some, None, Result, Ok, Err}
+use Rattle.std.specs.Prelude.{◌≡◌, true, false, IsTrue, is_some, List, [], ◌∷◌, map, length, replicate, Option, Some, None, Result, Ok, Err}
 use Rattle.std.specs.List.{flat_map}
 use Rattle.sha2.specs.Sha256.{sha256}
 use Rattle.host_files.specs.Lists.{NamedBytes, bytes_of}
@@ -8,7 +8,7 @@ use Rattle.unit_trait.specs.declared.kind.UnitName.{UnitName}
 use Rattle.unit_files.specs.declared.faults.UnitFault.{UnitFault}
 use Rattle.unit_files.specs.Attachments.{Attachment, Held, takes_attachment, is_disk, attachment_at, attachments_of}
 use Rattle.unit_files.specs.Buffer.{AttachedFiles, Buffer, disk_unit}
-use Rattle.unit_files.specs.Acts.{Failure, FlushSaid, NotFlushed, flush_said}
+use Rattle.unit_files.specs.Acts.{Failure, NotFlushed, flush_said}
 use Rattle.unit_files.specs.Answers.{failure_in}
 use Rattle.unit_files.specs.Causes.{IsQuiet}
 use Rattle.unit_files.specs.Digests.{digest_measured, IsDigestFault}

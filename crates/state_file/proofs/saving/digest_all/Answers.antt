@@ -1,14 +1,12 @@
-use Rattle.std.proofs.Common.{◌≡◌, ◌≤◌, ◌++◌, ℕ, Option, Some, None, List, drop, length, take, sym, ap, subst, ◌∙◌, rules, arith}
+use Rattle.std.proofs.Common.{◌≡◌, Option, List, drop, length, sym, ap, subst, ◌∙◌, arith}
 use Rattle.std.specs.List.{AllByRecursion}
-use Rattle.host_files.specs.Lists.{NamedBytes}
-use Rattle.unit_files.specs.Attachments.{Held, Attachment, attachments_of}
+use Rattle.unit_files.specs.Attachments.{Held, attachments_of}
 use Rattle.unit_files.specs.Buffer.{AttachedFiles}
-use Rattle.state_file.specs.declared.saved.SavedFile.{SavedFile}
 use Rattle.state_file.specs.Parts.{FilePart, file_in}
 use Rattle.state_file.specs.Restoring.{files_in}
 use Rattle.state_file.specs.RestoringOne.{AreApart}
 use Rattle.state_file.specs.Saving.{file_places, saved_files}
-use Rattle.state_file.specs.SavingOne.{CanDigest, unread_files, read_file, first_unread, fault_claim}
+use Rattle.state_file.specs.SavingOne.{CanDigest, read_file, first_unread, fault_claim}
 use Rattle.std.specs.Prelude.{map}
 use Rattle.state_file.proofs.SavingLaws.{can-unread, unread-apart, read-unread, none-unsaved, unflushed-first, reading-files}
 use Rattle.state_file.proofs.SavingLaws.{reading-copy, unread-unsaved, whole-of, length-map}
