@@ -28,6 +28,8 @@ pub enum Units {
     Tape,
     /// The second teletype, on terminal line 0.
     Teletype,
+    /// The keyboard of the console, and the second teletype.
+    Keyboards,
 }
 
 /// Plays each line of a table on a new machine, but comments, which begin with a semicolon.
@@ -52,6 +54,7 @@ fn comes(rt: &impl Abort, alloc: Global, units: Units, row: Row<'_>) -> Result<(
         Units::Paper => paper(rt, alloc, row),
         Units::Tape => tape(rt, alloc, row),
         Units::Teletype => teletype(rt, alloc, row),
+        Units::Keyboards => keyboards(rt, alloc, row),
     }
 }
 
@@ -141,6 +144,26 @@ fn with_teletype<U: Unit>(
     row: Row<'_>,
 ) -> Result<(), AllocError>
     requires { map U.unit_state units.items ≡ map initial_unit (second_keyboard ∷ second_printer ∷ []) }
+{
+    let mut machine = Machine::new(alloc, units)?;
+    play(rt, alloc, &mut machine, row)
+}
+
+fn keyboards(rt: &impl Abort, alloc: Global, row: Row<'_>) -> Result<(), AllocError> {
+    let mut units: Vec<Box<dyn Unit>> = Vec::new(alloc);
+    units.push(Box::new(alloc, Tti::new())?)?;
+    units.push(Box::new(alloc, Tti1::new())?)?;
+    units.push(Box::new(alloc, Tto1::new())?)?;
+    with_keyboards(rt, alloc, units, row)
+}
+
+fn with_keyboards<U: Unit>(
+    rt: &impl Abort,
+    alloc: Global,
+    units: Vec<U>,
+    row: Row<'_>,
+) -> Result<(), AllocError>
+    requires { map U.unit_state units.items ≡ map initial_unit (keyboard ∷ second_keyboard ∷ second_printer ∷ []) }
 {
     let mut machine = Machine::new(alloc, units)?;
     play(rt, alloc, &mut machine, row)

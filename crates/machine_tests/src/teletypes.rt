@@ -27,6 +27,33 @@ fn a_program_echoes_what_a_caller_types(rt: HostRuntime) -> Result<(), Fail> {
     )
 }
 
+const BOTH_KEYBOARDS_LOOK_TOGETHER: &str =
+    "; two keys are echoed, and the second of them is sent at the look behind the HALT
+words: 63650 777 60650 61151 63651 777 14030 771 63077 | put: [30]=2 | do: run=9999:Halt PC?111 time?312 | shows: TTI1.BUF=102 TTO1.BUF=102 TTO1.DONE=1 | queue: TTI=88 TTI1=88 | sent: A | line: 0
+words: 63650 777 60650 61151 63651 777 14030 771 63077 | put: [30]=2 | do: run=9999:Halt PC=100 step=100:Stepped | time: 412 | queue: TTI=88 TTI1=88 | sent: AB | line: 0
+; a key comes between two bursts, and no poll is made behind the last instruction of a run
+words: 400 | do: step=100:Stepped | shows: TTI1.DONE=0 | queue: TTI=0 TTI1=0 | sent: nothing | line: free
+words: 400 | do: step=200:Stepped | shows: TTI1.DONE=1 TTI1.BUF=101 | queue: TTI=0 TTI1=0 | line: 0
+words: 400 | do: step=1000:Stepped | shows: TTI1.DONE=1 TTI1.BUF=102 | queue: TTI=0 TTI1=0 | line: 0
+; a key of the console comes at the same look
+words: 400 | keys: 200 \"Y\"~ | do: step=1000:Stepped | shows: TTI.DONE=1 TTI.BUF=131 TTI1.DONE=1 TTI1.BUF=102 | queue: TTI=0 TTI1=0 | line: 0
+; looks that come at different times
+words: 400 | put: TTI1.TIME=62 | do: step=1000:Stepped | shows: TTI1.DONE=1 TTI1.BUF=102 | queue: TTI=0 TTI1=0 | line: 0
+; the caller hangs up, and a call fails
+words: 400 | hangs: 250 | do: step=1000:Stepped | shows: TTI1.BUF=102 | line: free
+words: 400 | refuses: 2 | do: step=1000:Stepped | shows: TTI1.DONE=0 | sent: nothing | lost: 1 | line: free";
+
+#[test]
+fn both_keyboards_look_together(rt: HostRuntime) -> Result<(), Fail> {
+    all(
+        &rt,
+        rt.alloc(),
+        Units::Keyboards,
+        BASE,
+        BOTH_KEYBOARDS_LOOK_TOGETHER,
+    )
+}
+
 const A_RUN_GOES_ON_WITHOUT_ITS_CALLER: &str = "; the caller hangs up before the first byte is sent
 words: 63650 777 60650 61151 63651 777 14030 771 63077 | put: [30]=2 | hangs: 250 | do: run=9999:Halt PC?111 time?312 | shows: TTI1.BUF=102 TTO1.BUF=102 TTO1.DONE=1 | queue: TTI1=88 | sent:  | line: free
 ; no key comes behind that
