@@ -152,12 +152,13 @@ pub record CanBeSaved (s : Seen) : Type 0 where
 
 -- What was saved is put back.
 pub record SavingPutsBack : Type 0 where
-  -- into a session whose files have the same bytes and whose machine has as many lines: then all but the keys and what is
-  -- still to come on lines is as it was saved
+  -- into a session whose files have the same bytes and whose machine has as many lines: then all but the keys and what
+  -- is still to come on lines is as it was saved
   pub back : (s present : Seen) → CanBeSaved s → present.files ≡ s.files → length present.lines ≡ length s.lines
       → put_back (saved s) present ≡ record s { keys = present.keys; ahead = present.ahead }
   -- of the premises of that: every machine is seen without numbers of files and without its lines
-  pub seen : (b : Beside) (whole : List Answer) (m : MachineState) → erased (seen b whole m).machine ≡ (seen b whole m).machine
+  pub seen : (b : Beside) (whole : List Answer) (m : MachineState)
+      → erased (seen b whole m).machine ≡ (seen b whole m).machine
   -- and a settled line to which nobody is connected is one that can be saved, where its port is not 0
   pub idle : (s : LineState) (line : LineOf ℕ) → IsSettled line → line.connection ≡ None → line.port ≢ Some 0
       → IsIdleLine (seen_line s line)
