@@ -26,7 +26,8 @@ use Rattle.state_file.specs.Parts.{UnitPart, FilePart, MachinePart}
 use Rattle.state_file.specs.Ranges.{is_size, kind_at, standard_kinds, is_position, register_count, within_limits, holds_value, is_event_of, is_free, is_later}
 use Rattle.state_file.specs.Valid.{AreWords, Follow, CanHold, IsUnit, IsEvent, IsMachine}
 use Rattle.state_file.specs.Reading.{next_number, with_event}
-use Rattle.state_file.specs.PutBack.{memory_from, unit_from, unit_named, event_from, attachment_from, attached_from, disk_from, held_from, machine_from}
+use Rattle.state_file.specs.Restoring.{with_file, with_all, copy_of}
+use Rattle.state_file.specs.PutBack.{memory_from, unit_from, event_from, held_from, machine_from}
 use Rattle.state_file.specs.SavedValid.{AreStandard}
 
 -- ---- memory
@@ -139,20 +140,20 @@ bytes-found (f ∷ files) name are =
     cond_both (bytes_eq f.0 name) (Some f.1) (find_file files name) (λ (x : Option (List ℕ)). AreBytes (unwrap_or x []))
     (λ _. are.0) (λ _. bytes-found files name are.1)
 
-pub copy-is : (a : Option Attachment) (files : List NamedBytes) → CopyIsFile a (disk_from a files) files
+pub copy-is : (a : Option Attachment) (files : List NamedBytes) → CopyIsFile a (copy_of a files) files
 copy-is None files = refl
 copy-is (Some a) files = λ written. refl
 
 disk-bytes : (a : Option Attachment) (files : List NamedBytes) → AllByRecursion (λ (f : NamedBytes). AreBytes f.1) files
-    → AreBytes (disk_from a files).bytes
+    → AreBytes (copy_of a files).bytes
 disk-bytes None files are = tt
 disk-bytes (Some a) files are = bytes-found files a.name are
 
 pub as-many-places : (attached : List (Option Attachment)) (files : List FilePart)
-    → length (attached_from attached files) ≡ length attached
+    → length (with_all attached files) ≡ length attached
 as-many-places attached [] = refl
 as-many-places attached (f ∷ files) =
-    as-many-places (with_attachment attached (unit_named f.position f.unit) (Some (attachment_from f))) files
+    as-many-places (with_file attached f) files
     ∙ length-set attached _ _
 
 pub slots-back : (attached : List (Option Attachment)) → attachments_of (map held_from attached) ≡ attached
