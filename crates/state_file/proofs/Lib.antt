@@ -12,6 +12,12 @@ pub mod SealLaws
 pub mod LooseLaws
 pub mod FitLaws
 pub mod EndLaws
+pub mod Digesting
+pub mod Attaching
+pub mod Together
+pub mod ValidFiles
+pub mod RestoreCounts
+pub mod SavingLaws
 pub mod PutBackLemmas
 pub mod SavedWatchLemmas
 pub mod SavedLemmas
@@ -20,9 +26,3 @@ pub mod SavedValidLemmas
 pub mod PutBackWatchLemmas
 pub mod PutBackMachineLemmas
 pub mod PutBackValidLemmas
-pub mod Digesting
-pub mod Attaching
-pub mod Together
-pub mod ValidFiles
-pub mod RestoreCounts
-pub mod SavingLaws

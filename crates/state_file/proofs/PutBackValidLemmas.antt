@@ -1,5 +1,5 @@
 -- A session is in range once a valid state was put back.
-use Rattle.std.proofs.Common.{◌≡◌, ℕ, ◌≤◌, List, [], ◌∷◌, length, Option, sym, subst, arith}
+use Rattle.std.proofs.Common.{ℕ, ◌≤◌, List, [], ◌∷◌, length, Option, sym, subst, arith}
 use Rattle.std.specs.List.{AllByRecursion}
 use Rattle.std.proofs.lemmas.Bool.{leb-true}
 use Rattle.host_lines.specs.Traffic.{Peer}
@@ -11,7 +11,8 @@ use Rattle.nova_machine.specs.Seen.{Seen}
 use Rattle.nova_machine.specs.Valid.{ValidLine, Valid as ValidSeen, CopyIsFile, DiskIsItsFile}
 use Rattle.state_file.specs.Parts.{State}
 use Rattle.state_file.specs.Valid.{Valid}
-use Rattle.state_file.specs.PutBack.{attached_from, disk_from, machine_from, lines_from, put_back}
+use Rattle.state_file.specs.Restoring.{with_all, copy_of}
+use Rattle.state_file.specs.PutBack.{machine_from, lines_from, put_back}
 use Rattle.state_file.specs.SavedValid.{AreStandard}
 use Rattle.state_file.specs.PutBackValid.{PutBackIsValid}
 use Rattle.state_file.proofs.PutBackMachineLemmas.{units-standard, copy-is, as-many-places, slots-back, machine-in-range}
@@ -27,7 +28,7 @@ valid : (v : State) (present : Seen) → Valid v → ValidSeen present → v.mac
     → ValidSeen (put_back v present)
 unfolding machine_from
 valid v present is in_range taken = record {
-  machine = machine-in-range v.machine (attached_from no_attachments v.files) present.files is.machine
+  machine = machine-in-range v.machine (with_all no_attachments v.files) present.files is.machine
       (as-many-places no_attachments v.files) in_range.files;
   watch = watch-in-range v.watch is.watch;
   taken = taken;
@@ -48,10 +49,10 @@ units v present is = units-standard v.machine is.machine
 disk : (v : State) (present : Seen) → DiskIsItsFile (put_back v present)
 unfolding machine_from
 disk v present =
-    let attached = attached_from no_attachments v.files in
+    let attached = with_all no_attachments v.files in
     subst
     (λ (l : List (Option Attachment)). CopyIsFile (attachment_at l disk_unit)
-    (disk_from (attachment_at attached disk_unit) present.files) present.files)
+    (copy_of (attachment_at attached disk_unit) present.files) present.files)
     (sym (slots-back attached)) (copy-is (attachment_at attached disk_unit) present.files)
 
 pub put-back-is-valid : PutBackIsValid

@@ -9,8 +9,8 @@ ghost use Rattle.unit_files.specs.Open.{AllOpen};
 ghost use Rattle.state_file.specs.Parts.{file_in};
 ghost use Rattle.state_file.specs.Restoring.{files_in, unit_of, IsUnitOf};
 ghost use Rattle.state_file.specs.RestoringOne.{AreApart};
-ghost use Rattle.state_file.specs.Saving.{unit_at, file_places, saved_files, first_unsaved, files_flushed, copy_flushed};
-ghost use Rattle.state_file.specs.Saving.{save_claim, UnlessNoMemory, IfNoMemory, SaveCause};
+ghost use Rattle.state_file.specs.Saving.{unit_at, file_places, saved_files, first_unsaved, files_flushed};
+ghost use Rattle.state_file.specs.Saving.{copy_flushed, save_claim, UnlessNoMemory, IfNoMemory, SaveCause};
 ghost use Rattle.state_file.specs.SavingOne.{unread_at, unread_files, CanDigest, Digests, UnitCause, failure_of_write};
 ghost use Rattle.state_file.specs.SavingOne.{FlushSays, IsFlushed, DigestsOne};
 
