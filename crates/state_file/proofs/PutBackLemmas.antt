@@ -5,7 +5,7 @@ use Rattle.std.specs.List.{AllByRecursion}
 use Rattle.std.proofs.lemmas.List.Concat.{flat_map-cons}
 use Rattle.std.proofs.Math.Seq.{get_or-append_seam, set-append_seam}
 use Rattle.std.proofs.lemmas.List.{take-append-drop, get_or-drop, length-drop, length-map, length-append, append_assoc}
-use Rattle.host_files.specs.Lists.{NamedBytes}
+use Rattle.host_files.specs.Lists.{NamedBytes, bytes_of}
 use Rattle.host_lines.specs.Traffic.{Peer}
 use Rattle.host_lines.specs.State.{LineState}
 use Rattle.telnet_lines.specs.Line.{LineOf, unconnected, IsSettled}
@@ -29,8 +29,8 @@ use Rattle.nova_machine.specs.Valid.{CopyIsFile}
 use Rattle.state_file.specs.Parts.{FilePart}
 use Rattle.state_file.specs.Ranges.{kind_at}
 use Rattle.state_file.specs.declared.saving.UnitPlace.{UnitPlace}
-use Rattle.state_file.specs.Restoring.{with_all, copy_of}
-use Rattle.state_file.specs.Saving.{unit_at, file_places, flag_of, saved_at, saved_files}
+use Rattle.state_file.specs.Restoring.{attachment_of, with_all, copy_of}
+use Rattle.state_file.specs.Saving.{unit_at, file_places, flag_of, saved_file, saved_at, saved_files}
 use Rattle.state_file.specs.Session.{saved_unit, saved_event, saved_machine, port_number, saved_port, saved_break, saved_expect, saved_send, saved_watch, saved}
 use Rattle.state_file.specs.PutBack.{is_set, memory_from, unit_from, unit_named, event_from, held_from, machine_from, port_from, lines_from, break_from, expect_from, send_from, watch_from, put_back, IsIdleLine, CanBeSaved, SavingPutsBack}
 
@@ -110,21 +110,25 @@ placed base unit (Some a) = with_attachment base unit (Some a)
 
 placed_all : List (Option Attachment) → List UnitPlace → List (Option Attachment) → List (Option Attachment)
 placed_all base [] attached = base
-placed_all base (p ∷ places) attached = placed_all (placed base (unit_at p) (attachment_at attached (unit_at p))) places attached
+placed_all base (p ∷ places) attached =
+    placed_all (placed base (unit_at p) (attachment_at attached (unit_at p))) places attached
 
 from-one : (files : List NamedBytes) (base : List (Option Attachment)) (p : UnitPlace) (a : Option Attachment)
     (rest : List FilePart) → with_all base (saved_at files p a ++ rest) ≡ with_all (placed base (unit_at p) a) rest
 unfolding placed
 from-one files base p None rest = refl
 from-one files base p (Some a) rest =
-    λ i. with_all (with_attachment base (unit_at p) (Some (record { name = a.name; read_only = flag-back a.read_only i }))) rest
+    let back : attachment_of (saved_file p a (bytes_of files a.name)) ≡ a =
+    λ i. record { name = a.name; read_only = flag-back a.read_only i } in
+    ap (λ (b : Attachment). with_all (with_attachment base (unit_at p) (Some b)) rest) back
 
 from-all : (files : List NamedBytes) (base attached : List (Option Attachment)) (places : List UnitPlace)
     → with_all base (saved_files files attached places) ≡ placed_all base places attached
 unfolding placed_all
 from-all files base attached [] = refl
 from-all files base attached (p ∷ places) =
-    ap (with_all base) (flat_map-cons (λ (q : UnitPlace). saved_at files q (attachment_at attached (unit_at q))) p places)
+    ap (with_all base)
+    (flat_map-cons (λ (q : UnitPlace). saved_at files q (attachment_at attached (unit_at q))) p places)
     ∙ from-one files base p (attachment_at attached (unit_at p)) (saved_files files attached places)
     ∙ from-all files (placed base (unit_at p) (attachment_at attached (unit_at p))) attached places
 

@@ -15,7 +15,7 @@ use Rattle.unit_trait.proofs.Codes.{same-code}
 use Rattle.unit_list.specs.Bus.{AllFit, kinds_of}
 use Rattle.event_queue.specs.EventList.{Event, waiting, Sound}
 use Rattle.event_queue.specs.DueTimes.{scheduled}
-use Rattle.unit_files.specs.Attachments.{Attachment, attachments_of, attachment_at, with_attachment, file_units}
+use Rattle.unit_files.specs.Attachments.{Attachment, attachments_of, attachment_at, file_units}
 use Rattle.unit_files.specs.Buffer.{disk_unit}
 use Rattle.nova_memory.specs.Memory.{IsMemory, IsSize}
 use Rattle.nova_machine.specs.BusOrder.{place_of}

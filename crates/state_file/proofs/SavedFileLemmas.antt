@@ -12,7 +12,7 @@ use Rattle.unit_trait.proofs.EveryKind.{every-kind}
 use Rattle.unit_files.specs.Attachments.{Attachment, attachment_at, longest_file}
 use Rattle.unit_files.specs.Attachments as unit_files
 use Rattle.state_file.specs.Parts.{FilePart}
-use Rattle.state_file.specs.Ranges.{kind_at, FilePlace, takes_file_at, is_next_unit, only_writes, is_read_only_of, is_name_length, longest_file_of, is_file_length}
+use Rattle.state_file.specs.Ranges.{kind_at, FilePlace, takes_file_at, is_next_unit, only_writes, is_read_only_of, is_name_length, longest_file_of}
 use Rattle.state_file.specs.Valid.{AreBytes, Follow, IsFile, AreFiles}
 use Rattle.state_file.specs.Reading.{place_of as file_place, behind_file}
 use Rattle.state_file.specs.declared.saving.UnitPlace.{UnitPlace}
@@ -72,7 +72,8 @@ file-is : (files : List NamedBytes) (least : FilePlace) (p : UnitPlace) (a : Att
     → IsTaken files (unit_at p) a → IsFile least (saved_file p a (bytes_of files a.name))
 unfolding is_next
 file-is files least p a next taken =
-    let low = and_parts (nat_lt p.position (2 ^ 8)) (takes_file_at least p.position && is_next_unit least p.position p.unit) next in
+    let low = and_parts (nat_lt p.position (2 ^ 8))
+    (takes_file_at least p.position && is_next_unit least p.position p.unit) next in
     let parts = and_parts (takes_file_at least p.position) (is_next_unit least p.position p.unit) low.1 in
     record {
       byte = ltb-true p.position (2 ^ 8) low.0;

@@ -1,7 +1,7 @@
 -- What is put back of a saved session.
 use Rattle.std.specs.Prelude.{◌≡◌, ◌≢◌, ℕ, zero, suc, ◌-◌, ◌*◌, ◌^◌, ◌==◌, Bool, false, List, [], ◌∷◌, ◌++◌, length, map, replicate, Option, Some, None, option_map}
 use Rattle.std.specs.List.{AllByRecursion}
-use Rattle.host_files.specs.Lists.{NamedBytes, bytes_of}
+use Rattle.host_files.specs.Lists.{NamedBytes}
 use Rattle.host_lines.specs.Traffic.{Peer, Answer}
 use Rattle.host_lines.specs.State.{LineState}
 use Rattle.telnet_lines.specs.Line.{LineOf, unconnected, IsSettled}
@@ -9,8 +9,8 @@ use Rattle.telnet_lines.specs.Joined.{seen_line}
 use Rattle.unit_trait.specs.declared.kind.UnitName.{UnitName}
 use Rattle.unit_trait.specs.Calls.{UnitState}
 use Rattle.event_queue.specs.EventList.{Event}
-use Rattle.unit_files.specs.Attachments.{Attachment, Held, no_attachments, attachment_at, with_attachment, file_units}
-use Rattle.unit_files.specs.Buffer.{Buffer, no_buffer, disk_unit}
+use Rattle.unit_files.specs.Attachments.{Attachment, Held, no_attachments, attachment_at, file_units}
+use Rattle.unit_files.specs.Buffer.{disk_unit}
 use Rattle.nova_memory.specs.Memory.{MemoryState, IsMemory, IsSize}
 use Rattle.nova_processor.specs.declared.cpu.Cpu.{Cpu}
 use Rattle.nova_interrupts.specs.declared.interrupts.Ints.{Ints}
@@ -24,7 +24,7 @@ use Rattle.nova_machine.specs.Valid.{DiskIsItsFile}
 use Rattle.state_file.specs.declared.saved.SavedCpu.{SavedCpu}
 use Rattle.state_file.specs.declared.saved.SavedEvent.{SavedEvent}
 use Rattle.state_file.specs.declared.saved.SavedSend.{SavedSend}
-use Rattle.state_file.specs.Parts.{UnitPart, FilePart, BreakPart, ExpectPart, MachinePart, WatchPart, State}
+use Rattle.state_file.specs.Parts.{UnitPart, BreakPart, ExpectPart, MachinePart, WatchPart, State}
 use Rattle.state_file.specs.Ranges.{kind_at}
 use Rattle.state_file.specs.Restoring.{with_all, copy_of}
 use Rattle.state_file.specs.Session.{saved}
