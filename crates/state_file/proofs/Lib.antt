@@ -22,3 +22,4 @@ pub mod Attaching
 pub mod Together
 pub mod ValidFiles
 pub mod RestoreCounts
+pub mod TakingLemmas

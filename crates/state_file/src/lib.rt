@@ -11,6 +11,8 @@ mod machine_fields;
 mod reading;
 pub mod restoring;
 pub mod saved;
+mod taking;
+mod taking_watch;
 pub mod unit_digest;
 mod watch_fields;
 mod writing;
