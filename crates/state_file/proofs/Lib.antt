@@ -23,3 +23,4 @@ pub mod Together
 pub mod ValidFiles
 pub mod RestoreCounts
 pub mod TakingLemmas
+pub mod SavingLaws

@@ -12,3 +12,5 @@ pub mod SavedValid
 pub mod Restoring
 pub mod RestoringOne
 pub mod RestoreCauses
+pub mod Saving
+pub mod SavingOne

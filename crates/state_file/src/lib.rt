@@ -11,6 +11,7 @@ mod machine_fields;
 mod reading;
 pub mod restoring;
 pub mod saved;
+pub mod saving;
 mod taking;
 mod taking_watch;
 pub mod unit_digest;
@@ -27,5 +28,6 @@ pub use restoring::attach_all;
 pub use saved::{
     Saved, SavedBreak, SavedCpu, SavedEvent, SavedExpect, SavedFile, SavedSend, SavedUnit,
 };
+pub use saving::digest_all;
 pub use std::alloc::AllocError as OutOfMemory;
 pub use writing::write_state;

@@ -27,8 +27,8 @@ use std::alloc::Global;
 use unit_files::{AttachFault, AttachMode, Attached};
 use unit_trait::UnitName;
 
-// The unit of a file.
-fn unit_of(file: &SavedFile) -> UnitName
+/// The unit of a file.
+pub(crate) fn unit_of(file: &SavedFile) -> UnitName
     ensures { result ≡ unit_of (file_in file.now) }
 {
     UnitName {

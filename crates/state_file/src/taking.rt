@@ -69,6 +69,7 @@ fn taken_registers<U: Unit>(
 ) -> Result<Vec<u32>, AllocError>
     ensures { IfOk result (λ v. (u : UnitState) → unit_at (code_of kind) machine.now.units ≡ Some u → v.items ≡ u.registers) }
 {
+    machine.core();
     let mut registers = Vec::new(alloc);
     for i in 0..register_count(kind) {
         match machine.unit_reg(kind, i) {
