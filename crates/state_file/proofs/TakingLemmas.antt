@@ -1,9 +1,8 @@
 -- A list is taken one element behind another.
 use Rattle.std.proofs.Common.{◌≡◌, ℕ, zero, suc, ◌+◌, ◌<◌, ◌≤◌, ◌⊎◌, ◌&&◌, ◌==◌, Bool, true, false, List, [], ◌∷◌, ◌++◌, length, take, map, Option, Some, None, inl, inr, refl, sym, ap, subst, ◌∙◌, arith}
-use Rattle.std.specs.Prelude.{slice_get, get_or, option_map, option_and_then, IfSome, not, if◌then◌else◌}
+use Rattle.std.specs.Prelude.{slice_get, get_or, option_map, option_and_then, unwrap_or, IfSome, not, if◌then◌else◌}
 use Rattle.std.proofs.Math.Seq.{take-suc}
 use Rattle.std.proofs.lemmas.Bool.{and_parts, false≢true, not-true}
-use Rattle.std.proofs.Math.Option.{some-injective}
 use Rattle.std.proofs.lemmas.Option.{slice_get_within, get_or_from_slice_get, slice_get-map, slice_get_cases}
 use Rattle.std.proofs.lemmas.List.{map_push, take_all}
 use Rattle.unit_trait.specs.declared.kind.Kind.{Kind}
@@ -40,11 +39,11 @@ takes g f ys y new xs k x before is same pushed =
 
 -- what is taken of a list that has no more
 pub taken-all : {A : Type 0} (xs : List A) (k : ℕ) → slice_get xs k ≡ None → take k xs ≡ xs
-taken-all xs k none = by-case (slice_get_cases xs k).1
+taken-all {A} xs k none = by-case (slice_get_cases xs k).1
   where
     by-case : ((x : A) × (k < length xs) × (slice_get xs k ≡ Some x) × (get_or xs k x ≡ x)) ⊎ ((length xs ≤ k) × (slice_get xs k ≡ None))
         → take k xs ≡ xs
-    by-case (inl there) = grind
+    by-case (inl there) = grind arith
     by-case (inr past) = take_all k xs past.0
 
 -- ---- units, and their registers
@@ -69,7 +68,7 @@ count-of kind us u all there =
 -- whether the kind at a place is the first with that code
 abbrev first_is : ℕ → List Kind → ℕ → Bool
 first_is code [] p = false
-first_is code (k ∷ ks) 0 = code_of k == code
+first_is code (k ∷ ks) zero = code_of k == code
 first_is code (k ∷ ks) (suc p) = not (code_of k == code) && first_is code ks p
 
 -- the unit that stands at a place, found by its code
@@ -98,16 +97,16 @@ record IsPlaced (p : ℕ) : Type 0 where
 
 placed : (p : ℕ) → p < 10 → IsPlaced p
 unfolding kind_at
-placed 0 lt = record { first = refl; place = refl }
-placed 1 lt = record { first = refl; place = refl }
-placed 2 lt = record { first = refl; place = refl }
-placed 3 lt = record { first = refl; place = refl }
-placed 4 lt = record { first = refl; place = refl }
-placed 5 lt = record { first = refl; place = refl }
-placed 6 lt = record { first = refl; place = refl }
-placed 7 lt = record { first = refl; place = refl }
-placed 8 lt = record { first = refl; place = refl }
-placed 9 lt = record { first = refl; place = refl }
+placed zero lt = record { first = refl; place = refl }
+placed (suc zero) lt = record { first = refl; place = refl }
+placed (suc (suc zero)) lt = record { first = refl; place = refl }
+placed (suc (suc (suc zero))) lt = record { first = refl; place = refl }
+placed (suc (suc (suc (suc zero)))) lt = record { first = refl; place = refl }
+placed (suc (suc (suc (suc (suc zero))))) lt = record { first = refl; place = refl }
+placed (suc (suc (suc (suc (suc (suc zero)))))) lt = record { first = refl; place = refl }
+placed (suc (suc (suc (suc (suc (suc (suc zero))))))) lt = record { first = refl; place = refl }
+placed (suc (suc (suc (suc (suc (suc (suc (suc zero)))))))) lt = record { first = refl; place = refl }
+placed (suc (suc (suc (suc (suc (suc (suc (suc (suc zero))))))))) lt = record { first = refl; place = refl }
 placed (suc (suc (suc (suc (suc (suc (suc (suc (suc (suc p)))))))))) lt = absurd (omega (arith, lt))
 
 pub unit-stands : (us : List UnitState) → AreStandard us → (p : ℕ) → p < 10 → Stands us (code_of (kind_at p)) p
@@ -121,4 +120,4 @@ unit-place us standard p u lt got =
     let kind : slice_get (kinds_of us) p ≡ Some u.kind = slice_get-map (λ (v : UnitState). v.kind) us p ∙ ap (option_map (λ (v : UnitState). v.kind)) got in
     let all : option_map place_of (slice_get (kinds_of us) p) ≡ Some p =
         ap (λ (ks : List Kind). option_map place_of (slice_get ks p)) standard ∙ (placed p lt).place in
-    some-injective _ _ (sym (ap (option_map place_of) kind) ∙ all)
+    ap (λ (o : Option ℕ). unwrap_or o p) (sym (ap (option_map place_of) kind) ∙ all)

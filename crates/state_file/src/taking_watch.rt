@@ -14,15 +14,11 @@ use std::alloc::{AllocError, Global};
 /// How many of the printed bytes are kept at most.
 const LONGEST_TAIL: usize = 64;
 
-// A break as it is saved.
-fn saved_break(
-    alloc: Global,
-    at: Addr,
-    count: u32,
-    actions: &[u8],
-) -> Result<SavedBreak, AllocError>
-    ensures { IfOk result (λ b. break_in b ≡ saved_break (break_at at count actions.now)) }
+// A break, by its address, count and actions, as it is saved.
+fn saved_break(alloc: Global, found: (Addr, u32, &[u8])) -> Result<SavedBreak, AllocError>
+    ensures { IfOk result (λ b. break_in b ≡ saved_break (break_at found.entry.0 found.entry.1 found.entry.2.now)) }
 {
+    let (at, count, actions) = found;
     Ok(SavedBreak {
         address: at.number(),
         count,
@@ -37,7 +33,7 @@ pub fn taken_breaks(alloc: Global, breaks: &Breaks) -> Result<Vec<SavedBreak>, A
     let mut taken = Vec::new(alloc);
     for k in 0..breaks.len() {
         match breaks.in_order(k) {
-            Some((at, count, actions)) => taken.push(saved_break(alloc, at, count, actions)?)?,
+            Some(found) => taken.push(saved_break(alloc, found)?)?,
             None => return Ok(taken),
         }
     }

@@ -5,5 +5,5 @@ use Rattle.unit_list.specs.Bus.{unit_at}
 use Rattle.state_file.proofs.taking.taken_registers.Given as goal
 
 abbrev pub invariant-loop-i : goal.invariant-loop-i
-invariant-loop-i l =
+invariant-loop-i g l =
     (u : UnitState) → unit_at (code_of l.kind) l.machine.units ≡ Some u → l.registers.items ≡ take l.i u.registers

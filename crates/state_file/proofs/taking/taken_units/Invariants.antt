@@ -5,4 +5,4 @@ use Rattle.state_file.specs.Session.{saved_unit}
 use Rattle.state_file.proofs.taking.taken_units.Given as goal
 
 abbrev pub invariant-loop-position : goal.invariant-loop-position
-invariant-loop-position l = map unit_in l.units.items ≡ take l.position (map saved_unit l.machine.units)
+invariant-loop-position g l = map unit_in l.units.items ≡ take l.position (map saved_unit l.machine.units)
