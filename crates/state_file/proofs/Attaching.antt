@@ -1,5 +1,6 @@
 -- Attaching and comparing as one act.
-use Rattle.std.proofs.Common.{◌≡◌, ◌⊎◌, inl, inr, ⊎_elim, ℕ, Bool, true, false, cond, zero, suc, get_or, Result, Ok, Err, List, [], ◌∷◌}
+use Rattle.std.proofs.Common.{◌≡◌, ◌⊎◌, inl, inr, ⊎_elim, ℕ, Bool, true, false, cond, zero, suc, get_or, Result, Ok}
+use Rattle.std.proofs.Common.{Err, List, [], ◌∷◌}
 use Rattle.std.proofs.Common.{length, Option, Some, None, refl, sym, ap, subst, ◌∙◌}
 use Rattle.std.specs.Prelude.{is_some, ◌&&◌, nat_lt, slice_set}
 use Rattle.unit_files.specs.Answers.{failure_in}
@@ -11,8 +12,10 @@ use Rattle.host_files.specs.Lists.{NamedBytes, bytes_of, find_file}
 use Rattle.unit_trait.specs.declared.kind.UnitName.{UnitName}
 use Rattle.unit_files.specs.declared.modes.AttachMode.{AttachMode}
 use Rattle.unit_files.specs.Attachments.{Attachment, attachment_at, is_disk, longest_file, only_writes}
-use Rattle.unit_files.specs.Acts.{Failure, failure_at, AttachSaid, Attached, OnlyWrites, TooLong, CallFailed, attach_said}
-use Rattle.unit_files.specs.Acts.{attach_files, files_unless, files_unless_opening, files_where, opened_files, is_read_only}
+use Rattle.unit_files.specs.Acts.{Failure, failure_at, AttachSaid, Attached, OnlyWrites, TooLong, CallFailed}
+use Rattle.unit_files.specs.Acts.{attach_said}
+use Rattle.unit_files.specs.Acts.{attach_files, files_unless, files_unless_opening, files_where, opened_files}
+use Rattle.unit_files.specs.Acts.{is_read_only}
 use Rattle.unit_files.specs.Buffer.{Buffer}
 use Rattle.unit_files.specs.Acts.{buffer_by, said_unless, opened_said, read_whole, refused_first}
 use Rattle.unit_files.specs.Digests.{digest_measured}
@@ -36,7 +39,8 @@ opening-same : (f : Option Failure) (read_only : Bool) (name : List ℕ) (files 
 opening-same (Some f) read_only name files = refl
 opening-same None read_only name files = where-same read_only (is_some (find_file files name)) name files refl
 
-unless-same : (r : Option AttachSaid) (fails : Option Failure) (read_only : Bool) (name : List ℕ) (files : List NamedBytes)
+unless-same : (r : Option AttachSaid) (fails : Option Failure) (read_only : Bool) (name : List ℕ)
+    (files : List NamedBytes)
     → files_unless r fails (mode_of read_only) name files ≡ files
 unless-same (Some r) fails read_only name files = refl
 unless-same None fails read_only name files = opening-same (failure_at Opening fails) read_only name files
@@ -233,7 +237,8 @@ set-there (y ∷ xs) (suc place) a b e = set-there xs place a b e
 
 -- ---- the disk's copy of the file that it is given
 
-pub bytes-taken : (new old : Buffer) (f : FilePart) (size : ℕ) (unit : UnitName) (name : List ℕ) (now files : List NamedBytes)
+pub bytes-taken : (new old : Buffer) (f : FilePart) (size : ℕ) (unit : UnitName) (name : List ℕ)
+    (now files : List NamedBytes)
     → unit ≡ unit_of f → name ≡ f.name → now ≡ files → new ≡ buffer_by (Attached size) unit (bytes_of now name) old
     → is_disk (kind_at f.position) ≡ true → new.bytes ≡ bytes_of files f.name
 bytes-taken new old f size unit name now files u n s is disk =

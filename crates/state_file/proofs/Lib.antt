@@ -24,3 +24,4 @@ pub mod ValidFiles
 pub mod RestoreCounts
 pub mod TakingLemmas
 pub mod SavingLaws
+pub mod TakenStates

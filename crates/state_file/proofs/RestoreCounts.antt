@@ -1,5 +1,6 @@
 -- The counts of failing calls where files are attached one behind another, and given back.
-use Rattle.std.proofs.Common.{◌≡◌, ◌⊎◌, inl, inr, ⊎_elim, ℕ, ◌<◌, ◌≤◌, zero, suc, Bool, get_or, List, [], ◌∷◌, Option, Some, None, Ok, Err}
+use Rattle.std.proofs.Common.{◌≡◌, ◌⊎◌, inl, inr, ⊎_elim, ℕ, ◌<◌, ◌≤◌, zero, suc, Bool, get_or, List, [], ◌∷◌, Option}
+use Rattle.std.proofs.Common.{Some, None, Ok, Err}
 use Rattle.std.proofs.Common.{refl, sym, ap, subst, ◌∙◌, arith}
 use Rattle.std.specs.Prelude.{option_map}
 use Rattle.fault_counts.specs.Faults.{raised, Rose}
@@ -55,7 +56,11 @@ pub from-kept : (a b c : List (Option Held)) (old mid new : FileState) → AreFr
     → mid.given ≤ new.given → AreFrom a c old new
 from-kept a b c old mid new one kept late = λ unit h there.
     ⊎_elim (λ before. inl before)
-    (λ (fresh : IsNewId old mid h.file). let low = fresh.0 in let high = fresh.1 in inr (low, omega (arith, high, late)))
+    (λ (fresh : IsNewId old mid h.file). let low = fresh.0 in let high = fresh.1 in inr (
+      low,
+      omega
+          (arith, high, late),
+    ))
     (one unit h (kept unit h there))
 
 -- ---- which counts stand
@@ -86,7 +91,8 @@ new-counts-behind slots slots' unit a b c none from one two = record {
 
 from-wider : (slots slots' : List (Option Held)) (a b c : FileState) → AreFrom slots slots' a b → c.given ≡ b.given
     → AreFrom slots slots' a c
-from-wider slots slots' a b c from same = from-kept slots slots' slots' a b c from (λ unit h there. there) (omega (arith, same))
+from-wider slots slots' a b c from same = from-kept slots slots' slots' a b c from (λ unit h there. there) (omega
+    (arith, same))
 
 -- a file that was opened in between is compared, and given back
 pub counts-given-back : (slots mid back : List (Option Held)) (unit other : UnitName) (a b c d : FileState)
@@ -95,7 +101,8 @@ pub counts-given-back : (slots mid back : List (Option Held)) (unit other : Unit
 counts-given-back slots mid back unit other a b c d none from one two is same three =
     new-counts-behind slots mid unit a c d none (from-wider slots mid a b c from two.ids)
     (new-counts-behind slots mid unit a b c none from one two)
-    (subst (λ (u : UnitName). OnlyItsCount mid u c d) same (subst (λ (s : List (Option Held)). OnlyItsCount s other c d) is three))
+    (subst (λ (u : UnitName). OnlyItsCount mid u c d) same (subst (λ (s : List
+    (Option Held)). OnlyItsCount s other c d) is three))
 
 -- ---- their causes
 
@@ -112,7 +119,8 @@ module _ (tells : Bool) (a b c d : FileState) (first : RestoreCause tells (Ok tt
   wider-rose : Rose b.open_faults c.open_faults → Rose a.open_faults d.open_faults
   wider-rose rose =
       let low = news.openings in
-      subst (λ (n : ℕ). Rose a.open_faults n) (sym openings) (earlier-rose a.open_faults b.open_faults c.open_faults low rose)
+      subst (λ (n : ℕ). Rose a.open_faults n) (sym openings)
+      (earlier-rose a.open_faults b.open_faults c.open_faults low rose)
 
   wider-stand : OpeningsStand tells b c → OpeningsStand tells a d
   wider-stand stand = λ t. openings ∙ stand t ∙ first.1 t

@@ -19,7 +19,8 @@ use Rattle.unit_files.specs.Buffer.{AttachedFiles, Buffer, disk_unit}
 use Rattle.unit_files.specs.Acts.{Failure, same_call, failure_at, is_due_back, flushed_as, FlushSaid, flush_said}
 use Rattle.unit_files.specs.Acts.{flush_files, buffer_flushed}
 use Rattle.unit_files.specs.Answers.{failure_in}
-use Rattle.unit_files.specs.Digests.{DigestSaid, NothingToDigest, NotDigested, Digested, digest_read, digest_measured, digest_flushed}
+use Rattle.unit_files.specs.Digests.{DigestSaid, NothingToDigest, NotDigested, Digested, digest_read, digest_measured}
+use Rattle.unit_files.specs.Digests.{digest_flushed}
 use Rattle.unit_files.specs.Digests.{IsReadingCall}
 use Rattle.unit_files.proofs.Digests.{same-files}
 use Rattle.state_file.specs.declared.saving.UnitPlace.{UnitPlace}
@@ -29,7 +30,8 @@ use Rattle.state_file.specs.Restoring.{unit_of, attachment_of, at_unit}
 use Rattle.state_file.specs.RestoringOne.{AreOfTwo, AreApart}
 use Rattle.state_file.specs.Saving.{unit_at, file_places, flag_of, saved_at, saved_files, undigested, failing_first}
 use Rattle.state_file.specs.Saving.{first_undigested, unless_unflushed, files_flushed, copy_flushed, first_unsaved}
-use Rattle.state_file.specs.SavingOne.{unread_file, unread_at, unread_files, read_file, CanDigest, first_unread, fault_claim, FlushSays}
+use Rattle.state_file.specs.SavingOne.{unread_file, unread_at, unread_files, read_file, CanDigest, first_unread}
+use Rattle.state_file.specs.SavingOne.{fault_claim, FlushSays}
 use Rattle.state_file.proofs.Together.{disk-place}
 
 -- ---- one file
@@ -119,7 +121,8 @@ all-rise : rising 0 file_places ≡ true
 unfolding rising file_places kind_at
 all-rise = refl
 
-lower : (low high : ℕ) (fs : List FilePart) → low ≤ high → AllByRecursion (IsFrom high) fs → AllByRecursion (IsFrom low) fs
+lower : (low high : ℕ) (fs : List FilePart) → low ≤ high → AllByRecursion (IsFrom high) fs
+    → AllByRecursion (IsFrom low) fs
 lower low high [] le from = tt
 lower low high (f ∷ fs) le from = let here = from.0 in (omega (arith, le, here), lower low high fs le from.1)
 
@@ -169,7 +172,8 @@ pub read-unread : (files : List NamedBytes) (attached : List (Option Attachment)
 read-unread files attached [] = refl
 read-unread files attached (p ∷ ps) =
     one (attachment_at attached (unit_at p)) (unread_files attached ps)
-    ∙ ap (λ (l : List FilePart). saved_at files p (attachment_at attached (unit_at p)) ++ l) (read-unread files attached ps)
+    ∙ ap (λ (l : List FilePart). saved_at files p (attachment_at attached (unit_at p)) ++ l)
+    (read-unread files attached ps)
   where
     one : (o : Option Attachment) (rest : List FilePart)
         → map (read_file files) (unread_at p o ++ rest) ≡ saved_at files p o ++ map (read_file files) rest
@@ -230,11 +234,13 @@ pub unflushed-first : (f : UnitFault) (attached : List (Option Attachment)) (dis
 unfolding first_unsaved
 unflushed-first f attached disk files h =
     let x = failure_in f in
-    let others = first_undigested (fault_claim f) (files_flushed (fault_claim f) attached disk files) attached file_places in
+    let others = first_undigested (fault_claim f) (files_flushed
+    (fault_claim f) attached disk files) attached file_places in
     let at : at_unit disk_unit (fault_claim f) ≡ Some x =
     ap (λ (u : UnitName). at_unit disk_unit (Some (u, x))) h.0
     ∙ ap (λ (b : Bool). cond b (Some x) None) (same-self disk_unit) in
-    ap (λ (y : Option Failure). unless_unflushed (flush_said y disk_unit (attachment_at attached disk_unit) disk) others) at
+    ap (λ (y : Option Failure). unless_unflushed (flush_said y disk_unit
+    (attachment_at attached disk_unit) disk) others) at
     ∙ ap (λ (s : FlushSaid). unless_unflushed s others) h.1
     ∙ ap (λ (u : UnitName). Some (u, x)) (sym h.0)
 

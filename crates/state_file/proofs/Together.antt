@@ -1,5 +1,6 @@
 -- Files that are attached one behind another.
-use Rattle.std.proofs.Common.{◌≡◌, ◌≢◌, inl, inr, ℕ, ◌+◌, ◌<◌, Bool, true, false, cond, zero, suc, get_or, List, [], ◌∷◌}
+use Rattle.std.proofs.Common.{◌≡◌, ◌≢◌, inl, inr, ℕ, ◌+◌, ◌<◌, Bool, true, false, cond, zero, suc, get_or, List, []}
+use Rattle.std.proofs.Common.{◌∷◌}
 use Rattle.std.proofs.Common.{length, Option, Some, None, Result, Err, refl, sym, ap, subst, ◌∙◌, arith}
 use Rattle.std.specs.Prelude.{slice_set, replicate, IsTrue, is_some, ◌==◌}
 use Rattle.std.specs.List.{AllByRecursion}
@@ -15,7 +16,8 @@ use Rattle.unit_trait.proofs.Codes.{same-self, same-code}
 use Rattle.unit_files.specs.Answers.{failure_in}
 use Rattle.unit_files.specs.Open.{Around, without_held}
 use Rattle.unit_files.proofs.Attaching.{around-none}
-use Rattle.unit_files.specs.Attachments.{Held, attachments_of, no_files, file_units, Attachment, attachment_at, file_place}
+use Rattle.unit_files.specs.Attachments.{Held, attachments_of, no_files, file_units, Attachment, attachment_at}
+use Rattle.unit_files.specs.Attachments.{file_place}
 use Rattle.unit_files.specs.Attachments.{is_disk, takes_attachment}
 use Rattle.unit_files.specs.Acts.{Failure}
 use Rattle.unit_files.specs.Buffer.{Buffer, no_buffer, disk_unit}
@@ -24,8 +26,10 @@ use Rattle.state_file.specs.declared.file_faults.RestoreFault.{RestoreFault}
 use Rattle.state_file.specs.declared.file_faults.RestoreFault.TheVariants as fault
 use Rattle.state_file.specs.Parts.{FilePart, file_in}
 use Rattle.state_file.specs.Ranges.{kind_at}
-use Rattle.state_file.specs.Restoring.{files_in, unit_of, FileRefusal, IsMissing, IsTooLong, HasChanged, CallFails, refusal_of}
-use Rattle.state_file.specs.Restoring.{attachment_of, with_file, at_unit, first_of, first_refused, claim_in, Says, IsUnitOf}
+use Rattle.state_file.specs.Restoring.{files_in, unit_of, FileRefusal, IsMissing, IsTooLong, HasChanged, CallFails}
+use Rattle.state_file.specs.Restoring.{refusal_of}
+use Rattle.state_file.specs.Restoring.{attachment_of, with_file, at_unit, first_of, first_refused, claim_in, Says}
+use Rattle.state_file.specs.Restoring.{IsUnitOf}
 use Rattle.state_file.specs.Restoring.{IsOfThese, copy_of}
 use Rattle.state_file.specs.RestoringOne.{CanAttach, IsFree, AreOfTwo, AreApart, IsClean, IsOf, failure_of, SaysOne}
 
@@ -35,7 +39,8 @@ pub none-said : (fails : Option (UnitName × Failure)) (force : Bool) (all : Lis
     (attached : List (Option Attachment)) (files : List NamedBytes) → all ≡ []
     → first_refused fails force all attached files ≡ None
 unfolding first_refused
-none-said fails force all attached files is = ap (λ (fs : List FilePart). first_refused fails force fs attached files) is
+none-said fails force all attached files is = ap (λ
+    (fs : List FilePart). first_refused fails force fs attached files) is
 
 -- what is said where a file was refused that
 module _ (force : Bool) (f : FilePart) (fs all : List FilePart) (attached : List (Option Attachment))
@@ -48,7 +53,8 @@ module _ (force : Bool) (f : FilePart) (fs all : List FilePart) (attached : List
       ap (λ (l : List FilePart). first_refused fails force l attached files) is
       ∙ ap (λ (x : Option Failure). first_of (refusal_of x force f attached files) (unit_of f)
       (first_refused fails force fs (with_file attached f) files)) mine
-      ∙ ap (λ (x : Option FileRefusal). first_of x (unit_of f) (first_refused fails force fs (with_file attached f) files))
+      ∙ ap (λ (x : Option FileRefusal). first_of x (unit_of f) (first_refused fails force fs
+      (with_file attached f) files))
       said
 
   pub first-said : (e : RestoreFault) → IsOf (unit_of f) e
@@ -78,7 +84,8 @@ module _ (force : Bool) (f : FilePart) (fs all : List FilePart) (attached : List
       ap (λ (l : List FilePart). first_refused fails force l attached files) is
       ∙ ap (λ (x : Option Failure). first_of (refusal_of x force f attached files) (unit_of f)
       (first_refused fails force fs (with_file attached f) files)) none
-      ∙ ap (λ (x : Option FileRefusal). first_of x (unit_of f) (first_refused fails force fs (with_file attached f) files))
+      ∙ ap (λ (x : Option FileRefusal). first_of x (unit_of f) (first_refused fails force fs
+      (with_file attached f) files))
       said
 
   pub others-said : (result : Result (Unit {0}) RestoreFault) (mid : List (Option Attachment)) (now : List NamedBytes)
@@ -144,7 +151,8 @@ not-theirs f (g ∷ fs) u x apart (inl is) = not-its f g u x apart.0 is
 not-theirs f (g ∷ fs) u x apart (inr these) = not-theirs f fs u x apart.1 these
 
 -- a refusal of other files claims no call on this one
-pub not-claimed : (f : FilePart) (fs : List FilePart) (e : RestoreFault) → AllByRecursion (AreOfTwo f) fs → IsOfThese fs e
+pub not-claimed : (f : FilePart) (fs : List FilePart) (e : RestoreFault) → AllByRecursion (AreOfTwo f) fs
+    → IsOfThese fs e
     → at_unit (unit_of f) (claim_in (Err e)) ≡ None
 not-claimed f fs (fault.NoFile u) apart these = refl
 not-claimed f fs (fault.TooLong u) apart these = refl
@@ -155,7 +163,8 @@ not-claimed f fs fault.OutOfMemory apart these = refl
 
 -- ---- the others
 
-pub still-free : (f : FilePart) (fs : List FilePart) (attached mid : List (Option Attachment)) → mid ≡ with_file attached f
+pub still-free : (f : FilePart) (fs : List FilePart) (attached mid : List (Option Attachment))
+    → mid ≡ with_file attached f
     → AllByRecursion (AreOfTwo f) fs → AllByRecursion (IsFree attached) fs → AllByRecursion (IsFree mid) fs
 still-free f [] attached mid put apart free = tt
 still-free f (g ∷ fs) attached mid put apart free = (
@@ -165,7 +174,8 @@ still-free f (g ∷ fs) attached mid put apart free = (
   still-free f fs attached mid put apart.1 free.1,
 )
 
-pub disk-place : (kind : Kind) (unit : ℕ) → is_disk kind ≡ true → IsTrue (takes_attachment (record { kind = kind; unit = unit }))
+pub disk-place : (kind : Kind) (unit : ℕ) → is_disk kind ≡ true
+    → IsTrue (takes_attachment (record { kind = kind; unit = unit }))
     → file_place (record { kind = kind; unit = unit }) ≡ 0
 disk-place Dsk unit is takes = ap (λ (b : Bool). cond b 0 12) takes
 disk-place Mta unit is takes = absurd cc
@@ -183,8 +193,11 @@ pub still-clean : (f : FilePart) (fs : List FilePart) (old mid : Buffer) → Can
     → AllByRecursion (AreOfTwo f) fs → (is_disk (kind_at f.position) ≡ false → mid ≡ old)
     → AllByRecursion (IsClean old) fs → AllByRecursion (IsClean mid) fs
 still-clean f [] old mid can cans apart other clean = tt
-still-clean f (g ∷ fs) old mid can cans apart other clean =
-    (λ disk. by-disk (is_disk (kind_at f.position)) refl disk, still-clean f fs old mid can cans.1 apart.1 other clean.1)
+still-clean f (g ∷ fs) old mid can cans apart other clean = (
+  λ disk. by-disk (is_disk
+      (kind_at f.position)) refl disk,
+  still-clean f fs old mid can cans.1 apart.1 other clean.1,
+)
   where
     by-disk : (b : Bool) → is_disk (kind_at f.position) ≡ b → is_disk (kind_at g.position) ≡ true → mid ≡ no_buffer
     by-disk true is disk =
@@ -195,7 +208,8 @@ still-clean f (g ∷ fs) old mid can cans apart other clean =
 -- ---- the disk's copy
 
 pub set-in : (xs : List (Option Attachment)) (place : ℕ) (a : Attachment)
-    → IsTrue (is_some (get_or (slice_set xs place (Some a)) place None)) → get_or (slice_set xs place (Some a)) place None ≡ Some a
+    → IsTrue (is_some (get_or (slice_set xs place (Some a)) place None))
+    → get_or (slice_set xs place (Some a)) place None ≡ Some a
 set-in [] place a there = absurd (cc)
 set-in (y ∷ xs) zero a there = refl
 set-in (y ∷ xs) (suc place) a there = set-in xs place a there
@@ -208,10 +222,14 @@ other-place : (kind : Kind) (unit : ℕ) → is_disk kind ≡ false
     → IsTrue (takes_attachment (record { kind = kind; unit = unit }))
     → file_place (record { kind = kind; unit = unit }) ≢ 0
 other-place Dsk unit is takes = absurd cc
-other-place Mta unit is takes = λ e. not-zero (1 + unit) (takes_attachment (record { kind = Mta; unit = unit })) takes (omega arith) e
-other-place Lpt unit is takes = λ e. not-zero 9 (takes_attachment (record { kind = Lpt; unit = unit })) takes (omega arith) e
-other-place Ptr unit is takes = λ e. not-zero 10 (takes_attachment (record { kind = Ptr; unit = unit })) takes (omega arith) e
-other-place Ptp unit is takes = λ e. not-zero 11 (takes_attachment (record { kind = Ptp; unit = unit })) takes (omega arith) e
+other-place Mta unit is takes = λ e. not-zero (1 + unit) (takes_attachment
+    (record { kind = Mta; unit = unit })) takes (omega arith) e
+other-place Lpt unit is takes = λ e. not-zero 9 (takes_attachment (record { kind = Lpt; unit = unit })) takes
+    (omega arith) e
+other-place Ptr unit is takes = λ e. not-zero 10 (takes_attachment (record { kind = Ptr; unit = unit })) takes
+    (omega arith) e
+other-place Ptp unit is takes = λ e. not-zero 11 (takes_attachment (record { kind = Ptp; unit = unit })) takes
+    (omega arith) e
 other-place Clk unit is takes = absurd cc
 other-place Tti unit is takes = absurd cc
 other-place Tto unit is takes = absurd cc
@@ -226,7 +244,8 @@ pub copy-stays : (f : FilePart) (attached mid : List (Option Attachment)) (old d
     → (is_disk (kind_at f.position) ≡ true → disk.bytes ≡ bytes_of files f.name)
     → (is_disk (kind_at f.position) ≡ false → disk ≡ old) → old ≡ copy_of (attachment_at attached disk_unit) files
     → disk ≡ copy_of (attachment_at mid disk_unit) files
-copy-stays f attached mid old disk files can put there unwritten bytes other is = by-disk (is_disk (kind_at f.position)) refl
+copy-stays f attached mid old disk files can put there unwritten bytes other is = by-disk (is_disk
+    (kind_at f.position)) refl
   where
     by-disk : (b : Bool) → is_disk (kind_at f.position) ≡ b → disk ≡ copy_of (attachment_at mid disk_unit) files
     by-disk true at =
@@ -252,7 +271,8 @@ pub all-of : (saved : List SavedFile) (first : SavedFile) (others : List SavedFi
     → files_in saved ≡ file_in first ∷ files_in others
 all-of saved first others is = ap files_in is
 
-pub head-of : (P : FilePart → Type 0) (f : FilePart) (fs all : List FilePart) → all ≡ f ∷ fs → AllByRecursion P all → P f
+pub head-of : (P : FilePart → Type 0) (f : FilePart) (fs all : List FilePart) → all ≡ f ∷ fs
+    → AllByRecursion P all → P f
 head-of P f fs all is h = (subst (λ (l : List FilePart). AllByRecursion P l) is h).0
 
 pub tail-of : (P : FilePart → Type 0) (f : FilePart) (fs all : List FilePart) → all ≡ f ∷ fs → AllByRecursion P all
@@ -278,7 +298,8 @@ pub all-free : (slots : List (Option Held)) (fs : List FilePart) → slots ≡ n
     → AllByRecursion (IsFree (attachments_of slots)) fs
 all-free slots [] is = tt
 all-free slots (f ∷ fs) is = (
-  ap (λ (l : List (Option Held)). attachment_at (attachments_of l) (unit_of f)) is ∙ none-at file_units (file_place (unit_of f)),
+  ap (λ (l : List (Option Held)). attachment_at (attachments_of l) (unit_of f)) is
+      ∙ none-at file_units (file_place (unit_of f)),
   all-free slots fs is,
 )
 

@@ -1,5 +1,7 @@
--- The files of a valid session are those that can be attached together: each unit takes its file, and no unit comes twice.
-use Rattle.std.proofs.Common.{◌≡◌, ◌⊎◌, inl, inr, ℕ, ◌+◌, ◌-◌, ◌<◌, ◌≤◌, Bool, true, false, cond, zero, suc, List, [], ◌∷◌, length, refl, sym, ap, ◌∙◌, arith}
+-- The files of a valid session are those that can be attached together: each unit takes its file, and no unit comes
+-- twice.
+use Rattle.std.proofs.Common.{◌≡◌, ◌⊎◌, inl, inr, ℕ, ◌+◌, ◌-◌, ◌<◌, ◌≤◌, Bool, true, false, cond, zero, suc, List, []}
+use Rattle.std.proofs.Common.{◌∷◌, length, refl, sym, ap, ◌∙◌, arith}
 use Rattle.std.proofs.Common.{subst}
 use Rattle.std.specs.Prelude.{nat_le, nat_lt, ◌==◌, ◌&&◌, ◌||◌, not, IsTrue, if◌then◌else◌}
 use Rattle.std.specs.List.{AllByRecursion}
@@ -20,11 +22,13 @@ use Rattle.state_file.specs.Valid.{Follow, IsFile}
 
 same-takes : (kind : Kind) → takes_file kind ≡ takes_files kind
 same-takes kind =
-    every-kind (λ (k : Kind). takes_file k ≡ takes_files k) (refl, refl, refl, refl, refl, refl, refl, refl, refl, refl, refl) kind
+    every-kind (λ (k : Kind). takes_file k
+    ≡ takes_files k) (refl, refl, refl, refl, refl, refl, refl, refl, refl, refl, refl) kind
 
 same-writes : (kind : Kind) → writes_only kind ≡ only_writes kind
 same-writes kind =
-    every-kind (λ (k : Kind). writes_only k ≡ only_writes k) (refl, refl, refl, refl, refl, refl, refl, refl, refl, refl, refl)
+    every-kind (λ (k : Kind). writes_only k
+    ≡ only_writes k) (refl, refl, refl, refl, refl, refl, refl, refl, refl, refl, refl)
     kind
 
 both : (a b : Bool) → a ≡ true → b ≡ true → (a && b) ≡ true
@@ -128,17 +132,20 @@ unfolding IsFrom
 later-from least f g one two =
     is-later least.position least.unit f.position f.unit g.position g.unit one two
 
-all-from : (least : FilePlace) (fs : List FilePart) → Follow IsFile behind_file least fs → AllByRecursion (IsFrom least) fs
+all-from : (least : FilePlace) (fs : List FilePart) → Follow IsFile behind_file least fs
+    → AllByRecursion (IsFrom least) fs
 all-from least [] each = tt
 all-from least (f ∷ fs) each =
     let here = first-from least f each.0 in
     (here, each-from fs (all-from (behind_file least f) fs each.1))
   where
-    each-from : (gs : List FilePart) → AllByRecursion (IsFrom (behind_file least f)) gs → AllByRecursion (IsFrom least) gs
+    each-from : (gs : List FilePart) → AllByRecursion (IsFrom (behind_file least f)) gs
+        → AllByRecursion (IsFrom least) gs
     each-from [] h = tt
     each-from (g ∷ gs) h = (later-from least f g (first-from least f each.0) h.0, each-from gs h.1)
 
-two-apart : (least : FilePlace) (f g : FilePart) → CanAttach f → CanAttach g → IsFrom (behind_file least f) g → AreOfTwo f g
+two-apart : (least : FilePlace) (f g : FilePart) → CanAttach f → CanAttach g → IsFrom (behind_file least f) g
+    → AreOfTwo f g
 unfolding IsFrom
 two-apart least f g can other from = λ same.
     let one = placed f.position f.unit can.unit in
@@ -152,7 +159,8 @@ two-apart least f g can other from = λ same.
     by-place (inl a) position unit = omega (arith, a, position)
     by-place (inr b) position unit = let high = b.1 in omega (arith, high, unit)
 
-pub each-can : (least : FilePlace) (fs : List FilePart) → Follow IsFile behind_file least fs → AllByRecursion CanAttach fs
+pub each-can : (least : FilePlace) (fs : List FilePart) → Follow IsFile behind_file least fs
+    → AllByRecursion CanAttach fs
 each-can least [] each = tt
 each-can least (f ∷ fs) each = (can-attach least f each.0, each-can (behind_file least f) fs each.1)
 

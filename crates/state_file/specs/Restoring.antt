@@ -1,6 +1,7 @@
 -- The files that a saved session names are attached, one behind another, and each is compared with what is said of it
 -- before the next. Attaching and comparing is one act: a call that fails in it is met in either.
-use Rattle.std.specs.Prelude.{◌≡◌, ◌⊎◌, ℕ, ◌==◌, ◌&&◌, Bool, false, List, [], ◌∷◌, map, Option, Some, None, Result, Ok, Err}
+use Rattle.std.specs.Prelude.{◌≡◌, ◌⊎◌, ℕ, ◌==◌, ◌&&◌, Bool, false, List, [], ◌∷◌, map, Option, Some, None, Result, Ok}
+use Rattle.std.specs.Prelude.{Err}
 use Rattle.std.specs.Prelude.{if◌then◌else◌}
 use Rattle.std.specs.Str.{bytes_eq}
 use Rattle.host_files.specs.Lists.{NamedBytes, bytes_of}
@@ -10,7 +11,8 @@ use Rattle.unit_files.specs.declared.modes.AttachMode.{AttachMode}
 use Rattle.unit_files.specs.declared.modes.AttachMode.TheVariants.{MustExist, ReadOnly}
 use Rattle.unit_files.specs.Attachments.{Attachment, with_attachment}
 use Rattle.unit_files.specs.Buffer.{Buffer, no_buffer}
-use Rattle.unit_files.specs.Acts.{Failure, AttachSaid, Attached, UnitHasFile, OnlyWrites, NotThere, TooLong, CallFailed, attach_said}
+use Rattle.unit_files.specs.Acts.{Failure, AttachSaid, Attached, UnitHasFile, OnlyWrites, NotThere, TooLong, CallFailed}
+use Rattle.unit_files.specs.Acts.{attach_said}
 use Rattle.unit_files.specs.Answers.{failure_in}
 use Rattle.unit_files.specs.Digests.{DigestSaid, NothingToDigest, NotDigested, Digested, digest_measured}
 use Rattle.state_file.specs.declared.saved.SavedFile.{SavedFile}
@@ -92,8 +94,8 @@ abbrev pub first_of : Option FileRefusal → UnitName → Option (UnitName × Fi
 first_of (Some refusal) unit others = Some (unit, refusal)
 first_of None unit others = others
 
--- The first file that is refused, by its unit, and why: they are attached in their order, and each is compared before the
--- next.
+-- The first file that is refused, by its unit, and why: they are attached in their order, and each is compared before
+-- the next.
 unfoldable pub first_refused : Option (UnitName × Failure) → Bool → List FilePart → List (Option Attachment)
     → List NamedBytes → Option (UnitName × FileRefusal)
 first_refused fails force [] attached files = None

@@ -1,12 +1,14 @@
 -- One file is attached and compared: what its calls want and answer.
-use Rattle.std.specs.Prelude.{◌≡◌, ◌≢◌, ℕ, ◌≤◌, Bool, true, false, IsTrue, List, [], ◌∷◌, Option, Some, None, Result, Ok, Err}
+use Rattle.std.specs.Prelude.{◌≡◌, ◌≢◌, ℕ, ◌≤◌, Bool, true, false, IsTrue, List, [], ◌∷◌, Option, Some, None, Result}
+use Rattle.std.specs.Prelude.{Ok, Err}
 use Rattle.std.specs.List.{AllByRecursion}
 use Rattle.host_files.specs.Lists.{NamedBytes}
 use Rattle.host_files.specs.State.{FileState}
 use Rattle.unit_trait.specs.declared.kind.UnitName.{UnitName}
 use Rattle.unit_files.specs.declared.digest.FileDigest.{FileDigest}
 use Rattle.unit_files.specs.declared.faults.UnitFault.{UnitFault}
-use Rattle.unit_files.specs.Attachments.{Attachment, Held, takes_attachment, only_writes, is_disk, attachment_at, held_at}
+use Rattle.unit_files.specs.Attachments.{Attachment, Held, takes_attachment, only_writes, is_disk, attachment_at}
+use Rattle.unit_files.specs.Attachments.{held_at}
 use Rattle.unit_files.specs.Attachments.{IsFileName, file_place}
 use Rattle.unit_files.specs.Buffer.{Buffer, no_buffer}
 use Rattle.unit_files.specs.Acts.{Failure, Attached, attach_said}
@@ -17,7 +19,8 @@ use Rattle.state_file.specs.declared.file_faults.RestoreFault.{RestoreFault}
 use Rattle.state_file.specs.declared.file_faults.RestoreFault.TheVariants as fault
 use Rattle.state_file.specs.Parts.{FilePart}
 use Rattle.state_file.specs.Ranges.{kind_at}
-use Rattle.state_file.specs.Restoring.{unit_of, is_only_read, mode_of, FileRefusal, IsMissing, IsTooLong, HasChanged, CallFails}
+use Rattle.state_file.specs.Restoring.{unit_of, is_only_read, mode_of, FileRefusal, IsMissing, IsTooLong, HasChanged}
+use Rattle.state_file.specs.Restoring.{CallFails}
 use Rattle.state_file.specs.Restoring.{compared, refusal_of}
 
 -- ---- which files can be attached together
@@ -114,7 +117,8 @@ abbrev pub Compares : FilePart → List ℕ → Result (Unit {0}) RestoreFault �
 Compares f bytes result = SaysOne result (compared (digest_measured (failure_of result) bytes) f)
 
 -- a comparing that failed is that of a call on the unit's file, whose count has risen by one; else no count has changed
-abbrev pub CompareCause : Result (Unit {0}) RestoreFault → UnitName → List (Option Held) → FileState → FileState → Type 0
+abbrev pub CompareCause : Result (Unit {0}) RestoreFault → UnitName → List (Option Held) → FileState → FileState
+    → Type 0
 CompareCause (Err (fault.Failed f)) unit slots old new = IsReadingFault f unit slots old new
 CompareCause result unit slots old new = IsQuiet old new
 
@@ -122,7 +126,8 @@ CompareCause result unit slots old new = IsQuiet old new
 
 -- no count but that of the file of a unit has changed, and none has fallen
 pub record OnlyItsCount (slots : List (Option Held)) (unit : UnitName) (old new : FileState) : Type 0 where
-  pub others : (file : ℕ) → ((h : Held) → held_at slots unit ≡ Some h → file ≢ h.file) → new.faults file ≡ old.faults file
+  pub others : (file : ℕ) → ((h : Held) → held_at slots unit ≡ Some h → file ≢ h.file)
+      → new.faults file ≡ old.faults file
   pub later : (file : ℕ) → old.faults file ≤ new.faults file
   pub openings : new.open_faults ≡ old.open_faults
   pub ids : new.given ≡ old.given

@@ -1,5 +1,5 @@
--- The files of units as they are saved: the disk's copy is written back, and then the files of all units that have one are
--- digested, in bus order.
+-- The files of units as they are saved: the disk's copy is written back, and then the files of all units that have one
+-- are digested, in bus order.
 use Rattle.std.specs.Prelude.{ℕ, Bool, true, false, List, [], ◌∷◌, length, Option, Some, None, Result, Err}
 use Rattle.std.specs.List.{flat_map}
 use Rattle.sha2.specs.Sha256.{sha256}
@@ -8,7 +8,8 @@ use Rattle.host_files.specs.State.{FileState}
 use Rattle.unit_trait.specs.declared.kind.UnitName.{UnitName}
 use Rattle.unit_files.specs.Attachments.{Attachment, Held, attachment_at}
 use Rattle.unit_files.specs.Buffer.{Buffer, disk_unit}
-use Rattle.unit_files.specs.Acts.{Failure, FlushSaid, HasNone, NotFlushed, Flushed, flush_said, flush_files, buffer_flushed}
+use Rattle.unit_files.specs.Acts.{Failure, FlushSaid, HasNone, NotFlushed, Flushed, flush_said, flush_files}
+use Rattle.unit_files.specs.Acts.{buffer_flushed}
 use Rattle.unit_files.specs.Answers.{failure_in}
 use Rattle.unit_files.specs.Causes.{IsQuiet}
 use Rattle.unit_files.specs.Digests.{DigestSaid, NothingToDigest, NotDigested, Digested, digest_flushed, IsDigestFault}
@@ -30,7 +31,8 @@ place_of position unit = record { position = position; unit = unit }
 unfoldable pub file_places : List UnitPlace
 file_places =
     place_of 0 0
-    ∷ place_of 1 0 ∷ place_of 1 1 ∷ place_of 1 2 ∷ place_of 1 3 ∷ place_of 1 4 ∷ place_of 1 5 ∷ place_of 1 6 ∷ place_of 1 7
+    ∷ place_of 1 0 ∷ place_of 1 1 ∷ place_of 1 2 ∷ place_of 1 3
+    ∷ place_of 1 4 ∷ place_of 1 5 ∷ place_of 1 6 ∷ place_of 1 7
     ∷ place_of 2 0 ∷ place_of 3 0 ∷ place_of 4 0 ∷ []
 
 abbrev pub flag_of : Bool → ℕ
@@ -83,7 +85,8 @@ unless_unflushed HasNone others = others
 unless_unflushed Flushed others = others
 
 abbrev pub disk_flushed : Option (UnitName × Failure) → List (Option Attachment) → Buffer → FlushSaid
-disk_flushed fails attached disk = flush_said (at_unit disk_unit fails) disk_unit (attachment_at attached disk_unit) disk
+disk_flushed fails attached disk =
+    flush_said (at_unit disk_unit fails) disk_unit (attachment_at attached disk_unit) disk
 
 -- the files behind the writing back of the disk's copy, and that copy
 abbrev pub files_flushed : Option (UnitName × Failure) → List (Option Attachment) → Buffer → List NamedBytes

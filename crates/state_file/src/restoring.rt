@@ -1,10 +1,11 @@
 // The files that a saved session names: each is attached and compared, all of them or none.
-ghost use Rattle.std.specs.Prelude.{◌≡◌, ◌≢◌, List, IsTrue, OnOk, OnErr, IfErr, length, false, true, Some, None, is_some};
+ghost use Rattle.std.specs.Prelude.{◌≡◌, ◌≢◌, List, IsTrue, OnOk, OnErr, IfErr, false, true, Some, None, is_some};
 ghost use Rattle.std.specs.Prelude.{if◌then◌else◌};
 ghost use Rattle.std.specs.List.{AllByRecursion};
 ghost use Rattle.host_files.specs.Lists.{bytes_of};
 ghost use Rattle.host_files.specs.State.{Opened};
-ghost use Rattle.unit_files.specs.Attachments.{Attachment, attachments_of, attachment_at, takes_attachment, is_disk, no_attachments};
+ghost use Rattle.unit_files.specs.Attachments.{Attachment, attachments_of, attachment_at, no_attachments};
+ghost use Rattle.unit_files.specs.Attachments.{takes_attachment, is_disk};
 ghost use Rattle.unit_files.specs.Buffer.{nothing_attached, no_buffer, disk_unit};
 ghost use Rattle.unit_files.specs.Acts.{detached};
 ghost use Rattle.unit_files.specs.Causes.{AreFrom, OnlyKept, OnlyNewCounts};
@@ -13,8 +14,8 @@ ghost use Rattle.state_file.specs.Parts.{FilePart, file_in};
 ghost use Rattle.state_file.specs.Ranges.{kind_at};
 ghost use Rattle.state_file.specs.Restoring.{files_in, unit_of, is_only_read, mode_of, refusal_of, with_file, with_all};
 ghost use Rattle.state_file.specs.Restoring.{copy_of, first_refused, claim_in, Says, IsOfThese};
-ghost use Rattle.state_file.specs.RestoringOne.{CanAttach, IsFree, AreApart, IsClean, IsOf, failure_of, SaysOne, Attaches};
-ghost use Rattle.state_file.specs.RestoringOne.{Compares, CompareCalls, CompareCause, OnlyItsCount};
+ghost use Rattle.state_file.specs.RestoringOne.{CanAttach, IsFree, AreApart, IsClean, IsOf, failure_of, SaysOne};
+ghost use Rattle.state_file.specs.RestoringOne.{Attaches, Compares, CompareCalls, CompareCause, OnlyItsCount};
 ghost use Rattle.state_file.specs.RestoreCauses.{RestoreCause};
 ghost use Rattle.state_file.specs.Valid.{AreFiles};
 
@@ -76,8 +77,8 @@ fn attach_file<F: Files>(
     requires can { CanAttach (file_in file.now) }
     requires free { IsFree (attachments_of attached.old.slots) (file_in file.now) }
     requires open { AllOpen attached.old.slots (F.state files.old).opened }
-    ensures told { IsTrue F.tells → Attaches (file_in file.now) (attachments_of attached.old.slots) (F.state files.old).files
-        result }
+    ensures told { IsTrue F.tells → Attaches (file_in file.now) (attachments_of attached.old.slots)
+        (F.state files.old).files result }
     ensures unit { IfErr result (IsOf (unit_of (file_in file.now))) }
     ensures attached { OnOk result (attachments_of attached.new.slots
         ≡ with_file (attachments_of attached.old.slots) (file_in file.now)) }
@@ -125,7 +126,8 @@ fn compare<F: Files>(
     ensures kept { attached.new ≡ attached.old }
     ensures files { (F.state files.new).files ≡ (F.state files.old).files }
     ensures opened { (F.state files.new).opened ≡ (F.state files.old).opened }
-    ensures count { OnlyItsCount attached.old.slots (unit_of (file_in file.now)) (F.state files.old) (F.state files.new) }
+    ensures count { OnlyItsCount attached.old.slots (unit_of (file_in file.now)) (F.state files.old)
+        (F.state files.new) }
     ensures cause { CompareCause result (unit_of (file_in file.now)) attached.old.slots (F.state files.old)
         (F.state files.new) }
 {
@@ -207,7 +209,8 @@ fn attach_each<F: Files>(
     ensures attached { OnOk result (attachments_of attached.new.slots
         ≡ with_all (attachments_of attached.old.slots) (files_in saved.now)) }
     ensures copy { IsTrue F.tells
-        → attached.old.disk ≡ copy_of (attachment_at (attachments_of attached.old.slots) disk_unit) (F.state files.old).files
+        → attached.old.disk
+        ≡ copy_of (attachment_at (attachments_of attached.old.slots) disk_unit) (F.state files.old).files
         → OnOk result (attached.new.disk
         ≡ copy_of (attachment_at (attachments_of attached.new.slots) disk_unit) (F.state files.old).files) }
     ensures slots { OnErr result (attachments_of attached.new.slots ≡ attachments_of attached.old.slots) }
@@ -235,11 +238,12 @@ fn attach_each<F: Files>(
     }
 }
 
-/// Attaches the files that a saved session names, where nothing is attached: each in its order, only to be read where it
-/// was, and else to be changed; and, unless that is forced, its length and digest are compared with those of the session
-/// before the next. The refusals of a file, in this order: `NoFile`, or `Failed` of the opening; `Failed` of the length;
-/// `TooLong`; `Failed` of a read; `Changed`. The first file that is refused ends it, and `OutOfMemory` may come in front
-/// of each. Behind a refusal nothing is attached, and each file that was opened is closed.
+/// Attaches the files that a saved session names, where nothing is attached: each in its order, only to be read where
+/// it was, and else to be changed; and, unless that is forced, its length and digest are compared with those of the
+/// session before the next. The refusals of a file, in this order: `NoFile`, or `Failed` of the opening; `Failed` of
+/// the length; `TooLong`; `Failed` of a read; `Changed`. The first file that is refused ends it, and `OutOfMemory` may
+/// come in front of each. Behind a refusal nothing is attached, and each file that was opened is closed; a closing that
+/// fails is not answered.
 pub fn attach_all<F: Files>(
     alloc: Global,
     saved: &[SavedFile],
@@ -249,8 +253,8 @@ pub fn attach_all<F: Files>(
 ) -> Result<(), RestoreFault>
     requires valid { AreFiles (files_in saved.now) }
     requires nothing { attached.old ≡ nothing_attached }
-    ensures told { IsTrue F.tells → Says result (first_refused (claim_in result) force (files_in saved.now) no_attachments
-        (F.state files.old).files) }
+    ensures told { IsTrue F.tells → Says result (first_refused (claim_in result) force (files_in saved.now)
+        no_attachments (F.state files.old).files) }
     ensures these { IfErr result (IsOfThese (files_in saved.now)) }
     ensures attached { OnOk result (attachments_of attached.new.slots ≡ with_all no_attachments (files_in saved.now)) }
     ensures copy { IsTrue F.tells → OnOk result (attached.new.disk

@@ -9,8 +9,8 @@ ghost use Rattle.unit_files.specs.Open.{AllOpen};
 ghost use Rattle.state_file.specs.Parts.{file_in};
 ghost use Rattle.state_file.specs.Restoring.{files_in, unit_of, IsUnitOf};
 ghost use Rattle.state_file.specs.RestoringOne.{AreApart};
-ghost use Rattle.state_file.specs.Saving.{unit_at, file_places, saved_files, first_unsaved, files_flushed, copy_flushed};
-ghost use Rattle.state_file.specs.Saving.{save_claim, UnlessNoMemory, IfNoMemory, SaveCause};
+ghost use Rattle.state_file.specs.Saving.{unit_at, file_places, saved_files, first_unsaved, files_flushed};
+ghost use Rattle.state_file.specs.Saving.{copy_flushed, save_claim, UnlessNoMemory, IfNoMemory, SaveCause};
 ghost use Rattle.state_file.specs.SavingOne.{unread_at, unread_files, CanDigest, Digests, UnitCause, failure_of_write};
 ghost use Rattle.state_file.specs.SavingOne.{FlushSays, IsFlushed, DigestsOne};
 
@@ -224,9 +224,10 @@ fn digest_each<F: Files>(
 }
 
 /// What is saved of the files that are attached, in bus order: their names, lengths and digests. What the disk holds of
-/// its file is written back first, as `flush` does it; then each file is read. All memory is taken before that, so after
-/// `OutOfMemory` all is as it was. After `Failed` of that write the disk's file is as `flush` leaves it, and its copy is
-/// still to be written back; after `Failed` of a length or a read the copy is written back. The units keep their files.
+/// its file is written back first, as `flush` does it; then each file is read. All memory is taken before that, so
+/// after `OutOfMemory` all is as it was. After `Failed` of that write the disk's file is as `flush` leaves it, and its
+/// copy is still to be written back; after `Failed` of a length or a read the copy is written back. The units keep
+/// their files.
 pub fn digest_all<F: Files>(
     alloc: Global,
     attached: &mut Attached,

@@ -3,11 +3,13 @@
 ghost use Rattle.std.specs.Prelude.{◌≡◌, map, option_map, slice_get, take, length, IfOk};
 ghost use Rattle.expect_actions.specs.Breaks.{break_at};
 ghost use Rattle.expect_actions.specs.Expects.{expect_of};
+ghost use Rattle.state_file.specs.Fields.{watch_in};
 ghost use Rattle.state_file.specs.Parts.{break_in, expect_in};
-ghost use Rattle.state_file.specs.Session.{saved_break, saved_expect, saved_send};
+ghost use Rattle.state_file.specs.Session.{saved_break, saved_expect, saved_send, saved_watch};
 
 use crate::saved::{SavedBreak, SavedExpect, SavedSend};
-use expect_actions::{Breaks, Expects, Sends};
+use crate::watch_fields::WatchFields;
+use expect_actions::{Breaks, Expects, Sends, Watch};
 use nova_word::Addr;
 use std::alloc::{AllocError, Global};
 
@@ -91,4 +93,17 @@ pub fn taken_sends(alloc: Global, sends: &Sends) -> Result<Vec<SavedSend>, Alloc
         }
     }
     Ok(taken)
+}
+
+/// All that is saved of what a run watches.
+#[tactic(auto, unfolding(crate::specs::Session::saved_watch))]
+pub fn taken_watch(alloc: Global, watch: &Watch) -> Result<WatchFields, AllocError>
+    ensures { IfOk result (λ f. watch_in f ≡ saved_watch watch.now) }
+{
+    Ok(WatchFields {
+        breaks: taken_breaks(alloc, &watch.breaks)?,
+        expects: taken_expects(alloc, &watch.expects)?,
+        tail: taken_tail(alloc, &watch.expects)?,
+        sends: taken_sends(alloc, &watch.sends)?,
+    })
 }

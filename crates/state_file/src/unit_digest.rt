@@ -21,7 +21,8 @@ pub fn digest_unit<F: Files>(
     requires clean { is_disk unit.kind ≡ true → attached.old.disk.written ≡ false }
     requires open { AllOpen attached.old.slots (F.state files.old).opened }
     ensures told { IsTrue F.tells → (a : Attachment) → attachment_at (attachments_of attached.old.slots) unit ≡ Some a
-        → said_of_reading result ≡ digest_measured (failure_of_reading result) (bytes_of (F.state files.old).files a.name) }
+        → said_of_reading result
+        ≡ digest_measured (failure_of_reading result) (bytes_of (F.state files.old).files a.name) }
     ensures kept { attached.new ≡ attached.old }
     ensures files { (F.state files.new).files ≡ (F.state files.old).files }
     ensures opened { (F.state files.new).opened ≡ (F.state files.old).opened }

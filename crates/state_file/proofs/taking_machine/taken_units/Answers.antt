@@ -8,7 +8,7 @@ use Rattle.state_file.specs.Parts.{unit_in}
 use Rattle.state_file.specs.Ranges.{standard_kinds}
 use Rattle.state_file.specs.Session.{saved_unit}
 use Rattle.state_file.proofs.TakingLemmas.{takes, unit-stands, unit-place}
-use Rattle.state_file.proofs.taking.taken_units.Goals as goal
+use Rattle.state_file.proofs.taking_machine.taken_units.Goals as goal
 
 pub loop-position-preserved : goal.loop-position-preserved
 loop-position-preserved g c =

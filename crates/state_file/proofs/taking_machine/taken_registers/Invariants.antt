@@ -2,7 +2,7 @@ use Rattle.std.proofs.Common.{◌≡◌, take, Some}
 use Rattle.unit_trait.specs.Calls.{UnitState}
 use Rattle.unit_trait.specs.Kinds.{code_of}
 use Rattle.unit_list.specs.Bus.{unit_at}
-use Rattle.state_file.proofs.taking.taken_registers.Given as goal
+use Rattle.state_file.proofs.taking_machine.taken_registers.Given as goal
 
 abbrev pub invariant-loop-i : goal.invariant-loop-i
 invariant-loop-i g l =
