@@ -52,11 +52,11 @@ same-files-of files attached (p ∷ ps) all =
     ∙ same-file files p (attachment_at attached (unit_at p)) (saved_files_of files attached (map unit_at ps)) all.0
 
 are-places : AllByRecursion IsPlace file_places
-unfolding kind_at
+unfolding kind_at file_places
 are-places = (refl, (refl, (refl, (refl, (refl, (refl, (refl, (refl, (refl, (refl, (refl, (refl, tt))))))))))))
 
 are-attachable : map unit_at file_places ≡ attachable
-unfolding kind_at
+unfolding kind_at file_places
 are-attachable = refl
 
 pub same-files : (files : List NamedBytes) (attached : List (Option Attachment)) → files_at files attached file_places ≡ saved_files files attached
