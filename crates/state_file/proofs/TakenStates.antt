@@ -1,26 +1,25 @@
 -- What was taken of a session is what is saved of it.
 use Rattle.sha2.specs.Sha256.{sha256}
-use Rattle.std.proofs.Common.{◌≡◌, ℕ, Bool, true, false, List, [], ◌∷◌, ◌++◌, length, map, Option, Some, None, refl, sym, ap, subst, ◌∙◌}
-use Rattle.std.specs.List.{AllByRecursion, flat_map}
+use Rattle.std.proofs.Common.{◌≡◌, ℕ, Bool, true, false, List, [], ◌∷◌, ◌++◌, length, map, Option, Some, None, refl, sym, ap, ◌∙◌}
+use Rattle.std.specs.List.{AllByRecursion}
 use Rattle.host_files.specs.Lists.{NamedBytes, bytes_of}
 use Rattle.host_lines.specs.Traffic.{Answer}
 use Rattle.host_lines.specs.State.{LineState}
 use Rattle.telnet_lines.specs.Joined.{seen_line}
-use Rattle.unit_trait.specs.declared.kind.UnitName.{UnitName}
 use Rattle.unit_files.specs.Attachments.{Attachment, Held, attachment_at, attachments_of}
 use Rattle.unit_files.specs.Buffer.{AttachedFiles}
 use Rattle.file_commands.specs.AllUnits.{attachable}
 use Rattle.expect_actions.specs.Watch.{WatchState}
 use Rattle.nova_machine.specs.BusOrder.{place_of as position_of}
 use Rattle.nova_machine.specs.Machine.{MachineState, with_attached_files}
-use Rattle.nova_machine.specs.Seen.{erased, seen, beside, unnumbered, attached_in}
+use Rattle.nova_machine.specs.Seen.{erased, seen, beside, attached_in}
 use Rattle.nova_machine.proofs.Serving.{erased-attached}
 use Rattle.state_file.specs.declared.saving.UnitPlace.{UnitPlace}
 use Rattle.state_file.specs.Parts.{FilePart, State}
 use Rattle.state_file.specs.Ranges.{kind_at}
 use Rattle.state_file.specs.Saving.{unit_at, file_places, saved_at}
 use Rattle.state_file.specs.Saving.{saved_files as files_at, flag_of as flag_at}
-use Rattle.state_file.specs.Session.{flag_of, saved_file, with_saved, saved_files_of, saved_files, saved_machine, saved_port, saved_watch, saved}
+use Rattle.state_file.specs.Session.{flag_of, with_saved, saved_files_of, saved_files, saved_machine, saved_port, saved_watch, saved}
 
 -- ---- the files
 
@@ -83,5 +82,5 @@ pub taken-is-saved : (x : State) (m : MachineState) (a : AttachedFiles) (w : Wat
 taken-is-saved x m a w files keys lines whole is =
     let machine = is.machine ∙ same-machine m a in
     let here : x.files ≡ saved_files files (attached_in (erased (with_attached_files m a))) =
-        is.files_are ∙ same-files files (attachments_of a.slots) ∙ ap (saved_files files) (sym (erased-attached a.slots)) in
+    is.files_are ∙ same-files files (attachments_of a.slots) ∙ ap (saved_files files) (sym (erased-attached a.slots)) in
     λ i. record { machine = machine i; files = here i; port = is.port lines i; watch = is.watch i }

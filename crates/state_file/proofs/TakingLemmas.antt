@@ -119,5 +119,5 @@ pub unit-place : (us : List UnitState) → AreStandard us → (p : ℕ) (u : Uni
 unit-place us standard p u lt got =
     let kind : slice_get (kinds_of us) p ≡ Some u.kind = slice_get-map (λ (v : UnitState). v.kind) us p ∙ ap (option_map (λ (v : UnitState). v.kind)) got in
     let all : option_map place_of (slice_get (kinds_of us) p) ≡ Some p =
-        ap (λ (ks : List Kind). option_map place_of (slice_get ks p)) standard ∙ (placed p lt).place in
+    ap (λ (ks : List Kind). option_map place_of (slice_get ks p)) standard ∙ (placed p lt).place in
     ap (λ (o : Option ℕ). unwrap_or o p) (sym (ap (option_map place_of) kind) ∙ all)

@@ -83,14 +83,20 @@ fn taken_registers<U: Unit>(
 }
 
 /// All units, in bus order.
-pub fn taken_units<U: Unit>(alloc: Global, machine: &Machine<U>) -> Result<Vec<SavedUnit>, AllocError>
+pub fn taken_units<U: Unit>(
+    alloc: Global,
+    machine: &Machine<U>,
+) -> Result<Vec<SavedUnit>, AllocError>
     requires { AreStandard machine.now.units }
     ensures { IfOk result (λ v. map unit_in v.items ≡ map saved_unit machine.now.units) }
 {
     let mut units = Vec::new(alloc);
     for position in 0..UNITS {
         let registers = taken_registers(alloc, machine, kind_at(position))?;
-        units.push(SavedUnit { position, registers })?;
+        units.push(SavedUnit {
+            position,
+            registers,
+        })?;
     }
     Ok(units)
 }
@@ -126,7 +132,10 @@ pub fn taken_agenda(alloc: Global, events: &Events) -> Result<Vec<SavedEvent>, A
 
 /// All that is saved of a machine but its files and its port.
 #[tactic(auto, unfolding(crate::specs::Session::saved_machine))]
-pub fn taken_machine<U: Unit>(alloc: Global, machine: &Machine<U>) -> Result<MachineFields, AllocError>
+pub fn taken_machine<U: Unit>(
+    alloc: Global,
+    machine: &Machine<U>,
+) -> Result<MachineFields, AllocError>
     requires { AreStandard machine.now.units }
     ensures { IfOk result (λ f. machine_in f ≡ saved_machine machine.now) }
 {

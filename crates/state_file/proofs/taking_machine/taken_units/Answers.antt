@@ -17,7 +17,7 @@ loop-position-preserved g c =
     let stands = unit-stands units c.requires p c.loop-position-test.true in
     let place = unit-place units c.requires p stands.unit c.loop-position-test.true stands.got in
     let found : unit_at (code_of c.kind_at.result) units ≡ Some stands.unit =
-        subst (λ (k : Kind). unit_at (code_of k) units ≡ Some stands.unit) (sym c.kind_at.ensures) stands.found in
+    subst (λ (k : Kind). unit_at (code_of k) units ≡ Some stands.unit) (sym c.kind_at.ensures) stands.found in
     let registers = c.in_ok-registers.ensures stands.unit found in
     let y : SavedUnit = record { position = p; registers = c.in_ok-registers.registers } in
     takes unit_in saved_unit c.loop-position.units.items y c.push.new.self.items units p stands.unit
