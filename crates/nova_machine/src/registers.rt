@@ -8,6 +8,13 @@ use unit_trait::{CpuReg, Unit};
 impl<U: Unit> Machine<U> {
     ghost use Rattle.nova_machine.specs.Registers.{register_of, with_register};
 
+    /// AC0 to AC3.
+    pub fn accumulators(&self) -> [Word; 4]
+        ensures { result ≡ self.now.processor.cpu.accumulators }
+    {
+        self.processor.cpu.accumulators
+    }
+
     /// The value of a register.
     pub(crate) fn register(&self, register: CpuReg) -> u16
         ensures value { result ≡ register_of self.now register }

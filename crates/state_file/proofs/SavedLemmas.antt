@@ -116,7 +116,7 @@ registers-hold kind i (r ∷ rs) (v ∷ vs) from narrow range =
           (λ k. ap (slice_get (registers kind)) (omega arith) ∙ from (suc k)) parts.1 range.2,
     )
 
-as-many : (rs : List Register) (vs : List ℕ) → InRange rs vs → length vs ≡ length rs
+pub as-many : (rs : List Register) (vs : List ℕ) → InRange rs vs → length vs ≡ length rs
 as-many [] [] range = refl
 as-many [] (v ∷ vs) range = absurd range
 as-many (r ∷ rs) [] range = absurd range

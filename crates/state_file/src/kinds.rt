@@ -1,5 +1,6 @@
 // What is known of the units at a position in bus order.
 ghost use Rattle.std.specs.Prelude.{◌≡◌, ◌≤◌};
+ghost use Rattle.nova_machine.specs.BusOrder.{place_of};
 ghost use Rattle.state_file.specs.Ranges.{kind_at, register_count, holds_value, longest_file_of, only_writes};
 
 use unit_trait::{Kind, reg_limit};
@@ -27,6 +28,25 @@ pub fn kind_at(position: u8) -> Kind
     match KINDS.get(usize::from(position)) {
         Some(kind) => *kind,
         None => Kind::Qty,
+    }
+}
+
+/// The position of a kind in bus order.
+pub fn position_of(kind: Kind) -> u8
+    ensures { result ≡ place_of kind }
+{
+    match kind {
+        Kind::Dsk => 0,
+        Kind::Mta => 1,
+        Kind::Lpt => 2,
+        Kind::Ptr => 3,
+        Kind::Ptp => 4,
+        Kind::Clk => 5,
+        Kind::Tti => 6,
+        Kind::Tto => 7,
+        Kind::Tti1 => 8,
+        Kind::Tto1 => 9,
+        Kind::Qty => 10,
     }
 }
 

@@ -12,6 +12,9 @@ mod reading;
 pub mod restoring;
 pub mod saved;
 pub mod saving;
+pub mod taking;
+mod taking_machine;
+mod taking_watch;
 pub mod unit_digest;
 mod watch_fields;
 mod writing;
@@ -29,4 +32,5 @@ pub use saved::{
 };
 pub use saving::digest_all;
 pub use std::alloc::AllocError as OutOfMemory;
+pub use taking::take_state;
 pub use writing::write_state;

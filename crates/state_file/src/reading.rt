@@ -47,8 +47,8 @@ fn version(cursor: &mut Cursor) -> Result<u16, StateFault>
     Ok(version)
 }
 
-// All parts of a state, as one value.
-fn joined(
+/// All parts of a state, as one value.
+pub fn joined(
     machine: MachineFields,
     attachments: Vec<SavedFile>,
     port: u16,
