@@ -17,3 +17,8 @@ pub mod SavedWatchLemmas
 pub mod SavedLemmas
 pub mod SavedFileLemmas
 pub mod SavedValidLemmas
+pub mod Digesting
+pub mod Attaching
+pub mod Together
+pub mod ValidFiles
+pub mod RestoreCounts

@@ -9,3 +9,6 @@ pub mod Laws
 pub mod Session
 pub mod PutBack
 pub mod SavedValid
+pub mod Restoring
+pub mod RestoringOne
+pub mod RestoreCauses

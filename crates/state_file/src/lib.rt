@@ -3,20 +3,25 @@
 
 mod cursor;
 pub mod fault;
+pub mod file_faults;
 mod file_fields;
 mod kinds;
 pub mod laws;
 mod machine_fields;
 mod reading;
+pub mod restoring;
 pub mod saved;
+pub mod unit_digest;
 mod watch_fields;
 mod writing;
 
 pub use fault::StateFault;
+pub use file_faults::{RestoreFault, SaveFault};
 pub use laws::{
     saved_is_valid, saving_puts_back, state_texts_are_one_to_one, valid_states_are_read,
 };
 pub use reading::read_state;
+pub use restoring::attach_all;
 pub use saved::{
     Saved, SavedBreak, SavedCpu, SavedEvent, SavedExpect, SavedFile, SavedSend, SavedUnit,
 };

@@ -1,0 +1,85 @@
+use Rattle.std.proofs.Common.{◌≡◌, Bool, false, Option, Some, None, Result, Ok, Err, refl, sym, ap, subst, ◌∙◌, rules, List, IsTrue}
+use Rattle.std.specs.Prelude.{is_some}
+use Rattle.host_files.specs.Lists.{NamedBytes, bytes_of}
+use Rattle.unit_files.specs.Attachments.{Attachment, attachments_of, attachment_at, file_place}
+use Rattle.unit_files.specs.Acts.{detached}
+use Rattle.unit_files.specs.Buffer.{AttachedFiles}
+use Rattle.unit_trait.specs.declared.kind.UnitName.{UnitName}
+use Rattle.state_file.specs.declared.file_faults.RestoreFault.{RestoreFault}
+use Rattle.state_file.specs.Parts.{FilePart, file_in}
+use Rattle.state_file.specs.Restoring.{unit_of, with_file, attachment_of, refusal_of}
+use Rattle.state_file.specs.RestoringOne.{CanAttach, CompareCalls, Compares, SaysOne, failure_of, Attaches}
+use Rattle.state_file.proofs.Attaching.{forced, free-first, one-compared, set-back}
+use Rattle.state_file.proofs.Together.{set-in}
+use Rattle.state_file.proofs.RestoreCounts.{counts-given-back, cause-compared}
+use Rattle.state_file.proofs.restoring.attach_one.Goals as goal
+
+pub returns-then-force-clause-told : goal.returns-then-force-clause-told
+returns-then-force-clause-told g c = λ t.
+    let said = c.in_ok-attach_file.ensures.told t in
+    forced (file_in c.args.file.now) (attachments_of c.args.attached.now.slots) (g.F.Files.state c.args.files.now).files
+    said.0 c.args.force c.if-force.true said.1
+
+-- what is attached to the unit is the file that was put there
+put-there : (f : FilePart) (attached mid : List (Option Attachment)) → mid ≡ with_file attached f
+    → IsTrue (is_some (attachment_at mid (unit_of f))) → attachment_at mid (unit_of f) ≡ Some (attachment_of f)
+put-there f attached mid put there =
+    ap (λ (l : List (Option Attachment)). attachment_at l (unit_of f)) put
+    ∙ set-in attached (file_place (unit_of f)) (attachment_of f)
+    (subst (λ (l : List (Option Attachment)). IsTrue (is_some (attachment_at l (unit_of f)))) put there)
+
+-- a file that was attached, and then compared
+whole-act : (result : Result (Unit {0}) RestoreFault) (force : Bool) (f : FilePart) (attached mid : List (Option Attachment))
+    (files now : List NamedBytes) → force ≡ false → CanAttach f → attachment_at attached (unit_of f) ≡ None
+    → Attaches f attached files (Ok tt) → mid ≡ with_file attached f → IsTrue (is_some (attachment_at mid (unit_of f)))
+    → now ≡ files → CompareCalls result
+    → ((a : Attachment) → attachment_at mid (unit_of f) ≡ Some a → Compares f (bytes_of now a.name) result)
+    → SaysOne result (refusal_of (failure_of result) force f attached files)
+whole-act result force f attached mid files now is can free said put there same calls told =
+    one-compared result force f attached files (bytes_of now f.name) said.0 is
+    (ap (λ (l : List NamedBytes). bytes_of l f.name) same) (free-first f attached free can.written) said.1 calls
+    (told (attachment_of f) (put-there f attached mid put there))
+
+pub returns-in-Ok-clause-told : goal.returns-in-Ok-clause-told
+returns-in-Ok-clause-told g c = λ t.
+    let first = c.in_ok-attach_file.ensures in
+    whole-act (Ok tt) c.args.force (file_in c.args.file.now) (attachments_of c.args.attached.now.slots)
+    (attachments_of c.attach_file.new.attached.slots) (g.F.Files.state c.args.files.now).files
+    (g.F.Files.state c.attach_file.new.files).files c.if-force.false c.requires.can c.requires.free (first.told t)
+    first.attached first.there (first.files t) c.in-Ok.ensures.calls (c.in-Ok.ensures.told t)
+
+pub returns-in-Err-clause-told : goal.returns-in-Err-clause-told
+returns-in-Err-clause-told g c = λ t.
+    let first = c.in_ok-attach_file.ensures in
+    whole-act (Err c.in-Err.fault) c.args.force (file_in c.args.file.now) (attachments_of c.args.attached.now.slots)
+    (attachments_of c.attach_file.new.attached.slots) (g.F.Files.state c.args.files.now).files
+    (g.F.Files.state c.attach_file.new.files).files c.if-force.false c.requires.can c.requires.free (first.told t)
+    first.attached first.there (first.files t) c.in-Err.ensures.calls (c.in-Err.ensures.told t)
+
+pub returns-in-Err-clause-slots : goal.returns-in-Err-clause-slots
+returns-in-Err-clause-slots g c =
+    let unit = unit_of (file_in c.args.file.now) in
+    let attached = attachments_of c.args.attached.now.slots in
+    c.give_back.ensures.attached
+    ∙ ap (λ (u : UnitName). detached u (attachments_of c.compare.new.attached.slots)) c.unit_of.ensures
+    ∙ ap (λ (a : AttachedFiles). detached unit (attachments_of a.slots)) c.in-Err.ensures.kept
+    ∙ ap (λ (l : List (Option Attachment)). detached unit l) c.in_ok-attach_file.ensures.attached
+    ∙ set-back attached (file_place unit) (Some (attachment_of (file_in c.args.file.now))) c.requires.free
+
+pub returns-in-Err-clause-counts : goal.returns-in-Err-clause-counts
+returns-in-Err-clause-counts g c =
+    let state = g.F.Files.state in
+    counts-given-back c.args.attached.now.slots c.attach_file.new.attached.slots c.compare.new.attached.slots
+    (unit_of (file_in c.args.file.now)) c.unit_of.result (state c.args.files.now) (state c.attach_file.new.files)
+    (state c.compare.new.files) (state c.give_back.new.files) c.requires.free c.in_ok-attach_file.ensures.from
+    c.in_ok-attach_file.ensures.counts c.in-Err.ensures.count
+    (ap (λ (a : AttachedFiles). a.slots) c.in-Err.ensures.kept) c.unit_of.ensures c.give_back.ensures.count
+
+pub returns-in-Err-clause-cause : goal.returns-in-Err-clause-cause
+returns-in-Err-clause-cause g c =
+    let state = g.F.Files.state in
+    cause-compared g.F.Files.tells c.args.attached.now.slots c.attach_file.new.attached.slots
+    (unit_of (file_in c.args.file.now)) (state c.args.files.now) (state c.attach_file.new.files)
+    (state c.compare.new.files) (state c.give_back.new.files) c.requires.free c.in_ok-attach_file.ensures.from
+    c.in_ok-attach_file.ensures.cause c.give_back.ensures.count.later c.give_back.ensures.count.openings
+    c.give_back.ensures.count.ids c.in-Err.fault c.in-Err.ensures.calls c.in-Err.ensures.cause
