@@ -1,17 +1,15 @@
 -- Looks of both keyboards at one time, with a poll of a line, ahead of the turn that they belong to.
-use Rattle.std.proofs.Common.{◌≡◌, ◌≢◌, ◌∙◌, refl, ap, sym, subst, arith, ℕ, zero, suc, ◌+◌, ◌-◌, ◌<◌, ◌≤◌, Bool, false, IsTrue, List, [], ◌∷◌, ◌++◌, append_assoc, append-nil, map, Option, Some, None, option_map, slice_get, IfSome, is_some, ◌==◌, true, if◌then◌else◌}
+use Rattle.std.proofs.Common.{◌≡◌, ◌≢◌, ◌∙◌, refl, ap, sym, subst, arith, ℕ, zero, suc, ◌+◌, ◌-◌, ◌<◌, Bool, false, List, [], ◌∷◌, ◌++◌, append_assoc, append-nil, map, Option, Some, None, option_map, slice_get, IfSome, is_some, ◌==◌, true, if◌then◌else◌}
 use Rattle.std.proofs.lemmas.Option.{same_Some}
 use Rattle.std.proofs.lemmas.Bool.Decides.{nat_tests}
 use Rattle.observations.specs.Observations.{Observation}
-use Rattle.host_files.specs.Lists.{NamedBytes}
 use Rattle.host_lines.specs.Traffic.{Peer, Answer}
 use Rattle.host_lines.specs.Told.{IsFirst, record_in, ahead_of}
 use Rattle.host_lines.specs.State.{LineState}
 use Rattle.telnet_lines.specs.Line.{LineOf}
 use Rattle.telnet_lines.specs.Joined.{seen_line}
 use Rattle.unit_trait.specs.declared.kind.UnitName.{UnitName}
-use Rattle.unit_trait.specs.declared.kind.Kind.{Kind}
-use Rattle.unit_trait.specs.declared.kind.Kind.TheVariants.{Tti, Tti1}
+use Rattle.unit_trait.specs.declared.kind.Kind.TheVariants.{Tti1}
 use Rattle.unit_trait.specs.declared.calls.Queue.{Queue}
 use Rattle.unit_trait.specs.declared.calls.Got.{Got}
 use Rattle.unit_trait.specs.declared.calls.Got.TheVariants.{NoKey, Key}
@@ -20,7 +18,7 @@ use Rattle.unit_trait.specs.Kinds.{code_of}
 use Rattle.event_queue.specs.EventList.{Event, due, dues, served, activated, wished}
 use Rattle.unit_list.specs.Bus.{unit_at}
 use Rattle.unit_trait.specs.Calls.{UnitState}
-use Rattle.event_queue.specs.Idle.{asked_again, looked}
+use Rattle.event_queue.specs.Idle.{asked_again}
 use Rattle.event_queue.proofs.Dues.{dues-some, dues-activated}
 use Rattle.expect_actions.specs.Watch.{WatchState}
 use Rattle.nova_processor.specs.declared.burst.BurstEnd.{BurstEnd}
@@ -34,18 +32,18 @@ use Rattle.nova_machine.specs.Parts.{Part, silent, behind_made, followed, then_p
 use Rattle.nova_machine.specs.Turned.{Turned, goes_on, still}
 use Rattle.nova_machine.specs.OnLines.{lined}
 use Rattle.nova_machine.specs.LineChanges.{DoneOnLine}
-use Rattle.nova_machine.specs.Comes.{Output, output, Comes, IsWhole}
+use Rattle.nova_machine.specs.Comes.{Output, output, Comes}
 use Rattle.nova_machine.specs.Service.{asked, answered, service, services, serving, taken}
 use Rattle.nova_machine.specs.Turn.{fetch, interrupt, breaks_tested_unless, attended, prepared, turn}
 use Rattle.nova_machine.specs.Run.{last_time, next_turn, turns}
 use Rattle.nova_machine.specs.Bursts.{Bursts}
-use Rattle.nova_machine.specs.Looks.{keyboard, keyless_wish, LooksEach, looked_at}
+use Rattle.nova_machine.specs.Looks.{keyboard, LooksEach, looked_at}
 use Rattle.nova_machine.specs.LineLooks.{second_keyboard, first_looked, AreLooking, IsKeylessNow, AreServed, GoesOn}
 use Rattle.nova_machine.proofs.Parts.{silent-comes, comes-behind, comes-then}
 use Rattle.nova_machine.proofs.Opened.{turn-opened, serving-is, services-none, services-some, turns-some, next-early}
-use Rattle.nova_machine.proofs.Looks.{keyboard_of, asked_for, each-look, asked-same, wants-key, wish-there, answered-same, key-goes}
+use Rattle.nova_machine.proofs.Looks.{asked_for, each-look, asked-same, wants-key, wish-there, answered-same, key-goes}
 use Rattle.nova_machine.proofs.Idling.{no-key, looked-lines}
-use Rattle.nova_machine.proofs.Serving.{IsLined, some-lined, comes-lined}
+use Rattle.nova_machine.proofs.Serving.{some-lined, comes-lined}
 use Rattle.nova_machine.proofs.LineSteps.{first-through}
 
 -- ---- services ahead of their turn

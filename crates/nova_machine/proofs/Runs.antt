@@ -4,7 +4,7 @@ use Rattle.std.proofs.lemmas.Bool.Decides.{nat_tests}
 use Rattle.host_lines.specs.Traffic.{Answer}
 use Rattle.host_lines.specs.State.{LineState}
 use Rattle.nova_machine.specs.declared.machine.Stop.{Stop}
-use Rattle.nova_machine.specs.declared.machine.Stop.TheVariants.{Limit, ChainLimit, FileFault}
+use Rattle.nova_machine.specs.declared.machine.Stop.TheVariants.{Limit, FileFault}
 use Rattle.nova_processor.specs.declared.burst.BurstEnd.{BurstEnd}
 use Rattle.nova_processor.specs.declared.burst.BurstEnd.TheVariants as burst_end
 use Rattle.expect_actions.specs.Watch.{WatchState}
@@ -61,23 +61,6 @@ expired-of note step first left s stop tells b none other is =
     let all : turns note step first left s ≡ silent (Some (expired step)) s = ap (λ (n : ℕ). turns note step first n s) none ∙ turns-none note step first s in
     subst P (sym all) (silent-comes (Some (expired step)) (Some stop) s s tells b other (ap Some is) refl)
 
--- a turn, and then others that came to the next ones
-pub burst-of : (note : Option RunNote) (one first : Bool) (left most rest : ℕ) (s mid next : Seen) (r : Option Stop) (last : Seen) (tells : Bool) (b c a : Output)
-    → s.machine.time < last_time → left ≡ suc most → Comes (turn (at_time s.machine.time note) first s) None mid tells b c
-    → turns note one false most mid ≡ turns note one false rest next → Comes (turns note one false rest next) r last tells c a → Comes (turns note one first left s) r last tells b a
-burst-of note one first left most rest s mid next r last tells b c a early is turned same more =
-    let P : Part → Type 0 = λ p. Comes p r last tells c a in
-    turn-of note one first false left most s mid r last tells b c a early refl is turned (subst P (sym same) more)
-
--- a turn, and then others up to a chain without an end
-pub chain-of : (note : Option RunNote) (one first : Bool) (left most : ℕ) (s mid next : Seen) (tells : Bool) (b c : Output)
-    → s.machine.time < last_time → left ≡ suc most → Comes (turn (at_time s.machine.time note) first s) None mid tells b c
-    → turns note one false most mid ≡ silent (Some ChainLimit) next → Comes (turns note one first left s) (Some ChainLimit) next tells b c
-chain-of note one first left most s mid next tells b c early is turned same =
-    let P : Part → Type 0 = λ p. Comes p (Some ChainLimit) next tells c c in
-    turn-of note one first false left most s mid (Some ChainLimit) next tells b c c early refl is turned
-    (subst P (sym same) (silent-comes (Some ChainLimit) (Some ChainLimit) next next tells c tt refl refl))
-
 -- a burst that no chain has ended
 pub burst-goes : (watch : WatchState) (note : Option RunNote) (most done : ℕ) (end : BurstEnd) (old new : MachineState) (one : Bool) (keys : List (ℕ × ℕ)) (files : List NamedBytes) (lines : LineState) (whole : List Answer)
     → end ≢ burst_end.ChainLimit → Bursts watch keys most done end old new
@@ -86,14 +69,6 @@ burst-goes watch note most done burst_end.Spent old new one keys files lines who
 burst-goes watch note most done burst_end.Transfer old new one keys files lines whole other told = told note one files lines whole
 burst-goes watch note most done burst_end.AtStop old new one keys files lines whole other told = told note one files lines whole
 burst-goes watch note most done burst_end.ChainLimit old new one keys files lines whole other told = absurd (other refl)
-
-pub burst-ends : (watch : WatchState) (note : Option RunNote) (most done : ℕ) (end : BurstEnd) (old new : MachineState) (one : Bool) (keys : List (ℕ × ℕ)) (files : List NamedBytes) (lines : LineState) (whole : List Answer)
-    → end ≡ burst_end.ChainLimit → Bursts watch keys most done end old new
-    → turns note one false most (seen (beside watch keys files lines) whole old) ≡ silent (Some ChainLimit) (seen (beside watch keys files lines) whole new)
-burst-ends watch note most done burst_end.ChainLimit old new one keys files lines whole is told = told note one files lines whole
-burst-ends watch note most done burst_end.Spent old new one keys files lines whole is told = absurd (cc)
-burst-ends watch note most done burst_end.Transfer old new one keys files lines whole is told = absurd (cc)
-burst-ends watch note most done burst_end.AtStop old new one keys files lines whole is told = absurd (cc)
 
 -- ---- the note of a run
 

@@ -87,6 +87,9 @@ impl<U: Unit> Machine<U> {
         ensures time { self.new.time ≡ self.old.time }
         ensures taken { self.new.taken ≡ self.old.taken }
     {
+        if !self.are_both_due() {
+            return false;
+        }
         if self.time >= LAST_TIME {
             return false;
         }
@@ -101,12 +104,10 @@ impl<U: Unit> Machine<U> {
 
     /// After how many instructions both keyboards look again, where they look now, and no other event is due.
     fn both_look(&mut self) -> Option<u32>
+        requires due { dues self.old.events ≡ keyboard ∷ second_keyboard ∷ [] }
         ensures looking { IfSome result (λ period. AreLooking period self.old) }
         ensures same { self.new ≡ self.old }
     {
-        if !self.are_both_due() {
-            return None;
-        }
         let first = period_of(&self.places, self.units.as_mut_slice(), KEYBOARD);
         let second = period_of(&self.places, self.units.as_mut_slice(), SECOND_KEYBOARD);
         match (first, second) {

@@ -1,8 +1,7 @@
 -- Attaching and comparing as one act.
 use Rattle.std.proofs.Common.{◌≡◌, ◌⊎◌, inl, inr, ⊎_elim, ℕ, Bool, true, false, cond, zero, suc, get_or, Result, Ok, Err, List, [], ◌∷◌}
-use Rattle.std.proofs.Common.{length, Option, Some, None, refl, sym, ap, subst, ◌∙◌, arith}
+use Rattle.std.proofs.Common.{length, Option, Some, None, refl, sym, ap, subst, ◌∙◌}
 use Rattle.std.specs.Prelude.{is_some, ◌&&◌, nat_lt, slice_set}
-use Rattle.unit_files.specs.declared.faults.UnitFault.{UnitFault}
 use Rattle.unit_files.specs.Answers.{failure_in}
 use Rattle.state_file.specs.declared.file_faults.RestoreFault.{RestoreFault}
 use Rattle.state_file.specs.declared.file_faults.RestoreFault.TheVariants as fault
@@ -16,10 +15,10 @@ use Rattle.unit_files.specs.Acts.{Failure, failure_at, AttachSaid, Attached, Onl
 use Rattle.unit_files.specs.Acts.{attach_files, files_unless, files_unless_opening, files_where, opened_files, is_read_only}
 use Rattle.unit_files.specs.Buffer.{Buffer}
 use Rattle.unit_files.specs.Acts.{buffer_by, said_unless, opened_said, read_whole, refused_first}
-use Rattle.unit_files.specs.Digests.{digest_measured, IsReadingCall}
+use Rattle.unit_files.specs.Digests.{digest_measured}
 use Rattle.state_file.specs.Parts.{FilePart}
 use Rattle.state_file.specs.Ranges.{kind_at}
-use Rattle.state_file.specs.Restoring.{unit_of, is_only_read, mode_of, FileRefusal, CallFails, behind_attaching, compared}
+use Rattle.state_file.specs.Restoring.{unit_of, is_only_read, mode_of, CallFails, behind_attaching, compared}
 use Rattle.state_file.specs.Restoring.{refusal_of}
 use Rattle.state_file.specs.RestoringOne.{CompareCalls, Compares, SaysOne, failure_of}
 

@@ -17,8 +17,12 @@ pub mod SavedWatchLemmas
 pub mod SavedLemmas
 pub mod SavedFileLemmas
 pub mod SavedValidLemmas
+pub mod PutBackWatchLemmas
+pub mod PutBackMachineLemmas
+pub mod PutBackValidLemmas
 pub mod Digesting
 pub mod Attaching
 pub mod Together
 pub mod ValidFiles
 pub mod RestoreCounts
+pub mod SavingLaws

@@ -1,15 +1,15 @@
 -- The counts of failing calls where files are attached one behind another, and given back.
-use Rattle.std.proofs.Common.{◌≡◌, ◌≢◌, ◌⊎◌, inl, inr, ⊎_elim, ℕ, ◌<◌, ◌≤◌, zero, suc, Bool, get_or, List, [], ◌∷◌, Option, Some, None, Result, Ok, Err}
+use Rattle.std.proofs.Common.{◌≡◌, ◌⊎◌, inl, inr, ⊎_elim, ℕ, ◌<◌, ◌≤◌, zero, suc, Bool, get_or, List, [], ◌∷◌, Option, Some, None, Ok, Err}
 use Rattle.std.proofs.Common.{refl, sym, ap, subst, ◌∙◌, arith}
-use Rattle.std.specs.Prelude.{option_map, IsTrue}
+use Rattle.std.specs.Prelude.{option_map}
 use Rattle.fault_counts.specs.Faults.{raised, Rose}
 use Rattle.host_files.specs.declared.files.FileCall.{FileCall}
 use Rattle.host_files.specs.declared.files.FileCall.TheVariants.{Opening, Length, Read}
 use Rattle.host_files.specs.State.{FileState}
 use Rattle.unit_trait.specs.declared.kind.UnitName.{UnitName}
 use Rattle.unit_files.specs.declared.faults.UnitFault.{UnitFault}
-use Rattle.unit_files.specs.Attachments.{Held, Attachment, held_at, attachments_of, attachment_at, file_place}
-use Rattle.unit_files.specs.Causes.{OnlyNewCounts, AreFrom, OnlyKept, IsNewId, IsFaultOf}
+use Rattle.unit_files.specs.Attachments.{Held, held_at, attachments_of, attachment_at, file_place}
+use Rattle.unit_files.specs.Causes.{OnlyNewCounts, AreFrom, OnlyKept, IsNewId}
 use Rattle.state_file.specs.declared.file_faults.RestoreFault.{RestoreFault}
 use Rattle.state_file.specs.declared.file_faults.RestoreFault.TheVariants as fault
 use Rattle.state_file.specs.RestoringOne.{OnlyItsCount, CompareCalls, CompareCause, IsReadingFault}

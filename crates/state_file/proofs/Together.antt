@@ -1,6 +1,6 @@
 -- Files that are attached one behind another.
-use Rattle.std.proofs.Common.{◌≡◌, ◌≢◌, ◌⊎◌, inl, inr, ℕ, ◌+◌, ◌<◌, Bool, true, false, cond, zero, suc, get_or, List, [], ◌∷◌}
-use Rattle.std.proofs.Common.{length, Option, Some, None, Result, Ok, Err, refl, sym, ap, subst, ◌∙◌, arith}
+use Rattle.std.proofs.Common.{◌≡◌, ◌≢◌, inl, inr, ℕ, ◌+◌, ◌<◌, Bool, true, false, cond, zero, suc, get_or, List, [], ◌∷◌}
+use Rattle.std.proofs.Common.{length, Option, Some, None, Result, Err, refl, sym, ap, subst, ◌∙◌, arith}
 use Rattle.std.specs.Prelude.{slice_set, replicate, IsTrue, is_some, ◌==◌}
 use Rattle.std.specs.List.{AllByRecursion}
 use Rattle.std.proofs.lemmas.List.{get_or-set_other}
@@ -158,11 +158,12 @@ not-claimed f fs fault.OutOfMemory apart these = refl
 pub still-free : (f : FilePart) (fs : List FilePart) (attached mid : List (Option Attachment)) → mid ≡ with_file attached f
     → AllByRecursion (AreOfTwo f) fs → AllByRecursion (IsFree attached) fs → AllByRecursion (IsFree mid) fs
 still-free f [] attached mid put apart free = tt
-still-free f (g ∷ fs) attached mid put apart free =
-    (ap (λ (l : List (Option Attachment)). attachment_at l (unit_of g)) put
-    ∙ get_or-set_other attached (file_place (unit_of f)) (file_place (unit_of g)) (Some (attachment_of f)) None
-    (λ same. apart.0 (sym same)) ∙ free.0,
-    still-free f fs attached mid put apart.1 free.1)
+still-free f (g ∷ fs) attached mid put apart free = (
+  ap (λ (l : List (Option Attachment)). attachment_at l (unit_of g)) put
+      ∙ get_or-set_other attached (file_place (unit_of f)) (file_place (unit_of g)) (Some (attachment_of f)) None
+      (λ same. apart.0 (sym same)) ∙ free.0,
+  still-free f fs attached mid put apart.1 free.1,
+)
 
 pub disk-place : (kind : Kind) (unit : ℕ) → is_disk kind ≡ true → IsTrue (takes_attachment (record { kind = kind; unit = unit }))
     → file_place (record { kind = kind; unit = unit }) ≡ 0
@@ -276,9 +277,10 @@ none-at (suc n) (suc place) = none-at n place
 pub all-free : (slots : List (Option Held)) (fs : List FilePart) → slots ≡ no_files
     → AllByRecursion (IsFree (attachments_of slots)) fs
 all-free slots [] is = tt
-all-free slots (f ∷ fs) is =
-    (ap (λ (l : List (Option Held)). attachment_at (attachments_of l) (unit_of f)) is ∙ none-at file_units (file_place (unit_of f)),
-    all-free slots fs is)
+all-free slots (f ∷ fs) is = (
+  ap (λ (l : List (Option Held)). attachment_at (attachments_of l) (unit_of f)) is ∙ none-at file_units (file_place (unit_of f)),
+  all-free slots fs is,
+)
 
 pub all-clean : (disk : Buffer) (fs : List FilePart) → disk ≡ no_buffer → AllByRecursion (IsClean disk) fs
 all-clean disk [] is = tt

@@ -11,11 +11,10 @@ use Rattle.unit_trait.proofs.EveryKind.{every-kind}
 use Rattle.unit_files.specs.Attachments.{takes_files, takes_attachment, file_place}
 use Rattle.unit_files.specs.Attachments.{only_writes as writes_only}
 use Rattle.state_file.specs.Parts.{FilePart}
-use Rattle.state_file.specs.Ranges.{kind_at, FilePlace, takes_file_at, is_next_unit, only_writes, is_flag, is_read_only_of, is_name_length}
-use Rattle.state_file.specs.Reading.{behind_file, place_of}
-use Rattle.state_file.specs.Restoring.{unit_of, is_only_read}
+use Rattle.state_file.specs.Ranges.{kind_at, FilePlace, only_writes, is_flag, is_name_length}
+use Rattle.state_file.specs.Reading.{behind_file}
 use Rattle.state_file.specs.RestoringOne.{CanAttach, AreOfTwo, AreApart}
-use Rattle.state_file.specs.Valid.{Follow, IsFile, AreFiles}
+use Rattle.state_file.specs.Valid.{Follow, IsFile}
 
 -- ---- each can be attached
 
@@ -45,7 +44,7 @@ can-attach least f is =
     (nat_lt least.position f.position || nat_le least.unit f.unit) is.unit in
     record {
       unit = both (takes_files (kind_at f.position)) (nat_lt f.unit (units_of (kind_at f.position)))
-      (sym (same-takes (kind_at f.position)) ∙ position.1) unit.0;
+          (sym (same-takes (kind_at f.position)) ∙ position.1) unit.0;
       name = long-name (length f.name) is.long;
       written = λ only.
           written-alone (only_writes (kind_at f.position)) f.read_only is.read_only
@@ -166,6 +165,7 @@ others-apart least f (g ∷ gs) can cans from =
 pub all-apart : (least : FilePlace) (fs : List FilePart) → Follow IsFile behind_file least fs → AreApart fs
 all-apart least [] each = tt
 all-apart least (f ∷ fs) each =
-    let next = behind_file least f in
-    (others-apart least f fs (can-attach least f each.0) (each-can next fs each.1) (all-from next fs each.1),
-    all-apart next fs each.1)
+    let next = behind_file least f in (
+      others-apart least f fs (can-attach least f each.0) (each-can next fs each.1) (all-from next fs each.1),
+      all-apart next fs each.1,
+    )

@@ -9,6 +9,9 @@ pub mod Laws
 pub mod Session
 pub mod PutBack
 pub mod SavedValid
+pub mod PutBackValid
 pub mod Restoring
 pub mod RestoringOne
 pub mod RestoreCauses
+pub mod Saving
+pub mod SavingOne

@@ -1,6 +1,6 @@
 -- A failed call that is answered where the files of a saved session are attached has raised a count in this very call: that
 -- of its file, which was opened in it, or of openings. The closing of a file that is given back is told by its count alone.
-use Rattle.std.specs.Prelude.{◌≡◌, ◌⊎◌, Bool, IsTrue, Option, Some, None, Result, Ok, Err}
+use Rattle.std.specs.Prelude.{◌≡◌, ◌⊎◌, Bool, IsTrue, Some, None, Result, Ok, Err}
 use Rattle.fault_counts.specs.Faults.{Rose}
 use Rattle.host_files.specs.declared.files.FileId.{FileId}
 use Rattle.host_files.specs.declared.files.FileCall.TheVariants.{Opening, Length, Read}

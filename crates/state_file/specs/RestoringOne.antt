@@ -1,9 +1,6 @@
 -- One file is attached and compared: what its calls want and answer.
-use Rattle.std.specs.Prelude.{◌≡◌, ◌≢◌, ◌⊎◌, ℕ, ◌≤◌, Bool, true, false, IsTrue, List, [], ◌∷◌, Option, Some, None, Result, Ok, Err}
+use Rattle.std.specs.Prelude.{◌≡◌, ◌≢◌, ℕ, ◌≤◌, Bool, true, false, IsTrue, List, [], ◌∷◌, Option, Some, None, Result, Ok, Err}
 use Rattle.std.specs.List.{AllByRecursion}
-use Rattle.fault_counts.specs.Faults.{Rose}
-use Rattle.host_files.specs.declared.files.FileId.{FileId}
-use Rattle.host_files.specs.declared.files.FileCall.TheVariants.{Opening, Length, Read}
 use Rattle.host_files.specs.Lists.{NamedBytes}
 use Rattle.host_files.specs.State.{FileState}
 use Rattle.unit_trait.specs.declared.kind.UnitName.{UnitName}
@@ -14,7 +11,7 @@ use Rattle.unit_files.specs.Attachments.{IsFileName, file_place}
 use Rattle.unit_files.specs.Buffer.{Buffer, no_buffer}
 use Rattle.unit_files.specs.Acts.{Failure, Attached, attach_said}
 use Rattle.unit_files.specs.Answers.{failure_in}
-use Rattle.unit_files.specs.Causes.{IsQuiet, IsFaultOf, IsNewId}
+use Rattle.unit_files.specs.Causes.{IsQuiet, IsFaultOf}
 use Rattle.unit_files.specs.Digests.{DigestSaid, NotDigested, Digested, IsReadingCall, digest_measured}
 use Rattle.state_file.specs.declared.file_faults.RestoreFault.{RestoreFault}
 use Rattle.state_file.specs.declared.file_faults.RestoreFault.TheVariants as fault

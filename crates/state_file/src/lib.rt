@@ -11,6 +11,7 @@ mod machine_fields;
 mod reading;
 pub mod restoring;
 pub mod saved;
+pub mod saving;
 pub mod unit_digest;
 mod watch_fields;
 mod writing;
@@ -18,12 +19,14 @@ mod writing;
 pub use fault::StateFault;
 pub use file_faults::{RestoreFault, SaveFault};
 pub use laws::{
-    saved_is_valid, saving_puts_back, state_texts_are_one_to_one, valid_states_are_read,
+    put_back_is_valid, saved_is_valid, saving_puts_back, state_texts_are_one_to_one,
+    valid_states_are_read,
 };
 pub use reading::read_state;
 pub use restoring::attach_all;
 pub use saved::{
     Saved, SavedBreak, SavedCpu, SavedEvent, SavedExpect, SavedFile, SavedSend, SavedUnit,
 };
+pub use saving::digest_all;
 pub use std::alloc::AllocError as OutOfMemory;
 pub use writing::write_state;

@@ -27,8 +27,8 @@ use std::alloc::Global;
 use unit_files::{AttachFault, AttachMode, Attached};
 use unit_trait::UnitName;
 
-// The unit of a file.
-fn unit_of(file: &SavedFile) -> UnitName
+/// The unit of a file.
+pub(crate) fn unit_of(file: &SavedFile) -> UnitName
     ensures { result ≡ unit_of (file_in file.now) }
 {
     UnitName {
@@ -235,11 +235,11 @@ fn attach_each<F: Files>(
     }
 }
 
-/// Attaches the files that a saved session names, where nothing is attached: each in its order, only to be read where it
-/// was, and else to be changed; and, unless that is forced, its length and digest are compared with those of the session
-/// before the next. The refusals of a file, in this order: `NoFile`, or `Failed` of the opening; `Failed` of the length;
-/// `TooLong`; `Failed` of a read; `Changed`. The first file that is refused ends it, and `OutOfMemory` may come in front
-/// of each. Behind a refusal nothing is attached, and each file that was opened is closed.
+/// Attaches the files that a saved session names, where nothing is attached: each in its order, only to be read where
+/// it was, and else to be changed; and, unless that is forced, its length and digest are compared with those of the
+/// session before the next. The refusals of a file, in this order: `NoFile`, or `Failed` of the opening; `Failed` of
+/// the length; `TooLong`; `Failed` of a read; `Changed`. The first file that is refused ends it, and `OutOfMemory` may
+/// come in front of each. Behind a refusal nothing is attached, and each file that was opened is closed.
 pub fn attach_all<F: Files>(
     alloc: Global,
     saved: &[SavedFile],

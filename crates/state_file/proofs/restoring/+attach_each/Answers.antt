@@ -1,15 +1,15 @@
-use Rattle.std.proofs.Common.{◌≡◌, Bool, Option, Some, None, Result, Ok, Err, refl, sym, ap, subst, ◌∙◌, rules, ℕ, List, ◌∷◌, [], arith, length}
+use Rattle.std.proofs.Common.{Option, Some, None, Ok, Err, refl, ap, subst, ◌∙◌, rules, List}
 use Rattle.std.proofs.lemmas.Result.{err_from_is_err_and}
 use Rattle.unit_trait.specs.declared.kind.UnitName.{UnitName}
 use Rattle.unit_files.specs.Attachments.{Attachment, attachments_of, file_place}
 use Rattle.unit_files.specs.Acts.{detached}
-use Rattle.state_file.specs.Parts.{FilePart, file_in}
+use Rattle.state_file.specs.Parts.{file_in}
 use Rattle.state_file.specs.Restoring.{files_in, unit_of, attachment_of}
 use Rattle.state_file.specs.RestoringOne.{CanAttach, IsFree, IsClean}
 use Rattle.state_file.proofs.Attaching.{set-back}
 use Rattle.state_file.proofs.Together.{none-said, first-said, others-said, not-claimed, still-free, still-clean, all-of, head-of}
-use Rattle.state_file.proofs.Together.{tail-of, apart-of, none-in, copy-stays}
-use Rattle.state_file.proofs.RestoreCounts.{from-both, new-counts, new-counts-behind, cause-behind}
+use Rattle.state_file.proofs.Together.{tail-of, apart-of, none-in}
+use Rattle.state_file.proofs.RestoreCounts.{from-both, new-counts, new-counts-behind}
 use Rattle.state_file.specs.RestoringOne.{OnlyItsCount}
 use Rattle.state_file.proofs.restoring.+attach_each.Goals as goal
 

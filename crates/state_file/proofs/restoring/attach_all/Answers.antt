@@ -1,4 +1,4 @@
-use Rattle.std.proofs.Common.{◌≡◌, refl, sym, ap, subst, ◌∙◌, List, Option, Result}
+use Rattle.std.proofs.Common.{◌≡◌, sym, ap, ◌∙◌, List, Option, Result}
 use Rattle.std.specs.Prelude.{Ok, Err, OnErr}
 use Rattle.host_files.specs.State.{Opened}
 use Rattle.unit_files.specs.Attachments.{Held, attachments_of, no_files}

@@ -1,4 +1,4 @@
-use Rattle.std.proofs.Common.{◌≡◌, Some, None, sym, ◌∙◌, rules}
+use Rattle.std.proofs.Common.{Some, None, ◌∙◌, rules}
 use Rattle.unit_files.specs.Attachments.{attachments_of}
 use Rattle.unit_files.specs.Acts.{NotThere, TooLong, CallFailed}
 use Rattle.unit_files.specs.Answers.{failure_in}

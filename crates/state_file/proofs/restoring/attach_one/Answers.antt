@@ -1,4 +1,4 @@
-use Rattle.std.proofs.Common.{◌≡◌, Bool, false, Option, Some, None, Result, Ok, Err, refl, sym, ap, subst, ◌∙◌, rules, List, IsTrue}
+use Rattle.std.proofs.Common.{◌≡◌, Bool, false, Option, Some, None, Result, Ok, Err, ap, subst, ◌∙◌, List, IsTrue}
 use Rattle.std.specs.Prelude.{is_some}
 use Rattle.host_files.specs.Lists.{NamedBytes, bytes_of}
 use Rattle.unit_files.specs.Attachments.{Attachment, attachments_of, attachment_at, file_place}

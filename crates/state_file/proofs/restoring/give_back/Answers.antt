@@ -1,4 +1,4 @@
-use Rattle.std.proofs.Common.{◌≡◌, ◌∙◌}
+use Rattle.std.proofs.Common.{◌∙◌}
 use Rattle.unit_files.specs.Attachments.{attachment_at, attachments_of}
 use Rattle.unit_files.specs.Answers.{failure_of_detach}
 use Rattle.state_file.proofs.Digesting.{none-flushed}

@@ -1,4 +1,4 @@
-use Rattle.std.proofs.Common.{◌≡◌, ◌∙◌, Some, None}
+use Rattle.std.proofs.Common.{◌∙◌, Some, None}
 use Rattle.unit_files.specs.Attachments.{attachments_of, attachment_at}
 use Rattle.unit_files.specs.Answers.{failure_in}
 use Rattle.state_file.proofs.Digesting.{none-flushed, clean-said}

@@ -1,6 +1,6 @@
-use Rattle.std.proofs.Common.{◌≡◌, ◌<◌, ◌∷◌, ◌∙◌, sym, ℕ, Option, IfSome, Some, option_map, slice_get, List, ap, subst, rules}
+use Rattle.std.proofs.Common.{◌≡◌, ◌<◌, ◌∙◌, sym, ℕ, Option, IfSome, Some, option_map, slice_get, ap, subst, rules}
 use Rattle.unit_trait.specs.declared.kind.UnitName.{UnitName}
-use Rattle.event_queue.specs.EventList.{Event, dues}
+use Rattle.event_queue.specs.EventList.{dues}
 use Rattle.nova_machine.specs.Machine.{MachineState}
 use Rattle.nova_machine.specs.Looks.{keyboard}
 use Rattle.nova_machine.specs.LineLooks.{second_keyboard}

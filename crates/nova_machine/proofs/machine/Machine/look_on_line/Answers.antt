@@ -1,10 +1,12 @@
-use Rattle.std.proofs.Common.{◌≡◌, ◌<◌, List, ap, sym, subst, rules}
-use Rattle.telnet_lines.specs.Line.{LineOf}
+use Rattle.std.proofs.Common.{◌<◌, sym, subst, rules}
 use Rattle.nova_machine.specs.Machine.{MachineState}
 use Rattle.nova_machine.specs.LineChanges.{AreLinesTold, LinesGoOn}
 use Rattle.nova_machine.specs.LineLooks.{IsKeylessNow, AreServed}
 use Rattle.nova_machine.proofs.LineSteps.{lines-stay}
 use Rattle.nova_machine.proofs.machine.Machine.look_on_line.Goals as goal
+
+pub returns-then-not-are_both_due-clause-lines : goal.returns-then-not-are_both_due-clause-lines
+returns-then-not-are_both_due-clause-lines g c = lines-stay g.L.Lines.tells (g.L.Lines.state c.args.lines.now) c.args.self.now.lines
 
 pub returns-then-self-ge-LAST_TIME-clause-lines : goal.returns-then-self-ge-LAST_TIME-clause-lines
 returns-then-self-ge-LAST_TIME-clause-lines g c = lines-stay g.L.Lines.tells (g.L.Lines.state c.args.lines.now) c.args.self.now.lines

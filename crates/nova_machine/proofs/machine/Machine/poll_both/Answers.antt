@@ -1,4 +1,4 @@
-use Rattle.std.proofs.Common.{◌≡◌, ◌∙◌, ℕ, List, ap, sym, subst}
+use Rattle.std.proofs.Common.{◌∙◌, ℕ, List, ap, sym, subst}
 use Rattle.telnet_lines.specs.Line.{LineOf}
 use Rattle.event_queue.specs.EventList.{dues}
 use Rattle.unit_trait.specs.declared.calls.Got.TheVariants.{Key}

@@ -1,11 +1,9 @@
-use Rattle.std.proofs.Common.{◌≡◌, ◌≢◌, ℕ, ◌-◌, ◌+◌, ◌<◌, ◌≤◌, suc, false, List, None, Some, Option, inl, inr, ap, refl, sym, subst, ◌∙◌, arith, rules}
+use Rattle.std.proofs.Common.{◌≡◌, ◌≢◌, ℕ, ◌-◌, ◌+◌, ◌<◌, ◌≤◌, suc, false, None, Some, Option, inl, inr, refl, sym, subst, ◌∙◌, arith, rules}
 use Rattle.nova_processor.specs.declared.burst.BurstEnd.TheVariants as burst_end
 use Rattle.nova_machine.specs.declared.machine.Stop.TheVariants.{Limit, ChainLimit}
 use Rattle.nova_machine.specs.Notes.{UnitNote, RunNote, at_time, unit_note, run_note}
 use Rattle.nova_machine.specs.Seen.{seen, beside}
 use Rattle.host_lines.specs.Told.{record_in}
-use Rattle.telnet_lines.specs.Line.{LineOf}
-use Rattle.nova_machine.specs.LineChanges.{LinesGoOn}
 use Rattle.nova_machine.proofs.LineSteps.{lines-stay, lines-then, first-through}
 use Rattle.nova_machine.specs.Comes.{AreTold, Comes, output}
 use Rattle.nova_machine.specs.Turn.{turn}

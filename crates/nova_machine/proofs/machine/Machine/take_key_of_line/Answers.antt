@@ -1,4 +1,4 @@
-use Rattle.std.proofs.Common.{◌≡◌, ◌∙◌, List, Option, Some, IfSome, ap, sym, subst, rules}
+use Rattle.std.proofs.Common.{◌≡◌, ◌∙◌, List, Option, Some, IfSome, ap, subst}
 use Rattle.unit_trait.specs.declared.kind.UnitName.{UnitName}
 use Rattle.unit_list.specs.Bus.{kinds_of}
 use Rattle.event_queue.specs.EventList.{Event, due, dues, served, activated}
