@@ -2,12 +2,21 @@ ghost use Rattle.std.specs.Prelude.{◌≡◌, ◌≤◌, ◌<◌, [], IsTrue, i
 ghost use Rattle.unit_trait.specs.Kinds.{code_of, units_of};
 ghost use Rattle.event_queue.specs.EventList.{activated};
 ghost use Rattle.unit_list.specs.Bus.{unit_at};
+ghost use Rattle.nova_machine.specs.Registers.{with_cpu};
 ghost use Rattle.nova_machine.specs.Run.{last_time};
 
 use crate::machine::Machine;
+use nova_word::Word;
 use unit_trait::{Unit, UnitName};
 
 impl<U: Unit> Machine<U> {
+    /// Sets AC0 to AC3.
+    pub fn set_accumulators(&mut self, words: [Word; 4])
+        ensures { self.new ≡ with_cpu self.old (record self.old.processor.cpu { accumulators = words }) }
+    {
+        self.processor.cpu.accumulators = words;
+    }
+
     /// Sets how many instructions were executed since the session began, at most 2^60, and how many of the timed keys
     /// were taken. Each event that waits stays as far ahead as it was.
     pub fn set_clock(&mut self, time: u64, taken: u64)

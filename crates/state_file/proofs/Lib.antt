@@ -26,3 +26,5 @@ pub mod Together
 pub mod ValidFiles
 pub mod RestoreCounts
 pub mod SavingLaws
+pub mod PuttingLemmas
+pub mod PuttingWatchLemmas

@@ -2,8 +2,7 @@
 use Rattle.std.proofs.Common.{◌≡◌, ℕ, zero, suc, ◌+◌, ◌<◌, ◌≤◌, ◌^◌, ◌&&◌, ◌∷◌, ◌++◌, Bool, true, IsTrue, List, [], length, map, take, get_or, refl, sym, ap, subst, ◌∙◌, arith}
 use Rattle.std.specs.Prelude.{nat_le}
 use Rattle.std.specs.List.{AllByRecursion}
-use Rattle.std.proofs.lemmas.Bool.{and_parts}
-use Rattle.std.proofs.lemmas.Bool.Decides.{nat_tests}
+use Rattle.std.proofs.lemmas.Bool.{leb-true}
 use Rattle.std.proofs.lemmas.List.{take_more, take_all, length-map, length-take-le, map_push}
 use Rattle.expect_actions.specs.declared.breaks.Break.{Break}
 use Rattle.expect_actions.specs.declared.expects.Expect.{Expect}
@@ -21,6 +20,7 @@ use Rattle.state_file.specs.PutBack.{break_from, expect_from, send_from}
 use Rattle.state_file.specs.Ranges.{is_address, last_send}
 use Rattle.state_file.specs.Reading.{behind_break, behind_send}
 use Rattle.state_file.specs.Valid.{Follow, IsBreak, IsExpect, IsSend}
+use Rattle.state_file.proofs.PutBackWatchLemmas.{address-from, breaks-rise, sends-in-time}
 
 -- ---- what holds of the first ones
 
@@ -38,8 +38,11 @@ first-rising (suc n) (b ∷ list) rising =
 first-in-time : (n : ℕ) (sends : List Send) → InTime sends → InTime (take n sends)
 first-in-time zero sends in_time = tt
 first-in-time (suc n) [] in_time = tt
-first-in-time (suc n) (s ∷ sends) in_time =
-    (in_time.0, (first-all (λ (later : Send). s.0 ≤ later.0) n sends in_time.1, first-in-time n sends in_time.2))
+first-in-time (suc n) (s ∷ sends) in_time = (
+  in_time.0,
+  first-all (λ (later : Send). s.0 ≤ later.0) n sends in_time.1,
+  first-in-time n sends in_time.2,
+)
 
 first-mapped : {A B : Type 0} (f : A → B) (n : ℕ) (xs : List A) → map f (take n xs) ≡ take n (map f xs)
 first-mapped f zero xs = refl
@@ -51,7 +54,7 @@ one-more : {A B : Type 0} (f : A → B) (xs : List A) (i : ℕ) (x : A) → i < 
     → map f (take (i + 1) xs) ≡ map f (take i xs) ++ f x ∷ []
 one-more {A} f xs i x within is =
     let e : take (i + 1) xs ≡ take i xs ++ x ∷ [] =
-        take_more xs i x within ∙ ap (λ (y : A). take i xs ++ y ∷ []) (sym is) in
+    take_more xs i x within ∙ ap (λ (y : A). take i xs ++ y ∷ []) (sym is) in
     ap (map f) e ∙ map_push f (take i xs) x
 
 -- ---- breaks
@@ -63,32 +66,6 @@ pub breaks-said : (xs : List SavedBreak) → map break_from (map break_in xs) �
 breaks-said [] = refl
 breaks-said (x ∷ xs) = ap (λ (l : List Break). break_said x ∷ l) (breaks-said xs)
 
-pub break-low : (least : ℕ) (b : SavedBreak) → IsBreak least (break_in b)
-    → (least ≤ b.address) × (b.address < 2 ^ 15)
-break-low least b is =
-    let parts = and_parts (nat_le least b.address) (is_address b.address) is.address in
-    (grind (arith, nat_tests, parts.0), grind (arith, nat_tests, parts.1))
-
-breaks-from-on : (low least : ℕ) (bs : List SavedBreak) → low ≤ least → Follow IsBreak behind_break least (map break_in bs)
-    → AllByRecursion (λ (b : Break). low ≤ b.address) (map break_said bs)
-breaks-from-on low least [] le follow = tt
-breaks-from-on low least (b ∷ bs) le follow =
-    let here = (break-low least b follow.0).0 in
-    (omega (arith, here), breaks-from-on low (b.address + 1) bs (omega (arith, here)) follow.1)
-
-breaks-above : (low : ℕ) (bs : List Break) → AllByRecursion (λ (b : Break). low + 1 ≤ b.address) bs
-    → AllByRecursion (λ (b : Break). low < b.address) bs
-breaks-above low [] all = tt
-breaks-above low (b ∷ bs) all = let here = all.0 in (omega (arith, here), breaks-above low bs all.1)
-
-breaks-rise : (least : ℕ) (bs : List SavedBreak) → Follow IsBreak behind_break least (map break_in bs)
-    → Rising (map break_said bs)
-breaks-rise least [] follow = tt
-breaks-rise least (b ∷ bs) follow = (
-  breaks-above b.address (map break_said bs) (breaks-from-on (b.address + 1) (b.address + 1) bs (omega arith) follow.1),
-  breaks-rise (b.address + 1) bs follow.1,
-)
-
 with-last : (front list : List Break) (b : Break) → with_breaks front (list ++ b ∷ []) ≡ with_break b (with_breaks front list)
 with-last front [] b = refl
 with-last front (x ∷ list) b = with-last (with_break x front) list b
@@ -98,16 +75,13 @@ pub record CanBreak (b : SavedBreak) : Type 0 where
   pub address : b.address < 2 ^ 15
   pub short : length b.actions.items ≤ 512
 
-short-line : (n : ℕ) → nat_le n 512 ≡ true → n ≤ 512
-short-line n h = grind (arith, nat_tests)
-
 pub each-breaks : (least : ℕ) (bs : List SavedBreak) → Follow IsBreak behind_break least (map break_in bs)
     → AllByRecursion CanBreak bs
 each-breaks least [] follow = tt
 each-breaks least (b ∷ bs) follow = (
   record {
-    address = (break-low least b follow.0).1;
-    short = short-line (length b.actions.items) follow.0.actions.short;
+    address = (address-from least (break_in b) follow.0).1;
+    short = leb-true (length b.actions.items) 512 follow.0.actions.short;
   },
   each-breaks (b.address + 1) bs follow.1,
 )
@@ -121,14 +95,14 @@ pub break-more : (bs : List SavedBreak) (i : ℕ) (b : SavedBreak) (t n : BreakT
     → BreaksSoFar t i bs → BreaksSoFar n (i + 1) bs
 break-more bs i b t n within is follow becomes so_far =
     let rising : (k : ℕ) → Rising (map break_said (take k bs)) =
-        λ (k : ℕ). subst Rising (sym (first-mapped break_said k bs))
-            (first-rising k (map break_said bs) (breaks-rise 0 bs follow)) in
+    λ (k : ℕ). subst Rising (sym (first-mapped break_said k bs))
+    (first-rising k (map break_said bs) (subst Rising (breaks-said bs) (breaks-rise 0 (map break_in bs) follow))) in
     let more = one-more break_said bs i b within is in
     let last : with_break (break_said b) (map break_said (take i bs)) ≡ map break_said (take (i + 1) bs) =
-        ap (with_break (break_said b)) (sym (tables-filled.breaks (map break_said (take i bs)) (rising i)))
-        ∙ sym (with-last [] (map break_said (take i bs)) (break_said b))
-        ∙ ap (with_breaks []) (sym more)
-        ∙ tables-filled.breaks (map break_said (take (i + 1) bs)) (rising (i + 1)) in
+    ap (with_break (break_said b)) (sym (tables-filled.breaks (map break_said (take i bs)) (rising i)))
+    ∙ sym (with-last [] (map break_said (take i bs)) (break_said b))
+    ∙ ap (with_breaks []) (sym more)
+    ∙ tables-filled.breaks (map break_said (take (i + 1) bs)) (rising (i + 1)) in
     becomes
     ∙ ap (λ (x : BreakTable). break_table (with_break (break_said b) x.list) x.actions) so_far
     ∙ ap (λ (l : List Break). break_table l []) last
@@ -179,23 +153,6 @@ expects-end es i tail t n most so_far becomes =
 
 -- ---- bytes
 
-send-low : (least : ℕ) (s : SavedSend) → IsSend least s → (least ≤ s.time) × (s.time ≤ 2 ^ 62)
-send-low least s is =
-    let parts = and_parts (nat_le least s.time) (nat_le s.time last_send) is.time in
-    (grind (arith, nat_tests, parts.0), grind (arith, nat_tests, parts.1))
-
-sends-from-on : (low least : ℕ) (ss : List SavedSend) → low ≤ least → Follow IsSend behind_send least ss
-    → AllByRecursion (λ (later : Send). low ≤ later.0) (map send_from ss)
-sends-from-on low least [] le follow = tt
-sends-from-on low least (s ∷ ss) le follow =
-    let here = (send-low least s follow.0).0 in
-    (omega (arith, here), sends-from-on low s.time ss (omega (arith, here)) follow.1)
-
-sends-in-time : (least : ℕ) (ss : List SavedSend) → Follow IsSend behind_send least ss → InTime (map send_from ss)
-sends-in-time least [] follow = tt
-sends-in-time least (s ∷ ss) follow =
-    ((send-low least s follow.0).1, (sends-from-on s.time s.time ss (omega arith) follow.1, sends-in-time s.time ss follow.1))
-
 queued-last : (front list : List Send) (s : Send)
     → with_sends front (list ++ s ∷ []) ≡ queued s.0 0 0 (s.1 ∷ []) (with_sends front list)
 queued-last front [] s = refl
@@ -204,14 +161,16 @@ queued-last front (x ∷ list) s = queued-last (queued x.0 0 0 (x.1 ∷ []) fron
 abbrev pub SendsSoFar : List Send → ℕ → List SavedSend → Type 0
 SendsSoFar l i ss = l ≡ map send_from (take i ss)
 
-pub send-more : (ss : List SavedSend) (i : ℕ) (s : SavedSend) (l n : List Send) → i < length ss → s ≡ get_or ss i s
-    → Follow IsSend behind_send 0 ss → n ≡ queued s.time 0 0 (s.byte ∷ []) l
+pub send-more : (ss : List SavedSend) (i : ℕ) (d : SavedSend) (l n : List Send) → i < length ss
+    → Follow IsSend behind_send 0 ss → n ≡ queued (get_or ss i d).time 0 0 ((get_or ss i d).byte ∷ []) l
     → SendsSoFar l i ss → SendsSoFar n (i + 1) ss
-send-more ss i s l n within is follow becomes so_far =
+send-more ss i d l n within follow becomes so_far =
+    let s = get_or ss i d in
     let in_time : (k : ℕ) → InTime (map send_from (take k ss)) =
-        λ (k : ℕ). subst InTime (sym (first-mapped send_from k ss))
-            (first-in-time k (map send_from ss) (sends-in-time 0 ss follow)) in
-    let more = one-more send_from ss i s within is in
+    λ (k : ℕ). subst InTime (sym (first-mapped send_from k ss))
+    (first-in-time k (map send_from ss) (sends-in-time 0 ss follow)) in
+    let more : map send_from (take (i + 1) ss) ≡ map send_from (take i ss) ++ send_from s ∷ [] =
+    ap (map send_from) (take_more ss i d within) ∙ map_push send_from (take i ss) s in
     becomes
     ∙ ap (queued s.time 0 0 (s.byte ∷ [])) (so_far ∙ sym (tables-filled.sends (map send_from (take i ss)) (in_time i)))
     ∙ sym (queued-last [] (map send_from (take i ss)) (send_from s))

@@ -15,3 +15,4 @@ pub mod RestoringOne
 pub mod RestoreCauses
 pub mod Saving
 pub mod SavingOne
+pub mod Putting

@@ -96,8 +96,10 @@ pub fn put_memory<U: Unit>(machine: &mut Machine<U>, words: &[u16])
 // The registers of a unit.
 fn put_unit<U: Unit>(machine: &mut Machine<U>, unit: &SavedUnit)
     requires { InRange (registers (kind_at unit.now.position)) unit.now.registers.items }
-    ensures { machine.new ≡ record machine.old { units = with_registers_in (kind_at unit.now.position)
-        unit.now.registers.items machine.old.units } }
+    ensures { machine.new ≡ record machine.old {
+      units = with_registers_in (kind_at unit.now.position)
+          unit.now.registers.items machine.old.units;
+    } }
 {
     machine.set_unit_regs(kind_at(unit.position), &unit.registers);
 }
@@ -128,8 +130,10 @@ fn unit_of(event: &SavedEvent) -> UnitName
 fn put_event<U: Unit>(machine: &mut Machine<U>, event: &SavedEvent)
     requires number { event.now.unit < units_of (kind_at event.now.position) }
     requires there { IsTrue (is_some (unit_at (code_of (kind_at event.now.position)) machine.old.units)) }
-    ensures { machine.new ≡ record machine.old { events = activated (unit_named event.now.position event.now.unit)
-        event.now.remaining machine.old.events } }
+    ensures { machine.new ≡ record machine.old {
+      events = activated (unit_named event.now.position event.now.unit)
+          event.now.remaining machine.old.events;
+    } }
 {
     machine.activate(unit_of(event), event.remaining);
 }

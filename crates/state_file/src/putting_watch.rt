@@ -51,11 +51,7 @@ fn add_expect(expects: &mut Expects, entry: &SavedExpect) -> Result<(), AllocErr
     requires valid { IsExpect (expect_in entry.now) }
     ensures { OnOk result (expects.new ≡ with_expect (expect_from (expect_in entry.now)) expects.old) }
 {
-    match expects.add(
-        entry.count,
-        entry.text.as_slice(),
-        entry.actions.as_slice(),
-    ) {
+    match expects.add(entry.count, entry.text.as_slice(), entry.actions.as_slice()) {
         Ok(()) => Ok(()),
         Err(AddFault::OutOfMemory) => Err(AllocError),
         Err(AddFault::Full) => unreachable!(),

@@ -4,7 +4,7 @@ use Rattle.state_file.proofs.PuttingLemmas.{events_said}
 use Rattle.state_file.proofs.putting.put_agenda.Given as goal
 
 abbrev pub invariant-loop-event : goal.invariant-loop-event
-invariant-loop-event l = record {
+invariant-loop-event g l = record {
   rest : asked_in_order l.machine.events (events_said (drop l.event-index l.agenda)) ≡ events_said l.agenda;
-  others : l.machine ≡ record l.fn.machine { events = l.machine.events }
+  others : l.machine ≡ record l.fn.machine { events = l.machine.events };
 }

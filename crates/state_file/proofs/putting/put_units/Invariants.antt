@@ -4,7 +4,7 @@ use Rattle.state_file.proofs.PuttingLemmas.{units_said}
 use Rattle.state_file.proofs.putting.put_units.Given as goal
 
 abbrev pub invariant-loop-unit : goal.invariant-loop-unit
-invariant-loop-unit l = record {
+invariant-loop-unit g l = record {
   rest : units_set l.machine.units (units_said (drop l.unit-index l.units)) ≡ units_said l.units;
-  others : l.machine ≡ record l.fn.machine { units = l.machine.units }
+  others : l.machine ≡ record l.fn.machine { units = l.machine.units };
 }
