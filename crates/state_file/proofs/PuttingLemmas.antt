@@ -1,5 +1,5 @@
 -- Units and events of a saved machine that are put into one, one behind another.
-use Rattle.std.proofs.Common.{◌≡◌, ℕ, ◌+◌, ◌<◌, ◌≤◌, ◌==◌, Bool, true, false, not, IsTrue, List, [], ◌∷◌, ◌++◌, length, map, take, drop, get_or, Option, Some, is_some, inl, inr, refl, sym, ap, subst, ◌∙◌, if◌then◌else◌}
+use Rattle.std.proofs.Common.{◌≡◌, ℕ, ◌+◌, ◌<◌, ◌≤◌, ◌==◌, Bool, true, false, not, IsTrue, List, [], ◌∷◌, ◌++◌, length, map, take, drop, get_or, Option, Some, None, is_some, inl, inr, refl, sym, ap, subst, ◌∙◌, if◌then◌else◌}
 use Rattle.std.specs.Prelude.{nat_lt}
 use Rattle.std.specs.List.{AllByRecursion, IsDistinct, list_any}
 use Rattle.std.proofs.lemmas.Bool.{and_parts, eq-eqb, ltb-true}
@@ -17,10 +17,13 @@ use Rattle.event_queue.specs.Agenda.{asked_in_order}
 use Rattle.event_queue.proofs.Agendas.{agenda-stands}
 use Rattle.nova_machine.specs.Core.{IsAmong}
 use Rattle.nova_machine.specs.Machine.{MachineState}
+use Rattle.nova_machine.specs.Seen.{unnumbered, erased}
+use Rattle.unit_files.specs.Attachments.{Held, attachments_of}
 use Rattle.state_file.specs.declared.saved.SavedUnit.{SavedUnit}
 use Rattle.state_file.specs.declared.saved.SavedEvent.{SavedEvent}
-use Rattle.state_file.specs.Parts.{unit_in}
-use Rattle.state_file.specs.PutBack.{unit_from, unit_named, event_from}
+use Rattle.state_file.specs.Parts.{unit_in, MachinePart}
+use Rattle.state_file.specs.Putting.{with_machine_of, IsSeenAs}
+use Rattle.state_file.specs.PutBack.{is_set, cpu_from, interrupts_from, memory_from, unit_from, unit_named, event_from, held_from, machine_from}
 use Rattle.state_file.specs.Ranges.{kind_at, standard_kinds, is_position, is_event_of}
 use Rattle.state_file.specs.Reading.{next_number, with_event}
 use Rattle.state_file.specs.SavedValid.{AreStandard}
@@ -140,3 +143,30 @@ pub events-alone : (old m n : MachineState) (events : List Event) → n ≡ reco
 events-alone old m n events becomes was =
     becomes ∙ ap (λ (x : MachineState). record x { events = events }) was
     ∙ sym (ap (λ (x : MachineState). record old { events = x.events }) becomes)
+
+-- ---- the machine
+
+unnumbered-held : (slots : List (Option Held)) → map unnumbered slots ≡ map held_from (attachments_of slots)
+unnumbered-held [] = refl
+unnumbered-held (None ∷ slots) = ap (λ (l : List (Option Held)). None ∷ l) (unnumbered-held slots)
+unnumbered-held (Some h ∷ slots) =
+    ap (λ (l : List (Option Held)). Some (record { file = 0; attachment = h.attachment }) ∷ l) (unnumbered-held slots)
+
+pub seen-as : (old new : MachineState) (p : MachinePart) → new ≡ with_machine_of old p → IsSeenAs old new p
+unfolding machine_from
+seen-as old new p becomes attached files here copy =
+    let slots : map unnumbered old.slots ≡ map held_from attached =
+    unnumbered-held old.slots ∙ ap (map held_from) here in
+    ap erased becomes ∙ (λ i. record {
+      processor = record { cpu = cpu_from p.cpu; memory = memory_from p.cpu.size_k p.words };
+      ints = interrupts_from p.cpu;
+      sr = p.cpu.sr;
+      stop_dev = is_set p.cpu.stop_dev;
+      units = map unit_from p.units;
+      events = map event_from p.agenda;
+      time = p.cpu.time;
+      taken = p.cpu.keys_taken;
+      slots = slots i;
+      disk = copy i;
+      lines = [];
+    })

@@ -10,16 +10,16 @@ ghost use Rattle.event_queue.specs.EventList.{activated};
 ghost use Rattle.nova_memory.specs.Memory.{IsSize};
 ghost use Rattle.nova_machine.specs.Registers.{with_register};
 ghost use Rattle.nova_machine.specs.Turn.{with_memory};
-ghost use Rattle.state_file.specs.Parts.{unit_in};
+ghost use Rattle.state_file.specs.Parts.{unit_in, state_in};
 ghost use Rattle.state_file.specs.PutBack.{memory_from, unit_from, unit_named, event_from};
-ghost use Rattle.state_file.specs.Putting.{with_registers_of, with_interrupts_of, with_switches_of, with_cpu_of};
+ghost use Rattle.state_file.specs.Putting.{with_registers_of, with_interrupts_of, with_switches_of, with_cpu_of, with_machine_of, IsSeenAs};
 ghost use Rattle.state_file.specs.Ranges.{kind_at, standard_kinds};
 ghost use Rattle.state_file.specs.Reading.{next_number, with_event};
 ghost use Rattle.state_file.specs.SavedValid.{AreStandard};
-ghost use Rattle.state_file.specs.Valid.{Follow, IsCpu, IsUnit, IsEvent};
+ghost use Rattle.state_file.specs.Valid.{Follow, IsCpu, IsUnit, IsEvent, IsMachine};
 
 use crate::kinds::kind_at;
-use crate::saved::{SavedCpu, SavedEvent, SavedUnit};
+use crate::saved::{Saved, SavedCpu, SavedEvent, SavedUnit};
 use nova_machine::Machine;
 use nova_word::Word;
 use unit_trait::{CpuReg, Unit, UnitName};
@@ -148,4 +148,17 @@ pub fn put_agenda<U: Unit>(machine: &mut Machine<U>, agenda: &[SavedEvent])
     for event in agenda {
         put_event(machine, event);
     }
+}
+
+/// The machine, but for its files and its lines.
+pub fn put_machine<U: Unit>(machine: &mut Machine<U>, saved: &Saved)
+    requires standard { AreStandard machine.old.units }
+    requires valid { IsMachine (state_in saved.now).machine }
+    ensures machine { machine.new ≡ with_machine_of machine.old (state_in saved.now).machine }
+    ensures seen { IsSeenAs machine.old machine.new (state_in saved.now).machine }
+{
+    put_cpu(machine, &saved.cpu);
+    put_memory(machine, &saved.words);
+    put_units(machine, &saved.units);
+    put_agenda(machine, &saved.agenda);
 }
