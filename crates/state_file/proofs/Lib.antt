@@ -28,3 +28,5 @@ pub mod PutBackWatchLemmas
 pub mod PutBackMachineLemmas
 pub mod PutBackValidLemmas
 pub mod TakenStates
+pub mod PuttingLemmas
+pub mod PuttingWatchLemmas

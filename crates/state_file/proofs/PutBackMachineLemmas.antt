@@ -32,7 +32,7 @@ use Rattle.state_file.specs.SavedValid.{AreStandard}
 
 -- ---- memory
 
-size-from : (k : ℕ) → is_size k ≡ true → IsSize (1024 * k)
+pub size-from : (k : ℕ) → is_size k ≡ true → IsSize (1024 * k)
 size-from k is =
     let parts = and_parts (nat_le 4 k) (nat_le k 32 && eqb (k % 4) 0) is in
     let rest = and_parts (nat_le k 32) (eqb (k % 4) 0) parts.1 in
@@ -101,7 +101,7 @@ registers-in kind i (r ∷ rs) (v ∷ vs) from same hold =
           (omega (arith, same)) hold.1,
     )
 
-units-fit : (i : ℕ) (us : List UnitPart) → Follow IsUnit next_number i us → AllFit (map unit_from us)
+pub units-fit : (i : ℕ) (us : List UnitPart) → Follow IsUnit next_number i us → AllFit (map unit_from us)
 unfolding register_count AreFrom
 units-fit i [] are = tt
 units-fit i (u ∷ us) are = (
@@ -128,8 +128,12 @@ ten-kinds : kinds_from 0 standard_kinds ≡ take standard_kinds all_kinds
 unfolding kinds_from kind_at
 ten-kinds = refl
 
+pub ten-standard : (us : List UnitPart) → length us ≡ standard_kinds → Follow IsUnit next_number 0 us
+    → AreStandard (map unit_from us)
+ten-standard us all are = kinds-are 0 standard_kinds us all are ∙ ten-kinds
+
 pub units-standard : (m : MachinePart) → IsMachine m → AreStandard (map unit_from m.units)
-units-standard m is = kinds-are 0 standard_kinds m.units is.all is.units ∙ ten-kinds
+units-standard m is = ten-standard m.units is.all is.units
 
 -- ---- the disk
 
@@ -196,7 +200,7 @@ position-back (suc (suc (suc (suc (suc (suc (suc (suc (suc (suc n)))))))))) is =
     absurd (let low = ltb-true
     (suc (suc (suc (suc (suc (suc (suc (suc (suc (suc n)))))))))) standard_kinds is in omega (arith, low))
 
-among-ten : (p : ℕ) → is_position p ≡ true → IsAmong (kind_at p) (take standard_kinds all_kinds)
+pub among-ten : (p : ℕ) → is_position p ≡ true → IsAmong (kind_at p) (take standard_kinds all_kinds)
 unfolding kind_at
 among-ten zero is = inl refl
 among-ten (suc zero) is = inr (inl refl)
@@ -259,7 +263,7 @@ units-behind : (x : SavedEvent) (es : List SavedEvent) → AllByRecursion (Comes
 units-behind x [] all = tt
 units-behind x (l ∷ es) all = (all.0.units, units-behind x es all.1)
 
-events-sound : (front es : List SavedEvent) → Follow IsEvent with_event front es → Sound (map event_from es)
+pub events-sound : (front es : List SavedEvent) → Follow IsEvent with_event front es → Sound (map event_from es)
 unfolding IsDistinct Among
 events-sound front [] are = record { rising = tt; distinct = tt; units = tt; times = tt }
 events-sound front (e ∷ es) are =

@@ -24,7 +24,7 @@ at-most f xs most few =
     let same = length-map xs f in
     omega (arith, le, same)
 
-address-from : (least : ℕ) (b : BreakPart) → IsBreak least b → (least ≤ b.address) × (b.address < 2 ^ 15)
+pub address-from : (least : ℕ) (b : BreakPart) → IsBreak least b → (least ≤ b.address) × (b.address < 2 ^ 15)
 address-from least b is =
     let parts = and_parts (nat_le least b.address) (is_address b.address) is.address in
     (leb-true least b.address parts.0, ltb-true b.address 32768 parts.1)
@@ -36,7 +36,7 @@ breaks-from low least (b ∷ bs) le are =
     let from = (address-from least b are.0).0 in
     (omega (arith, le, from), breaks-from low (b.address + 1) bs (omega (arith, le, from)) are.1)
 
-breaks-rise : (least : ℕ) (bs : List BreakPart) → Follow IsBreak behind_break least bs → Rising (map break_from bs)
+pub breaks-rise : (least : ℕ) (bs : List BreakPart) → Follow IsBreak behind_break least bs → Rising (map break_from bs)
 breaks-rise least [] are = tt
 breaks-rise least (b ∷ bs) are = (
   all-weaker (λ (x : Break). b.address + 1 ≤ x.address) (λ (x : Break). b.address < x.address)
@@ -65,7 +65,7 @@ sends-from low least (s ∷ sends) le are =
     let from = leb-true least s.time (and_parts (nat_le least s.time) (nat_le s.time last_send) are.0.time).0 in
     (omega (arith, le, from), sends-from low s.time sends (omega (arith, le, from)) are.1)
 
-sends-in-time : (least : ℕ) (sends : List SavedSend) → Follow IsSend behind_send least sends
+pub sends-in-time : (least : ℕ) (sends : List SavedSend) → Follow IsSend behind_send least sends
     → InTime (map send_from sends)
 sends-in-time least [] are = tt
 sends-in-time least (s ∷ sends) are =

@@ -15,3 +15,4 @@ pub mod RestoreCauses
 pub mod Saving
 pub mod SavingOne
 pub mod PutBackValid
+pub mod Putting

@@ -8,6 +8,8 @@ mod file_fields;
 mod kinds;
 pub mod laws;
 mod machine_fields;
+mod putting;
+mod putting_watch;
 mod reading;
 pub mod restoring;
 pub mod saved;
