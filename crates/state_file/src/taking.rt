@@ -25,9 +25,9 @@ use unit_trait::Unit;
 
 /// What a state file has of a session: its machine, of the ten standard kinds of units, its watch tables, the files
 /// that are attached, and the port of its second teletype. What the disk holds of its file is written back first, and
-/// then each file is read, in bus order. All memory is taken before that, so after `OutOfMemory` all is as it was. After
-/// `Failed` of that write the disk's file is as it leaves it, and its copy is still to be written back; after `Failed`
-/// of a length or a read the copy is written back. Nothing else of the session changes.
+/// then each file is read, in bus order. All memory is taken before that, so after `OutOfMemory` all is as it was.
+/// After `Failed` of that write the disk's file is as it leaves it, and its copy is still to be written back; after
+/// `Failed` of a length or a read the copy is written back. Nothing else of the session changes.
 pub fn take_state<U: Unit, F: Files>(
     alloc: Global,
     machine: &mut Machine<U>,

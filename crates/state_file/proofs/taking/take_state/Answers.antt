@@ -27,9 +27,9 @@ returns-in-Ok-digest_all-clause-told g c = λ t keys lines whole.
     let machine : x.machine ≡ saved_machine m = ap (λ (s : State). s.machine) c.joined.ensures ∙ c.in-Ok.ensures in
     let watch : x.watch ≡ saved_watch c.args.watch.now = ap (λ (s : State). s.watch) c.joined.ensures ∙ c.in-Ok-taken_watch.ensures in
     let port : (l : LineState) → x.port ≡ saved_port (map (seen_line l) m.lines) =
-        λ l. ap (λ (s : State). s.port) c.joined.ensures ∙ c.taken_port-port.ensures l in
+    λ l. ap (λ (s : State). s.port) c.joined.ensures ∙ c.taken_port-port.ensures l in
     let here : x.files ≡ saved_files files (attachments_of c.digest_all.new.attached.slots) file_places =
-        ap (λ (s : State). s.files) c.joined.ensures ∙ digested.told t
-        ∙ ap (λ (slots : List (Option Held)). saved_files files (attachments_of slots) file_places) (sym digested.slots) in
+    ap (λ (s : State). s.files) c.joined.ensures ∙ digested.told t
+    ∙ ap (λ (slots : List (Option Held)). saved_files files (attachments_of slots) file_places) (sym digested.slots) in
     taken-is-saved x m c.digest_all.new.attached c.args.watch.now files keys lines whole
     (record { machine = machine; files_are = here; port = port; watch = watch })
