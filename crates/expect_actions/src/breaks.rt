@@ -133,8 +133,10 @@ impl Breaks {
     pub fn in_order(&self, k: usize) -> Option<(Addr, u32, &[u8])>
         ensures none { IsNone result ↔ (length self.now.list ≤ k) }
         ensures entry { IfSome result (λ b. slice_get self.now.list k ≡ Some (break_at b.0 b.1 b.2.now)) }
+        ensures short { IfSome result (λ b. length b.2.now ≤ 512) }
     {
         let entry = self.list.get(k)?;
+        let _length = entry.actions.len();
         Some((entry.address, entry.count, entry.actions.as_slice()))
     }
 

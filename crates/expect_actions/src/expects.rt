@@ -113,9 +113,11 @@ impl Expects {
         ensures none { IsNone result ↔ (length self.now.list ≤ k) }
         ensures entry { IfSome result (λ e. slice_get self.now.list k ≡ Some (expect_of e.0 e.1.now e.2.now)) }
         ensures short { IfSome result (λ e. length e.1.now ≤ longest_text) }
+        ensures actions { IfSome result (λ e. length e.2.now ≤ 512) }
     {
         let entry = self.list.get(k)?;
-        let _length = entry.text.len();
+        let _text = entry.text.len();
+        let _actions = entry.actions.len();
         Some((entry.count, entry.text.as_slice(), entry.actions.as_slice()))
     }
 

@@ -1,6 +1,7 @@
 -- A list is taken one element behind another.
 use Rattle.std.proofs.Common.{◌≡◌, ℕ, zero, suc, ◌+◌, ◌<◌, ◌≤◌, ◌⊎◌, ◌&&◌, ◌==◌, Bool, true, false, List, [], ◌∷◌, ◌++◌, length, take, map, Option, Some, None, inl, inr, refl, sym, ap, subst, ◌∙◌, arith}
 use Rattle.std.specs.Prelude.{slice_get, get_or, option_map, option_and_then, unwrap_or, IfSome, not, if◌then◌else◌}
+use Rattle.std.specs.List.{AllByRecursion}
 use Rattle.std.proofs.Math.Seq.{take-suc}
 use Rattle.std.proofs.lemmas.Bool.{and_parts, false≢true, not-true}
 use Rattle.std.proofs.lemmas.Option.{slice_get_within, get_or_from_slice_get, slice_get-map, slice_get_cases}
@@ -36,6 +37,17 @@ pub takes : {A B C : Type 0} (g : A → C) (f : B → C) (ys : List A) (y : A) (
 takes g f ys y new xs k x before is same pushed =
     ap (map g) pushed ∙ map_push g ys y ∙ ap (λ l. l ++ g y ∷ []) before ∙ ap (λ z. take k (map f xs) ++ z ∷ []) same
     ∙ sym (grows-map f xs k x is)
+
+-- what holds of all that were taken, and of the next one behind them
+all-behind : {A : Type 0} (P : A → Type 0) (xs : List A) (x : A) → AllByRecursion P xs → P x → AllByRecursion P (xs ++ x ∷ [])
+all-behind P [] x all here = (here, tt)
+all-behind P (y ∷ xs) x all here = (all.0, all-behind P xs x all.1 here)
+
+pub fits-behind : {A B : Type 0} (g : A → B) (P : B → Type 0) (ys : List A) (y : A) (new : List A)
+    → AllByRecursion P (map g ys) → P (g y) → new ≡ ys ++ y ∷ [] → AllByRecursion P (map g new)
+fits-behind {A} {B} g P ys y new all here pushed =
+    subst (λ (l : List B). AllByRecursion P l) (sym (ap (map g) pushed ∙ map_push g ys y))
+    (all-behind P (map g ys) (g y) all here)
 
 -- what is taken of a list that has no more
 pub taken-all : {A : Type 0} (xs : List A) (k : ℕ) → slice_get xs k ≡ None → take k xs ≡ xs

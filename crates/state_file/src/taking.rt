@@ -9,6 +9,7 @@ ghost use Rattle.state_file.specs.Parts.{state_in};
 ghost use Rattle.state_file.specs.Saving.{first_unsaved, files_flushed, copy_flushed};
 ghost use Rattle.state_file.specs.Saving.{save_claim, UnlessNoMemory, IfNoMemory, SaveCause};
 ghost use Rattle.state_file.specs.SavedValid.{AreStandard};
+ghost use Rattle.state_file.specs.Valid.{WatchFits};
 ghost use Rattle.state_file.specs.Session.{saved, saved_machine, saved_port, saved_watch};
 
 use crate::file_faults::SaveFault;
@@ -40,6 +41,7 @@ pub fn take_state<U: Unit, F: Files>(
         → state_in v ≡ saved (seen (beside watch.now keys (F.state files.new).files lines) whole machine.new)) }
     ensures machine_part { IfOk result (λ v. (state_in v).machine ≡ saved_machine machine.old) }
     ensures watch_part { IfOk result (λ v. (state_in v).watch ≡ saved_watch watch.now) }
+    ensures watch_fits { IfOk result (λ v. WatchFits (state_in v).watch) }
     ensures port_part { IfOk result (λ v. (lines : LineState)
         → (state_in v).port ≡ saved_port (map (seen_line lines) machine.old.lines)) }
     ensures first { IsTrue F.tells → UnlessNoMemory result (first_unsaved (save_claim result)

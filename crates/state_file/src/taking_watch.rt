@@ -1,10 +1,11 @@
 // What a run watches is taken as it is saved: breaks, texts that are waited for, the printed tail, and bytes that are
 // sent.
-ghost use Rattle.std.specs.Prelude.{◌≡◌, map, option_map, slice_get, take, length, IfOk};
+ghost use Rattle.std.specs.Prelude.{◌≡◌, ◌≤◌, map, option_map, slice_get, take, length, IfOk};
 ghost use Rattle.expect_actions.specs.Breaks.{break_at};
 ghost use Rattle.expect_actions.specs.Expects.{expect_of};
 ghost use Rattle.state_file.specs.Fields.{watch_in};
 ghost use Rattle.state_file.specs.Parts.{break_in, expect_in};
+ghost use Rattle.state_file.specs.Valid.{BreaksFit, ExpectsFit, WatchFits};
 ghost use Rattle.state_file.specs.Session.{saved_break, saved_expect, saved_send, saved_watch};
 
 use crate::saved::{SavedBreak, SavedExpect, SavedSend};
@@ -30,7 +31,8 @@ fn saved_break(alloc: Global, found: (Addr, u32, &[u8])) -> Result<SavedBreak, A
 
 /// The breaks, by rising addresses.
 pub fn taken_breaks(alloc: Global, breaks: &Breaks) -> Result<Vec<SavedBreak>, AllocError>
-    ensures { IfOk result (λ v. map break_in v.items ≡ map saved_break breaks.now.list) }
+    ensures breaks { IfOk result (λ v. map break_in v.items ≡ map saved_break breaks.now.list) }
+    ensures fit { IfOk result (λ v. BreaksFit (map break_in v.items)) }
 {
     let mut taken = Vec::new(alloc);
     for k in 0..breaks.len() {
@@ -60,7 +62,8 @@ fn saved_expect(
 
 /// The texts that are waited for, in the order in which they were added.
 pub fn taken_expects(alloc: Global, expects: &Expects) -> Result<Vec<SavedExpect>, AllocError>
-    ensures { IfOk result (λ v. map expect_in v.items ≡ map saved_expect expects.now.list) }
+    ensures expects { IfOk result (λ v. map expect_in v.items ≡ map saved_expect expects.now.list) }
+    ensures fit { IfOk result (λ v. ExpectsFit (map expect_in v.items)) }
 {
     let mut taken = Vec::new(alloc);
     for k in 0..expects.len() {
@@ -74,7 +77,8 @@ pub fn taken_expects(alloc: Global, expects: &Expects) -> Result<Vec<SavedExpect
 
 /// The bytes that were printed last.
 pub fn taken_tail(alloc: Global, expects: &Expects) -> Result<Vec<u8>, AllocError>
-    ensures { IfOk result (λ v. v.items ≡ expects.now.tail) }
+    ensures tail { IfOk result (λ v. v.items ≡ expects.now.tail) }
+    ensures short { IfOk result (λ v. length v.items ≤ 64) }
 {
     let mut bytes = [0; LONGEST_TAIL];
     let count = expects.tail(&mut bytes);
@@ -83,7 +87,8 @@ pub fn taken_tail(alloc: Global, expects: &Expects) -> Result<Vec<u8>, AllocErro
 
 /// The bytes that wait to be sent, the next one first.
 pub fn taken_sends(alloc: Global, sends: &Sends) -> Result<Vec<SavedSend>, AllocError>
-    ensures { IfOk result (λ v. v.items ≡ map saved_send sends.now) }
+    ensures sends { IfOk result (λ v. v.items ≡ map saved_send sends.now) }
+    ensures few { IfOk result (λ v. length v.items ≤ 4096) }
 {
     let mut taken = Vec::new(alloc);
     for k in 0..sends.len() {
@@ -98,12 +103,19 @@ pub fn taken_sends(alloc: Global, sends: &Sends) -> Result<Vec<SavedSend>, Alloc
 /// All that is saved of what a run watches.
 #[tactic(auto, unfolding(crate::specs::Session::saved_watch))]
 pub fn taken_watch(alloc: Global, watch: &Watch) -> Result<WatchFields, AllocError>
-    ensures { IfOk result (λ f. watch_in f ≡ saved_watch watch.now) }
+    ensures watch { IfOk result (λ f. watch_in f ≡ saved_watch watch.now) }
+    ensures fit { IfOk result (λ f. WatchFits (watch_in f)) }
 {
+    let _most_breaks = watch.breaks.len();
+    let _most_expects = watch.expects.len();
+    let breaks = taken_breaks(alloc, &watch.breaks)?;
+    let expects = taken_expects(alloc, &watch.expects)?;
+    let tail = taken_tail(alloc, &watch.expects)?;
+    let sends = taken_sends(alloc, &watch.sends)?;
     Ok(WatchFields {
-        breaks: taken_breaks(alloc, &watch.breaks)?,
-        expects: taken_expects(alloc, &watch.expects)?,
-        tail: taken_tail(alloc, &watch.expects)?,
-        sends: taken_sends(alloc, &watch.sends)?,
+        breaks,
+        expects,
+        tail,
+        sends,
     })
 }

@@ -1,9 +1,10 @@
-use Rattle.std.proofs.Common.{◌≡◌, List, Option, map, sym, ap, ◌∙◌}
+use Rattle.std.proofs.Common.{◌≡◌, List, Option, map, sym, ap, subst, ◌∙◌}
 use Rattle.host_lines.specs.State.{LineState}
 use Rattle.telnet_lines.specs.Joined.{seen_line}
 use Rattle.unit_files.specs.Attachments.{Held, attachments_of}
-use Rattle.state_file.specs.Parts.{State, state_in}
+use Rattle.state_file.specs.Parts.{WatchPart, State, state_in}
 use Rattle.state_file.specs.Saving.{file_places, saved_files}
+use Rattle.state_file.specs.Valid.{WatchFits}
 use Rattle.state_file.specs.Session.{saved_machine, saved_port, saved_watch}
 use Rattle.state_file.proofs.TakenStates.{taken-is-saved}
 use Rattle.state_file.proofs.taking.take_state.Goals as goal
@@ -12,7 +13,12 @@ pub returns-in-Ok-digest_all-clause-machine_part : goal.returns-in-Ok-digest_all
 returns-in-Ok-digest_all-clause-machine_part g c = ap (λ (s : State). s.machine) c.joined.ensures ∙ c.in-Ok.ensures
 
 pub returns-in-Ok-digest_all-clause-watch_part : goal.returns-in-Ok-digest_all-clause-watch_part
-returns-in-Ok-digest_all-clause-watch_part g c = ap (λ (s : State). s.watch) c.joined.ensures ∙ c.in-Ok-taken_watch.ensures
+returns-in-Ok-digest_all-clause-watch_part g c = ap (λ (s : State). s.watch) c.joined.ensures ∙ c.in-Ok-taken_watch.ensures.watch
+
+pub returns-in-Ok-digest_all-clause-watch_fits : goal.returns-in-Ok-digest_all-clause-watch_fits
+returns-in-Ok-digest_all-clause-watch_fits g c =
+    subst (λ (w : WatchPart). WatchFits w) (sym (ap (λ (s : State). s.watch) c.joined.ensures))
+    c.in-Ok-taken_watch.ensures.fit
 
 pub returns-in-Ok-digest_all-clause-port_part : goal.returns-in-Ok-digest_all-clause-port_part
 returns-in-Ok-digest_all-clause-port_part g c = λ lines.
@@ -25,11 +31,11 @@ returns-in-Ok-digest_all-clause-told g c = λ t keys lines whole.
     let x = state_in c.joined.result in
     let m = c.args.machine.now in
     let machine : x.machine ≡ saved_machine m = ap (λ (s : State). s.machine) c.joined.ensures ∙ c.in-Ok.ensures in
-    let watch : x.watch ≡ saved_watch c.args.watch.now = ap (λ (s : State). s.watch) c.joined.ensures ∙ c.in-Ok-taken_watch.ensures in
+    let watch : x.watch ≡ saved_watch c.args.watch.now = ap (λ (s : State). s.watch) c.joined.ensures ∙ c.in-Ok-taken_watch.ensures.watch in
     let port : (l : LineState) → x.port ≡ saved_port (map (seen_line l) m.lines) =
-        λ l. ap (λ (s : State). s.port) c.joined.ensures ∙ c.taken_port-port.ensures l in
+    λ l. ap (λ (s : State). s.port) c.joined.ensures ∙ c.taken_port-port.ensures l in
     let here : x.files ≡ saved_files files (attachments_of c.digest_all.new.attached.slots) file_places =
-        ap (λ (s : State). s.files) c.joined.ensures ∙ digested.told t
-        ∙ ap (λ (slots : List (Option Held)). saved_files files (attachments_of slots) file_places) (sym digested.slots) in
+    ap (λ (s : State). s.files) c.joined.ensures ∙ digested.told t
+    ∙ ap (λ (slots : List (Option Held)). saved_files files (attachments_of slots) file_places) (sym digested.slots) in
     taken-is-saved x m c.digest_all.new.attached c.args.watch.now files keys lines whole
     (record { machine = machine; files_are = here; port = port; watch = watch })
