@@ -28,3 +28,4 @@ pub mod RestoreCounts
 pub mod SavingLaws
 pub mod PuttingLemmas
 pub mod PuttingWatchLemmas
+pub mod GivingBackLemmas

@@ -14,6 +14,7 @@ mod reading;
 pub mod restoring;
 pub mod saved;
 pub mod saving;
+mod set_state;
 pub mod unit_digest;
 mod watch_fields;
 mod writing;
