@@ -2,16 +2,18 @@
 use Rattle.std.proofs.Common.{◌≡◌, ◌≢◌, Bool, true, false, cond, IsTrue, is_some, List, [], ◌∷◌, Option, Some, None, refl, sym, ap, subst, ◌∙◌}
 use Rattle.std.specs.List.{AllByRecursion}
 use Rattle.std.proofs.lemmas.List.{get_or-set_other}
-use Rattle.unit_files.specs.Attachments.{Attachment, attachment_at, is_disk, file_place}
+use Rattle.host_files.specs.Lists.{NamedBytes}
+use Rattle.unit_files.specs.Attachments.{Attachment, attachments_of, attachment_at, is_disk, file_place, no_attachments, no_files}
 use Rattle.unit_files.specs.Acts.{detached}
-use Rattle.unit_files.specs.Buffer.{Buffer, no_buffer}
+use Rattle.unit_files.specs.Buffer.{AttachedFiles, Buffer, no_buffer, nothing_attached}
 use Rattle.state_file.specs.GivingBack.{IsHeldIn, IsNoDisk, without_all, copy_behind}
 use Rattle.state_file.specs.Parts.{FilePart}
 use Rattle.state_file.specs.Ranges.{kind_at}
-use Rattle.state_file.specs.Restoring.{unit_of, attachment_of, with_file, with_all}
+use Rattle.state_file.specs.Restoring.{unit_of, attachment_of, with_file, with_all, copy_of}
+use Rattle.state_file.specs.PutBack.{attached_from, disk_from}
 use Rattle.state_file.specs.RestoringOne.{AreOfTwo, AreApart, IsFree}
 use Rattle.state_file.proofs.Attaching.{set-back}
-use Rattle.state_file.proofs.Together.{still-free}
+use Rattle.state_file.proofs.Together.{still-free, all-free, nothing-held}
 
 -- the disk's copy is not to be written back, where one more file was attached
 pub one-unwritten : (disk : Bool) (old mid : Buffer) → (disk ≡ true → mid.written ≡ false) → (disk ≡ false → mid ≡ old)
@@ -62,3 +64,45 @@ no-copy disk (f ∷ fs) is =
         → cond b no_buffer (copy_behind disk fs) ≡ no_buffer
     by-test true e rest = refl
     by-test false e rest = rest e
+
+-- a unit keeps its file where others are given theirs
+others-put : (f : FilePart) (fs : List FilePart) (attached : List (Option Attachment)) → AllByRecursion (AreOfTwo f) fs
+    → attachment_at (with_all attached fs) (unit_of f) ≡ attachment_at attached (unit_of f)
+others-put f [] attached apart = refl
+others-put f (g ∷ fs) attached apart =
+    others-put f fs (with_file attached g) apart.1
+    ∙ get_or-set_other attached (file_place (unit_of g)) (file_place (unit_of f)) (Some (attachment_of g)) None
+    apart.0
+
+pub all-held : (f : FilePart) (fs all : List FilePart) (mid new : List (Option Attachment)) → all ≡ f ∷ fs
+    → AllByRecursion (AreOfTwo f) fs → new ≡ with_all mid fs → IsHeldIn mid f → AllByRecursion (IsHeldIn new) fs
+    → AllByRecursion (IsHeldIn new) all
+all-held f fs all mid new is apart put held others =
+    let here : IsHeldIn new f =
+    subst (λ (a : Option Attachment). IsTrue (is_some a))
+    (sym (ap (λ (l : List (Option Attachment)). attachment_at l (unit_of f)) put ∙ others-put f fs mid apart)) held in
+    subst (λ (l : List FilePart). AllByRecursion (IsHeldIn new) l) (sym is) (here, others)
+
+-- nothing is attached once all files were given back, which alone were attached
+pub given-back : (lent given back : AttachedFiles) (fs : List FilePart) → given ≡ lent → AreApart fs
+    → attachments_of lent.slots ≡ with_all no_attachments fs → (AllByRecursion IsNoDisk fs → lent.disk ≡ no_buffer)
+    → attachments_of back.slots ≡ without_all (attachments_of given.slots) fs → back.disk ≡ copy_behind given.disk fs
+    → back ≡ nothing_attached
+given-back lent given back fs same apart attached other slots disk =
+    let none : attachments_of back.slots ≡ no_attachments =
+    slots ∙ ap (λ (a : AttachedFiles). without_all (attachments_of a.slots) fs) same
+    ∙ ap (λ (l : List (Option Attachment)). without_all l fs) attached
+    ∙ all-given-back fs no_attachments apart (all-free no_files fs refl) in
+    let held : back.slots ≡ no_files = nothing-held back.slots no_files refl none in
+    let copy : back.disk ≡ no_buffer =
+    disk ∙ ap (λ (a : AttachedFiles). copy_behind a.disk fs) same ∙ no-copy lent.disk fs other in
+    λ i. record { slots = held i; disk = copy i }
+
+-- what is attached, and the disk's copy, as they are put back
+pub same-attached : (base : List (Option Attachment)) (fs : List FilePart) → with_all base fs ≡ attached_from base fs
+same-attached base [] = refl
+same-attached base (f ∷ fs) = same-attached (with_file base f) fs
+
+pub same-copy : (a : Option Attachment) (files : List NamedBytes) → copy_of a files ≡ disk_from a files
+same-copy None files = refl
+same-copy (Some a) files = refl

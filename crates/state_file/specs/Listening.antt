@@ -44,3 +44,10 @@ IsHeardOn tells port (Err (fault.NoFile unit)) old new = ⊥
 IsHeardOn tells port (Err (fault.TooLong unit)) old new = ⊥
 IsHeardOn tells port (Err (fault.Changed unit)) old new = ⊥
 IsHeardOn tells port (Err (fault.Failed f)) old new = ⊥
+
+-- What is left of the outside's lines once a session was put back, or was refused: of a refusal that is not the
+-- listening's, all.
+abbrev pub LeavesLines : Bool → ℕ → List (LineOf ℕ) → Result (Unit {0}) RestoreFault → LineState → LineState → Type 0
+LeavesLines tells port lines (Ok u) old new = wants_port port lines ≡ true → IsHeardOn tells port (Ok u) old new
+LeavesLines tells port lines (Err fault.Port) old new = IsHeardOn tells port (Err fault.Port) old new
+LeavesLines tells port lines (Err f) old new = (new.listens ≡ old.listens) × (new.stands ≡ old.stands)

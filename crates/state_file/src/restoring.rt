@@ -213,6 +213,7 @@ fn attach_each<F: Files>(
         ≡ copy_of (attachment_at (attachments_of attached.new.slots) disk_unit) (F.state files.old).files) }
     ensures slots { OnErr result (attachments_of attached.new.slots ≡ attachments_of attached.old.slots) }
     ensures disk { OnErr result (attached.new.disk ≡ attached.old.disk) }
+    ensures held { OnOk result (AllByRecursion (IsHeldIn (attachments_of attached.new.slots)) (files_in saved.now)) }
     ensures unwritten { attached.old.disk.written ≡ false → attached.new.disk.written ≡ false }
     ensures other { AllByRecursion IsNoDisk (files_in saved.now) → attached.new.disk ≡ attached.old.disk }
     ensures files { IsTrue F.tells → (F.state files.new).files ≡ (F.state files.old).files }
@@ -258,6 +259,7 @@ pub fn attach_all<F: Files>(
     ensures attached { OnOk result (attachments_of attached.new.slots ≡ with_all no_attachments (files_in saved.now)) }
     ensures copy { IsTrue F.tells → OnOk result (attached.new.disk
         ≡ copy_of (attachment_at (with_all no_attachments (files_in saved.now)) disk_unit) (F.state files.old).files) }
+    ensures held { OnOk result (AllByRecursion (IsHeldIn (attachments_of attached.new.slots)) (files_in saved.now)) }
     ensures unwritten { attached.new.disk.written ≡ false }
     ensures other { AllByRecursion IsNoDisk (files_in saved.now) → attached.new.disk ≡ no_buffer }
     ensures refused { OnErr result (attached.new ≡ attached.old) }
