@@ -30,3 +30,4 @@ pub mod PutBackValidLemmas
 pub mod TakenStates
 pub mod PuttingLemmas
 pub mod PuttingWatchLemmas
+pub mod GivingBackLemmas

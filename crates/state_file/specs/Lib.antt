@@ -16,3 +16,5 @@ pub mod Saving
 pub mod SavingOne
 pub mod PutBackValid
 pub mod Putting
+pub mod GivingBack
+pub mod Listening

@@ -139,3 +139,10 @@ IsOfThese fs (fault.Changed unit) = IsUnitOf fs unit
 IsOfThese fs (fault.Failed f) = IsUnitOf fs f.unit
 IsOfThese fs fault.Port = ⊥
 IsOfThese fs fault.OutOfMemory = Unit {0}
+
+-- The same of all of a session, whose port is listened on behind all files: where that came to nothing, no file was refused.
+abbrev pub SaysFirst : Result (Unit {0}) RestoreFault → Option (UnitName × FileRefusal) → Type 0
+SaysFirst (Err fault.Port) said = said ≡ None
+SaysFirst (Ok u) said = said ≡ None
+SaysFirst (Err fault.OutOfMemory) said = Unit {0}
+SaysFirst (Err f) said = said ≡ said_in f

@@ -10,6 +10,7 @@ ghost use Rattle.unit_files.specs.Buffer.{nothing_attached, no_buffer, disk_unit
 ghost use Rattle.unit_files.specs.Acts.{detached};
 ghost use Rattle.unit_files.specs.Causes.{AreFrom, OnlyKept, OnlyNewCounts};
 ghost use Rattle.unit_files.specs.Open.{AllOpen, Around};
+ghost use Rattle.state_file.specs.GivingBack.{IsHeldIn, IsNoDisk, without_all, copy_behind};
 ghost use Rattle.state_file.specs.Parts.{FilePart, file_in};
 ghost use Rattle.state_file.specs.Ranges.{kind_at};
 ghost use Rattle.state_file.specs.Restoring.{files_in, unit_of, is_only_read, mode_of, refusal_of, with_file, with_all};
@@ -215,6 +216,9 @@ fn attach_each<F: Files>(
         ≡ copy_of (attachment_at (attachments_of attached.new.slots) disk_unit) (F.state files.old).files) }
     ensures slots { OnErr result (attachments_of attached.new.slots ≡ attachments_of attached.old.slots) }
     ensures disk { OnErr result (attached.new.disk ≡ attached.old.disk) }
+    ensures held { OnOk result (AllByRecursion (IsHeldIn (attachments_of attached.new.slots)) (files_in saved.now)) }
+    ensures unwritten { attached.old.disk.written ≡ false → attached.new.disk.written ≡ false }
+    ensures other { AllByRecursion IsNoDisk (files_in saved.now) → attached.new.disk ≡ attached.old.disk }
     ensures files { IsTrue F.tells → (F.state files.new).files ≡ (F.state files.old).files }
     ensures open { AllOpen attached.new.slots (F.state files.new).opened }
     ensures around { (base : List Opened) → Around attached.old.slots base (F.state files.old).opened
@@ -259,6 +263,9 @@ pub fn attach_all<F: Files>(
     ensures attached { OnOk result (attachments_of attached.new.slots ≡ with_all no_attachments (files_in saved.now)) }
     ensures copy { IsTrue F.tells → OnOk result (attached.new.disk
         ≡ copy_of (attachment_at (with_all no_attachments (files_in saved.now)) disk_unit) (F.state files.old).files) }
+    ensures held { OnOk result (AllByRecursion (IsHeldIn (attachments_of attached.new.slots)) (files_in saved.now)) }
+    ensures unwritten { attached.new.disk.written ≡ false }
+    ensures other { AllByRecursion IsNoDisk (files_in saved.now) → attached.new.disk ≡ no_buffer }
     ensures refused { OnErr result (attached.new ≡ attached.old) }
     ensures closed { OnErr result ((F.state files.new).opened ≡ (F.state files.old).opened) }
     ensures files { IsTrue F.tells → (F.state files.new).files ≡ (F.state files.old).files }
@@ -269,4 +276,28 @@ pub fn attach_all<F: Files>(
     ensures cause { RestoreCause F.tells result (F.state files.old) (F.state files.new) }
 {
     attach_each(alloc, saved, force, attached, files)
+}
+
+/// Gives back the files of these units, the last one first. Nothing is to be written back, and closings that fail are
+/// not told.
+pub fn give_back_all<F: Files>(saved: &[SavedFile], attached: &mut Attached, files: &mut F)
+    requires can { AllByRecursion CanAttach (files_in saved.now) }
+    requires apart { AreApart (files_in saved.now) }
+    requires held { AllByRecursion (IsHeldIn (attachments_of attached.old.slots)) (files_in saved.now) }
+    requires clean { attached.old.disk.written ≡ false }
+    requires open { AllOpen attached.old.slots (F.state files.old).opened }
+    ensures attached { attachments_of attached.new.slots ≡ without_all (attachments_of attached.old.slots) (files_in saved.now) }
+    ensures disk { attached.new.disk ≡ copy_behind attached.old.disk (files_in saved.now) }
+    ensures files { (F.state files.new).files ≡ (F.state files.old).files }
+    ensures open { AllOpen attached.new.slots (F.state files.new).opened }
+    ensures around { (base : List Opened) → Around attached.old.slots base (F.state files.old).opened
+        → Around attached.new.slots base (F.state files.new).opened }
+{
+    match saved.split_first() {
+        None => (),
+        Some((first, others)) => {
+            give_back_all(others, attached, files);
+            give_back(attached, unit_of(first), files);
+        }
+    }
 }

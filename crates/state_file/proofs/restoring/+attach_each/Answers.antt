@@ -9,6 +9,7 @@ use Rattle.state_file.specs.RestoringOne.{CanAttach, IsFree, IsClean}
 use Rattle.state_file.proofs.Attaching.{set-back}
 use Rattle.state_file.proofs.Together.{none-said, first-said, others-said, not-claimed, still-free, still-clean, all-of, head-of}
 use Rattle.state_file.proofs.Together.{tail-of, apart-of, none-in}
+use Rattle.state_file.proofs.GivingBackLemmas.{all-held}
 use Rattle.state_file.proofs.RestoreCounts.{from-both, new-counts, new-counts-behind}
 use Rattle.state_file.specs.RestoringOne.{OnlyItsCount}
 use Rattle.state_file.proofs.restoring.+attach_each.Goals as goal
@@ -95,3 +96,13 @@ returns-in-Err-clause-counts g t c =
     next.counts)
     (subst (λ (u : UnitName). OnlyItsCount back u (state c.attach_each.new.files) (state c.give_back.new.files))
     c.unit_of.ensures c.give_back.ensures.count)
+
+pub returns-in-Ok-clause-held : goal.returns-in-Ok-clause-held
+returns-in-Ok-clause-held g t c =
+    let all = all-of c.args.saved.now c.in-Some.first.now c.in-Some.others.now c.in-Some.ensures.cases.0 in
+    let f = file_in c.in-Some.first.now in
+    let fs = files_in c.in-Some.others.now in
+    let apart = apart-of f fs (files_in c.args.saved.now) all c.requires.apart in
+    all-held f fs (files_in c.args.saved.now) (attachments_of c.attach_one.new.attached.slots)
+    (attachments_of c.attach_each.new.attached.slots) all apart.0 c.in-Ok.ensures.attached
+    c.in_ok-attach_one-in-Some.ensures.there c.in-Ok.ensures.held

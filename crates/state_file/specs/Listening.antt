@@ -1,0 +1,53 @@
+-- The port of line 0 is listened on.
+use Rattle.std.specs.Prelude.{◌≡◌, ℕ, zero, suc, Bool, true, false, IsTrue, List, [], ◌∷◌, Option, Some, Result, Ok, Err}
+use Rattle.host_lines.specs.declared.lines.ListenFault.{ListenFault}
+use Rattle.host_lines.specs.declared.lines.ListenFault.TheVariants as listen
+use Rattle.host_lines.specs.LineCalls.{Listens, ports_after, listen_faults}
+use Rattle.host_lines.specs.State.{LineState, parties}
+use Rattle.telnet_lines.specs.Line.{LineOf, unconnected}
+use Rattle.state_file.specs.declared.file_faults.RestoreFault.{RestoreFault}
+use Rattle.state_file.specs.declared.file_faults.RestoreFault.TheVariants as fault
+
+-- whether a port is listened on: it is not 0, and there is a line for it
+abbrev pub wants_port : ℕ → List (LineOf ℕ) → Bool
+wants_port zero lines = false
+wants_port (suc n) [] = false
+wants_port (suc n) (line ∷ others) = true
+
+-- line 0 has that port, and nobody is connected; 0 is none, and changes nothing
+abbrev pub with_port : ℕ → List (LineOf ℕ) → List (LineOf ℕ)
+with_port zero lines = lines
+with_port (suc n) [] = []
+with_port (suc n) (line ∷ others) = unconnected (Some (suc n)) ∷ others
+
+-- what a listening leaves of the outside: the port is listened on from then on, or is not
+pub record IsListening (tells : Bool) (port : ℕ) (result : Result (Unit {0}) ListenFault) (old new : LineState) : Type 0
+  where
+    pub told : IsTrue tells → Listens old.told new.told result
+    pub listens : new.listens ≡ ports_after port result old.listens
+    pub stands : new.stands ≡ old.stands
+    pub behind : parties new ≡ parties old
+    pub sent : new.sent ≡ old.sent
+    pub counted : new.faults ≡ listen_faults result old.faults
+
+-- why a session is not put back, by a listening that came to nothing
+abbrev pub port_fault : ListenFault → RestoreFault
+port_fault listen.Failed = fault.Port
+port_fault listen.OutOfMemory = fault.OutOfMemory
+
+-- the same of the port of a saved session, by what is answered
+abbrev pub IsHeardOn : Bool → ℕ → Result (Unit {0}) RestoreFault → LineState → LineState → Type 0
+IsHeardOn tells port (Ok u) old new = IsListening tells port (Ok u) old new
+IsHeardOn tells port (Err fault.Port) old new = IsListening tells port (Err listen.Failed) old new
+IsHeardOn tells port (Err fault.OutOfMemory) old new = IsListening tells port (Err listen.OutOfMemory) old new
+IsHeardOn tells port (Err (fault.NoFile unit)) old new = ⊥
+IsHeardOn tells port (Err (fault.TooLong unit)) old new = ⊥
+IsHeardOn tells port (Err (fault.Changed unit)) old new = ⊥
+IsHeardOn tells port (Err (fault.Failed f)) old new = ⊥
+
+-- What is left of the outside's lines once a session was put back, or was refused: of a refusal that is not the
+-- listening's, all.
+abbrev pub LeavesLines : Bool → ℕ → List (LineOf ℕ) → Result (Unit {0}) RestoreFault → LineState → LineState → Type 0
+LeavesLines tells port lines (Ok u) old new = wants_port port lines ≡ true → IsHeardOn tells port (Ok u) old new
+LeavesLines tells port lines (Err fault.Port) old new = IsHeardOn tells port (Err fault.Port) old new
+LeavesLines tells port lines (Err f) old new = (new.listens ≡ old.listens) × (new.stands ≡ old.stands)
