@@ -10,7 +10,6 @@ use Rattle.state_file.specs.GivingBack.{IsHeldIn, IsNoDisk, without_all, copy_be
 use Rattle.state_file.specs.Parts.{FilePart}
 use Rattle.state_file.specs.Ranges.{kind_at}
 use Rattle.state_file.specs.Restoring.{unit_of, attachment_of, with_file, with_all, copy_of}
-use Rattle.state_file.specs.PutBack.{attached_from, disk_from}
 use Rattle.state_file.specs.RestoringOne.{AreOfTwo, AreApart, IsFree}
 use Rattle.state_file.proofs.Attaching.{set-back}
 use Rattle.state_file.proofs.Together.{still-free, all-free, nothing-held}
@@ -97,12 +96,3 @@ given-back lent given back fs same apart attached other slots disk =
     let copy : back.disk ≡ no_buffer =
     disk ∙ ap (λ (a : AttachedFiles). copy_behind a.disk fs) same ∙ no-copy lent.disk fs other in
     λ i. record { slots = held i; disk = copy i }
-
--- what is attached, and the disk's copy, as they are put back
-pub same-attached : (base : List (Option Attachment)) (fs : List FilePart) → with_all base fs ≡ attached_from base fs
-same-attached base [] = refl
-same-attached base (f ∷ fs) = same-attached (with_file base f) fs
-
-pub same-copy : (a : Option Attachment) (files : List NamedBytes) → copy_of a files ≡ disk_from a files
-same-copy None files = refl
-same-copy (Some a) files = refl

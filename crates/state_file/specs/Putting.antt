@@ -9,7 +9,8 @@ use Rattle.nova_machine.specs.Seen.{erased}
 use Rattle.nova_machine.specs.Turn.{with_memory}
 use Rattle.state_file.specs.declared.saved.SavedCpu.{SavedCpu}
 use Rattle.state_file.specs.Parts.{MachinePart}
-use Rattle.state_file.specs.PutBack.{is_set, cpu_from, interrupts_from, memory_from, unit_from, event_from, disk_from, machine_from}
+use Rattle.state_file.specs.PutBack.{is_set, cpu_from, interrupts_from, memory_from, unit_from, event_from, machine_from}
+use Rattle.state_file.specs.Restoring.{copy_of}
 
 -- the registers that instructions change
 abbrev pub with_registers_of : MachineState → SavedCpu → MachineState
@@ -39,4 +40,4 @@ with_machine_of m p = record (with_memory (with_cpu_of m p.cpu) (memory_from p.c
 abbrev pub IsSeenAs : MachineState → MachineState → MachinePart → Type 0
 IsSeenAs old new p =
     (attached : List (Option Attachment)) (files : List NamedBytes) → attachments_of old.slots ≡ attached
-    → old.disk ≡ disk_from (attachment_at attached disk_unit) files → erased new ≡ machine_from p attached files
+    → old.disk ≡ copy_of (attachment_at attached disk_unit) files → erased new ≡ machine_from p attached files

@@ -8,7 +8,7 @@ ghost use Rattle.nova_machine.specs.Machine.{attached_files, with_attached_files
 ghost use Rattle.nova_machine.specs.Seen.{erased};
 ghost use Rattle.state_file.specs.Listening.{IsHeardOn, IsListening, LeavesLines, port_fault, wants_port, with_port};
 ghost use Rattle.state_file.specs.Parts.{state_in};
-ghost use Rattle.state_file.specs.PutBack.{attached_from, machine_from, watch_from};
+ghost use Rattle.state_file.specs.PutBack.{machine_from, watch_from};
 ghost use Rattle.state_file.specs.Restoring.{claim_in, copy_of, first_refused, with_all, SaysFirst};
 ghost use Rattle.state_file.specs.SavedValid.{AreStandard};
 ghost use Rattle.state_file.specs.Valid.{AreFiles, Valid};
@@ -140,7 +140,7 @@ pub fn set_state<U: Unit, F: Files, L: Lines>(
     ensures told { IsTrue F.tells → SaysFirst result (first_refused (claim_in result) force (state_in saved.now).files
         no_attachments (F.state files.old).files) }
     ensures machine { IsTrue F.tells → OnOk result (erased machine.new ≡ machine_from (state_in saved.now).machine
-        (attached_from no_attachments (state_in saved.now).files) (F.state files.old).files) }
+        (with_all no_attachments (state_in saved.now).files) (F.state files.old).files) }
     ensures ports { OnOk result (machine.new.lines ≡ with_port saved.now.port machine.old.lines) }
     ensures watch { OnOk result (watch.new ≡ watch_from (state_in saved.now).watch) }
     ensures refused { OnErr result (machine.new ≡ machine.old) }
