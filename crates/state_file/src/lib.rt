@@ -14,7 +14,7 @@ mod reading;
 pub mod restoring;
 pub mod saved;
 pub mod saving;
-pub mod set_state;
+pub mod setting;
 pub mod taking;
 mod taking_machine;
 mod taking_watch;
@@ -34,7 +34,7 @@ pub use saved::{
     Saved, SavedBreak, SavedCpu, SavedEvent, SavedExpect, SavedFile, SavedSend, SavedUnit,
 };
 pub use saving::digest_all;
-pub use set_state::set_state;
+pub use setting::set_state;
 pub use std::alloc::AllocError as OutOfMemory;
 pub use taking::take_state;
 pub use writing::write_state;
