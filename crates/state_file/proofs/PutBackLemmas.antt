@@ -2,9 +2,10 @@
 use Rattle.std.proofs.Common.{◌≡◌, ◌≢◌, ℕ, zero, suc, ◌+◌, ◌-◌, ◌*◌, ◌/◌, ◌^◌, ◌<◌, Bool, true, false, List, [], ◌∷◌, ◌++◌, length, take, drop, map, replicate, get_or, Option, Some, None, refl, sym, ap, subst, ◌∙◌, arith}
 use Rattle.std.specs.Prelude.{slice_set}
 use Rattle.std.specs.List.{AllByRecursion}
+use Rattle.std.proofs.lemmas.List.Concat.{flat_map-cons}
 use Rattle.std.proofs.Math.Seq.{get_or-append_seam, set-append_seam}
 use Rattle.std.proofs.lemmas.List.{take-append-drop, get_or-drop, length-drop, length-map, length-append, append_assoc}
-use Rattle.host_files.specs.Lists.{NamedBytes}
+use Rattle.host_files.specs.Lists.{NamedBytes, bytes_of}
 use Rattle.host_lines.specs.Traffic.{Peer}
 use Rattle.host_lines.specs.State.{LineState}
 use Rattle.telnet_lines.specs.Line.{LineOf, unconnected, IsSettled}
@@ -16,7 +17,6 @@ use Rattle.unit_trait.specs.Calls.{UnitState}
 use Rattle.event_queue.specs.EventList.{Event}
 use Rattle.unit_files.specs.Attachments.{Attachment, Held, attachments_of, no_attachments, attachment_at, with_attachment, file_place, file_units}
 use Rattle.unit_files.specs.Buffer.{Buffer, disk_unit}
-use Rattle.file_commands.specs.AllUnits.{attachable}
 use Rattle.nova_memory.specs.Memory.{MemoryState, IsMemory, IsSize}
 use Rattle.expect_actions.specs.declared.breaks.Break.{Break}
 use Rattle.expect_actions.specs.declared.expects.Expect.{Expect}
@@ -28,8 +28,11 @@ use Rattle.nova_machine.specs.Seen.{Seen, unnumbered, erased, attached_in}
 use Rattle.nova_machine.specs.Valid.{CopyIsFile}
 use Rattle.state_file.specs.Parts.{FilePart}
 use Rattle.state_file.specs.Ranges.{kind_at}
-use Rattle.state_file.specs.Session.{flag_of, saved_unit, saved_event, saved_machine, saved_file, with_saved, saved_files_of, saved_files, port_number, saved_port, saved_break, saved_expect, saved_send, saved_watch, saved}
-use Rattle.state_file.specs.PutBack.{is_set, memory_from, unit_from, unit_named, event_from, attachment_from, attached_from, disk_from, held_from, machine_from, port_from, lines_from, break_from, expect_from, send_from, watch_from, put_back, IsIdleLine, CanBeSaved, SavingPutsBack}
+use Rattle.state_file.specs.declared.saving.UnitPlace.{UnitPlace}
+use Rattle.state_file.specs.Restoring.{attachment_of, with_all, copy_of}
+use Rattle.state_file.specs.Saving.{unit_at, file_places, flag_of, saved_file, saved_at, saved_files}
+use Rattle.state_file.specs.Session.{saved_unit, saved_event, saved_machine, port_number, saved_port, saved_break, saved_expect, saved_send, saved_watch, saved}
+use Rattle.state_file.specs.PutBack.{is_set, memory_from, unit_from, unit_named, event_from, held_from, machine_from, port_from, lines_from, break_from, expect_from, send_from, watch_from, put_back, IsIdleLine, CanBeSaved, SavingPutsBack}
 
 -- ---- numbers and lists
 
@@ -105,29 +108,29 @@ placed : List (Option Attachment) → UnitName → Option Attachment → List (O
 placed base unit None = base
 placed base unit (Some a) = with_attachment base unit (Some a)
 
-placed_all : List (Option Attachment) → List UnitName → List (Option Attachment) → List (Option Attachment)
+placed_all : List (Option Attachment) → List UnitPlace → List (Option Attachment) → List (Option Attachment)
 placed_all base [] attached = base
-placed_all base (unit ∷ units) attached = placed_all (placed base unit (attachment_at attached unit)) units attached
+placed_all base (p ∷ places) attached =
+    placed_all (placed base (unit_at p) (attachment_at attached (unit_at p))) places attached
 
-attachment-back : (files : List NamedBytes) (unit : UnitName) (a : Attachment)
-    → attachment_from (saved_file files unit a) ≡ a
-attachment-back files unit a = λ i. record { name = a.name; read_only = flag-back a.read_only i }
-
-from-one : (files : List NamedBytes) (base : List (Option Attachment)) (unit : UnitName) (a : Option Attachment)
-    (rest : List FilePart)
-    → attached_from base (with_saved files unit a rest) ≡ attached_from (placed base unit a) rest
+from-one : (files : List NamedBytes) (base : List (Option Attachment)) (p : UnitPlace) (a : Option Attachment)
+    (rest : List FilePart) → with_all base (saved_at files p a ++ rest) ≡ with_all (placed base (unit_at p) a) rest
 unfolding placed
-from-one files base unit None rest = refl
-from-one files base unit (Some a) rest =
-    λ i. attached_from (with_attachment base (name-back unit i) (Some (attachment-back files unit a i))) rest
+from-one files base p None rest = refl
+from-one files base p (Some a) rest =
+    let back : attachment_of (saved_file p a (bytes_of files a.name)) ≡ a =
+    λ i. record { name = a.name; read_only = flag-back a.read_only i } in
+    ap (λ (b : Attachment). with_all (with_attachment base (unit_at p) (Some b)) rest) back
 
-from-all : (files : List NamedBytes) (base attached : List (Option Attachment)) (units : List UnitName)
-    → attached_from base (saved_files_of files attached units) ≡ placed_all base units attached
+from-all : (files : List NamedBytes) (base attached : List (Option Attachment)) (places : List UnitPlace)
+    → with_all base (saved_files files attached places) ≡ placed_all base places attached
 unfolding placed_all
 from-all files base attached [] = refl
-from-all files base attached (unit ∷ units) =
-    from-one files base unit (attachment_at attached unit) (saved_files_of files attached units)
-    ∙ from-all files (placed base unit (attachment_at attached unit)) attached units
+from-all files base attached (p ∷ places) =
+    ap (with_all base)
+    (flat_map-cons (λ (q : UnitPlace). saved_at files q (attachment_at attached (unit_at q))) p places)
+    ∙ from-one files base p (attachment_at attached (unit_at p)) (saved_files files attached places)
+    ∙ from-all files (placed base (unit_at p) (attachment_at attached (unit_at p))) attached places
 
 -- where what is attached to a unit stands behind so much, it is put there
 placed-here : (front rest : List (Option Attachment)) (unit : UnitName) (x : Option Attachment)
@@ -143,30 +146,30 @@ empty : List (Option Attachment) → List (Option Attachment)
 empty [] = []
 empty (x ∷ rest) = None ∷ empty rest
 
--- the units have the places from one on
-HavePlaces : ℕ → List UnitName → Type 0
+-- the units have their slots from one on
+HavePlaces : ℕ → List UnitPlace → Type 0
 HavePlaces n [] = Unit {0}
-HavePlaces n (unit ∷ units) = (file_place unit ≡ n) × HavePlaces (n + 1) units
+HavePlaces n (p ∷ places) = (file_place (unit_at p) ≡ n) × HavePlaces (n + 1) places
 
-cells-back : (front rest : List (Option Attachment)) (units : List UnitName) → length units ≡ length rest
-    → HavePlaces (length front) units
-    → placed_all (front ++ empty rest) units (front ++ rest) ≡ front ++ rest
+cells-back : (front rest : List (Option Attachment)) (places : List UnitPlace) → length places ≡ length rest
+    → HavePlaces (length front) places
+    → placed_all (front ++ empty rest) places (front ++ rest) ≡ front ++ rest
 unfolding placed_all empty HavePlaces
-cells-back front [] [] same places = refl
-cells-back front [] (unit ∷ units) same places = absurd (omega (arith, same))
-cells-back front (x ∷ rest) [] same places = absurd (omega (arith, same))
-cells-back front (x ∷ rest) (unit ∷ units) same places =
-    let there : attachment_at (front ++ x ∷ rest) unit ≡ x =
-    ap (λ (n : ℕ). get_or (front ++ x ∷ rest) n None) places.0 ∙ get_or-append_seam front x rest None in
-    let one : placed (front ++ None ∷ empty rest) unit
-    (attachment_at (front ++ x ∷ rest) unit) ≡ front ++ x ∷ [] ++ empty rest =
-    ap (placed (front ++ None ∷ empty rest) unit) there ∙ placed-here front (empty rest) unit x places.0
+cells-back front [] [] same have = refl
+cells-back front [] (p ∷ places) same have = absurd (omega (arith, same))
+cells-back front (x ∷ rest) [] same have = absurd (omega (arith, same))
+cells-back front (x ∷ rest) (p ∷ places) same have =
+    let there : attachment_at (front ++ x ∷ rest) (unit_at p) ≡ x =
+    ap (λ (n : ℕ). get_or (front ++ x ∷ rest) n None) have.0 ∙ get_or-append_seam front x rest None in
+    let one : placed (front ++ None ∷ empty rest) (unit_at p)
+    (attachment_at (front ++ x ∷ rest) (unit_at p)) ≡ front ++ x ∷ [] ++ empty rest =
+    ap (placed (front ++ None ∷ empty rest) (unit_at p)) there ∙ placed-here front (empty rest) (unit_at p) x have.0
     ∙ sym (append_assoc front (x ∷ []) (empty rest)) in
     let all : front ++ x ∷ [] ++ rest ≡ front ++ x ∷ rest = append_assoc front (x ∷ []) rest in
     let longer : length front + 1 ≡ length (front ++ x ∷ []) = sym (length-append front (x ∷ [])) in
-    (λ i. placed_all (one i) units (sym all i))
-    ∙ cells-back (front ++ x ∷ []) rest units (omega (arith, same))
-    (subst (λ (n : ℕ). HavePlaces n units) longer places.1) ∙ all
+    (λ i. placed_all (one i) places (sym all i))
+    ∙ cells-back (front ++ x ∷ []) rest places (omega (arith, same))
+    (subst (λ (n : ℕ). HavePlaces n places) longer have.1) ∙ all
 
 none-of : (n : ℕ) (rest : List (Option Attachment)) → length rest ≡ n → empty rest ≡ replicate n None
 unfolding empty
@@ -175,20 +178,23 @@ none-of zero (x ∷ rest) size = absurd (omega (arith, size))
 none-of (suc n) [] size = absurd (omega (arith, size))
 none-of (suc n) (x ∷ rest) size = ap (λ (l : List (Option Attachment)). None ∷ l) (none-of n rest (omega (arith, size)))
 
-places-are : HavePlaces 0 attachable
-unfolding HavePlaces
+places-are : HavePlaces 0 file_places
+unfolding HavePlaces file_places kind_at
 places-are = (refl, (refl, (refl, (refl, (refl, (refl, (refl, (refl, (refl, (refl, (refl, (refl, tt))))))))))))
 
+all-places : length file_places ≡ file_units
+unfolding file_places
+all-places = refl
+
 attached-back : (attached : List (Option Attachment)) → length attached ≡ file_units
-    → placed_all no_attachments attachable attached ≡ attached
+    → placed_all no_attachments file_places attached ≡ attached
 attached-back attached size =
-    ap (λ (l : List (Option Attachment)). placed_all l attachable attached) (sym (none-of file_units attached size))
-    ∙ cells-back [] attached attachable (sym size) places-are
+    ap (λ (l : List (Option Attachment)). placed_all l file_places attached) (sym (none-of file_units attached size))
+    ∙ cells-back [] attached file_places (all-places ∙ sym size) places-are
 
 pub files-back : (files : List NamedBytes) (attached : List (Option Attachment)) → length attached ≡ file_units
-    → attached_from no_attachments (saved_files files attached) ≡ attached
-unfolding saved_files
-files-back files attached size = from-all files no_attachments attached attachable ∙ attached-back attached size
+    → with_all no_attachments (saved_files files attached file_places) ≡ attached
+files-back files attached size = from-all files no_attachments attached file_places ∙ attached-back attached size
 
 numbers-back : (slots : List (Option Held)) → map held_from (attachments_of slots) ≡ map unnumbered slots
 numbers-back [] = refl
@@ -197,7 +203,7 @@ numbers-back (Some h ∷ slots) = ap
     (λ (l : List (Option Held)). Some (record { file = 0; attachment = h.attachment }) ∷ l) (numbers-back slots)
 
 copy-back : (a : Option Attachment) (disk : Buffer) (files : List NamedBytes) → CopyIsFile a disk files
-    → disk.written ≡ false → disk_from a files ≡ disk
+    → disk.written ≡ false → copy_of a files ≡ disk
 copy-back None disk files copy written = sym copy
 copy-back (Some a) disk files copy written = λ i. record { bytes = sym (copy written) i; written = sym written i }
 
@@ -205,7 +211,7 @@ copy-back (Some a) disk files copy written = λ i. record { bytes = sym (copy wr
 
 machine-back : (s : Seen) → CanBeSaved s
     → machine_from (saved_machine s.machine)
-    (attached_from no_attachments (saved_files s.files (attached_in s.machine))) s.files ≡ s.machine
+    (with_all no_attachments (saved_files s.files (attached_in s.machine) file_places)) s.files ≡ s.machine
 unfolding saved_machine machine_from
 machine-back s can =
     let m = s.machine in
@@ -213,7 +219,7 @@ machine-back s can =
     let twelve : length (attached_in m) ≡ file_units = length-map m.slots _ ∙ can.places in
     let attached = files-back s.files (attached_in m) twelve in
     let slots = ap (map held_from) attached ∙ numbers-back m.slots ∙ ap (λ (x : MachineState). x.slots) can.seen in
-    let disk = ap (λ (l : List (Option Attachment)). disk_from (attachment_at l disk_unit) s.files) attached
+    let disk = ap (λ (l : List (Option Attachment)). copy_of (attachment_at l disk_unit) s.files) attached
     ∙ copy-back (attachment_at (attached_in m) disk_unit) m.disk s.files can.copy can.written in
     let lines = ap (λ (x : MachineState). x.lines) can.seen in
     λ i. record {
@@ -283,7 +289,7 @@ lines-back (line ∷ next ∷ lines) present one idle same = absurd (omega (arit
 back : (s present : Seen) → CanBeSaved s → present.files ≡ s.files → length present.lines ≡ length s.lines
     → put_back (saved s) present ≡ record s { keys = present.keys; ahead = present.ahead }
 back s present can same as_many =
-    let attached = attached_from no_attachments (saved_files s.files (attached_in s.machine)) in
+    let attached = with_all no_attachments (saved_files s.files (attached_in s.machine) file_places) in
     let machine = ap (machine_from (saved_machine s.machine) attached) same ∙ machine-back s can in
     let watch = watch-back s.watch can.watch in
     let lines = lines-back s.lines present.lines can.line can.idle as_many in

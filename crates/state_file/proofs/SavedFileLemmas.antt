@@ -1,25 +1,23 @@
 -- The attached files are valid as they are saved.
-use Rattle.std.proofs.Common.{◌≡◌, ℕ, zero, suc, ◌+◌, ◌≤◌, ◌&&◌, Bool, true, false, List, [], ◌∷◌, ◌++◌, length, Option, Some, None, refl, sym, ap, subst, ◌∙◌, arith}
-use Rattle.std.specs.Prelude.{not, slice_index, IfSome}
+use Rattle.std.proofs.Common.{◌≡◌, ℕ, zero, suc, ◌+◌, ◌≤◌, ◌^◌, ◌&&◌, Bool, true, false, List, [], ◌∷◌, ◌++◌, length, Option, Some, None, refl, sym, subst, ap, ◌∙◌, arith}
+use Rattle.std.specs.Prelude.{not, nat_lt, slice_index, IfSome}
 use Rattle.std.specs.Int.{w32, to_be_bytes}
-use Rattle.std.proofs.lemmas.Bool.{and_from, and_parts, le-leb}
+use Rattle.std.proofs.lemmas.Bool.{and_from, and_parts, le-leb, ltb-true}
+use Rattle.std.proofs.lemmas.List.Concat.{flat_map-cons}
 use Rattle.sha2.specs.Sha256.{digest_bytes, sha256}
 use Rattle.sha2.proofs.Facts256.{length-sha256}
 use Rattle.host_files.specs.Lists.{NamedBytes, bytes_of}
 use Rattle.unit_trait.specs.declared.kind.Kind.{Kind}
-use Rattle.unit_trait.specs.declared.kind.UnitName.{UnitName}
 use Rattle.unit_trait.proofs.EveryKind.{every-kind}
 use Rattle.unit_files.specs.Attachments.{Attachment, attachment_at, longest_file}
 use Rattle.unit_files.specs.Attachments as unit_files
-use Rattle.file_commands.specs.AllUnits.{attachable}
-use Rattle.nova_machine.specs.BusOrder.{place_of}
 use Rattle.state_file.specs.Parts.{FilePart}
-use Rattle.state_file.specs.Ranges.{kind_at, FilePlace, takes_file_at, is_next_unit, only_writes, is_read_only_of, is_name_length, longest_file_of, is_file_length}
+use Rattle.state_file.specs.Ranges.{kind_at, FilePlace, takes_file_at, is_next_unit, only_writes, is_read_only_of, is_name_length, longest_file_of}
 use Rattle.state_file.specs.Valid.{AreBytes, Follow, IsFile, AreFiles}
 use Rattle.state_file.specs.Reading.{place_of as file_place, behind_file}
-use Rattle.state_file.specs.Session.{flag_of, saved_file, with_saved, saved_files_of, saved_files}
+use Rattle.state_file.specs.declared.saving.UnitPlace.{UnitPlace}
+use Rattle.state_file.specs.Saving.{unit_at, file_places, flag_of, saved_file, saved_at, saved_files}
 use Rattle.state_file.specs.SavedValid.{IsTaken, AreTaken}
-use Rattle.state_file.proofs.PutBackLemmas.{kind-back, place-low}
 
 -- ---- digests
 
@@ -54,8 +52,9 @@ same-longest k =
     (refl, refl, refl, refl, refl, refl, refl, refl, refl, refl, refl) k
 
 -- a unit can have the next file, from a place on
-is_next : FilePlace → UnitName → Bool
-is_next least unit = takes_file_at least (place_of unit.kind) && is_next_unit least (place_of unit.kind) unit.unit
+is_next : FilePlace → UnitPlace → Bool
+is_next least p =
+    nat_lt p.position (2 ^ 8) && (takes_file_at least p.position && is_next_unit least p.position p.unit)
 
 not-writes : (b : Bool) → (b ≡ true → true ≡ false) → not b ≡ true
 not-writes false writes = refl
@@ -69,26 +68,23 @@ mode-is k true writes = not-writes (only_writes k) (λ is. writes (sym (same-wri
 name-length-is : (n : ℕ) → 1 ≤ n → n ≤ 255 → is_name_length n ≡ true
 name-length-is n some few = and_from _ _ (le-leb 1 n some) (le-leb n 255 few)
 
-file-is : (files : List NamedBytes) (least : FilePlace) (unit : UnitName) (a : Attachment) → is_next least unit ≡ true
-    → IsTaken files unit a
-    → IsFile least (saved_file files unit a)
+file-is : (files : List NamedBytes) (least : FilePlace) (p : UnitPlace) (a : Attachment) → is_next least p ≡ true
+    → IsTaken files (unit_at p) a → IsFile least (saved_file p a (bytes_of files a.name))
 unfolding is_next
-file-is files least unit a next taken =
-    let parts = and_parts (takes_file_at least (place_of unit.kind))
-    (is_next_unit least (place_of unit.kind) unit.unit) next in
-    let kind = kind-back unit.kind in
+file-is files least p a next taken =
+    let low = and_parts (nat_lt p.position (2 ^ 8))
+    (takes_file_at least p.position && is_next_unit least p.position p.unit) next in
+    let parts = and_parts (takes_file_at least p.position) (is_next_unit least p.position p.unit) low.1 in
     record {
-      byte = place-low unit.kind;
+      byte = ltb-true p.position (2 ^ 8) low.0;
       position = parts.0;
       unit = parts.1;
-      read_only = ap (λ (k : Kind). is_read_only_of k (flag_of a.read_only)) kind
-          ∙ mode-is unit.kind a.read_only taken.writes;
+      read_only = mode-is (kind_at p.position) a.read_only taken.writes;
       long = name-length-is (length a.name) taken.long.0 taken.long.1;
       name = taken.bytes;
       utf8 = taken.utf8;
-      size = ap (λ (k : Kind). is_file_length k (length (bytes_of files a.name))) kind
-          ∙ le-leb (length (bytes_of files a.name)) (longest_file_of unit.kind)
-          (subst (λ (n : ℕ). length (bytes_of files a.name) ≤ n) (sym (same-longest unit.kind)) taken.size);
+      size = le-leb (length (bytes_of files a.name)) (longest_file_of (kind_at p.position))
+          (subst (λ (n : ℕ). length (bytes_of files a.name) ≤ n) (sym (same-longest (kind_at p.position))) taken.size);
       digest = length-sha256 (bytes_of files a.name);
       bytes = sha256-bytes (bytes_of files a.name);
     }
@@ -96,59 +92,76 @@ file-is files least unit a next taken =
 -- ---- all of them
 
 -- each of these units can have the next file
-all_next : FilePlace → List UnitName → Bool
+all_next : FilePlace → List UnitPlace → Bool
 all_next least [] = true
-all_next least (unit ∷ units) = is_next least unit && all_next least units
+all_next least (p ∷ places) = is_next least p && all_next least places
 
-place-behind : UnitName → FilePlace
-place-behind unit = file_place (place_of unit.kind) (unit.unit + 1)
+place-behind : UnitPlace → FilePlace
+place-behind p = file_place p.position (p.unit + 1)
 
 -- each of these units can have the next file behind each that stands before it
-in_order : List UnitName → Bool
+in_order : List UnitPlace → Bool
 in_order [] = true
-in_order (unit ∷ units) = all_next (place-behind unit) units && in_order units
+in_order (p ∷ places) = all_next (place-behind p) places && in_order places
 
-slot-follows : (files : List NamedBytes) (least : FilePlace) (unit : UnitName) (a : Option Attachment)
-    (rest : List FilePart)
-    → is_next least unit ≡ true → IfSome a (IsTaken files unit) → Follow IsFile behind_file least rest
-    → Follow IsFile behind_file (place-behind unit) rest
-    → Follow IsFile behind_file least (with_saved files unit a rest)
+slot-follows : (files : List NamedBytes) (least : FilePlace) (p : UnitPlace) (a : Option Attachment)
+    (rest : List FilePart) → is_next least p ≡ true → IfSome a (IsTaken files (unit_at p))
+    → Follow IsFile behind_file least rest → Follow IsFile behind_file (place-behind p) rest
+    → Follow IsFile behind_file least (saved_at files p a ++ rest)
 unfolding place-behind
-slot-follows files least unit None rest next taken without with = without
-slot-follows files least unit (Some a) rest next taken without with = (file-is files least unit a next taken, with)
+slot-follows files least p None rest next taken without with = without
+slot-follows files least p (Some a) rest next taken without with = (file-is files least p a next taken, with)
+
+-- the files behind the first place, and of that
+one-more : (files : List NamedBytes) (attached : List (Option Attachment)) (p : UnitPlace) (places : List UnitPlace)
+    → saved_files files attached (p ∷ places)
+    ≡ saved_at files p (attachment_at attached (unit_at p)) ++ saved_files files attached places
+one-more files attached p places =
+    flat_map-cons (λ (q : UnitPlace). saved_at files q (attachment_at attached (unit_at q))) p places
 
 files-follow : (files : List NamedBytes) (attached : List (Option Attachment)) (least : FilePlace)
-    (units : List UnitName)
-    → all_next least units ≡ true → in_order units ≡ true → AreTaken files attached units
-    → Follow IsFile behind_file least (saved_files_of files attached units)
+    (places : List UnitPlace) → all_next least places ≡ true → in_order places ≡ true → AreTaken files attached places
+    → Follow IsFile behind_file least (saved_files files attached places)
 unfolding all_next in_order
 files-follow files attached least [] next order taken = tt
-files-follow files attached least (unit ∷ units) next order taken =
-    let here = and_parts (is_next least unit) (all_next least units) next in
-    let behind = and_parts (all_next (place-behind unit) units) (in_order units) order in
-    slot-follows files least unit (attachment_at attached unit) (saved_files_of files attached units) here.0 taken.0
-    (files-follow files attached least units here.1 behind.1 taken.1)
-    (files-follow files attached (place-behind unit) units behind.0 behind.1 taken.1)
+files-follow files attached least (p ∷ places) next order taken =
+    let here = and_parts (is_next least p) (all_next least places) next in
+    let behind = and_parts (all_next (place-behind p) places) (in_order places) order in
+    subst (λ (l : List FilePart). Follow IsFile behind_file least l) (sym (one-more files attached p places))
+    (slot-follows files least p (attachment_at attached (unit_at p)) (saved_files files attached places) here.0 taken.0
+    (files-follow files attached least places here.1 behind.1 taken.1)
+    (files-follow files attached (place-behind p) places behind.0 behind.1 taken.1))
 
-slot-adds : (files : List NamedBytes) (unit : UnitName) (a : Option Attachment) (rest : List FilePart)
-    → length (with_saved files unit a rest) ≤ length rest + 1
-slot-adds files unit None rest = omega arith
-slot-adds files unit (Some a) rest = omega arith
+slot-adds : (files : List NamedBytes) (p : UnitPlace) (a : Option Attachment) (rest : List FilePart)
+    → length (saved_at files p a ++ rest) ≤ length rest + 1
+slot-adds files p None rest = omega arith
+slot-adds files p (Some a) rest = omega arith
 
-as-most : (files : List NamedBytes) (attached : List (Option Attachment)) (units : List UnitName)
-    → length (saved_files_of files attached units) ≤ length units
+as-most : (files : List NamedBytes) (attached : List (Option Attachment)) (places : List UnitPlace)
+    → length (saved_files files attached places) ≤ length places
 as-most files attached [] = omega arith
-as-most files attached (unit ∷ units) =
-    let more = as-most files attached units in
-    let here = slot-adds files unit (attachment_at attached unit) (saved_files_of files attached units) in
-    omega (arith, more, here)
+as-most files attached (p ∷ places) =
+    let more = as-most files attached places in
+    let here = slot-adds files p (attachment_at attached (unit_at p)) (saved_files files attached places) in
+    let one = ap (λ (l : List FilePart). length l) (one-more files attached p places) in
+    omega (arith, more, here, one)
 
-pub files-valid : (files : List NamedBytes) (attached : List (Option Attachment)) → AreTaken files attached attachable
-    → AreFiles (saved_files files attached)
-unfolding saved_files kind_at is_next all_next in_order place-behind
+-- twelve units, one behind another
+twelve : length file_places ≡ 12
+unfolding file_places
+twelve = refl
+
+ordered : (all_next (file_place 0 0) file_places && in_order file_places) ≡ true
+unfolding file_places kind_at is_next all_next in_order place-behind
+ordered = refl
+
+pub files-valid : (files : List NamedBytes) (attached : List (Option Attachment))
+    → AreTaken files attached file_places → AreFiles (saved_files files attached file_places)
 files-valid files attached taken =
-    let most = as-most files attached attachable in
+    let most = as-most files attached file_places in
+    let all = twelve in
+    let order = and_parts (all_next (file_place 0 0) file_places) (in_order file_places) ordered in
     record {
-      few = omega (arith, most);
-      each = files-follow files attached (file_place 0 0) attachable refl refl taken;
+      few = omega (arith, most, all);
+      each = files-follow files attached (file_place 0 0) file_places order.0 order.1 taken;
     }

@@ -28,7 +28,8 @@ use Rattle.state_file.specs.declared.saved.SavedEvent.{SavedEvent}
 use Rattle.state_file.specs.Ranges.{is_flag, is_size, is_address, kind_at, standard_kinds, is_position, register_count, within_limits, holds_value, most_events, is_event_of, is_later}
 use Rattle.state_file.specs.Valid.{AreWords, Follow, IsCpu, CanHold, IsUnit, IsEvent, IsMachine}
 use Rattle.state_file.specs.Reading.{next_number, with_event}
-use Rattle.state_file.specs.Session.{flag_of, saved_cpu, saved_unit, saved_event, saved_machine}
+use Rattle.state_file.specs.Saving.{flag_of}
+use Rattle.state_file.specs.Session.{saved_cpu, saved_unit, saved_event, saved_machine}
 use Rattle.state_file.specs.SavedValid.{AreStandard}
 use Rattle.state_file.proofs.PutBackLemmas.{kind-back, place-low, size-back}
 use Rattle.state_file.proofs.SavedWatchLemmas.{few}

@@ -6,11 +6,12 @@ pub mod Valid
 pub mod Readers
 pub mod Reading
 pub mod Laws
-pub mod Session
-pub mod PutBack
-pub mod SavedValid
 pub mod Restoring
 pub mod RestoringOne
 pub mod RestoreCauses
 pub mod Saving
 pub mod SavingOne
+pub mod Session
+pub mod PutBack
+pub mod SavedValid
+pub mod PutBackValid

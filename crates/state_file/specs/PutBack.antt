@@ -1,7 +1,7 @@
 -- What is put back of a saved session.
 use Rattle.std.specs.Prelude.{◌≡◌, ◌≢◌, ℕ, zero, suc, ◌-◌, ◌*◌, ◌^◌, ◌==◌, Bool, false, List, [], ◌∷◌, ◌++◌, length, map, replicate, Option, Some, None, option_map}
 use Rattle.std.specs.List.{AllByRecursion}
-use Rattle.host_files.specs.Lists.{NamedBytes, bytes_of}
+use Rattle.host_files.specs.Lists.{NamedBytes}
 use Rattle.host_lines.specs.Traffic.{Peer, Answer}
 use Rattle.host_lines.specs.State.{LineState}
 use Rattle.telnet_lines.specs.Line.{LineOf, unconnected, IsSettled}
@@ -9,8 +9,8 @@ use Rattle.telnet_lines.specs.Joined.{seen_line}
 use Rattle.unit_trait.specs.declared.kind.UnitName.{UnitName}
 use Rattle.unit_trait.specs.Calls.{UnitState}
 use Rattle.event_queue.specs.EventList.{Event}
-use Rattle.unit_files.specs.Attachments.{Attachment, Held, no_attachments, attachment_at, with_attachment, file_units}
-use Rattle.unit_files.specs.Buffer.{Buffer, no_buffer, disk_unit}
+use Rattle.unit_files.specs.Attachments.{Attachment, Held, no_attachments, attachment_at, file_units}
+use Rattle.unit_files.specs.Buffer.{disk_unit}
 use Rattle.nova_memory.specs.Memory.{MemoryState, IsMemory, IsSize}
 use Rattle.nova_processor.specs.declared.cpu.Cpu.{Cpu}
 use Rattle.nova_interrupts.specs.declared.interrupts.Ints.{Ints}
@@ -24,8 +24,9 @@ use Rattle.nova_machine.specs.Valid.{DiskIsItsFile}
 use Rattle.state_file.specs.declared.saved.SavedCpu.{SavedCpu}
 use Rattle.state_file.specs.declared.saved.SavedEvent.{SavedEvent}
 use Rattle.state_file.specs.declared.saved.SavedSend.{SavedSend}
-use Rattle.state_file.specs.Parts.{UnitPart, FilePart, BreakPart, ExpectPart, MachinePart, WatchPart, State}
+use Rattle.state_file.specs.Parts.{UnitPart, BreakPart, ExpectPart, MachinePart, WatchPart, State}
 use Rattle.state_file.specs.Ranges.{kind_at}
+use Rattle.state_file.specs.Restoring.{with_all, copy_of}
 use Rattle.state_file.specs.Session.{saved}
 
 -- ---- the machine
@@ -54,20 +55,6 @@ event_from e = record { unit = unit_named e.position e.unit; remaining = e.remai
 
 -- ---- the attached files
 
-abbrev pub attachment_from : FilePart → Attachment
-attachment_from f = record { name = f.name; read_only = is_set f.read_only }
-
--- each is attached to its unit, one behind another
-abbrev pub attached_from : List (Option Attachment) → List FilePart → List (Option Attachment)
-attached_from attached [] = attached
-attached_from attached (f ∷ files) =
-    attached_from (with_attachment attached (unit_named f.position f.unit) (Some (attachment_from f))) files
-
--- the disk's copy is that of the file that it is given
-abbrev pub disk_from : Option Attachment → List NamedBytes → Buffer
-disk_from None files = no_buffer
-disk_from (Some a) files = record { bytes = bytes_of files a.name; written = false }
-
 -- an attachment, without the number of its file
 abbrev pub held_from : Option Attachment → Option Held
 held_from a = option_map (λ (b : Attachment). record { file = 0; attachment = b }) a
@@ -84,7 +71,7 @@ machine_from m attached files = record {
   time = m.cpu.time;
   taken = m.cpu.keys_taken;
   slots = map held_from attached;
-  disk = disk_from (attachment_at attached disk_unit) files;
+  disk = copy_of (attachment_at attached disk_unit) files;
   lines = [];
 }
 
@@ -124,7 +111,7 @@ watch_from w = record {
 -- lines are the present ones.
 abbrev pub put_back : State → Seen → Seen
 put_back s present = record present {
-  machine = machine_from s.machine (attached_from no_attachments s.files) present.files;
+  machine = machine_from s.machine (with_all no_attachments s.files) present.files;
   watch = watch_from s.watch;
   lines = lines_from s.port present.lines;
 }
@@ -152,12 +139,13 @@ pub record CanBeSaved (s : Seen) : Type 0 where
 
 -- What was saved is put back.
 pub record SavingPutsBack : Type 0 where
-  -- into a session whose files have the same bytes and whose machine has as many lines: then all but the keys and what is
-  -- still to come on lines is as it was saved
+  -- into a session whose files have the same bytes and whose machine has as many lines: then all but the keys and what
+  -- is still to come on lines is as it was saved
   pub back : (s present : Seen) → CanBeSaved s → present.files ≡ s.files → length present.lines ≡ length s.lines
       → put_back (saved s) present ≡ record s { keys = present.keys; ahead = present.ahead }
   -- of the premises of that: every machine is seen without numbers of files and without its lines
-  pub seen : (b : Beside) (whole : List Answer) (m : MachineState) → erased (seen b whole m).machine ≡ (seen b whole m).machine
+  pub seen : (b : Beside) (whole : List Answer) (m : MachineState)
+      → erased (seen b whole m).machine ≡ (seen b whole m).machine
   -- and a settled line to which nobody is connected is one that can be saved, where its port is not 0
   pub idle : (s : LineState) (line : LineOf ℕ) → IsSettled line → line.connection ≡ None → line.port ≢ Some 0
       → IsIdleLine (seen_line s line)

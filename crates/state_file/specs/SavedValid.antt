@@ -10,7 +10,6 @@ use Rattle.unit_trait.specs.Kinds.{all_kinds}
 use Rattle.unit_trait.specs.Calls.{UnitState}
 use Rattle.unit_list.specs.Bus.{kinds_of}
 use Rattle.unit_files.specs.Attachments.{Attachment, attachment_at, IsFileName, longest_file, only_writes}
-use Rattle.file_commands.specs.AllUnits.{attachable}
 use Rattle.expect_actions.specs.declared.breaks.Break.{Break}
 use Rattle.expect_actions.specs.declared.expects.Expect.{Expect}
 use Rattle.expect_actions.specs.KeysFile.{most_keys}
@@ -22,6 +21,8 @@ use Rattle.state_file.specs.Ranges.{standard_kinds, is_text_length}
 use Rattle.state_file.specs.Text.{text}
 use Rattle.state_file.specs.Valid.{AreBytes, AreActions, Valid, Fits}
 use Rattle.state_file.specs.Reading.{reading}
+use Rattle.state_file.specs.declared.saving.UnitPlace.{UnitPlace}
+use Rattle.state_file.specs.Saving.{unit_at, file_places}
 use Rattle.state_file.specs.Session.{saved}
 use Rattle.state_file.specs.PutBack.{put_back, CanBeSaved}
 
@@ -38,9 +39,9 @@ pub record IsTaken (files : List NamedBytes) (unit : UnitName) (a : Attachment) 
   pub size : length (bytes_of files a.name) ≤ longest_file unit.kind
   pub writes : only_writes unit.kind ≡ true → a.read_only ≡ false
 
-abbrev pub AreTaken : List NamedBytes → List (Option Attachment) → List UnitName → Type 0
-AreTaken files attached units =
-    AllByRecursion (λ (unit : UnitName). IfSome (attachment_at attached unit) (IsTaken files unit)) units
+abbrev pub AreTaken : List NamedBytes → List (Option Attachment) → List UnitPlace → Type 0
+AreTaken files attached places =
+    AllByRecursion (λ (p : UnitPlace). IfSome (attachment_at attached (unit_at p)) (IsTaken files (unit_at p))) places
 
 -- the counts and actions of a break, and of a text that is waited for, are such as commands give them
 pub record IsGivenBreak (b : Break) : Type 0 where
@@ -70,7 +71,7 @@ pub record IsStandard (s : Seen) : Type 0 where
   pub time : s.machine.time ≤ last_time
   pub keys : length s.keys ≤ most_keys
   pub units : AreStandard s.machine.units
-  pub files : AreTaken s.files (attached_in s.machine) attachable
+  pub files : AreTaken s.files (attached_in s.machine) file_places
   pub watch : AreGiven s.watch
   pub ports : AllByRecursion HasPort16 s.lines
 

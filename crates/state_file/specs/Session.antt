@@ -1,15 +1,10 @@
 -- What is saved of a session: its machine, its watch tables, the files that are attached, and the port of the second
 -- teletype. The keys of the console and what is still to come on lines are not saved, nor is a connection.
-use Rattle.std.specs.Prelude.{ℕ, ◌/◌, Bool, true, false, List, [], ◌∷◌, length, map, take, slice_get, Option, Some, None}
-use Rattle.sha2.specs.Sha256.{sha256}
-use Rattle.host_files.specs.Lists.{NamedBytes, bytes_of}
+use Rattle.std.specs.Prelude.{ℕ, ◌/◌, List, map, take, slice_get, Option, Some, None}
 use Rattle.host_lines.specs.Traffic.{Peer}
 use Rattle.telnet_lines.specs.Line.{LineOf}
-use Rattle.unit_trait.specs.declared.kind.UnitName.{UnitName}
 use Rattle.unit_trait.specs.Calls.{UnitState}
 use Rattle.event_queue.specs.EventList.{Event}
-use Rattle.unit_files.specs.Attachments.{Attachment, attachment_at}
-use Rattle.file_commands.specs.AllUnits.{attachable}
 use Rattle.expect_actions.specs.declared.breaks.Break.{Break}
 use Rattle.expect_actions.specs.declared.expects.Expect.{Expect}
 use Rattle.expect_actions.specs.Sends.{Send}
@@ -20,13 +15,10 @@ use Rattle.nova_machine.specs.Seen.{Seen, attached_in}
 use Rattle.state_file.specs.declared.saved.SavedCpu.{SavedCpu}
 use Rattle.state_file.specs.declared.saved.SavedEvent.{SavedEvent}
 use Rattle.state_file.specs.declared.saved.SavedSend.{SavedSend}
-use Rattle.state_file.specs.Parts.{UnitPart, FilePart, BreakPart, ExpectPart, MachinePart, WatchPart, State}
+use Rattle.state_file.specs.Parts.{UnitPart, BreakPart, ExpectPart, MachinePart, WatchPart, State}
+use Rattle.state_file.specs.Saving.{flag_of, file_places, saved_files}
 
 -- ---- the machine
-
-abbrev pub flag_of : Bool → ℕ
-flag_of true = 1
-flag_of false = 0
 
 abbrev pub saved_cpu : MachineState → SavedCpu
 saved_cpu m = record {
@@ -57,32 +49,6 @@ saved_machine m = record {
   units = map saved_unit m.units;
   agenda = map saved_event m.events;
 }
-
--- ---- the attached files
-
-abbrev pub saved_file : List NamedBytes → UnitName → Attachment → FilePart
-saved_file files unit a = record {
-  position = place_of unit.kind;
-  unit = unit.unit;
-  read_only = flag_of a.read_only;
-  name = a.name;
-  size = length (bytes_of files a.name);
-  digest = sha256 (bytes_of files a.name);
-}
-
-abbrev pub with_saved : List NamedBytes → UnitName → Option Attachment → List FilePart → List FilePart
-with_saved files unit None rest = rest
-with_saved files unit (Some a) rest = saved_file files unit a ∷ rest
-
--- those of these units, in their order
-abbrev pub saved_files_of : List NamedBytes → List (Option Attachment) → List UnitName → List FilePart
-saved_files_of files attached [] = []
-saved_files_of files attached (unit ∷ units) =
-    with_saved files unit (attachment_at attached unit) (saved_files_of files attached units)
-
--- in bus order, drives by their numbers
-unfoldable pub saved_files : List NamedBytes → List (Option Attachment) → List FilePart
-saved_files files attached = saved_files_of files attached attachable
 
 -- ---- the port of line 0
 
@@ -122,7 +88,7 @@ saved_watch w = record {
 abbrev pub saved : Seen → State
 saved s = record {
   machine = saved_machine s.machine;
-  files = saved_files s.files (attached_in s.machine);
+  files = saved_files s.files (attached_in s.machine) file_places;
   port = saved_port s.lines;
   watch = saved_watch s.watch;
 }

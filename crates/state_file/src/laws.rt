@@ -1,5 +1,6 @@
 ghost use Rattle.state_file.specs.Laws.{OneToOne, TextsAreRead};
 ghost use Rattle.state_file.specs.PutBack.{SavingPutsBack};
+ghost use Rattle.state_file.specs.PutBackValid.{PutBackIsValid};
 ghost use Rattle.state_file.specs.SavedValid.{SavedIsValid};
 
 /// The law that no text is that of two saved sessions.
@@ -22,4 +23,10 @@ pub fn saving_puts_back()
 /// puts the session back.
 pub fn saved_is_valid()
     ensures { SavedIsValid }
+{}
+
+/// The law that a session into which a valid state was put back is within its limits, as long as no more keys had been
+/// taken than it knows.
+pub fn put_back_is_valid()
+    ensures { PutBackIsValid }
 {}

@@ -22,7 +22,8 @@ mod writing;
 pub use fault::StateFault;
 pub use file_faults::{RestoreFault, SaveFault};
 pub use laws::{
-    saved_is_valid, saving_puts_back, state_texts_are_one_to_one, valid_states_are_read,
+    put_back_is_valid, saved_is_valid, saving_puts_back, state_texts_are_one_to_one,
+    valid_states_are_read,
 };
 pub use reading::read_state;
 pub use restoring::attach_all;

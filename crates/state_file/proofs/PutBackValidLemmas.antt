@@ -1,0 +1,59 @@
+-- A session is in range once a valid state was put back.
+use Rattle.std.proofs.Common.{ℕ, ◌≤◌, List, [], ◌∷◌, length, Option, sym, subst, arith}
+use Rattle.std.specs.List.{AllByRecursion}
+use Rattle.std.proofs.lemmas.Bool.{leb-true}
+use Rattle.host_lines.specs.Traffic.{Peer}
+use Rattle.telnet_lines.specs.Line.{LineOf}
+use Rattle.unit_files.specs.Attachments.{Attachment, no_attachments, attachment_at}
+use Rattle.unit_files.specs.Buffer.{disk_unit}
+use Rattle.nova_machine.specs.Run.{last_time}
+use Rattle.nova_machine.specs.Seen.{Seen}
+use Rattle.nova_machine.specs.Valid.{ValidLine, Valid as ValidSeen, CopyIsFile, DiskIsItsFile}
+use Rattle.state_file.specs.Parts.{State}
+use Rattle.state_file.specs.Valid.{Valid}
+use Rattle.state_file.specs.Restoring.{with_all, copy_of}
+use Rattle.state_file.specs.PutBack.{machine_from, lines_from, put_back}
+use Rattle.state_file.specs.SavedValid.{AreStandard}
+use Rattle.state_file.specs.PutBackValid.{PutBackIsValid}
+use Rattle.state_file.proofs.PutBackMachineLemmas.{units-standard, copy-is, as-many-places, slots-back, machine-in-range}
+use Rattle.state_file.proofs.PutBackWatchLemmas.{watch-in-range}
+
+lines-in-range : (port : ℕ) (lines : List (LineOf Peer)) → AllByRecursion ValidLine lines
+    → AllByRecursion ValidLine (lines_from port lines)
+lines-in-range port [] are = tt
+lines-in-range port (line ∷ lines) are =
+    (record { keys = tt; output = tt; few_keys = omega arith; few_bytes = omega arith }, are.1)
+
+valid : (v : State) (present : Seen) → Valid v → ValidSeen present → v.machine.cpu.keys_taken ≤ length present.keys
+    → ValidSeen (put_back v present)
+unfolding machine_from
+valid v present is in_range taken = record {
+  machine = machine-in-range v.machine (with_all no_attachments v.files) present.files is.machine
+      (as-many-places no_attachments v.files) in_range.files;
+  watch = watch-in-range v.watch is.watch;
+  taken = taken;
+  keys = in_range.keys;
+  files = in_range.files;
+  lines = lines-in-range v.port present.lines in_range.lines;
+  ahead = in_range.ahead;
+}
+
+time : (v : State) (present : Seen) → Valid v → (put_back v present).machine.time ≤ last_time
+unfolding machine_from
+time v present is = leb-true v.machine.cpu.time last_time is.machine.cpu.time
+
+units : (v : State) (present : Seen) → Valid v → AreStandard (put_back v present).machine.units
+unfolding machine_from
+units v present is = units-standard v.machine is.machine
+
+disk : (v : State) (present : Seen) → DiskIsItsFile (put_back v present)
+unfolding machine_from
+disk v present =
+    let attached = with_all no_attachments v.files in
+    subst
+    (λ (l : List (Option Attachment)). CopyIsFile (attachment_at l disk_unit)
+    (copy_of (attachment_at attached disk_unit) present.files) present.files)
+    (sym (slots-back attached)) (copy-is (attachment_at attached disk_unit) present.files)
+
+pub put-back-is-valid : PutBackIsValid
+put-back-is-valid = record { valid = valid; time = time; units = units; disk = disk }
