@@ -12,11 +12,6 @@ pub mod SealLaws
 pub mod LooseLaws
 pub mod FitLaws
 pub mod EndLaws
-pub mod PutBackLemmas
-pub mod SavedWatchLemmas
-pub mod SavedLemmas
-pub mod SavedFileLemmas
-pub mod SavedValidLemmas
 pub mod Digesting
 pub mod Attaching
 pub mod Together
@@ -24,6 +19,11 @@ pub mod ValidFiles
 pub mod RestoreCounts
 pub mod TakingLemmas
 pub mod SavingLaws
+pub mod PutBackLemmas
+pub mod SavedWatchLemmas
+pub mod SavedLemmas
+pub mod SavedFileLemmas
+pub mod SavedValidLemmas
 pub mod PutBackWatchLemmas
 pub mod PutBackMachineLemmas
 pub mod PutBackValidLemmas
