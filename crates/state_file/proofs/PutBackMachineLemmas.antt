@@ -1,33 +1,30 @@
 -- A machine is in range once a valid state was put back.
-use Rattle.std.proofs.Common.{◌≡◌, ◌⊎◌, ℕ, zero, suc, ◌+◌, ◌-◌, ◌*◌, ◌%◌, ◌<◌, ◌≤◌, ◌^◌, ◌&&◌, eqb, Bool, true, false, List, [], ◌∷◌, ◌++◌, length, map, take, replicate, get_or, All, Option, Some, None, inl, inr, refl, sym, ap, subst, ◌∙◌, arith}
-use Rattle.std.specs.Prelude.{nat_le, nat_lt, bytes_eq, unwrap_or, not, slice_get, slice_index, slice_index_or, option_map}
+use Rattle.std.proofs.Common.{◌≡◌, ℕ, zero, suc, ◌+◌, ◌-◌, ◌*◌, ◌%◌, ◌<◌, ◌≤◌, ◌^◌, ◌&&◌, eqb, Bool, true, false, List, [], ◌∷◌, ◌++◌, length, map, take, replicate, get_or, Option, Some, None, inl, inr, refl, sym, ap, subst, ◌∙◌, arith}
+use Rattle.std.specs.Prelude.{nat_le, nat_lt, bytes_eq, unwrap_or, slice_get, slice_index_or, option_map}
 use Rattle.std.specs.List.{AllByRecursion, IsDistinct, list_any}
 use Rattle.std.proofs.Math.Seq.{get_or-append_right}
 use Rattle.std.proofs.lemmas.Bool.{cond_both, and_from, and_parts, or_from, or_parts, not-true, false_from_ne_true, both_ways, leb-true, ltb-true, ltb-false, eq-eqb, eqb-true}
-use Rattle.std.proofs.lemmas.Bool.Decides.{nat_tests}
 use Rattle.std.proofs.lemmas.List.{length-map, length-append, length-replicate, length-set}
 use Rattle.host_files.specs.Lists.{NamedBytes, bytes_of, find_file}
 use Rattle.unit_trait.specs.declared.kind.Kind.{Kind}
 use Rattle.unit_trait.specs.declared.kind.UnitName.{UnitName}
 use Rattle.unit_trait.specs.Kinds.{all_kinds, units_of, code_of, same_unit}
 use Rattle.unit_trait.specs.Registers.{Register, registers, register_at}
-use Rattle.unit_trait.specs.Calls.{UnitState}
 use Rattle.unit_trait.specs.Row.{InRange}
 use Rattle.unit_trait.proofs.Codes.{same-code}
 use Rattle.unit_list.specs.Bus.{AllFit, kinds_of}
-use Rattle.event_queue.specs.EventList.{Event, Rising, waiting, Sound}
+use Rattle.event_queue.specs.EventList.{Event, waiting, Sound}
 use Rattle.event_queue.specs.DueTimes.{scheduled}
 use Rattle.unit_files.specs.Attachments.{Attachment, attachments_of, attachment_at, with_attachment, file_units}
 use Rattle.unit_files.specs.Buffer.{disk_unit}
-use Rattle.nova_memory.specs.Memory.{MemoryState, IsMemory, IsSize}
+use Rattle.nova_memory.specs.Memory.{IsMemory, IsSize}
 use Rattle.nova_machine.specs.BusOrder.{place_of}
-use Rattle.nova_machine.specs.Core.{IsAmong, AreListed, IsCore}
-use Rattle.nova_machine.specs.Machine.{MachineState}
-use Rattle.nova_machine.specs.Valid.{AreBytes, ValidCpu, ValidMachine, CopyIsFile}
+use Rattle.nova_machine.specs.Core.{IsAmong, AreListed}
+use Rattle.nova_machine.specs.Valid.{AreBytes, ValidMachine, CopyIsFile}
 use Rattle.state_file.specs.declared.saved.SavedEvent.{SavedEvent}
 use Rattle.state_file.specs.Parts.{UnitPart, FilePart, MachinePart}
-use Rattle.state_file.specs.Ranges.{is_size, is_address, kind_at, standard_kinds, is_position, register_count, within_limits, holds_value, is_event_of, is_free, can_wait, is_later, comes_last}
-use Rattle.state_file.specs.Valid.{AreWords, Follow, IsCpu, CanHold, IsUnit, IsEvent, IsMachine}
+use Rattle.state_file.specs.Ranges.{is_size, kind_at, standard_kinds, is_position, register_count, within_limits, holds_value, is_event_of, is_free, is_later}
+use Rattle.state_file.specs.Valid.{AreWords, Follow, CanHold, IsUnit, IsEvent, IsMachine}
 use Rattle.state_file.specs.Reading.{next_number, with_event}
 use Rattle.state_file.specs.PutBack.{memory_from, unit_from, unit_named, event_from, attachment_from, attached_from, disk_from, held_from, machine_from}
 use Rattle.state_file.specs.SavedValid.{AreStandard}

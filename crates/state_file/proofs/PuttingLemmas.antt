@@ -23,7 +23,7 @@ use Rattle.state_file.specs.declared.saved.SavedUnit.{SavedUnit}
 use Rattle.state_file.specs.declared.saved.SavedEvent.{SavedEvent}
 use Rattle.state_file.specs.Parts.{unit_in, MachinePart}
 use Rattle.state_file.specs.Putting.{with_machine_of, IsSeenAs}
-use Rattle.state_file.specs.PutBack.{is_set, cpu_from, interrupts_from, memory_from, unit_from, unit_named, event_from, held_from, machine_from}
+use Rattle.state_file.specs.PutBack.{is_set, cpu_from, interrupts_from, memory_from, unit_from, event_from, held_from, machine_from}
 use Rattle.state_file.specs.Ranges.{kind_at, standard_kinds, is_position, is_event_of}
 use Rattle.state_file.specs.Reading.{next_number, with_event}
 use Rattle.state_file.specs.SavedValid.{AreStandard}

@@ -1,5 +1,5 @@
 -- What a session is into which a valid state was put back.
-use Rattle.std.specs.Prelude.{ℕ, ◌≤◌, length}
+use Rattle.std.specs.Prelude.{◌≤◌, length}
 use Rattle.nova_machine.specs.Run.{last_time}
 use Rattle.nova_machine.specs.Seen.{Seen}
 use Rattle.nova_machine.specs.Valid.{Valid as ValidSeen, DiskIsItsFile}

@@ -14,7 +14,7 @@ mod reading;
 pub mod restoring;
 pub mod saved;
 pub mod saving;
-pub mod set_state;
+pub mod setting;
 pub mod unit_digest;
 mod watch_fields;
 mod writing;
@@ -31,6 +31,6 @@ pub use saved::{
     Saved, SavedBreak, SavedCpu, SavedEvent, SavedExpect, SavedFile, SavedSend, SavedUnit,
 };
 pub use saving::digest_all;
-pub use set_state::set_state;
+pub use setting::set_state;
 pub use std::alloc::AllocError as OutOfMemory;
 pub use writing::write_state;

@@ -1,7 +1,7 @@
-use Rattle.std.proofs.Common.{◌≡◌, ℕ, List, ◌∷◌, [], Some, ap, sym, ◌∙◌}
+use Rattle.std.proofs.Common.{◌≡◌, ℕ, List, ◌∷◌, [], Some, ap, sym}
 use Rattle.std.specs.Prelude.{slice_get, slice_set}
 use Rattle.telnet_lines.specs.Line.{LineOf}
-use Rattle.state_file.proofs.set_state.put_port.Goals as goal
+use Rattle.state_file.proofs.setting.put_port.Goals as goal
 
 -- line 0 stays where it is what it was
 same-line : (lines : List (LineOf ℕ)) (old new : LineOf ℕ) → slice_get lines 0 ≡ Some old → new ≡ old

@@ -11,7 +11,7 @@ use Rattle.state_file.specs.RestoringOne.{CanAttach, AreApart}
 use Rattle.state_file.proofs.GivingBackLemmas.{given-back}
 use Rattle.state_file.proofs.Together.{only-base}
 use Rattle.state_file.proofs.ValidFiles.{each-can, all-apart}
-use Rattle.state_file.proofs.set_state.put_outside.Goals as goal
+use Rattle.state_file.proofs.setting.put_outside.Goals as goal
 
 pub give_back_all-requires-clause-can : goal.give_back_all-requires-clause-can
 give_back_all-requires-clause-can g c =
