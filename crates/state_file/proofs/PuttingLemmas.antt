@@ -1,5 +1,5 @@
 -- Units and events of a saved machine that are put into one, one behind another.
-use Rattle.std.proofs.Common.{◌≡◌, ℕ, ◌+◌, ◌<◌, ◌≤◌, ◌==◌, Bool, true, false, not, IsTrue, List, [], ◌∷◌, ◌++◌, length, map, take, drop, get_or, Option, Some, None, is_some, inl, inr, refl, sym, ap, subst, ◌∙◌, if◌then◌else◌}
+use Rattle.std.proofs.Common.{◌≡◌, ℕ, zero, suc, ◌+◌, ◌<◌, ◌≤◌, ◌==◌, Bool, true, false, not, IsTrue, List, [], ◌∷◌, ◌++◌, length, map, take, drop, get_or, Option, Some, None, is_some, inl, inr, refl, sym, ap, subst, ◌∙◌, if◌then◌else◌}
 use Rattle.std.specs.Prelude.{nat_lt}
 use Rattle.std.specs.List.{AllByRecursion, IsDistinct, list_any}
 use Rattle.std.proofs.lemmas.Bool.{and_parts, eq-eqb, ltb-true}
@@ -17,13 +17,20 @@ use Rattle.event_queue.specs.Agenda.{asked_in_order}
 use Rattle.event_queue.proofs.Agendas.{agenda-stands}
 use Rattle.nova_machine.specs.Core.{IsAmong}
 use Rattle.nova_machine.specs.Machine.{MachineState}
-use Rattle.nova_machine.specs.Seen.{unnumbered, erased}
-use Rattle.unit_files.specs.Attachments.{Held, attachments_of}
+use Rattle.nova_machine.specs.Seen.{unnumbered, erased, Beside, seen}
+use Rattle.unit_files.specs.Attachments.{Held, attachments_of, no_attachments}
 use Rattle.state_file.specs.declared.saved.SavedUnit.{SavedUnit}
 use Rattle.state_file.specs.declared.saved.SavedEvent.{SavedEvent}
-use Rattle.state_file.specs.Parts.{unit_in, MachinePart}
-use Rattle.state_file.specs.Putting.{with_machine_of, IsSeenAs}
-use Rattle.state_file.specs.PutBack.{is_set, cpu_from, interrupts_from, memory_from, unit_from, unit_named, event_from, held_from, machine_from}
+use Rattle.state_file.specs.Parts.{unit_in, MachinePart, State}
+use Rattle.state_file.specs.Putting.{with_machine_of, IsSeenAs, IsPutBack}
+use Rattle.state_file.specs.Listening.{with_port, AreClosed}
+use Rattle.host_lines.specs.Traffic.{Peer}
+use Rattle.host_lines.specs.Told.{ahead_of}
+use Rattle.host_lines.specs.State.{LineState}
+use Rattle.telnet_lines.specs.Line.{LineOf, unconnected}
+use Rattle.telnet_lines.specs.Joined.{seen_line}
+use Rattle.state_file.specs.Restoring.{with_all}
+use Rattle.state_file.specs.PutBack.{is_set, cpu_from, interrupts_from, memory_from, unit_from, event_from, held_from, machine_from, lines_from, watch_from}
 use Rattle.state_file.specs.Ranges.{kind_at, standard_kinds, is_position, is_event_of}
 use Rattle.state_file.specs.Reading.{next_number, with_event}
 use Rattle.state_file.specs.SavedValid.{AreStandard}
@@ -170,3 +177,35 @@ seen-as old new p becomes attached files here copy =
       disk = copy i;
       lines = [];
     })
+
+-- ---- the session
+
+closed-lines : (old new : LineState) (lines : List (LineOf ℕ)) → AreClosed lines
+    → map (seen_line new) lines ≡ map (seen_line old) lines
+closed-lines old new [] closed = refl
+closed-lines old new (line ∷ lines) closed =
+    let one : seen_line new line ≡ seen_line old line =
+    ap (seen_line new) closed.0 ∙ sym (ap (seen_line old) closed.0) in
+    λ i. one i ∷ closed-lines old new lines closed.1 i
+
+port-lines : (port : ℕ) (old new : LineState) (lines : List (LineOf ℕ)) → AreClosed lines
+    → map (seen_line new) (with_port port lines) ≡ lines_from port (map (seen_line old) lines)
+port-lines zero old new [] closed = refl
+port-lines (suc n) old new [] closed = refl
+port-lines zero old new (line ∷ lines) closed =
+    λ i. ap (seen_line new) closed.0 i ∷ closed-lines old new lines closed.1 i
+port-lines (suc n) old new (line ∷ lines) closed =
+    ap (λ (l : List (LineOf Peer)). unconnected (Some (suc n)) ∷ l) (closed-lines old new lines closed.1)
+
+pub is-put-back : (s : State) (before after : Beside) (old new : MachineState) → after.files ≡ before.files
+    → erased new ≡ machine_from s.machine (with_all no_attachments s.files) before.files
+    → new.lines ≡ with_port s.port old.lines → after.watch ≡ watch_from s.watch → IsPutBack s before old after new
+is-put-back s before after old new files machine lines watch closed keys whole = λ i. record {
+  machine = machine i;
+  watch = watch i;
+  keys = sym keys i;
+  files = files i;
+  lines = (ap (λ (l : List (LineOf ℕ)). map (seen_line after.lines) l) lines
+      ∙ port-lines s.port before.lines after.lines old.lines closed) i;
+  ahead = ahead_of after.lines.told whole;
+}

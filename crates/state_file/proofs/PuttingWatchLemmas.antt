@@ -1,6 +1,5 @@
 -- Entries of saved watch tables that are added one behind another.
-use Rattle.std.proofs.Common.{◌≡◌, ℕ, zero, suc, ◌+◌, ◌<◌, ◌≤◌, ◌^◌, ◌&&◌, ◌∷◌, ◌++◌, Bool, true, IsTrue, List, [], length, map, take, get_or, refl, sym, ap, subst, ◌∙◌, arith}
-use Rattle.std.specs.Prelude.{nat_le}
+use Rattle.std.proofs.Common.{◌≡◌, ℕ, zero, suc, ◌+◌, ◌<◌, ◌≤◌, ◌^◌, ◌∷◌, ◌++◌, List, [], length, map, take, get_or, refl, sym, ap, subst, ◌∙◌, arith}
 use Rattle.std.specs.List.{AllByRecursion}
 use Rattle.std.proofs.lemmas.Bool.{leb-true}
 use Rattle.std.proofs.lemmas.List.{take_more, take_all, length-map, length-take-le, map_push}
@@ -17,7 +16,6 @@ use Rattle.state_file.specs.declared.saved.SavedExpect.{SavedExpect}
 use Rattle.state_file.specs.declared.saved.SavedSend.{SavedSend}
 use Rattle.state_file.specs.Parts.{break_in, expect_in}
 use Rattle.state_file.specs.PutBack.{break_from, expect_from, send_from}
-use Rattle.state_file.specs.Ranges.{is_address, last_send}
 use Rattle.state_file.specs.Reading.{behind_break, behind_send}
 use Rattle.state_file.specs.Valid.{Follow, IsBreak, IsExpect, IsSend}
 use Rattle.state_file.proofs.PutBackWatchLemmas.{address-from, breaks-rise, sends-in-time}

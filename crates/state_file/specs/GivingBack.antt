@@ -1,5 +1,5 @@
 -- Files that were attached are given back, the last one first.
-use Rattle.std.specs.Prelude.{◌≡◌, Bool, false, IsTrue, is_some, List, [], ◌∷◌, Option}
+use Rattle.std.specs.Prelude.{◌≡◌, false, IsTrue, is_some, List, [], ◌∷◌, Option}
 use Rattle.std.specs.Prelude.{if◌then◌else◌}
 use Rattle.unit_files.specs.Attachments.{Attachment, attachment_at, is_disk}
 use Rattle.unit_files.specs.Acts.{detached}

@@ -1,5 +1,6 @@
 -- The port of line 0 is listened on.
-use Rattle.std.specs.Prelude.{◌≡◌, ℕ, zero, suc, Bool, true, false, IsTrue, List, [], ◌∷◌, Option, Some, Result, Ok, Err}
+use Rattle.std.specs.List.{AllByRecursion}
+use Rattle.std.specs.Prelude.{◌≡◌, ℕ, zero, suc, Bool, true, false, IsTrue, List, [], ◌∷◌, Some, None, Result, Ok, Err}
 use Rattle.host_lines.specs.declared.lines.ListenFault.{ListenFault}
 use Rattle.host_lines.specs.declared.lines.ListenFault.TheVariants as listen
 use Rattle.host_lines.specs.LineCalls.{Listens, ports_after, listen_faults}
@@ -51,3 +52,7 @@ abbrev pub LeavesLines : Bool → ℕ → List (LineOf ℕ) → Result (Unit {0}
 LeavesLines tells port lines (Ok u) old new = wants_port port lines ≡ true → IsHeardOn tells port (Ok u) old new
 LeavesLines tells port lines (Err fault.Port) old new = IsHeardOn tells port (Err fault.Port) old new
 LeavesLines tells port lines (Err f) old new = (new.listens ≡ old.listens) × (new.stands ≡ old.stands)
+
+-- no line has a port: nobody is connected, and nothing waits
+abbrev pub AreClosed : List (LineOf ℕ) → Type 0
+AreClosed lines = AllByRecursion (λ (line : LineOf ℕ). line ≡ unconnected None) lines

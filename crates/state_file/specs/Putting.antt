@@ -1,5 +1,8 @@
 -- A machine with a part of a saved one in it, and all else as it was.
-use Rattle.std.specs.Prelude.{◌≡◌, List, Option, map}
+use Rattle.std.specs.Prelude.{◌≡◌, ℕ, List, Option, map}
+use Rattle.host_lines.specs.Traffic.{Answer}
+use Rattle.host_lines.specs.Told.{ahead_of}
+use Rattle.nova_machine.specs.Seen.{Beside, seen}
 use Rattle.host_files.specs.Lists.{NamedBytes}
 use Rattle.unit_files.specs.Attachments.{Attachment, attachments_of, attachment_at}
 use Rattle.unit_files.specs.Buffer.{disk_unit}
@@ -8,8 +11,9 @@ use Rattle.nova_machine.specs.Registers.{with_cpu}
 use Rattle.nova_machine.specs.Seen.{erased}
 use Rattle.nova_machine.specs.Turn.{with_memory}
 use Rattle.state_file.specs.declared.saved.SavedCpu.{SavedCpu}
-use Rattle.state_file.specs.Parts.{MachinePart}
-use Rattle.state_file.specs.PutBack.{is_set, cpu_from, interrupts_from, memory_from, unit_from, event_from, machine_from}
+use Rattle.state_file.specs.Listening.{AreClosed}
+use Rattle.state_file.specs.Parts.{MachinePart, State}
+use Rattle.state_file.specs.PutBack.{is_set, cpu_from, interrupts_from, memory_from, unit_from, event_from, machine_from, put_back}
 use Rattle.state_file.specs.Restoring.{copy_of}
 
 -- the registers that instructions change
@@ -41,3 +45,10 @@ abbrev pub IsSeenAs : MachineState → MachineState → MachinePart → Type 0
 IsSeenAs old new p =
     (attached : List (Option Attachment)) (files : List NamedBytes) → attachments_of old.slots ≡ attached
     → old.disk ≡ copy_of (attachment_at attached disk_unit) files → erased new ≡ machine_from p attached files
+
+-- A session that no line of which had a port is seen as the saved one put back into it, but that the listening was one
+-- call on the lines.
+abbrev pub IsPutBack : State → Beside → MachineState → Beside → MachineState → Type 0
+IsPutBack s before old after new =
+    AreClosed old.lines → before.keys ≡ after.keys → (whole : List Answer)
+    → seen after whole new ≡ record (put_back s (seen before whole old)) { ahead = ahead_of after.lines.told whole }

@@ -1,14 +1,15 @@
 // A saved session is put back.
-ghost use Rattle.std.specs.Prelude.{◌≡◌, Some, true, false, IsTrue, IsOk, OnOk, OnErr};
+ghost use Rattle.std.specs.Prelude.{◌≡◌, ℕ, List, Some, true, false, IsTrue, IsOk, OnOk, OnErr};
 ghost use Rattle.telnet_lines.specs.Line.{unconnected};
 ghost use Rattle.unit_files.specs.Attachments.{attachments_of, attachment_at, no_attachments};
 ghost use Rattle.unit_files.specs.Buffer.{nothing_attached, disk_unit};
 ghost use Rattle.unit_files.specs.Open.{AllOpen, Around};
 ghost use Rattle.nova_machine.specs.Machine.{attached_files, with_attached_files};
-ghost use Rattle.nova_machine.specs.Seen.{erased};
+ghost use Rattle.nova_machine.specs.Seen.{beside, erased};
 ghost use Rattle.state_file.specs.Listening.{IsHeardOn, IsListening, LeavesLines, port_fault, wants_port, with_port};
 ghost use Rattle.state_file.specs.Parts.{state_in};
 ghost use Rattle.state_file.specs.PutBack.{machine_from, watch_from};
+ghost use Rattle.state_file.specs.Putting.{IsPutBack};
 ghost use Rattle.state_file.specs.Restoring.{claim_in, copy_of, first_refused, with_all, SaysFirst};
 ghost use Rattle.state_file.specs.SavedValid.{AreStandard};
 ghost use Rattle.state_file.specs.Valid.{AreFiles, Valid};
@@ -141,6 +142,9 @@ pub fn set_state<U: Unit, F: Files, L: Lines>(
         no_attachments (F.state files.old).files) }
     ensures machine { IsTrue F.tells → OnOk result (erased machine.new ≡ machine_from (state_in saved.now).machine
         (with_all no_attachments (state_in saved.now).files) (F.state files.old).files) }
+    ensures back { IsTrue F.tells → (keys : List (ℕ × ℕ)) → OnOk result (IsPutBack (state_in saved.now)
+        (beside watch.old keys (F.state files.old).files (L.state lines.old)) machine.old
+        (beside watch.new keys (F.state files.new).files (L.state lines.new)) machine.new) }
     ensures ports { OnOk result (machine.new.lines ≡ with_port saved.now.port machine.old.lines) }
     ensures watch { OnOk result (watch.new ≡ watch_from (state_in saved.now).watch) }
     ensures refused { OnErr result (machine.new ≡ machine.old) }

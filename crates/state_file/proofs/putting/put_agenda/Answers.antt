@@ -1,4 +1,4 @@
-use Rattle.std.proofs.Common.{◌≡◌, ap, refl, sym, get_or, subst, ◌∙◌}
+use Rattle.std.proofs.Common.{ap, sym, get_or, subst, ◌∙◌}
 use Rattle.std.proofs.lemmas.List.Elements.{All-from_recursion}
 use Rattle.std.specs.Prelude.{IsTrue, List, [], is_some}
 use Rattle.unit_trait.specs.Kinds.{code_of}

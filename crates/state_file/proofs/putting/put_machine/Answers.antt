@@ -1,13 +1,8 @@
-use Rattle.std.proofs.Common.{◌≡◌, ◌*◌, List, length, map, ap, sym, subst, ◌∙◌, rules}
-use Rattle.unit_trait.specs.Calls.{UnitState}
-use Rattle.event_queue.specs.EventList.{Event}
-use Rattle.nova_memory.specs.Memory.{MemoryState}
+use Rattle.std.proofs.Common.{◌≡◌, List, length, map, ap, sym, subst, ◌∙◌, rules}
 use Rattle.nova_machine.specs.Machine.{MachineState}
-use Rattle.nova_machine.specs.Turn.{with_memory}
-use Rattle.state_file.specs.declared.saved.SavedEvent.{SavedEvent}
 use Rattle.state_file.specs.declared.saved.SavedUnit.{SavedUnit}
 use Rattle.state_file.specs.Parts.{state_in, unit_in}
-use Rattle.state_file.specs.PutBack.{memory_from, unit_from, event_from}
+use Rattle.state_file.specs.PutBack.{unit_from}
 use Rattle.state_file.specs.Putting.{with_machine_of}
 use Rattle.state_file.specs.SavedValid.{AreStandard}
 use Rattle.state_file.proofs.PutBackMachineLemmas.{units-standard}

@@ -1,6 +1,4 @@
-use Rattle.std.proofs.Common.{ap}
 use Rattle.std.proofs.lemmas.List.Elements.{All-from_recursion}
-use Rattle.state_file.specs.declared.saved.SavedBreak.{SavedBreak}
 use Rattle.state_file.proofs.PuttingWatchLemmas.{CanBreak, each-breaks, break-more, breaks-end}
 use Rattle.state_file.proofs.putting_watch.breaks_from.Goals as goal
 

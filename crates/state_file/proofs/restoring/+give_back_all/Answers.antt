@@ -5,7 +5,7 @@ use Rattle.unit_files.specs.Attachments.{attachments_of, attachment_at}
 use Rattle.unit_files.specs.Buffer.{Buffer}
 use Rattle.state_file.specs.GivingBack.{IsHeldIn}
 use Rattle.state_file.specs.Parts.{file_in}
-use Rattle.state_file.specs.Restoring.{files_in, unit_of}
+use Rattle.state_file.specs.Restoring.{files_in}
 use Rattle.state_file.specs.RestoringOne.{CanAttach}
 use Rattle.state_file.proofs.GivingBackLemmas.{still-held, copy-clean}
 use Rattle.state_file.proofs.Together.{all-of, head-of, tail-of, apart-of}

@@ -1,4 +1,4 @@
-use Rattle.std.proofs.Common.{◌≡◌, ℕ, List, ◌∷◌, [], Some, ap, sym, ◌∙◌}
+use Rattle.std.proofs.Common.{◌≡◌, ℕ, List, ◌∷◌, [], Some, ap, sym}
 use Rattle.std.specs.Prelude.{slice_get, slice_set}
 use Rattle.telnet_lines.specs.Line.{LineOf}
 use Rattle.state_file.proofs.setting.put_port.Goals as goal
