@@ -2,14 +2,13 @@
 use Rattle.std.proofs.Common.{◌≡◌, Bool, true, false, cond, IsTrue, is_some, List, [], ◌∷◌, Option, Some, None, refl, sym, ap, subst, ◌∙◌}
 use Rattle.std.specs.List.{AllByRecursion}
 use Rattle.std.proofs.lemmas.List.{get_or-set_other}
-use Rattle.host_files.specs.Lists.{NamedBytes}
 use Rattle.unit_files.specs.Attachments.{Attachment, attachments_of, attachment_at, is_disk, file_place, no_attachments, no_files}
 use Rattle.unit_files.specs.Acts.{detached}
 use Rattle.unit_files.specs.Buffer.{AttachedFiles, Buffer, no_buffer, nothing_attached}
 use Rattle.state_file.specs.GivingBack.{IsHeldIn, IsNoDisk, without_all, copy_behind}
 use Rattle.state_file.specs.Parts.{FilePart}
 use Rattle.state_file.specs.Ranges.{kind_at}
-use Rattle.state_file.specs.Restoring.{unit_of, attachment_of, with_file, with_all, copy_of}
+use Rattle.state_file.specs.Restoring.{unit_of, attachment_of, with_file, with_all}
 use Rattle.state_file.specs.RestoringOne.{AreOfTwo, AreApart, IsFree}
 use Rattle.state_file.proofs.Attaching.{set-back}
 use Rattle.state_file.proofs.Together.{still-free, all-free, nothing-held}

@@ -17,7 +17,7 @@ use Rattle.event_queue.specs.Agenda.{asked_in_order}
 use Rattle.event_queue.proofs.Agendas.{agenda-stands}
 use Rattle.nova_machine.specs.Core.{IsAmong}
 use Rattle.nova_machine.specs.Machine.{MachineState}
-use Rattle.nova_machine.specs.Seen.{unnumbered, erased, Beside, seen}
+use Rattle.nova_machine.specs.Seen.{unnumbered, erased, Beside}
 use Rattle.unit_files.specs.Attachments.{Held, attachments_of, no_attachments}
 use Rattle.state_file.specs.declared.saved.SavedUnit.{SavedUnit}
 use Rattle.state_file.specs.declared.saved.SavedEvent.{SavedEvent}

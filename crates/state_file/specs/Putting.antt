@@ -1,5 +1,5 @@
 -- A machine with a part of a saved one in it, and all else as it was.
-use Rattle.std.specs.Prelude.{◌≡◌, ℕ, List, Option, map}
+use Rattle.std.specs.Prelude.{◌≡◌, List, Option, map}
 use Rattle.host_lines.specs.Traffic.{Answer}
 use Rattle.host_lines.specs.Told.{ahead_of}
 use Rattle.nova_machine.specs.Seen.{Beside, seen}

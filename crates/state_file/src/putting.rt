@@ -156,6 +156,7 @@ pub fn put_machine<U: Unit>(machine: &mut Machine<U>, saved: &Saved)
     requires valid { IsMachine (state_in saved.now).machine }
     ensures machine { machine.new ≡ with_machine_of machine.old (state_in saved.now).machine }
     ensures seen { IsSeenAs machine.old machine.new (state_in saved.now).machine }
+    ensures standard { AreStandard machine.new.units }
 {
     put_cpu(machine, &saved.cpu);
     put_memory(machine, &saved.words);

@@ -9,7 +9,7 @@ ghost use Rattle.nova_machine.specs.Seen.{beside, erased};
 ghost use Rattle.state_file.specs.Listening.{IsHeardOn, IsListening, LeavesLines, port_fault, wants_port, with_port};
 ghost use Rattle.state_file.specs.Parts.{state_in};
 ghost use Rattle.state_file.specs.PutBack.{machine_from, watch_from};
-ghost use Rattle.state_file.specs.Putting.{IsPutBack};
+ghost use Rattle.state_file.specs.Putting.{IsPutBack, with_machine_of};
 ghost use Rattle.state_file.specs.Restoring.{claim_in, copy_of, first_refused, with_all, SaysFirst};
 ghost use Rattle.state_file.specs.SavedValid.{AreStandard};
 ghost use Rattle.state_file.specs.Valid.{AreFiles, Valid};
@@ -145,12 +145,21 @@ pub fn set_state<U: Unit, F: Files, L: Lines>(
     ensures back { IsTrue F.tells → (keys : List (ℕ × ℕ)) → OnOk result (IsPutBack (state_in saved.now)
         (beside watch.old keys (F.state files.old).files (L.state lines.old)) machine.old
         (beside watch.new keys (F.state files.new).files (L.state lines.new)) machine.new) }
+    ensures rest { OnOk result (machine.new ≡ record (with_machine_of machine.old (state_in saved.now).machine) {
+      slots = machine.new.slots;
+      disk = machine.new.disk;
+      lines = machine.new.lines;
+    }) }
+    ensures attached { OnOk result (attachments_of machine.new.slots ≡ with_all no_attachments (state_in saved.now).files) }
+    ensures standard { AreStandard machine.new.units }
     ensures ports { OnOk result (machine.new.lines ≡ with_port saved.now.port machine.old.lines) }
     ensures watch { OnOk result (watch.new ≡ watch_from (state_in saved.now).watch) }
     ensures refused { OnErr result (machine.new ≡ machine.old) }
     ensures unwatched { OnErr result (watch.new ≡ watch.old) }
     ensures closed { OnErr result ((F.state files.new).opened ≡ (F.state files.old).opened) }
     ensures files { IsTrue F.tells → (F.state files.new).files ≡ (F.state files.old).files }
+    ensures open { AllOpen machine.new.slots (F.state files.new).opened }
+    ensures around { Around machine.new.slots (F.state files.old).opened (F.state files.new).opened }
     ensures lines { LeavesLines L.tells saved.now.port machine.old.lines result (L.state lines.old) (L.state lines.new) }
 {
     let Ok(tables) = watch_from(alloc, saved) else {

@@ -29,3 +29,10 @@ returns-clause-seen g c =
     let machine : c.put_agenda.new.machine ≡ with_machine_of c.args.machine.now (state_in c.args.saved.now).machine =
     search rules in
     seen-as c.args.machine.now c.put_agenda.new.machine (state_in c.args.saved.now).machine machine
+
+pub returns-clause-standard : goal.returns-clause-standard
+returns-clause-standard g c =
+    let machine : c.put_agenda.new.machine ≡ with_machine_of c.args.machine.now (state_in c.args.saved.now).machine =
+    search rules in
+    subst AreStandard (sym (ap (λ (m : MachineState). m.units) machine))
+    (units-standard (state_in c.args.saved.now).machine c.requires.valid)
