@@ -1,15 +1,16 @@
 // Parts of a machine that are set while it stands: its clock, its events and its memory.
+ghost use Rattle.std.specs.Prelude.{◌≡◌, ◌∷◌, [], map};
+ghost use Rattle.unit_trait.specs.declared.kind.Kind.TheVariants.{Clk as clock, Tti as keyboard, Tto as printer};
+ghost use Rattle.unit_trait.specs.Row.{initial_unit};
+
 use crate::machines::console_units;
 use crate::row::check;
 use event_queue::Events;
 use nova_machine::{CpuReg, Machine};
 use std::alloc::{AllocError, Global};
+use std::process::Abort;
 use std::test::Fail;
 use unit_trait::{Kind, Unit, UnitName};
-
-fn machine(alloc: Global) -> Result<Machine<Box<dyn Unit>>, Fail> {
-    Ok(Machine::new(alloc, console_units(alloc)?)?)
-}
 
 /// Whether the time and the number of taken keys are those that were set.
 fn goes_from_there<U: Unit>(machine: &mut Machine<U>) -> bool {
@@ -58,14 +59,17 @@ fn has_registers<U: Unit>(
     Ok(found.as_slice() == values)
 }
 
-#[test]
-fn the_registers_of_a_unit_are_set_together(rt: HostRuntime) -> Result<(), Fail> {
-    let mut machine = machine(rt.alloc())?;
+/// Sets all registers of a unit.
+fn set_together<U: Unit>(
+    rt: &impl Abort,
+    alloc: Global,
+    machine: &mut Machine<U>,
+) -> Result<(), AllocError> {
     machine.set_unit_regs(Kind::Clk, &[1, 0, 3]);
-    let clock = has_registers(rt.alloc(), &machine, Kind::Clk, &[1, 0, 3])?;
-    check(&rt, clock, "the clock");
-    let none = has_registers(rt.alloc(), &machine, Kind::Lpt, &[])?;
-    check(&rt, none, "a unit that is not there");
+    let clock = has_registers(alloc, machine, Kind::Clk, &[1, 0, 3])?;
+    check(rt, clock, "the clock");
+    let none = has_registers(alloc, machine, Kind::Lpt, &[])?;
+    check(rt, none, "a unit that is not there");
     Ok(())
 }
 
@@ -76,16 +80,29 @@ fn has_the_words<U: Unit>(machine: &mut Machine<U>) -> bool {
     machine.cpu_reg(CpuReg::Size) == 4096 && machine.memory().as_slice() == WORDS.as_slice()
 }
 
-#[test]
-fn a_machine_goes_on_from_what_is_set(rt: HostRuntime) -> Result<(), Fail> {
-    let mut machine = machine(rt.alloc())?;
-    check(&rt, asks_for_three(&mut machine), "events");
-    check(&rt, goes_from_there(&mut machine), "the clock");
+fn goes_on<U: Unit>(rt: &impl Abort, machine: &mut Machine<U>) {
+    check(rt, asks_for_three(machine), "events");
+    check(rt, goes_from_there(machine), "the clock");
     check(
-        &rt,
+        rt,
         stand_in_order(machine.events()),
         "events behind the clock",
     );
-    check(&rt, has_the_words(&mut machine), "memory");
+    check(rt, has_the_words(machine), "memory");
+}
+
+fn is_set<U: Unit>(rt: &impl Abort, alloc: Global, units: Vec<U>) -> Result<(), AllocError>
+    requires { map U.unit_state units.items ≡ map initial_unit (clock ∷ keyboard ∷ printer ∷ []) }
+{
+    let mut machine = Machine::new(alloc, units)?;
+    set_together(rt, alloc, &mut machine)?;
+    goes_on(rt, &mut machine);
+    Ok(())
+}
+
+#[test]
+fn a_machine_goes_on_from_what_is_set(rt: HostRuntime) -> Result<(), Fail> {
+    let units = console_units(rt.alloc())?;
+    is_set(&rt, rt.alloc(), units)?;
     Ok(())
 }

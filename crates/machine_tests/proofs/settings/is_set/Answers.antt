@@ -1,0 +1,11 @@
+use Rattle.std.proofs.Common.{[], ◌∷◌, sym, subst, arith}
+use Rattle.unit_trait.specs.declared.kind.Kind.TheVariants.{Clk, Tti, Tto}
+use Rattle.unit_trait.specs.Row.{initial_unit}
+use Rattle.nova_machine.specs.BusOrder.{IsBusOrder}
+use Rattle.nova_machine.proofs.BusOrders.{in-order}
+use Rattle.machine_tests.proofs.settings.is_set.Goals as goal
+
+pub new-requires : goal.new-requires
+new-requires g c =
+    subst IsBusOrder (sym c.requires)
+    (in-order (initial_unit Clk ∷ initial_unit Tti ∷ initial_unit Tto ∷ []) ((omega arith, (omega arith, tt)), ((omega arith, tt), (tt, tt))))
