@@ -25,8 +25,7 @@ const FILES_DIGEST: &str = "32F6D3473482CFD259C186D591F829FECE70BF577EEC59E57A60
 /// What the first state has behind its agenda.
 const NO_FILES: &str = "00 0000 0000 00 00 0000";
 
-/// The bytes of a state with these files.
-pub fn state_text(alloc: Global) -> Result<Vec<u8>, AllocError> {
+fn state_text(alloc: Global) -> Result<Vec<u8>, AllocError> {
     let front = FIRST.strip_suffix(NO_FILES).unwrap_or("");
     let mut text = bytes_of(alloc, front)?;
     let files = bytes_of(alloc, FILES)?;
@@ -99,7 +98,7 @@ fn add(alloc: Global, files: &mut MemFiles, word: &str) -> Option<()> {
 }
 
 /// Files with these names and bytes, of which these calls fail.
-pub fn files_of(alloc: Global, names: &str, fails: &str) -> Option<MemFiles> {
+fn files_of(alloc: Global, names: &str, fails: &str) -> Option<MemFiles> {
     let mut files = MemFiles::with_room(alloc, 4_194_305).ok()?;
     for word in names.split_whitespace() {
         add(alloc, &mut files, word)?;

@@ -8,8 +8,6 @@ mod ends;
 #[cfg(test)]
 mod faults;
 #[cfg(test)]
-mod sessions;
-#[cfg(test)]
 mod texts;
 #[cfg(test)]
 mod whole;
