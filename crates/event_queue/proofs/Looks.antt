@@ -1,5 +1,5 @@
 -- Looks that pass at once.
-use Rattle.std.proofs.Common.{◌≡◌, ◌⊎◌, inl, inr, subst, ℕ, zero, suc, ◌+◌, ◌-◌, ◌%◌, ◌<◌, ◌≤◌, ◌==◌, ◌||◌, nat_le, eqb, Bool, true, false, List, [], ◌∷◌, length, remove, slice_get, slice_set, ◌^◌, IfSome, Some, None, option_map, if◌then◌else◌, refl, sym, ap, ◌∙◌, arith}
+use Rattle.std.proofs.Common.{◌≡◌, ◌⊎◌, inl, inr, subst, ℕ, zero, suc, ◌+◌, ◌-◌, ◌%◌, ◌<◌, ◌≤◌, ◌==◌, ◌||◌, nat_le, eqb, Bool, true, false, List, [], ◌∷◌, length, remove, slice_get, slice_set, ◌^◌, IfSome, Option, Some, None, option_map, if◌then◌else◌, refl, sym, ap, ◌∙◌, arith}
 use Rattle.std.proofs.Math.Nat.{mod-eq_of_lt, mod-lt, mod_self, suc-mod}
 use Rattle.std.proofs.lemmas.Bool.{cases_lt, cond_both, eqb-true}
 use Rattle.std.proofs.lemmas.Bool.Decides.{nat_tests}
@@ -451,24 +451,44 @@ in-front u period (g ∷ xs) later = grind (arith, nat_tests, later)
 behind-first : (u v : UnitName) (period : ℕ) (xs : List Event) → placed v period (event u period ∷ xs) ≡ event u period ∷ placed v period xs
 behind-first u v period xs = grind (arith, nat_tests)
 
-all-later-than : (period : ℕ) (xs : List Event) → Rising xs → 1 ≤ period → IfSome (slice_get xs 0) (λ g. period < g.remaining) → AreAtLeast 1 xs
-all-later-than period [] rising some later = tt
-all-later-than period (g ∷ xs) rising some later =
-    let least : 1 ≤ g.remaining = omega (arith, some, later) in (least, fewer 1 g.remaining xs least rising.0)
+some-later : (period : ℕ) (xs : List Event) → IfSome (slice_get xs 0) (λ g. period < g.remaining) → IfSome (slice_get xs 0) (λ g. 0 < g.remaining)
+some-later period [] later = tt
+some-later period (g ∷ xs) later = omega (arith, later)
 
-pub both-asked : (period : ℕ) (e f : Event) (es : List Event) → 1 ≤ period → Sound es → slice_get es 0 ≡ Some e → slice_get es 1 ≡ Some f → e.remaining ≡ 0 → f.remaining ≡ 0
-    → IfSome (slice_get es 2) (λ g. period < g.remaining) → looked period es ≡ placed f.unit period (placed e.unit period (remove (remove es 0) 0))
-both-asked period e f [] some sound first second none nothing later = absurd (cc)
-both-asked period e f (x ∷ []) some sound first second none nothing later = absurd (cc)
-both-asked period e f (x ∷ y ∷ es) some sound first second none nothing later =
+others-later : (xs : List Event) → Rising xs → IfSome (slice_get xs 0) (λ g. 0 < g.remaining) → AreAtLeast 1 xs
+others-later [] rising later = tt
+others-later (g ∷ xs) rising later =
+    let least : 1 ≤ g.remaining = omega (arith, later) in (least, fewer 1 g.remaining xs least rising.0)
+
+-- the first two events are asked for again, where they alone are due
+alone-asked : (period : ℕ) (e f : Event) (es : List Event) → Sound es → slice_get es 0 ≡ Some e → slice_get es 1 ≡ Some f → e.remaining ≡ 0 → f.remaining ≡ 0
+    → IfSome (slice_get es 2) (λ g. 0 < g.remaining) → looked period es ≡ placed f.unit period (placed e.unit period (remove (remove es 0) 0))
+alone-asked period e f [] sound first second none nothing later = absurd (cc)
+alone-asked period e f (x ∷ []) sound first second none nothing later = absurd (cc)
+alone-asked period e f (x ∷ y ∷ es) sound first second none nothing later =
     let same : x ≡ e = grind arith in
     let other : y ≡ f = grind arith in
     let apart = two-apart x y es sound in
     ap (λ (r : ℕ). looked period (event x.unit r ∷ y ∷ es)) (ap (λ (z : Event). z.remaining) same ∙ none)
     ∙ ap (λ (r : ℕ). looked period (event x.unit 0 ∷ event y.unit r ∷ es)) (ap (λ (z : Event). z.remaining) other ∙ nothing)
-    ∙ two-asked x.unit y.unit period es (all-later-than period es sound.rising.1.1 some later) (same-unit-flips x.unit y.unit ∙ apart.0) apart.0 apart.1
+    ∙ two-asked x.unit y.unit period es (others-later es sound.rising.1.1 later) (same-unit-flips x.unit y.unit ∙ apart.0) apart.0 apart.1
     ∙ ap (λ (z : Event). placed y.unit period (placed z.unit period es)) same
     ∙ ap (λ (z : Event). placed z.unit period (placed e.unit period es)) other
+
+pub both-asked : (period : ℕ) (e f : Event) (es : List Event) → Sound es → slice_get es 0 ≡ Some e → slice_get es 1 ≡ Some f → e.remaining ≡ 0 → f.remaining ≡ 0
+    → IfSome (slice_get es 2) (λ g. period < g.remaining) → looked period es ≡ placed f.unit period (placed e.unit period (remove (remove es 0) 0))
+both-asked period e f [] sound first second none nothing later = absurd (cc)
+both-asked period e f (x ∷ []) sound first second none nothing later = absurd (cc)
+both-asked period e f (x ∷ y ∷ es) sound first second none nothing later = alone-asked period e f (x ∷ y ∷ es) sound first second none nothing (some-later period es later)
+
+pub one-asked-behind : (period : ℕ) (e f g : Event) (es : List Event) → Sound es → slice_get es 0 ≡ Some e → slice_get es 1 ≡ Some f → slice_get es 2 ≡ Some g → e.remaining ≡ 0 → f.remaining ≡ 0
+    → 0 < g.remaining → looked period es ≡ placed f.unit period (placed e.unit period (remove (remove es 0) 0))
+one-asked-behind period e f g es sound first second third none nothing later =
+    alone-asked period e f es sound first second none nothing (subst (λ (o : Option Event). IfSome o (λ z. 0 < z.remaining)) (sym third) later)
+
+-- an event that is due no later stands in front
+placed-later : (u : UnitName) (period : ℕ) (g : Event) (xs : List Event) → g.remaining ≤ period → placed u period (g ∷ xs) ≡ g ∷ placed u period xs
+placed-later u period g xs early = grind (arith, nat_tests, early)
 
 pub both-set : (period : ℕ) (e f : Event) (es : List Event) → slice_get es 0 ≡ Some e → slice_get es 1 ≡ Some f → IfSome (slice_get es 2) (λ g. period < g.remaining)
     → slice_set (slice_set es 0 (event e.unit period)) 1 (event f.unit period) ≡ placed f.unit period (placed e.unit period (remove (remove es 0) 0))
@@ -478,6 +498,21 @@ both-set period e f (x ∷ y ∷ es) first second later =
     sym
     (ap (λ (xs : List Event). placed f.unit period xs) (in-front e.unit period es later) ∙ behind-first e.unit f.unit period es
     ∙ ap (λ (xs : List Event). event e.unit period ∷ xs) (in-front f.unit period es later))
+
+pub set-behind-one : (period : ℕ) (e f g : Event) (es : List Event) → slice_get es 0 ≡ Some e → slice_get es 1 ≡ Some f → slice_get es 2 ≡ Some g → g.remaining ≤ period
+    → IfSome (slice_get es 3) (λ z. period < z.remaining)
+    → slice_set (slice_set (slice_set es 0 g) 1 (event e.unit period)) 2 (event f.unit period) ≡ placed f.unit period (placed e.unit period (remove (remove es 0) 0))
+set-behind-one period e f g [] first second third early later = absurd (cc)
+set-behind-one period e f g (x ∷ []) first second third early later = absurd (cc)
+set-behind-one period e f g (x ∷ y ∷ []) first second third early later = absurd (cc)
+set-behind-one period e f g (x ∷ y ∷ z ∷ es) first second third early later =
+    let same : z ≡ g = grind arith in
+    let low : z.remaining ≤ period = subst (λ (w : Event). w.remaining ≤ period) (sym same) early in
+    ap (λ (w : Event). w ∷ event e.unit period ∷ event f.unit period ∷ es) (sym same)
+    ∙ sym
+    (ap (λ (xs : List Event). placed f.unit period xs) (placed-later e.unit period z es low ∙ ap (λ (xs : List Event). z ∷ xs) (in-front e.unit period es later))
+    ∙ placed-later f.unit period z (event e.unit period ∷ es) low
+    ∙ ap (λ (xs : List Event). z ∷ xs) (behind-first e.unit f.unit period es ∙ ap (λ (xs : List Event). event e.unit period ∷ xs) (in-front f.unit period es later)))
 
 pub both-sound : (period : ℕ) (e f : Event) (es : List Event) → period < 2 ^ 32 → Sound es → slice_get es 0 ≡ Some e → slice_get es 1 ≡ Some f
     → Sound (placed f.unit period (placed e.unit period (remove (remove es 0) 0)))

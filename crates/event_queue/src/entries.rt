@@ -168,6 +168,35 @@ impl Entries {
         true
     }
 
+    /// The same, where one of the others then stands in front of them.
+    pub(crate) fn look_behind_one(&mut self, period: u32) -> bool
+        requires { 1 ≤ period }
+        ensures looked { result ≡ true → self.new ≡ looked period self.old }
+        ensures same { result ≡ false → self.new ≡ self.old }
+    {
+        let (Some(first), Some(second), Some(third)) = (self.get(0), self.get(1), self.get(2))
+        else {
+            return false;
+        };
+        if first.remaining > 0
+            || second.remaining > 0
+            || !is_between(third, period)
+            || !is_later(self.get(3), period)
+        {
+            return false;
+        }
+        self.list[0] = third;
+        self.list[1] = Entry {
+            unit: first.unit,
+            remaining: period,
+        };
+        self.list[2] = Entry {
+            unit: second.unit,
+            remaining: period,
+        };
+        true
+    }
+
     /// The remaining time of the first event; 2^32 - 1 where none waits.
     pub(crate) fn first(&self) -> u32
         ensures { IsFirst self.now result }
@@ -239,6 +268,13 @@ fn is_later(entry: Option<Entry>, period: u32) -> bool
         Some(entry) => entry.remaining > period,
         None => true,
     }
+}
+
+/// Whether an event is not due, and no more than so many instructions remain to it.
+fn is_between(entry: Entry, period: u32) -> bool
+    ensures { result ≡ true → (0 < entry.remaining) × (entry.remaining ≤ period) }
+{
+    entry.remaining > 0 && entry.remaining <= period
 }
 
 /// Whether an event is not of a unit of that kind.

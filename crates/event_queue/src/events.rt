@@ -185,7 +185,7 @@ impl Events {
         }
     }
 
-    /// The same, where two events are due that then stand in front of the others; answers whether.
+    /// The same, where two events are due that then stand in front of the others, or of all but one; answers whether.
     #[tactic(auto, using(crate::proofs::Ticks::ticks))]
     fn look_both(&mut self, period: u32) -> bool
         requires { 1 ≤ period }
@@ -194,7 +194,7 @@ impl Events {
     {
         self.entries.lower(self.ticks);
         self.ticks = 0;
-        let both = self.entries.look_both(period);
+        let both = self.entries.look_both(period) || self.entries.look_behind_one(period);
         self.first = self.entries.first();
         both
     }

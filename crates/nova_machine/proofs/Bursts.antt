@@ -308,6 +308,10 @@ pub passed-lines : (count : ℕ) (m : MachineState) → (passed_by count m).line
 unfolding passed_by
 passed-lines count m = refl
 
+pub passed-units : (count : ℕ) (m : MachineState) → (passed_by count m).units ≡ m.units
+unfolding passed_by
+passed-units count m = refl
+
 pub passed-time : (count : ℕ) (m : MachineState) → (passed_by count m).time ≡ m.time + count
 unfolding passed_by
 passed-time count m = refl

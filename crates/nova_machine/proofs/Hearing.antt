@@ -3,7 +3,7 @@ use Rattle.std.proofs.Common.{◌≡◌, ◌∙◌, ap, sym, refl, arith, ℕ, �
 use Rattle.std.proofs.lemmas.List.{take_min}
 use Rattle.telnet_lines.proofs.FrontBytes.{taken_of_both}
 use Rattle.telnet_lines.proofs.Sending.{nothing_heard}
-use Rattle.observations.specs.Observations.{Observation, sent_of}
+use Rattle.observations.specs.Observations.{sent_of}
 use Rattle.host_lines.specs.declared.lines.Sent.{Sent}
 use Rattle.host_lines.specs.Told.{Heard, Named, Unnamed, heard_more}
 use Rattle.nova_machine.specs.OnLines.{pair_of, sends}

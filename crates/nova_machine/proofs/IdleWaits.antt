@@ -1,12 +1,12 @@
--- Rounds of a loop that waits for a flag, and looks of the keyboards for which no key comes.
-use Rattle.std.proofs.Common.{◌≡◌, ℕ, zero, suc, ◌+◌, ◌-◌, ◌*◌, ◌<◌, ◌≤◌, Bool, false, List, Option, None, refl, ap, sym, ◌∙◌, arith}
+-- A loop that waits for a flag, and looks of the keyboards for which no key comes.
+use Rattle.std.proofs.Common.{◌≡◌, ℕ, zero, suc, ◌+◌, ◌-◌, ◌%◌, ◌==◌, ◌<◌, ◌≤◌, Bool, true, false, List, Option, None, refl, ap, sym, ◌∙◌, arith}
 use Rattle.nova_processor.specs.declared.burst.BurstEnd.TheVariants as burst_end
 use Rattle.nova_processor.specs.Processor.{ProcessorState}
 use Rattle.nova_processor.specs.InputOutput.{past}
 use Rattle.nova_processor.specs.Burst.{step}
 use Rattle.expect_actions.specs.Breaks.{has_break}
 use Rattle.expect_actions.specs.Watch.{WatchState}
-use Rattle.nova_machine.specs.Machine.{MachineState}
+use Rattle.nova_machine.specs.Machine.{MachineState, on_processor}
 use Rattle.nova_machine.specs.Notes.{RunNote, at_time}
 use Rattle.nova_machine.specs.Seen.{Seen, seen, beside, erased, with_machine}
 use Rattle.nova_machine.specs.Parts.{silent}
@@ -14,12 +14,12 @@ use Rattle.nova_machine.specs.Turned.{Turned, still}
 use Rattle.nova_machine.specs.Service.{key_at}
 use Rattle.nova_machine.specs.Run.{last_time, next_turn, turns}
 use Rattle.nova_machine.specs.Bursts.{Bursts}
-use Rattle.nova_machine.specs.Waits.{IsWaiting, AreUnbroken}
+use Rattle.nova_machine.specs.Waits.{IsWaiting, AreUnbroken, halfway}
 use Rattle.nova_machine.specs.Looks.{IsIdle, idled_by, looked_at}
 use Rattle.nova_machine.proofs.Opened.{next-early}
 use Rattle.nova_machine.proofs.Bursts.{behind_step, IsUnbroken, turns-silent}
-use Rattle.nova_machine.proofs.Waits.{skip-is, back-is, past-at}
-use Rattle.nova_machine.proofs.Idling.{Looks, Idles, look-turn, look-next, idle-looks, idle-keyless, idle-early, idle-more, idle-processor, idle-none, idle-erased, erased-idle, idle_behind}
+use Rattle.nova_machine.proofs.Waits.{skip-is, back-is, past-at, half-even, half-odd, half-none, next-odd, next-even}
+use Rattle.nova_machine.proofs.Idling.{Looks, Idles, look-turn, look-next, idle-looks, idle-keyless, idle-early, idle-more, idle-processor, idle-none, idle-is, idle-erased, erased-idle, idle_behind}
 
 waiting-looked : (period : ℕ) (m : MachineState) → IsWaiting m → IsWaiting (looked_at period m)
 unfolding looked_at
@@ -52,44 +52,52 @@ skip-look note period s looks none unbroken early waiting =
 at-unbroken : (period count : ℕ) (s : Seen) (q : ProcessorState) → has_break q.cpu.pc s.watch.breaks.list ≡ false → IsUnbroken (with_machine s (idle_behind period count s.machine q))
 at-unbroken period count s q none = ap (λ (p : ProcessorState). has_break p.cpu.pc s.watch.breaks.list) (idle-processor period count s.machine q) ∙ none
 
--- a round, behind so many instructions
-idle-round : (period : ℕ) (note : Option RunNote) (one : Bool) (count most left : ℕ) (s : Seen) → AreUnbroken s.watch s.machine → IsWaiting s.machine
-    → Idles most period s → suc count < most → s.machine.time + most ≤ last_time
-    → turns note one false (suc (suc left)) (with_machine s (idle_behind period count s.machine s.machine.processor))
-    ≡ turns note one false left (with_machine s (idle_behind period (suc (suc count)) s.machine s.machine.processor))
-idle-round period note one count most left s unbroken waiting idle within end =
-    let m = s.machine in
-    let p = m.processor in
-    let at = with_machine s (idle_behind period count m p) in
-    let mid = with_machine s (idle_behind period (suc count) m (past p)) in
-    let before : count < most = omega (arith, within) in
-    let skips = skip-look note period at (idle-looks period count most s p idle before) (idle-keyless period count most s p idle before)
-    (at-unbroken period count s p unbroken.test) (idle-early period count most m p before end) (waiting-idle period count m waiting) in
-    let jumps = look-next note period mid p (idle-looks period (suc count) most s (past p) idle within) (idle-keyless period (suc count) most s (past p) idle within)
-    (at-unbroken period (suc count) s (past p) (past-at s.watch p unbroken.back)) (idle-early period (suc count) most m (past p) within end)
-    (ap step (idle-processor period (suc count) m (past p)) ∙ back-is p waiting.back) in
-    turns-silent note one (suc left) at (with_machine s (behind_step (looked_at period at.machine) (past at.machine.processor))) skips
-    ∙ ap (λ (q : ProcessorState). turns note one false (suc left) (with_machine s (behind_step (looked_at period at.machine) (past q)))) (idle-processor period count m p)
-    ∙ ap (λ (x : MachineState). turns note one false (suc left) (with_machine s x)) (idle-more period count m p (past p))
-    ∙ turns-silent note one left mid (with_machine s (behind_step (looked_at period mid.machine) p)) jumps
-    ∙ ap (λ (x : MachineState). turns note one false left (with_machine s x)) (idle-more period (suc count) m (past p) p)
+half-look : (period : ℕ) (note : Option RunNote) (one : Bool) (count most left : ℕ) (s : Seen) → AreUnbroken s.watch s.machine → IsWaiting s.machine
+    → Idles most period s → count < most → s.machine.time + most ≤ last_time
+    → turns note one false (suc left) (with_machine s (idle_behind period count s.machine (halfway count s.machine.processor)))
+    ≡ turns note one false left (with_machine s (idle_behind period (suc count) s.machine (halfway (suc count) s.machine.processor)))
+half-look period note one count most left s unbroken waiting idle within end = by (count % 2 == 1) refl
+  where
+    m : MachineState
+    m = s.machine
 
-idle-rounds : (period : ℕ) (note : Option RunNote) (one : Bool) (rounds most left : ℕ) (s : Seen) → AreUnbroken s.watch s.machine → IsWaiting s.machine
-    → Idles most period s → rounds * 2 ≤ most → s.machine.time + most ≤ last_time
-    → turns note one false (rounds * 2 + left) s ≡ turns note one false left (with_machine s (idle_behind period (rounds * 2) s.machine s.machine.processor))
-idle-rounds period note one zero most left s unbroken waiting idle within end =
-    let none : zero * 2 + left ≡ left = omega arith in
-    let no_time : 0 ≡ zero * 2 = omega arith in
+    p : ProcessorState
+    p = s.machine.processor
+
+    by : (b : Bool) → (count % 2 == 1) ≡ b
+        → turns note one false (suc left) (with_machine s (idle_behind period count s.machine (halfway count s.machine.processor)))
+        ≡ turns note one false left (with_machine s (idle_behind period (suc count) s.machine (halfway (suc count) s.machine.processor)))
+    by false even =
+        let at = with_machine s (idle_behind period count m p) in
+        let skips = skip-look note period at (idle-looks period count most s p idle within) (idle-keyless period count most s p idle within)
+        (at-unbroken period count s p unbroken.test) (idle-early period count most m p within end) (waiting-idle period count m waiting) in
+        ap (λ (q : ProcessorState). turns note one false (suc left) (with_machine s (idle_behind period count m q))) (half-even count p even)
+        ∙ turns-silent note one left at (with_machine s (behind_step (looked_at period at.machine) (past at.machine.processor))) skips
+        ∙ ap (λ (q : ProcessorState). turns note one false left (with_machine s (behind_step (looked_at period at.machine) (past q)))) (idle-processor period count m p)
+        ∙ ap (λ (x : MachineState). turns note one false left (with_machine s x)) (idle-more period count m p (past p))
+        ∙ ap (λ (q : ProcessorState). turns note one false left (with_machine s (idle_behind period (suc count) m q))) (sym (half-odd (suc count) p (next-odd count even)))
+    by true odd =
+        let mid = with_machine s (idle_behind period count m (past p)) in
+        let jumps = look-next note period mid p (idle-looks period count most s (past p) idle within) (idle-keyless period count most s (past p) idle within)
+        (at-unbroken period count s (past p) (past-at s.watch p unbroken.back)) (idle-early period count most m (past p) within end)
+        (ap step (idle-processor period count m (past p)) ∙ back-is p waiting.back) in
+        ap (λ (q : ProcessorState). turns note one false (suc left) (with_machine s (idle_behind period count m q))) (half-odd count p odd)
+        ∙ turns-silent note one left mid (with_machine s (behind_step (looked_at period mid.machine) p)) jumps
+        ∙ ap (λ (x : MachineState). turns note one false left (with_machine s x)) (idle-more period count m (past p) p)
+        ∙ ap (λ (q : ProcessorState). turns note one false left (with_machine s (idle_behind period (suc count) m q))) (sym (half-even (suc count) p (next-even count odd)))
+
+looks-pass : (period : ℕ) (note : Option RunNote) (one : Bool) (count most left : ℕ) (s : Seen) → AreUnbroken s.watch s.machine → IsWaiting s.machine
+    → Idles most period s → count ≤ most → s.machine.time + most ≤ last_time
+    → turns note one false (count + left) s ≡ turns note one false left (with_machine s (idle_behind period count s.machine (halfway count s.machine.processor)))
+looks-pass period note one zero most left s unbroken waiting idle within end =
+    let none : zero + left ≡ left = omega arith in
     ap (λ (n : ℕ). turns note one false n s) none
-    ∙ ap (λ (x : MachineState). turns note one false left (with_machine s x)) (sym (idle-none period s.machine s.machine.processor refl))
-    ∙ ap (λ (n : ℕ). turns note one false left (with_machine s (idle_behind period n s.machine s.machine.processor))) no_time
-idle-rounds period note one (suc rounds) most left s unbroken waiting idle within end =
-    let both : suc rounds * 2 + left ≡ rounds * 2 + suc (suc left) = omega arith in
-    let count : suc (suc (rounds * 2)) ≡ suc rounds * 2 = omega arith in
+    ∙ ap (λ (x : MachineState). turns note one false left (with_machine s x)) (sym (idle-none period s.machine (halfway 0 s.machine.processor) (half-none s.machine.processor)))
+looks-pass period note one (suc count) most left s unbroken waiting idle within end =
+    let both : suc count + left ≡ count + suc left = omega arith in
     ap (λ (n : ℕ). turns note one false n s) both
-    ∙ idle-rounds period note one rounds most (suc (suc left)) s unbroken waiting idle (omega (arith, within)) end
-    ∙ idle-round period note one (rounds * 2) most left s unbroken waiting idle (omega (arith, within)) end
-    ∙ ap (λ (n : ℕ). turns note one false left (with_machine s (idle_behind period n s.machine s.machine.processor))) count
+    ∙ looks-pass period note one count most (suc left) s unbroken waiting idle (omega (arith, within)) end
+    ∙ half-look period note one count most left s unbroken waiting idle (omega (arith, within)) end
 
 waiting-erased : (m : MachineState) → IsWaiting m → IsWaiting (erased m)
 waiting-erased m waiting = record {
@@ -98,19 +106,16 @@ waiting-erased m waiting = record {
   back = waiting.back;
 }
 
-behind-same : (period count : ℕ) (m : MachineState) → idle_behind period count m m.processor ≡ idled_by period count m
+pub idle-waits : (period : ℕ) (watch : WatchState) (keys : List (ℕ × ℕ)) (most count : ℕ) (old new : MachineState) → AreUnbroken watch old → IsWaiting old
+    → IsIdle count period old watch.sends keys → old.time + count ≤ last_time → count ≤ most
+    → new ≡ idled_by period count (on_processor (halfway count) old) → Bursts watch keys most count burst_end.Transfer old new
 unfolding idle_behind idled_by
-behind-same period count m = refl
-
-pub idle-waits : (period : ℕ) (watch : WatchState) (keys : List (ℕ × ℕ)) (most rounds budget : ℕ) (old new : MachineState) → AreUnbroken watch old → IsWaiting old
-    → IsIdle budget period old watch.sends keys → old.time + budget ≤ last_time → budget ≤ most → rounds * 2 ≤ budget
-    → new ≡ idled_by period (rounds * 2) old → Bursts watch keys most (rounds * 2) burst_end.Transfer old new
-unfolding idle_behind idled_by
-idle-waits period watch keys most rounds budget old new unbroken waiting idle end few within is = λ note one files lines whole.
-    let all : most ≡ rounds * 2 + (most - rounds * 2) = omega (arith, few, within) in
+idle-waits period watch keys most count old new unbroken waiting idle end few is = λ note one files lines whole.
+    let all : most ≡ count + (most - count) = omega (arith, few) in
     let s = seen (beside watch keys files lines) whole old in
+    let q = halfway count old.processor in
     ap (λ (n : ℕ). turns note one false n s) all
-    ∙ idle-rounds period note one rounds budget (most - rounds * 2) s (record { test = unbroken.test; back = unbroken.back }) (waiting-erased old waiting)
-    (idle-erased budget period watch keys files lines whole old idle) within end
-    ∙ ap (λ (x : MachineState). turns note one false (most - rounds * 2) (with_machine s x)) (erased-idle period (rounds * 2) old old.processor)
-    ∙ ap (λ (x : MachineState). turns note one false (most - rounds * 2) (seen (beside watch keys files lines) whole x)) (behind-same period (rounds * 2) old ∙ sym is)
+    ∙ looks-pass period note one count count (most - count) s (record { test = unbroken.test; back = unbroken.back }) (waiting-erased old waiting)
+    (idle-erased count period watch keys files lines whole old idle) (omega arith) end
+    ∙ ap (λ (x : MachineState). turns note one false (most - count) (with_machine s x)) (erased-idle period count old q)
+    ∙ ap (λ (x : MachineState). turns note one false (most - count) (seen (beside watch keys files lines) whole x)) (sym (is ∙ idle-is period count old q))

@@ -275,6 +275,10 @@ pub idled-lines : (period count : ℕ) (m : MachineState) → (idled_by period c
 unfolding idled_by
 idled-lines period count m = refl
 
+pub idled-units : (period count : ℕ) (m : MachineState) → (idled_by period count m).units ≡ m.units
+unfolding idled_by
+idled-units period count m = refl
+
 pub idled-time : (period count : ℕ) (m : MachineState) → (idled_by period count m).time ≡ m.time + count
 unfolding idled_by
 idled-time period count m = refl
@@ -286,6 +290,10 @@ looked-slots period m = refl
 pub looked-lines : (period : ℕ) (m : MachineState) → (looked_at period m).lines ≡ m.lines
 unfolding looked_at
 looked-lines period m = refl
+
+pub looked-units : (period : ℕ) (m : MachineState) → (looked_at period m).units ≡ m.units
+unfolding looked_at
+looked-units period m = refl
 
 pub looked-time : (period : ℕ) (m : MachineState) → (looked_at period m).time ≡ m.time
 unfolding looked_at
@@ -363,6 +371,12 @@ end-lines burst_end.ChainLimit period m = looked-lines period m
 end-lines burst_end.Spent period m = refl
 end-lines burst_end.Transfer period m = refl
 end-lines burst_end.AtStop period m = refl
+
+pub end-units : (end : BurstEnd) (period : ℕ) (m : MachineState) → (idle_end end period m).units ≡ m.units
+end-units burst_end.ChainLimit period m = looked-units period m
+end-units burst_end.Spent period m = refl
+end-units burst_end.Transfer period m = refl
+end-units burst_end.AtStop period m = refl
 
 pub end-time : (end : BurstEnd) (period : ℕ) (m : MachineState) → (idle_end end period m).time ≡ m.time
 end-time burst_end.ChainLimit period m = looked-time period m

@@ -3,6 +3,7 @@ use Rattle.std.proofs.Common.{◌≡◌, ◌≢◌, ◌∙◌, refl, ap, sym, su
 use Rattle.std.proofs.lemmas.Option.{same_Some}
 use Rattle.std.proofs.lemmas.Bool.Decides.{nat_tests}
 use Rattle.observations.specs.Observations.{Observation}
+use Rattle.host_files.specs.Lists.{NamedBytes}
 use Rattle.host_lines.specs.Traffic.{Peer, Answer}
 use Rattle.host_lines.specs.Told.{IsFirst, record_in, ahead_of}
 use Rattle.host_lines.specs.State.{LineState}
@@ -16,8 +17,9 @@ use Rattle.unit_trait.specs.declared.calls.Got.TheVariants.{NoKey, Key}
 use Rattle.unit_trait.specs.declared.calls.Want.TheVariants as want
 use Rattle.unit_trait.specs.Kinds.{code_of}
 use Rattle.event_queue.specs.EventList.{Event, due, dues, served, activated, wished}
-use Rattle.unit_list.specs.Bus.{unit_at}
-use Rattle.unit_trait.specs.Calls.{UnitState}
+use Rattle.unit_list.specs.Bus.{unit_at, kinds_of}
+use Rattle.unit_list.proofs.Calls.{after-kinds}
+use Rattle.unit_trait.specs.Calls.{UnitState, Answered}
 use Rattle.event_queue.specs.Idle.{asked_again}
 use Rattle.event_queue.proofs.Dues.{dues-some, dues-activated}
 use Rattle.expect_actions.specs.Watch.{WatchState}
@@ -32,17 +34,17 @@ use Rattle.nova_machine.specs.Parts.{Part, silent, behind_made, followed, then_p
 use Rattle.nova_machine.specs.Turned.{Turned, goes_on, still}
 use Rattle.nova_machine.specs.OnLines.{lined}
 use Rattle.nova_machine.specs.LineChanges.{DoneOnLine}
-use Rattle.nova_machine.specs.Comes.{Output, output, Comes}
+use Rattle.nova_machine.specs.Comes.{Output, output, Comes, Does}
 use Rattle.nova_machine.specs.Service.{asked, answered, service, services, serving, taken}
 use Rattle.nova_machine.specs.Turn.{fetch, interrupt, breaks_tested_unless, attended, prepared, turn}
 use Rattle.nova_machine.specs.Run.{last_time, next_turn, turns}
 use Rattle.nova_machine.specs.Bursts.{Bursts}
 use Rattle.nova_machine.specs.Looks.{keyboard, LooksEach, looked_at}
-use Rattle.nova_machine.specs.LineLooks.{second_keyboard, first_looked, AreLooking, IsKeylessNow, AreServed, GoesOn}
+use Rattle.nova_machine.specs.LineLooks.{second_keyboard, first_looked, LookAgain, AreLooking, IsKeylessNow, GoesOn, IsAhead}
 use Rattle.nova_machine.proofs.Parts.{silent-comes, comes-behind, comes-then}
 use Rattle.nova_machine.proofs.Opened.{turn-opened, serving-is, services-none, services-some, turns-some, next-early}
 use Rattle.nova_machine.proofs.Looks.{asked_for, each-look, asked-same, wants-key, wish-there, answered-same, key-goes}
-use Rattle.nova_machine.proofs.Idling.{no-key, looked-lines}
+use Rattle.nova_machine.proofs.Idling.{no-key, looked-lines, looked-units, looked-time}
 use Rattle.nova_machine.proofs.Serving.{some-lined, comes-lined}
 use Rattle.nova_machine.proofs.LineSteps.{first-through}
 
@@ -113,20 +115,30 @@ burst-on watch keys most done burst_end.Transfer lines old new told = λ note st
 burst-on watch keys most done burst_end.AtStop lines old new told = λ note step files tells console r last out whole first rest.
     subst (λ (p : Part). Comes p r last tells (output console lines.sent) out) (sym (told note step files lines whole)) rest
 
+-- All units were served whose events were due, and none has stopped the machine, whichever files, failing calls and console
+-- there are.
+abbrev pub AreServed : WatchState → List (ℕ × ℕ) → LineState → MachineState → LineState → MachineState → Type 0
+AreServed watch keys before old after new =
+    (note : Option UnitNote) (files : List NamedBytes) (tells : Bool) (console : List ℕ)
+    → Does (serving note) None (beside watch keys files before) old (beside watch keys files after) new tells console console
+
 pub none-on : (watch : WatchState) (keys : List (ℕ × ℕ)) (most : ℕ) (lines : LineState) (m : MachineState) → GoesOn watch keys most 0 burst_end.Spent lines m lines m
 none-on watch keys most lines m = λ note step files tells console r last out whole first rest.
     let all : most - 0 ≡ most = omega arith in
     subst (λ (n : ℕ). Comes (turns note step false n (seen (beside watch keys files lines) whole m)) r last tells (output console lines.sent) out) all rest
 
-pub served-on : (watch : WatchState) (keys : List (ℕ × ℕ)) (most : ℕ) (before : LineState) (old : MachineState) (after : LineState) (new : MachineState) → old.time < last_time → 0 < most
-    → new.time ≡ old.time → dues new.events ≡ [] → AreServed watch keys before old after new → GoesOn watch keys most 0 burst_end.Spent before old after new
-served-on watch keys most before old after new early some time none served = λ note step files tells console r last out whole first rest.
+pub served-ahead : (watch : WatchState) (keys : List (ℕ × ℕ)) (before : LineState) (old : MachineState) (after : LineState) (new : MachineState) → old.time < last_time → new.time ≡ old.time
+    → dues new.events ≡ [] → AreServed watch keys before old after new → IsAhead watch keys before old after new
+served-ahead watch keys before old after new early time none all_served = λ most some note step files tells console r last out whole first rest.
     let all : most - 0 ≡ most = omega arith in
     let s = seen (beside watch keys files before) whole old in
     let next = seen (beside watch keys files after) whole new in
     served-comes note step false most s next r last tells (output console before.sent) (output console after.sent) out early some time none
-    (served (at_time old.time note) files tells console whole first)
+    (all_served (at_time old.time note) files tells console whole first)
     (subst (λ (n : ℕ). Comes (turns note step false n next) r last tells (output console after.sent) out) all rest)
+
+pub nothing-ahead : (watch : WatchState) (keys : List (ℕ × ℕ)) (lines : LineState) (m new : MachineState) → new ≡ m → IsAhead watch keys lines m lines new
+nothing-ahead watch keys lines m new is = λ most some. subst (λ (x : MachineState). GoesOn watch keys most 0 burst_end.Spent lines m lines x) (sym is) (none-on watch keys most lines m)
 
 all-done : (most done more : ℕ) → most - done - more ≡ most - (done + more)
 all-done most done more = omega arith
@@ -158,6 +170,23 @@ any-spent watch keys most done burst_end.Spent before old after new other on = o
 any-spent watch keys most done burst_end.Transfer before old after new other on = on
 any-spent watch keys most done burst_end.AtStop before old after new other on = on
 
+pub spent-any : (watch : WatchState) (keys : List (ℕ × ℕ)) (most done : ℕ) (end : BurstEnd) (before : LineState) (old : MachineState) (after : LineState) (new : MachineState)
+    → end ≢ burst_end.ChainLimit → GoesOn watch keys most done burst_end.Spent before old after new → GoesOn watch keys most done end before old after new
+spent-any watch keys most done burst_end.ChainLimit before old after new other on = absurd (other refl)
+spent-any watch keys most done burst_end.Spent before old after new other on = on
+spent-any watch keys most done burst_end.Transfer before old after new other on = on
+spent-any watch keys most done burst_end.AtStop before old after new other on = on
+
+-- turns that end in some way, and behind them what is done ahead of the next
+pub ahead-then : (watch : WatchState) (keys : List (ℕ × ℕ)) (most done : ℕ) (end : BurstEnd) (before : LineState) (old : MachineState) (mid : LineState) (at : MachineState) (after : LineState) (new : MachineState)
+    → IsFirst (record_in mid.told) (record_in after.told) → end ≢ burst_end.ChainLimit → done < most → GoesOn watch keys most done end before old mid at → IsAhead watch keys mid at after new
+    → GoesOn watch keys most done burst_end.Spent before old after new
+ahead-then watch keys most done end before old mid at after new grows other some one ahead =
+    let left : 0 < most - done = omega (arith, some) in
+    let all : done + 0 ≡ done = omega arith in
+    subst (λ (n : ℕ). GoesOn watch keys most n burst_end.Spent before old after new) all
+    (on-then watch keys most done 0 burst_end.Spent before old mid at after new grows (any-spent watch keys most done end before old mid at other one) (ahead (most - done) left))
+
 -- turns that a chain without an end has ended
 pub on-chain : (watch : WatchState) (keys : List (ℕ × ℕ)) (most done : ℕ) (end : BurstEnd) (before : LineState) (old : MachineState) (after : LineState) (new : MachineState)
     → end ≡ burst_end.ChainLimit → GoesOn watch keys most done end before old after new → GoesOn watch keys most done burst_end.ChainLimit before old after new
@@ -180,13 +209,13 @@ both-served period watch keys before after m h last got looking keyless done is 
     let next = seen (beside watch keys files after) whole last in
     let b = output console before.sent in
     let a = output console after.sent in
-    let looks : LooksEach Peer period (taken s).machine.units (taken s).lines keyboard = record { unheard = tt; number = refl; wish = looking.first } in
+    let looks : LooksEach Peer period (taken s).machine.units (taken s).lines keyboard = record { unheard = tt; number = refl; wish = looking.again.first } in
     let one : serving note s ≡ then_part (service (at_unit second_keyboard note) second_keyboard mid) (λ n. services note [] n) =
     serving-is note s ∙ ap (λ (us : List UnitName). services note us s) looking.dues
     ∙ services-some note keyboard (second_keyboard ∷ []) s
     ∙ ap (λ (p : Part). then_part p (λ n. services note (second_keyboard ∷ []) n)) (each-look (at_unit keyboard note) period (taken s) keyboard looks (no-key _ _ keyless.0 keyless.1))
     ∙ services-some note second_keyboard [] (with_machine (taken s) (asked_for keyboard period (taken s).machine)) in
-    let there = wish-there Tti1 m.units period looking.second in
+    let there = wish-there Tti1 m.units period looking.again.second in
     let asks : at ≡ asked second_keyboard at = sym (asked-same Tti1 tt at) in
     let l = some-lined second_keyboard at at (want.LineKey 0) got before after whole h.lines asks (sym (wants-key Tti1 tt m.units there)) (done whole first) in
     let same = ap (λ (x : Got). answered second_keyboard x h) l.got_is in
@@ -204,8 +233,8 @@ silent-answer : (period : ℕ) (m : MachineState) (ls : List (LineOf ℕ)) → A
 unfolding looked_at
 silent-answer period m ls looking =
     let k = record (first_looked period m) { lines = ls } in
-    answered-same Tti1 tt k (wish-there Tti1 m.units period looking.second)
-    ∙ ap (λ (q : Queue). goes_on (record k { events = wished second_keyboard q k.events })) looking.second
+    answered-same Tti1 tt k (wish-there Tti1 m.units period looking.again.second)
+    ∙ ap (λ (q : Queue). goes_on (record k { events = wished second_keyboard q k.events })) looking.again.second
     ∙ ap (λ (us : List UnitName). goes_on (record m { events = asked_again period us m.events; lines = ls })) (sym looking.dues)
 
 pub both-silent : (period : ℕ) (watch : WatchState) (keys : List (ℕ × ℕ)) (before after : LineState) (m last : MachineState) → AreLooking period m → IsKeylessNow watch keys m
@@ -224,18 +253,18 @@ silent-is period m n last is looks =
 
 pub looking-with : (period : ℕ) (m n : MachineState) → n ≡ record m { lines = n.lines } → AreLooking period m → AreLooking period n
 looking-with period m n is looking =
-    subst (λ (x : MachineState). AreLooking period x) (sym is) (record { dues = looking.dues; some = looking.some; first = looking.first; second = looking.second })
+    subst (λ (x : MachineState). AreLooking period x) (sym is) (record { dues = looking.dues; again = looking.again })
 
 -- a key does not stop the machine
 pub key-goes-on : (period : ℕ) (m h : MachineState) (key : ℕ) → AreLooking period m → h.units ≡ m.units → None ≡ (answered second_keyboard (Key key) h).stop
 unfolding answered
 key-goes-on period m h key looking same =
-    let there = wish-there Tti1 m.units period looking.second in
+    let there = wish-there Tti1 m.units period looking.again.second in
     sym (key-goes key h.units (subst (λ (us : List UnitState). is_some (unit_at (code_of Tti1) us) ≡ true) (sym same) there))
 
 -- ---- what a poll of the line comes to
 
-pub silent-poll : (period : ℕ) (watch : WatchState) (keys : List (ℕ × ℕ)) (before after : LineState) (m n last : MachineState) (got : Got) → AreLooking period m → IsKeylessNow watch keys m
+silent-poll : (period : ℕ) (watch : WatchState) (keys : List (ℕ × ℕ)) (before after : LineState) (m n last : MachineState) (got : Got) → AreLooking period m → IsKeylessNow watch keys m
     → n ≡ record m { lines = n.lines } → last ≡ looked_at period n → got ≡ NoKey
     → ((whole : List Answer) → IsFirst (record_in after.told) whole → DoneOnLine (lined m.time (want.LineKey 0) (map (seen_line before) m.lines) (ahead_of before.told whole)) (Some got) whole before after n.lines)
     → AreServed watch keys before m after last
@@ -245,7 +274,7 @@ silent-poll period watch keys before after m n last got looking keyless is looks
     both-silent period watch keys before after m last looking keyless
     (λ whole first. subst (λ (ls : List (LineOf ℕ)). D whole NoKey ls) at (subst (λ (g : Got). D whole g n.lines) none (done whole first))) (silent-is period m n last is looks)
 
-pub key-poll : (period : ℕ) (watch : WatchState) (keys : List (ℕ × ℕ)) (before after : LineState) (m n last : MachineState) (got : Got) (key : ℕ) → AreLooking period m → IsKeylessNow watch keys m
+key-poll : (period : ℕ) (watch : WatchState) (keys : List (ℕ × ℕ)) (before after : LineState) (m n last : MachineState) (got : Got) (key : ℕ) → AreLooking period m → IsKeylessNow watch keys m
     → n ≡ record m { lines = n.lines } → last ≡ (answered second_keyboard (Key key) (first_looked period n)).machine → got ≡ Key key
     → ((whole : List Answer) → IsFirst (record_in after.told) whole → DoneOnLine (lined m.time (want.LineKey 0) (map (seen_line before) m.lines) (ahead_of before.told whole)) (Some got) whole before after n.lines)
     → AreServed watch keys before m after last
@@ -254,6 +283,11 @@ key-poll period watch keys before after m n last got key looking keyless is left
     let h = first_looked period n in
     both-served period watch keys before after m h last (Key key) looking keyless (λ whole first. subst (λ (g : Got). D whole g) came (done whole first)) (ap (first_looked period) is)
     (key-goes-on period m h key looking (ap (λ (x : MachineState). x.units) is)) left
+
+pub looked-again : (period : ℕ) (m n last : MachineState) → AreLooking period m → n ≡ record m { lines = n.lines } → last ≡ looked_at period n → LookAgain period last.units
+looked-again period m n last looking is looks =
+    let same : last.units ≡ m.units = ap (λ (x : MachineState). x.units) looks ∙ looked-units period n ∙ ap (λ (x : MachineState). x.units) is in
+    subst (λ (us : List UnitState). LookAgain period us) (sym same) looking.again
 
 pub looked-taken : (period : ℕ) (m : MachineState) → (looked_at period m).taken ≡ m.taken
 unfolding looked_at
@@ -279,7 +313,7 @@ first-due period m looking = due-of m.events keyboard (second_keyboard ∷ []) l
 
 pub second-dues : (period : ℕ) (m : MachineState) → AreLooking period m → dues (activated keyboard period (served m.events)) ≡ second_keyboard ∷ []
 second-dues period m looking =
-    dues-activated keyboard period (served m.events) looking.some ∙ rest-of m.events keyboard (second_keyboard ∷ []) looking.dues
+    dues-activated keyboard period (served m.events) looking.again.some ∙ rest-of m.events keyboard (second_keyboard ∷ []) looking.dues
 
 pub second-due : (period : ℕ) (m : MachineState) → AreLooking period m → due (activated keyboard period (served m.events)) ≡ Some second_keyboard
 second-due period m looking = due-of (activated keyboard period (served m.events)) second_keyboard [] (second-dues period m looking)
@@ -291,8 +325,36 @@ pub looked-left : (period : ℕ) (m : MachineState) → AreLooking period m → 
 unfolding looked_at
 looked-left period m looking =
     ap (λ (us : List UnitName). dues (asked_again period us m.events)) looking.dues
-    ∙ dues-activated second_keyboard period (served (activated keyboard period (served m.events))) looking.some
+    ∙ dues-activated second_keyboard period (served (activated keyboard period (served m.events))) looking.again.some
     ∙ none-left period m looking
+
+-- a key changes the unit that gets it, and not its kind
+pub key-kinds : (period key : ℕ) (m n last : MachineState) → n.units ≡ m.units → last ≡ (answered second_keyboard (Key key) (first_looked period n)).machine → kinds_of last.units ≡ kinds_of m.units
+unfolding answered
+key-kinds period key m n last same is =
+    ap (λ (x : MachineState). kinds_of x.units) is ∙ after-kinds (code_of Tti1) (Answered 0 (Key key)) n.units ∙ ap (λ (us : List UnitState). kinds_of us) same
+
+pub looked-kinds : (period : ℕ) (m n last : MachineState) → n ≡ record m { lines = n.lines } → last ≡ looked_at period n → kinds_of last.units ≡ kinds_of m.units
+looked-kinds period m n last is looks =
+    ap (λ (us : List UnitState). kinds_of us) (ap (λ (x : MachineState). x.units) looks ∙ looked-units period n ∙ ap (λ (x : MachineState). x.units) is)
+
+-- ---- ahead of the turn
+
+pub silent-ahead : (period : ℕ) (watch : WatchState) (keys : List (ℕ × ℕ)) (before after : LineState) (m n last : MachineState) (got : Got) → AreLooking period m → IsKeylessNow watch keys m
+    → m.time < last_time → n ≡ record m { lines = n.lines } → last ≡ looked_at period n → got ≡ NoKey
+    → ((whole : List Answer) → IsFirst (record_in after.told) whole → DoneOnLine (lined m.time (want.LineKey 0) (map (seen_line before) m.lines) (ahead_of before.told whole)) (Some got) whole before after n.lines)
+    → IsAhead watch keys before m after last
+silent-ahead period watch keys before after m n last got looking keyless early is looks none done =
+    let time : last.time ≡ m.time = ap (λ (x : MachineState). x.time) looks ∙ looked-time period n ∙ ap (λ (x : MachineState). x.time) is in
+    let left : dues last.events ≡ [] = ap (λ (x : MachineState). dues x.events) looks ∙ looked-left period n (looking-with period m n is looking) in
+    served-ahead watch keys before m after last early time left (silent-poll period watch keys before after m n last got looking keyless is looks none done)
+
+pub key-ahead : (period : ℕ) (watch : WatchState) (keys : List (ℕ × ℕ)) (before after : LineState) (m n last : MachineState) (got : Got) (key : ℕ) → AreLooking period m → IsKeylessNow watch keys m
+    → m.time < last_time → n ≡ record m { lines = n.lines } → last ≡ (answered second_keyboard (Key key) (first_looked period n)).machine → last.time ≡ n.time → dues last.events ≡ [] → got ≡ Key key
+    → ((whole : List Answer) → IsFirst (record_in after.told) whole → DoneOnLine (lined m.time (want.LineKey 0) (map (seen_line before) m.lines) (ahead_of before.told whole)) (Some got) whole before after n.lines)
+    → IsAhead watch keys before m after last
+key-ahead period watch keys before after m n last got key looking keyless early is left time none came done =
+    served-ahead watch keys before m after last early (time ∙ ap (λ (x : MachineState). x.time) is) none (key-poll period watch keys before after m n last got key looking keyless is left came done)
 
 -- the unit of an event, and what remains to it
 abbrev pub timed : Event → UnitName × ℕ

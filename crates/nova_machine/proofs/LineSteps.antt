@@ -1,8 +1,8 @@
 -- What calls leave of the lines of a machine, one behind another.
-use Rattle.std.proofs.Common.{◌≡◌, ◌≢◌, ◌⊎◌, ◌∙◌, ap, sym, refl, subst, inl, inr, arith, ⊎_elim, ℕ, ◌≤◌, ◌<◌, Bool, true, false, IsTrue, List, [], ◌∷◌, ◌++◌, append_assoc, append-nil, map, length, nat_le, ◌&&◌, if◌then◌else◌, zero, suc, slice_get, slice_set, Option, Some, None, is_some, option_map}
+use Rattle.std.proofs.Common.{◌≡◌, ◌≢◌, ◌⊎◌, ◌∙◌, ap, sym, refl, subst, inl, inr, arith, ℕ, Bool, true, false, IsTrue, List, [], ◌∷◌, ◌++◌, append_assoc, append-nil, map, length, nat_le, ◌&&◌, if◌then◌else◌, zero, suc, slice_get, slice_set, Option, Some, None, is_some, option_map}
 use Rattle.std.proofs.lemmas.Option.{same_Some, slice_get-map}
 use Rattle.host_lines.specs.Traffic.{Peer, Answer, Ahead}
-use Rattle.host_lines.specs.Told.{Told, IsFirst, record_in, ahead_of, heard_more}
+use Rattle.host_lines.specs.Told.{IsFirst, record_in, ahead_of}
 use Rattle.host_lines.specs.State.{LineState}
 use Rattle.telnet_lines.specs.Line.{LineOf, IsSettled, line_of, unconnected, is_full, full_output, put_on}
 use Rattle.telnet_lines.specs.Telnet.{coded}
@@ -15,7 +15,6 @@ use Rattle.telnet_lines.proofs.Sending.{nothing_heard}
 use Rattle.telnet_lines.proofs.Apart.{is_or_not, same_kind}
 use Rattle.unit_trait.specs.declared.calls.Want.{Want}
 use Rattle.unit_trait.specs.declared.calls.Want.TheVariants as want
-use Rattle.unit_trait.specs.declared.calls.Got.{Got}
 use Rattle.unit_trait.specs.declared.calls.Got.TheVariants as got
 use Rattle.nova_machine.specs.OnLines.{Lined, lined, lined_by, got_of_line, put_line, put_got}
 use Rattle.nova_machine.specs.LineChanges.{ports_of, HaveNoPort, HasConnection, AreLinesTold, LinesGoOn, DoneOnLine}

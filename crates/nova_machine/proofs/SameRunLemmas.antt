@@ -1,5 +1,5 @@
 -- Runs and turns from the same state do the same.
-use Rattle.std.proofs.Common.{ℕ, true, List, Option, Some, None, refl, sym, subst, ◌∙◌}
+use Rattle.std.proofs.Common.{true, Option, Some, None, refl, sym, subst, ◌∙◌}
 use Rattle.observations.specs.Observations.{text_of, sent_of}
 use Rattle.nova_machine.specs.declared.machine.Stop.{Stop}
 use Rattle.nova_machine.specs.declared.machine.Stop.TheVariants as stop

@@ -35,7 +35,8 @@ use Rattle.nova_machine.specs.Tapes.{NoAnswer, with_nothing_done, with_some_done
 use Rattle.nova_machine.specs.Wants.{wru, got_of_key, got_of_byte, answer_to, files_after, memory_behind}
 use Rattle.nova_machine.specs.Hosting.{CanBeHosted}
 use Rattle.nova_machine.specs.Valid.{AreBytes}
-use Rattle.nova_machine.proofs.ValidBytes.{AreFiles, IsByte, byte-low, bytes-take, bytes-overwritten, files-found, files-changed}
+use Rattle.std.proofs.Math.Nat.{mod-lt}
+use Rattle.nova_machine.proofs.ValidBytes.{AreFiles, IsByte, PrintsByte, byte-low, bytes-take, bytes-overwritten, files-found, files-changed}
 use Rattle.nova_machine.proofs.ValidMemory.{HasSize, memory-sector}
 use Rattle.nova_machine.proofs.ValidTape.{StandsOnTape, tape-stands, files-tape, memory-tape}
 
@@ -59,6 +60,20 @@ writes-found n (Some u) fits = writes-of u.kind u.registers n fits
 -- what a unit writes, or puts on a line, is a byte
 pub writes-in : (code n : ℕ) (us : List UnitState) → AllFit us → WritesByte (row_at code (Due n) us).want
 writes-in code n us all = writes-found n (unit_at code us) (found-fits code us all)
+
+prints-of : (kind : Kind) (values : List ℕ) (n : ℕ) → PrintsByte (row_of kind values (Due n)).want
+unfolding row_of reader_row writer_row clock_row keyboard_row teleprinter_row
+prints-of kind values n =
+    every-kind (λ (k : Kind). PrintsByte (row_of k values (Due n)).want)
+    (tt, cond_both (slice_index values 4 == 2) want.Nothing (want.Tape (tape_order n values)) PrintsByte (λ _. tt) (λ _. tt), tt, tt, tt, tt, tt, let low = mod-lt (slice_index values 3) {m = 2 ^ 7} (omega arith) in omega (arith, low), tt, tt, tt) kind
+
+prints-found : (n : ℕ) (there : Option UnitState) → PrintsByte (row_or_nothing (Due n) there).want
+prints-found n None = tt
+prints-found n (Some u) = prints-of u.kind u.registers n
+
+-- what a unit prints is a byte
+pub prints-in : (code n : ℕ) (us : List UnitState) → PrintsByte (row_at code (Due n) us).want
+prints-in code n us = prints-found n (unit_at code us)
 
 -- ---- the answer
 

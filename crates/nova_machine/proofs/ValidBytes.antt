@@ -5,6 +5,8 @@ use Rattle.std.specs.List.{AllByRecursion}
 use Rattle.std.specs.Int.{w32, to_le_bytes}
 use Rattle.std.proofs.lemmas.Bool.{cond_both}
 use Rattle.host_files.specs.Lists.{NamedBytes, filled, overwritten, resized, find_file, bytes_of, with_file, changed}
+use Rattle.unit_trait.specs.declared.calls.Want.{Want}
+use Rattle.unit_trait.specs.declared.calls.Want.TheVariants as want
 use Rattle.nova_machine.specs.Valid.{AreBytes}
 
 -- ---- each element
@@ -31,7 +33,7 @@ every-set P [] n y here all = tt
 every-set P (x ∷ xs) zero y here all = (here, all.1)
 every-set P (x ∷ xs) (suc n) y here all = (all.0, every-set P xs n y here all.1)
 
-every-replicate : {A : Type 0} (P : A → Type 0) (n : ℕ) (x : A) → P x → AllByRecursion P (replicate n x)
+pub every-replicate : {A : Type 0} (P : A → Type 0) (n : ℕ) (x : A) → P x → AllByRecursion P (replicate n x)
 every-replicate P zero x here = tt
 every-replicate P (suc n) x here = (here, every-replicate P n x here)
 
@@ -45,6 +47,11 @@ byte-low (b ∷ bytes) (suc n) all = byte-low bytes n all.1
 
 abbrev pub IsByte : ℕ → Type 0
 IsByte b = b < 2 ^ 8
+
+-- a unit that prints prints a byte
+abbrev pub PrintsByte : Want → Type 0
+PrintsByte (want.Console byte) = byte < 2 ^ 8
+PrintsByte w = Unit {0}
 
 pub bytes-append : (xs ys : List ℕ) → AreBytes xs → AreBytes ys → AreBytes (xs ++ ys)
 bytes-append xs ys first second = every-append IsByte xs ys first second

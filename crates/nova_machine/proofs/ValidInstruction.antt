@@ -1,5 +1,5 @@
 -- The instruction and the interrupt keep what every machine is, and take no key.
-use Rattle.std.proofs.Common.{◌≡◌, ℕ, ◌+◌, ◌^◌, ◌<◌, ◌≤◌, ◌==◌, Bool, false, nat_lt, List, [], length, slice_index, Option, Some, None, IfSome, is_some, option_map, cond, refl, sym, subst, ◌∙◌, arith}
+use Rattle.std.proofs.Common.{◌≡◌, ℕ, ◌+◌, ◌^◌, ◌<◌, ◌≤◌, ◌==◌, Bool, false, nat_lt, List, [], slice_index, Option, Some, None, IfSome, is_some, option_map, cond, refl, sym, subst, ◌∙◌, arith}
 use Rattle.std.proofs.lemmas.Bool.{cond_both}
 use Rattle.nova_word.specs.Bits.{bits}
 use Rattle.unit_trait.specs.declared.kind.Kind.{Kind}
@@ -24,6 +24,7 @@ use Rattle.nova_processor.specs.Processor.{ProcessorState}
 use Rattle.nova_processor.specs.Instruction.{jump, memory_reference, arithmetic}
 use Rattle.nova_processor.specs.InputOutput.{input, past, tested, unanswered, multiply_divide}
 use Rattle.nova_processor.proofs.Keeps.{IsProcessor, word-held, jump-keeps, reference-keeps, arithmetic-keeps, input-keeps, past-keeps, passed-keeps, tested-keeps, unanswered-keeps, multiply_divide-keeps}
+use Rattle.expect_actions.specs.KeysFile.{most_keys}
 use Rattle.nova_machine.specs.declared.machine.Stop.TheVariants.{Halt, UnknownDevice}
 use Rattle.nova_machine.specs.Core.{AreListed}
 use Rattle.nova_machine.specs.Machine.{MachineState, reset_devices, reset_machine, on_processor}
@@ -64,6 +65,7 @@ with-processor m p now valid = record {
   switches = valid.switches;
   core = record { registers = valid.core.registers; sound = valid.core.sound; listed = valid.core.listed; times = valid.core.times };
   places = valid.places;
+  names = valid.names;
   disk = valid.disk;
 }
 
@@ -80,6 +82,7 @@ with-ints m ints low valid = record {
     switches = valid.switches;
     core = record { registers = valid.core.registers; sound = valid.core.sound; listed = valid.core.listed; times = valid.core.times };
     places = valid.places;
+    names = valid.names;
     disk = valid.disk;
   };
   taken = refl;
@@ -105,6 +108,7 @@ ticked-keeps m valid = record {
       times = times_later (m.time + 1) (ticked_events m.events);
     };
     places = valid.places;
+    names = valid.names;
     disk = valid.disk;
   };
   taken = refl;
@@ -172,6 +176,7 @@ asked_unit-keeps code word m valid =
           times = times_later m.time events;
         };
         places = valid.places;
+        names = valid.names;
         disk = valid.disk;
       };
       taken = refl;
@@ -218,6 +223,7 @@ reset_devices-keeps m valid =
           times = times_later m.time events;
         };
         places = valid.places;
+        names = valid.names;
         disk = valid.disk;
       };
       taken = refl;
@@ -321,7 +327,8 @@ pub follows-seen : (s : Seen) (m : MachineState) → Valid s → Follows s.machi
 follows-seen s m valid follows = record {
   machine = follows.valid;
   watch = valid.watch;
-  taken = subst (λ (n : ℕ). n ≤ length s.keys) (sym follows.taken) valid.taken;
+  taken = subst (λ (n : ℕ). n ≤ most_keys) (sym follows.taken) valid.taken;
+  known = valid.known;
   keys = valid.keys;
   files = valid.files;
   lines = valid.lines;

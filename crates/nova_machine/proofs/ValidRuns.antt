@@ -22,7 +22,8 @@ use Rattle.nova_machine.specs.Parts.{Part}
 use Rattle.nova_machine.specs.Service.{service, services, serving, taken}
 use Rattle.nova_machine.specs.Turn.{breaks_tested, turn}
 use Rattle.nova_machine.specs.Run.{run}
-use Rattle.nova_machine.specs.Valid.{ValidMachine, ValidWatch, Valid}
+use Rattle.nova_machine.specs.Valid.{HasByteName, ValidMachine, ValidWatch, Valid}
+use Rattle.nova_machine.proofs.ValidBytes.{every-replicate}
 use Rattle.nova_machine.specs.ValidLaws.{IsValidPart}
 use Rattle.nova_machine.proofs.Opened.{serving-is, services-none, services-some}
 use Rattle.nova_machine.proofs.Walks.{OfStages, OfEach, each-turn, each-run}
@@ -45,7 +46,7 @@ valid-serving note s is =
 valid-tested : (s : Seen) → Valid s → IsValidPart (breaks_tested s)
 unfolding breaks_tested
 valid-tested s is =
-    valid-silent _ _ (record { machine = is.machine; watch = watch-tested s.machine.processor.cpu.pc s.watch is.watch; taken = is.taken; keys = is.keys; files = is.files; lines = is.lines; ahead = is.ahead })
+    valid-silent _ _ (record { machine = is.machine; watch = watch-tested s.machine.processor.cpu.pc s.watch is.watch; taken = is.taken; known = is.known; keys = is.keys; files = is.files; lines = is.lines; ahead = is.ahead })
 
 -- a part leads from a valid state to valid ones
 abbrev StaysValid : Seen → Part → Type 0
@@ -94,6 +95,7 @@ new-valid us fit = record {
     times = times_later 0 (reset_events us []);
   };
   places = refl;
+  names = every-replicate HasByteName 12 None tt;
   disk = tt;
 }
 
@@ -105,6 +107,7 @@ empty-valid = record {
   expects = omega arith;
   texts = tt;
   tail = omega arith;
+  printed = tt;
   sends = omega arith;
   in_time = tt;
   bytes = tt;

@@ -1,5 +1,5 @@
 -- The service of a unit leaves a valid state, and prints in one.
-use Rattle.std.proofs.Common.{◌≡◌, inl, inr, ℕ, ◌<◌, ◌≤◌, ◌==◌, List, [], ◌∷◌, Option, Some, None, option_map, IfSome, Result, Ok, Err, refl, ap, sym, subst, ◌∙◌, length}
+use Rattle.std.proofs.Common.{◌≡◌, inl, inr, ℕ, ◌<◌, ◌≤◌, ◌==◌, List, [], ◌∷◌, Option, Some, None, option_map, IfSome, Result, Ok, Err, refl, ap, sym, subst, ◌∙◌, length, arith}
 use Rattle.std.specs.List.{AllByRecursion}
 use Rattle.std.proofs.lemmas.Bool.{cond_both}
 use Rattle.observations.specs.Observations.{Observation, StandsAt}
@@ -21,6 +21,7 @@ use Rattle.unit_list.proofs.Resets.{sound-wished}
 use Rattle.unit_list.proofs.Room.{kind-found, room-in, asked-in}
 use Rattle.unit_files.specs.Attachments.{Attachment, attachment_at}
 use Rattle.unit_files.specs.Acts.{Failure}
+use Rattle.expect_actions.specs.KeysFile.{most_keys}
 use Rattle.nova_machine.specs.declared.machine.Stop.{Stop}
 use Rattle.nova_machine.specs.Core.{AreListed}
 use Rattle.nova_machine.specs.Machine.{MachineState}
@@ -40,7 +41,7 @@ use Rattle.nova_machine.proofs.ValidMemory.{bytes-disk}
 use Rattle.nova_machine.proofs.ValidWatch.{watch-after, key-typed, key-sent, key-first, taken-within}
 use Rattle.nova_machine.proofs.EachService.{each-service, sends-nowhere}
 use Rattle.nova_machine.proofs.ValidLines.{ValidLined, lined-valid}
-use Rattle.nova_machine.proofs.ValidAnswers.{writes-in, IsGiven, answer-given, files-behind, memory-hosted}
+use Rattle.nova_machine.proofs.ValidAnswers.{writes-in, prints-in, IsGiven, answer-given, files-behind, memory-hosted}
 
 -- ---- parts
 
@@ -72,6 +73,7 @@ valid-events m us es fit sound listed is = record {
   switches = is.switches;
   core = record { registers = fit; sound = sound; listed = listed; times = times_later m.time es };
   places = is.places;
+  names = is.names;
   disk = is.disk;
 }
 
@@ -138,8 +140,12 @@ can-reply u us (Err why) given = tt
 
 -- ---- what it wants is done
 
-typed-key : (s : Seen) → Valid s → IfSome (typed_at s) (λ (b : ℕ). IsByte b × (s.machine.taken < length s.keys))
-typed-key s is = key-typed s.keys s.machine.taken s.machine.time is.keys
+typed-key : (s : Seen) → Valid s → IfSome (typed_at s) (λ (b : ℕ). IsByte b × (s.machine.taken < most_keys))
+typed-key s is = by-key (typed_at s) (key-typed s.keys s.machine.taken s.machine.time is.keys)
+  where
+    by-key : (o : Option ℕ) → IfSome o (λ (b : ℕ). IsByte b × (s.machine.taken < length s.keys)) → IfSome o (λ (b : ℕ). IsByte b × (s.machine.taken < most_keys))
+    by-key None there = tt
+    by-key (Some b) there = let known = is.known in let within = there.1 in (there.0, omega (arith, known, within))
 
 sent-key : (s : Seen) → Valid s → IfSome (sent_at s) IsByte
 sent-key s is = key-sent s.machine.time s.watch.sends is.watch.bytes
@@ -156,6 +162,7 @@ valid-done fault key a files w m all is =
       switches = is.switches;
       core = record { registers = is.core.registers; sound = is.core.sound; listed = is.core.listed; times = is.core.times };
       places = is.places;
+      names = is.names;
       disk = bytes-disk a m.processor.memory w m.disk is.memory is.disk;
     }
 
@@ -166,8 +173,9 @@ valid-hosted fault u s is =
     let a = attachment_at (attached_in s.machine) u in
     record {
       machine = valid-done fault (typed_key (sent_at s) (typed_at s)) a s.files w (asked u s.machine) is.files (valid-asked u s.machine is.machine);
-      watch = watch-after s.machine.time w s.watch is.watch;
-      taken = taken-within (sent_at s) (typed_at s) s.machine.taken (length s.keys) w is.taken (typed-key s is);
+      watch = watch-after s.machine.time w s.watch (prints-in (code_of u.kind) u.unit s.machine.units) is.watch;
+      taken = taken-within (sent_at s) (typed_at s) s.machine.taken most_keys w is.taken (typed-key s is);
+      known = is.known;
       keys = is.keys;
       files = files-behind fault a s.machine.processor.memory s.files w (writes-in (code_of u.kind) u.unit s.machine.units is.machine.core.registers) is.machine.memory is.files;
       lines = is.lines;
@@ -196,7 +204,7 @@ valid-own fault u s low is =
     let key = key_at s in
     let at = with_machine s (asked u s.machine) in
     let answer = answer_to fault a s.files key w in
-    let byte = key-first (sent_at s) (typed_at s) (s.machine.taken < length s.keys) (sent-key s is) (typed-key s is) in
+    let byte = key-first (sent_at s) (typed_at s) (s.machine.taken < most_keys) (sent-key s is) (typed-key s is) in
     let given = answer-given fault a s.files key w u.kind is.files byte (wants-in u.kind u.unit us is.machine.core.registers) in
     let can = subst (λ (x : List UnitState). CanReply u x answer) (hosted-units fault u s) (can-reply u us answer given) in
     valid-behind (prints w at) (replied u (own_stop key s.watch.expects w) answer (hosted fault u s))
@@ -213,7 +221,8 @@ behind-valid : (u : UnitName) (l : Lined) (s : Seen) → ValidLined (want_at u s
 behind-valid u l s lined is = record {
   machine = valid-asked u s.machine is.machine;
   watch = is.watch;
-  taken = subst (λ (n : ℕ). n ≤ length s.keys) (sym (asked-taken u s.machine)) is.taken;
+  taken = subst (λ (n : ℕ). n ≤ most_keys) (sym (asked-taken u s.machine)) is.taken;
+  known = is.known;
   keys = is.keys;
   files = is.files;
   lines = lined.lines;

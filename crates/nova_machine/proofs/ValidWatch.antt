@@ -17,8 +17,8 @@ use Rattle.expect_actions.specs.Watch.{WatchState}
 use Rattle.expect_actions.proofs.BreakLemmas.{tested_length, tested_rising}
 use Rattle.expect_actions.proofs.SendLemmas.{left_stays}
 use Rattle.nova_machine.specs.Wants.{first_key, typed_key, taken_after, watch_after}
-use Rattle.nova_machine.specs.Valid.{AreBytes, ValidBreak, ValidWatch}
-use Rattle.nova_machine.proofs.ValidBytes.{IsByte, every-remove, every-set}
+use Rattle.nova_machine.specs.Valid.{AreBytes, ValidBreak, ValidExpect, ValidWatch}
+use Rattle.nova_machine.proofs.ValidBytes.{IsByte, PrintsByte, every-append, every-drop, every-remove, every-set}
 
 -- ---- breaks
 
@@ -47,6 +47,7 @@ watch-tested address w is = record {
   expects = is.expects;
   texts = is.texts;
   tail = is.tail;
+  printed = is.printed;
   sends = is.sends;
   in_time = is.in_time;
   bytes = is.bytes;
@@ -58,8 +59,9 @@ watch-tested address w is = record {
 
 record ValidExpects (t : ExpectTable) : Type 0 where
   few : length t.list ≤ most_expects
-  texts : AllByRecursion (λ (e : Expect). AreBytes e.actions) t.list
+  texts : AllByRecursion ValidExpect t.list
   tail : length t.tail ≤ longest_text
+  printed : AreBytes t.tail
   actions : AreBytes t.actions
 
 -- what a match makes of the table, by what stands at its place
@@ -69,43 +71,50 @@ choice k t o = elim o [
   | Some e ↦ cond (leb e.count 1) (table (remove t.list k) [] e.actions) (table (set t.list k (counted_down e)) [] t.actions)
 ]
 
-texts-at : (list : List Expect) (k : ℕ) (e : Expect) → AllByRecursion (λ (e : Expect). AreBytes e.actions) list → slice_get list k ≡ Some e → AreBytes e.actions
+texts-at : (list : List Expect) (k : ℕ) (e : Expect) → AllByRecursion ValidExpect list → slice_get list k ≡ Some e → ValidExpect e
 texts-at [] k e all at = absurd (cc)
-texts-at (x ∷ list) zero e all at = let same : x ≡ e = cc in subst (λ (y : Expect). AreBytes y.actions) same all.0
+texts-at (x ∷ list) zero e all at = let same : x ≡ e = cc in subst ValidExpect same all.0
 texts-at (x ∷ list) (suc k) e all at = texts-at list k e all.1 at
 
 expects-chosen : (k : ℕ) (t : ExpectTable) (o : Option Expect) → slice_get t.list k ≡ o → ValidExpects t → ValidExpects (choice k t o)
-expects-chosen k t None at is = record { few = is.few; texts = is.texts; tail = omega arith; actions = is.actions }
+expects-chosen k t None at is = record { few = is.few; texts = is.texts; tail = omega arith; printed = tt; actions = is.actions }
 expects-chosen k t (Some e) at is =
     let within = slice_get_within t.list k e at in
-    let bytes = texts-at t.list k e is.texts at in
+    let valid = texts-at t.list k e is.texts at in
     cond_both (leb e.count 1) (table (remove t.list k) [] e.actions) (table (set t.list k (counted_down e)) [] t.actions) ValidExpects
     (λ _. record {
       few = let less = length-remove t.list k within in omega (arith, less, is.few);
-      texts = every-remove (λ (e : Expect). AreBytes e.actions) t.list k is.texts;
+      texts = every-remove ValidExpect t.list k is.texts;
       tail = omega arith;
-      actions = bytes;
+      printed = tt;
+      actions = valid.actions;
     })
     (λ _. record {
       few = let same = length-set t.list k (counted_down e) in omega (arith, same, is.few);
-      texts = every-set (λ (e : Expect). AreBytes e.actions) t.list k (counted_down e) bytes is.texts;
+      texts = every-set ValidExpect t.list k (counted_down e) (record { text = valid.text; actions = valid.actions }) is.texts;
       tail = omega arith;
+      printed = tt;
       actions = is.actions;
     })
 
-expects-matched : (place : Option ℕ) (printed : List ℕ) (t : ExpectTable) → length printed ≤ longest_text → ValidExpects t → ValidExpects (matched place printed t)
-expects-matched None printed t short is = record { few = is.few; texts = is.texts; tail = short; actions = is.actions }
-expects-matched (Some k) printed t short is = expects-chosen k t (slice_get t.list k) refl is
+expects-matched : (place : Option ℕ) (printed : List ℕ) (t : ExpectTable) → length printed ≤ longest_text → AreBytes printed → ValidExpects t
+    → ValidExpects (matched place printed t)
+expects-matched None printed t short bytes is = record { few = is.few; texts = is.texts; tail = short; printed = bytes; actions = is.actions }
+expects-matched (Some k) printed t short bytes is = expects-chosen k t (slice_get t.list k) refl is
 
 last-short : (text : List ℕ) → length (last_bytes text) ≤ longest_text
 last-short text = let size = length-drop (length text - longest_text) text in omega (arith, size)
 
+last-bytes : (text : List ℕ) → AreBytes text → AreBytes (last_bytes text)
+last-bytes text all = every-drop IsByte (length text - longest_text) text all
+
 -- a byte was printed
-watch-printed : (byte : ℕ) (w : WatchState) → ValidWatch w → ValidWatch (record w { expects = after_printed byte w.expects })
-watch-printed byte w is =
+watch-printed : (byte : ℕ) (w : WatchState) → IsByte byte → ValidWatch w → ValidWatch (record w { expects = after_printed byte w.expects })
+watch-printed byte w low is =
     let printed = printed_with byte w.expects in
     let now = expects-matched (first_match printed w.expects.list) printed w.expects (last-short (w.expects.tail ++ byte ∷ []))
-    (record { few = is.expects; texts = is.texts; tail = is.tail; actions = is.matched }) in
+    (last-bytes (w.expects.tail ++ byte ∷ []) (every-append IsByte w.expects.tail (byte ∷ []) is.printed (low, tt)))
+    (record { few = is.expects; texts = is.texts; tail = is.tail; printed = is.printed; actions = is.matched }) in
     record {
       breaks = is.breaks;
       rising = is.rising;
@@ -113,6 +122,7 @@ watch-printed byte w is =
       expects = now.few;
       texts = now.texts;
       tail = now.tail;
+      printed = now.printed;
       sends = is.sends;
       in_time = is.in_time;
       bytes = is.bytes;
@@ -140,6 +150,7 @@ watch-taken now w is = record {
   expects = is.expects;
   texts = is.texts;
   tail = is.tail;
+  printed = is.printed;
   sends = let fewer = left-few now w.sends in omega (arith, fewer, is.sends);
   in_time = left_stays now w.sends is.in_time;
   bytes = left-bytes now w.sends is.bytes;
@@ -148,10 +159,10 @@ watch-taken now w is = record {
 }
 
 -- what a unit wants was done
-pub watch-after : (time : ℕ) (w : Want) (watch : WatchState) → ValidWatch watch → ValidWatch (watch_after time w watch)
-watch-after time want.Key watch is = watch-taken time watch is
-watch-after time (want.Console byte) watch is = watch-printed byte watch is
-watch-after time w watch is = is
+pub watch-after : (time : ℕ) (w : Want) (watch : WatchState) → PrintsByte w → ValidWatch watch → ValidWatch (watch_after time w watch)
+watch-after time want.Key watch low is = watch-taken time watch is
+watch-after time (want.Console byte) watch low is = watch-printed byte watch low is
+watch-after time w watch low is = is
 
 -- ---- keys
 

@@ -1,5 +1,5 @@
--- A loop that waits for a flag: a round of it takes two instructions of time and changes nothing else.
-use Rattle.std.proofs.Common.{◌≡◌, ◌≢◌, List, ℕ, zero, suc, ◌+◌, ◌-◌, ◌*◌, ◌%◌, ◌^◌, ◌<◌, ◌≤◌, ◌==◌, Bool, true, false, not, nat_lt, is_some, option_map, unwrap_or, Option, Some, None, refl, ap, sym, ◌∙◌, arith, if◌then◌else◌}
+-- A loop that waits for a flag: each of its two instructions takes its time, and changes nothing else but PC.
+use Rattle.std.proofs.Common.{◌≡◌, ◌≢◌, List, ℕ, zero, suc, ◌+◌, ◌-◌, ◌%◌, ◌^◌, ◌<◌, ◌≤◌, ◌==◌, Bool, true, false, not, nat_lt, is_some, option_map, unwrap_or, Option, Some, None, refl, ap, sym, ◌∙◌, arith, if◌then◌else◌}
 use Rattle.std.proofs.lemmas.Bool.Decides.{nat_tests}
 use Rattle.nova_word.specs.Bits.{bits}
 use Rattle.nova_memory.specs.Memory.{get}
@@ -14,8 +14,6 @@ use Rattle.nova_processor.specs.Processor.{ProcessorState}
 use Rattle.nova_processor.specs.Instruction.{following, advanced, jump, without_accumulator, memory_reference, load, store, jump_to_subroutine, store_and_skip, arithmetic}
 use Rattle.nova_processor.specs.InputOutput.{past, tested, flag_skips, unanswered, multiply_divide}
 use Rattle.nova_processor.specs.Burst.{steps, refers_to, refers, passes, step_of, step}
-use Rattle.host_lines.specs.Traffic.{Answer}
-use Rattle.host_lines.specs.State.{LineState}
 use Rattle.nova_machine.specs.declared.machine.Stop.TheVariants.{UnknownDevice}
 use Rattle.nova_machine.specs.Machine.{MachineState, on_processor}
 use Rattle.nova_machine.specs.Notes.{RunNote, at_time}
@@ -27,7 +25,7 @@ use Rattle.nova_machine.specs.Turn.{refer, execute, fetch}
 use Rattle.nova_machine.specs.Run.{last_time, next_turn, turns}
 use Rattle.nova_machine.specs.Quiet.{IsPlain}
 use Rattle.nova_machine.specs.Bursts.{passed_by, IsCalm, Bursts}
-use Rattle.nova_machine.specs.Waits.{IsTest, IsUntaken, IsJump, IsWaiting, AreUnbroken}
+use Rattle.nova_machine.specs.Waits.{IsTest, IsUntaken, IsJump, IsWaiting, AreUnbroken, halfway}
 use Rattle.nova_processor.specs.declared.burst.BurstEnd.{BurstEnd}
 use Rattle.nova_machine.proofs.Runs.{burst-goes}
 use Rattle.nova_machine.proofs.Opened.{next-early}
@@ -119,7 +117,7 @@ pub back-is : (p : ProcessorState) → IsJump (get p.memory (following p.cpu.pc)
 unfolding step past advanced
 back-is p is = jump-step (get p.memory (following p.cpu.pc)) p.cpu.pc (past p) is
 
--- ---- rounds
+-- ---- its turns
 
 waiting-behind : (count : ℕ) (m : MachineState) → IsWaiting m → IsWaiting (behind count m m.processor)
 unfolding behind passed_by
@@ -141,42 +139,81 @@ pub past-at : (watch : WatchState) (p : ProcessorState) → has_break (following
 unfolding past advanced
 past-at watch p none = none
 
--- a round, behind so many instructions
-round : (note : Option RunNote) (one : Bool) (count most left : ℕ) (s : Seen) → AreUnbroken s.watch s.machine → IsWaiting s.machine → IsCalm most s.machine → suc count < most
-    → s.machine.time + most ≤ last_time
-    → turns note one false (suc (suc left)) (with_machine s (behind count s.machine s.machine.processor))
-    ≡ turns note one false left (with_machine s (behind (suc (suc count)) s.machine s.machine.processor))
-round note one count most left s unbroken waiting calm within end =
-    let m = s.machine in
-    let p = m.processor in
-    let at = with_machine s (behind count m p) in
-    let mid = with_machine s (behind (suc count) m (past p)) in
-    let before : count < most = omega (arith, within) in
-    let skips = skip-next note at (behind-plain count most m p calm before) (at-unbroken count s p unbroken.test) (behind-early count most m p before end) (waiting-behind count m waiting) in
-    let jumps = plain-next note mid p (behind-plain (suc count) most m (past p) calm within) (at-unbroken (suc count) s (past p) (past-at s.watch p unbroken.back)) (behind-early (suc count) most m (past p) within end)
-    (ap step (behind-processor (suc count) m (past p)) ∙ back-is p waiting.back) in
-    turns-silent note one (suc left) at (with_machine s (behind_step at.machine (past at.machine.processor))) skips
-    ∙ ap (λ (q : ProcessorState). turns note one false (suc left) (with_machine s (behind_step at.machine (past q)))) (behind-processor count m p)
-    ∙ ap (λ (x : MachineState). turns note one false (suc left) (with_machine s x)) (behind-more count m p (past p))
-    ∙ turns-silent note one left mid (with_machine s (behind_step mid.machine p)) jumps
-    ∙ ap (λ (x : MachineState). turns note one false left (with_machine s x)) (behind-more (suc count) m (past p) p)
+-- ---- the loop behind so many instructions
 
-rounds-pass : (note : Option RunNote) (one : Bool) (rounds most left : ℕ) (s : Seen) → AreUnbroken s.watch s.machine → IsWaiting s.machine → IsCalm most s.machine → rounds * 2 ≤ most
+pub half-even : (count : ℕ) (p : ProcessorState) → (count % 2 == 1) ≡ false → halfway count p ≡ p
+unfolding halfway
+half-even count p even = ap (λ (b : Bool). if b then past p else p) even
+
+pub half-odd : (count : ℕ) (p : ProcessorState) → (count % 2 == 1) ≡ true → halfway count p ≡ past p
+unfolding halfway
+half-odd count p odd = ap (λ (b : Bool). if b then past p else p) odd
+
+pub next-odd : (count : ℕ) → (count % 2 == 1) ≡ false → (suc count % 2 == 1) ≡ true
+next-odd count even = grind (arith, nat_tests, even)
+
+pub next-even : (count : ℕ) → (count % 2 == 1) ≡ true → (suc count % 2 == 1) ≡ false
+next-even count odd = grind (arith, nat_tests, odd)
+
+pub half-none : (p : ProcessorState) → halfway 0 p ≡ p
+half-none p = half-even 0 p refl
+
+pub half-ahead : (count : ℕ) (m : MachineState) → count % 2 ≡ 1
+    → on_processor (halfway count) m ≡ record m { processor = record m.processor { cpu = record m.processor.cpu { pc = following m.processor.cpu.pc } } }
+unfolding past advanced
+half-ahead count m odd =
+    let is : (count % 2 == 1) ≡ true = grind (arith, nat_tests, odd) in
+    ap (λ (p : ProcessorState). record m { processor = p }) (half-odd count m.processor is)
+
+pub half-still : (count : ℕ) (m : MachineState) → count % 2 ≢ 1 → on_processor (halfway count) m ≡ m
+half-still count m even =
+    let is : (count % 2 == 1) ≡ false = grind (arith, nat_tests, even) in
+    ap (λ (p : ProcessorState). record m { processor = p }) (half-even count m.processor is)
+
+half-turn : (note : Option RunNote) (one : Bool) (count most left : ℕ) (s : Seen) → AreUnbroken s.watch s.machine → IsWaiting s.machine → IsCalm most s.machine → count < most
     → s.machine.time + most ≤ last_time
-    → turns note one false (rounds * 2 + left) s ≡ turns note one false left (with_machine s (behind (rounds * 2) s.machine s.machine.processor))
-rounds-pass note one zero most left s unbroken waiting calm within end =
-    let none : zero * 2 + left ≡ left = omega arith in
-    let no_time : 0 ≡ zero * 2 = omega arith in
+    → turns note one false (suc left) (with_machine s (behind count s.machine (halfway count s.machine.processor)))
+    ≡ turns note one false left (with_machine s (behind (suc count) s.machine (halfway (suc count) s.machine.processor)))
+half-turn note one count most left s unbroken waiting calm within end = by (count % 2 == 1) refl
+  where
+    m : MachineState
+    m = s.machine
+
+    p : ProcessorState
+    p = s.machine.processor
+
+    by : (b : Bool) → (count % 2 == 1) ≡ b
+        → turns note one false (suc left) (with_machine s (behind count s.machine (halfway count s.machine.processor)))
+        ≡ turns note one false left (with_machine s (behind (suc count) s.machine (halfway (suc count) s.machine.processor)))
+    by false even =
+        let at = with_machine s (behind count m p) in
+        let skips = skip-next note at (behind-plain count most m p calm within) (at-unbroken count s p unbroken.test) (behind-early count most m p within end) (waiting-behind count m waiting) in
+        ap (λ (q : ProcessorState). turns note one false (suc left) (with_machine s (behind count m q))) (half-even count p even)
+        ∙ turns-silent note one left at (with_machine s (behind_step at.machine (past at.machine.processor))) skips
+        ∙ ap (λ (q : ProcessorState). turns note one false left (with_machine s (behind_step at.machine (past q)))) (behind-processor count m p)
+        ∙ ap (λ (x : MachineState). turns note one false left (with_machine s x)) (behind-more count m p (past p))
+        ∙ ap (λ (q : ProcessorState). turns note one false left (with_machine s (behind (suc count) m q))) (sym (half-odd (suc count) p (next-odd count even)))
+    by true odd =
+        let mid = with_machine s (behind count m (past p)) in
+        let jumps = plain-next note mid p (behind-plain count most m (past p) calm within) (at-unbroken count s (past p) (past-at s.watch p unbroken.back)) (behind-early count most m (past p) within end)
+        (ap step (behind-processor count m (past p)) ∙ back-is p waiting.back) in
+        ap (λ (q : ProcessorState). turns note one false (suc left) (with_machine s (behind count m q))) (half-odd count p odd)
+        ∙ turns-silent note one left mid (with_machine s (behind_step mid.machine p)) jumps
+        ∙ ap (λ (x : MachineState). turns note one false left (with_machine s x)) (behind-more count m (past p) p)
+        ∙ ap (λ (q : ProcessorState). turns note one false left (with_machine s (behind (suc count) m q))) (sym (half-even (suc count) p (next-even count odd)))
+
+waits-pass : (note : Option RunNote) (one : Bool) (count most left : ℕ) (s : Seen) → AreUnbroken s.watch s.machine → IsWaiting s.machine → IsCalm most s.machine → count ≤ most
+    → s.machine.time + most ≤ last_time
+    → turns note one false (count + left) s ≡ turns note one false left (with_machine s (behind count s.machine (halfway count s.machine.processor)))
+waits-pass note one zero most left s unbroken waiting calm within end =
+    let none : zero + left ≡ left = omega arith in
     ap (λ (n : ℕ). turns note one false n s) none
-    ∙ ap (λ (x : MachineState). turns note one false left (with_machine s x)) (sym (behind-none s.machine s.machine.processor refl))
-    ∙ ap (λ (n : ℕ). turns note one false left (with_machine s (behind n s.machine s.machine.processor))) no_time
-rounds-pass note one (suc rounds) most left s unbroken waiting calm within end =
-    let both : suc rounds * 2 + left ≡ rounds * 2 + suc (suc left) = omega arith in
-    let count : suc (suc (rounds * 2)) ≡ suc rounds * 2 = omega arith in
+    ∙ ap (λ (x : MachineState). turns note one false left (with_machine s x)) (sym (behind-none s.machine (halfway 0 s.machine.processor) (half-none s.machine.processor)))
+waits-pass note one (suc count) most left s unbroken waiting calm within end =
+    let both : suc count + left ≡ count + suc left = omega arith in
     ap (λ (n : ℕ). turns note one false n s) both
-    ∙ rounds-pass note one rounds most (suc (suc left)) s unbroken waiting calm (omega (arith, within)) end
-    ∙ round note one (rounds * 2) most left s unbroken waiting calm (omega (arith, within)) end
-    ∙ ap (λ (n : ℕ). turns note one false left (with_machine s (behind n s.machine s.machine.processor))) count
+    ∙ waits-pass note one count most (suc left) s unbroken waiting calm (omega (arith, within)) end
+    ∙ half-turn note one count most left s unbroken waiting calm (omega (arith, within)) end
 
 -- ---- what the calls come to
 
@@ -187,16 +224,17 @@ waiting-erased m waiting = record {
   back = waiting.back;
 }
 
-pub waits-told : (watch : WatchState) (keys : List (ℕ × ℕ)) (most rounds budget : ℕ) (old new : MachineState) → AreUnbroken watch old → IsWaiting old → IsCalm budget old → old.time + budget ≤ last_time → budget ≤ most → rounds * 2 ≤ budget
-    → new ≡ passed_by (rounds * 2) old → Bursts watch keys most (rounds * 2) burst_end.Transfer old new
+pub waits-told : (watch : WatchState) (keys : List (ℕ × ℕ)) (most count : ℕ) (old new : MachineState) → AreUnbroken watch old → IsWaiting old → IsCalm count old → old.time + count ≤ last_time → count ≤ most
+    → new ≡ passed_by count (on_processor (halfway count) old) → Bursts watch keys most count burst_end.Transfer old new
 unfolding behind passed_by
-waits-told watch keys most rounds budget old new unbroken waiting calm end few within is = λ note one files lines whole.
-    let all : most ≡ rounds * 2 + (most - rounds * 2) = omega (arith, few, within) in
+waits-told watch keys most count old new unbroken waiting calm end few is = λ note one files lines whole.
+    let all : most ≡ count + (most - count) = omega (arith, few) in
     let s = seen (beside watch keys files lines) whole old in
+    let q = halfway count old.processor in
     ap (λ (n : ℕ). turns note one false n s) all
-    ∙ rounds-pass note one rounds budget (most - rounds * 2) s (record { test = unbroken.test; back = unbroken.back }) (waiting-erased old waiting) (calm-erased budget old calm) within end
-    ∙ ap (λ (x : MachineState). turns note one false (most - rounds * 2) (with_machine s x)) (erased-behind (rounds * 2) old old.processor)
-    ∙ ap (λ (x : MachineState). turns note one false (most - rounds * 2) (seen (beside watch keys files lines) whole x)) (sym (is ∙ behind-is (rounds * 2) old old.processor))
+    ∙ waits-pass note one count count (most - count) s (record { test = unbroken.test; back = unbroken.back }) (waiting-erased old waiting) (calm-erased count old calm) (omega arith) end
+    ∙ ap (λ (x : MachineState). turns note one false (most - count) (with_machine s x)) (erased-behind count old q)
+    ∙ ap (λ (x : MachineState). turns note one false (most - count) (seen (beside watch keys files lines) whole x)) (sym (is ∙ behind-is count old q))
 
 all-done : (most done more : ℕ) → most - done - more ≡ most - (done + more)
 all-done most done more = omega arith

@@ -15,7 +15,7 @@ use Rattle.simh_tape.specs.Image.{Met}
 use Rattle.simh_tape.specs.Laws.{HasBlock}
 use Rattle.simh_tape.specs.Writing.{block_bytes}
 use Rattle.simh_tape.proofs.BlockLaws.{blocks_are_read_back}
-use Rattle.nova_machine.specs.Tapes.{word_on_tape, block_put, block_got, bytes_on_tape, block_written, words_for, memory_read, memory_operated, image_operated}
+use Rattle.nova_machine.specs.Tapes.{word_on_tape, block_put, block_got, block_written, words_for, memory_read, memory_operated, image_operated}
 use Rattle.nova_machine.proofs.Blocks.{got-length, block-length}
 use Rattle.nova_machine.specs.WordLaws.{WordsReadBack}
 

@@ -1,8 +1,9 @@
 -- Looks of both keyboards at one time, where the line of the second teletype may have a port: it is polled between bursts.
-use Rattle.std.specs.Prelude.{◌≡◌, ℕ, ◌-◌, ◌≤◌, Bool, false, List, [], ◌∷◌, Option, Some, None}
+use Rattle.std.specs.Prelude.{◌≡◌, ℕ, ◌-◌, ◌<◌, ◌≤◌, Bool, false, List, [], ◌∷◌, Option, Some, None}
 use Rattle.unit_trait.specs.declared.kind.UnitName.{UnitName}
 use Rattle.unit_trait.specs.declared.kind.Kind.TheVariants.{Tti1}
 use Rattle.unit_trait.specs.declared.calls.Queue.TheVariants.{After}
+use Rattle.unit_trait.specs.Calls.{UnitState}
 use Rattle.event_queue.specs.EventList.{dues, served, activated}
 use Rattle.host_files.specs.Lists.{NamedBytes}
 use Rattle.host_lines.specs.Traffic.{Answer}
@@ -16,10 +17,9 @@ use Rattle.nova_processor.specs.declared.burst.BurstEnd.TheVariants as burst_end
 use Rattle.nova_machine.specs.declared.machine.Stop.{Stop}
 use Rattle.nova_machine.specs.declared.machine.Stop.TheVariants.{ChainLimit}
 use Rattle.nova_machine.specs.Machine.{MachineState}
-use Rattle.nova_machine.specs.Notes.{UnitNote, RunNote}
+use Rattle.nova_machine.specs.Notes.{RunNote}
 use Rattle.nova_machine.specs.Seen.{Seen, seen, beside}
 use Rattle.nova_machine.specs.Comes.{Output, output, Comes, Does}
-use Rattle.nova_machine.specs.Service.{serving}
 use Rattle.nova_machine.specs.Run.{turns}
 use Rattle.nova_machine.specs.Looks.{keyboard, keyless_wish}
 
@@ -27,13 +27,16 @@ use Rattle.nova_machine.specs.Looks.{keyboard, keyless_wish}
 abbrev pub second_keyboard : UnitName
 second_keyboard = record { kind = Tti1; unit = 0 }
 
--- Both keyboards look now, the console's first, and no other event is due. Where no key comes, each asks for its event again
--- after so many instructions.
+-- Where no key comes, both keyboards ask for their events again after so many instructions.
+pub record LookAgain (period : ℕ) (units : List UnitState) : Type 0 where
+  pub some : 1 ≤ period
+  pub first : keyless_wish keyboard units ≡ After period
+  pub second : keyless_wish second_keyboard units ≡ After period
+
+-- Both keyboards look now, the console's first, and no other event is due.
 pub record AreLooking (period : ℕ) (m : MachineState) : Type 0 where
   pub dues : dues m.events ≡ keyboard ∷ second_keyboard ∷ []
-  pub some : 1 ≤ period
-  pub first : keyless_wish keyboard m.units ≡ After period
-  pub second : keyless_wish second_keyboard m.units ≡ After period
+  pub again : LookAgain period m.units
 
 -- The console's keyboard has looked, and the event of the other one was taken.
 abbrev pub first_looked : ℕ → MachineState → MachineState
@@ -42,13 +45,6 @@ first_looked period m = record m { events = served (activated keyboard period (s
 -- no key of the console is due
 abbrev pub IsKeylessNow : WatchState → List (ℕ × ℕ) → MachineState → Type 0
 IsKeylessNow watch keys m = (due_send m.time watch.sends ≡ None) × (due_key keys m.taken m.time ≡ None)
-
--- All units were served whose events were due, and none has stopped the machine, whichever files, failing calls and console
--- there are.
-abbrev pub AreServed : WatchState → List (ℕ × ℕ) → LineState → MachineState → LineState → MachineState → Type 0
-AreServed watch keys before old after new =
-    (note : Option UnitNote) (files : List NamedBytes) (tells : Bool) (console : List ℕ)
-    → Does (serving note) None (beside watch keys files before) old (beside watch keys files after) new tells console console
 
 -- Of so many turns some are done, with polls of the lines among them: what those that are left come to, they all come to,
 -- whichever files, failing calls and console there are. A chain without an end has ended them.
@@ -61,3 +57,7 @@ GoesOn watch keys most done end before old after new =
     (r : Option Stop) (last : Seen) (out : Output) (whole : List Answer) → IsFirst (record_in after.told) whole
     → Comes (turns note step false (most - done) (seen (beside watch keys files after) whole new)) r last tells (output console after.sent) out
     → Comes (turns note step false most (seen (beside watch keys files before) whole old)) r last tells (output console before.sent) out
+
+-- What was done ahead of the turns to which it belongs: what they come to behind it, they come to.
+abbrev pub IsAhead : WatchState → List (ℕ × ℕ) → LineState → MachineState → LineState → MachineState → Type 0
+IsAhead watch keys before old after new = (most : ℕ) → 0 < most → GoesOn watch keys most 0 burst_end.Spent before old after new

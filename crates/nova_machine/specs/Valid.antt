@@ -1,11 +1,11 @@
 -- What every state is that a run works on: true of the beginning, and kept by every turn. Laws speak of such states.
-use Rattle.std.specs.Prelude.{◌≡◌, ℕ, ◌+◌, ◌^◌, ◌<◌, ◌≤◌, false, List, length, Option, Some, None}
+use Rattle.std.specs.Prelude.{◌≡◌, ℕ, ◌+◌, ◌^◌, ◌<◌, ◌≤◌, false, List, length, Option, Some, None, IfSome}
 use Rattle.std.specs.List.{AllByRecursion}
 use Rattle.host_files.specs.Lists.{NamedBytes, bytes_of}
 use Rattle.host_lines.specs.Traffic.{Peer, Happening, Traffic, Answer, Gave, Ahead, Script, Answers}
 use Rattle.telnet_lines.specs.Line.{LineOf, full_output}
 use Rattle.telnet_lines.specs.Poll.{longest_received}
-use Rattle.unit_files.specs.Attachments.{Attachment, attachment_at}
+use Rattle.unit_files.specs.Attachments.{Attachment, Held, attachment_at}
 use Rattle.unit_files.specs.Buffer.{Buffer, no_buffer, disk_unit}
 use Rattle.nova_memory.specs.Memory.{IsMemory, IsSize}
 use Rattle.nova_processor.specs.declared.cpu.Cpu.{Cpu}
@@ -13,6 +13,7 @@ use Rattle.expect_actions.specs.declared.breaks.Break.{Break}
 use Rattle.expect_actions.specs.declared.expects.Expect.{Expect}
 use Rattle.expect_actions.specs.Breaks.{most_breaks, Rising}
 use Rattle.expect_actions.specs.Expects.{most_expects, longest_text}
+use Rattle.expect_actions.specs.KeysFile.{most_keys}
 use Rattle.expect_actions.specs.Sends.{Send, most_sends, InTime}
 use Rattle.expect_actions.specs.Watch.{WatchState}
 use Rattle.nova_machine.specs.Core.{IsCore}
@@ -28,7 +29,11 @@ pub record ValidCpu (cpu : Cpu) : Type 0 where
   pub words : AllByRecursion (λ (w : ℕ). w < 2 ^ 16) cpu.accumulators
   pub pc : cpu.pc < 2 ^ 15
 
--- a machine: its memory is 0 past its size, and its registers are in range
+-- the name of an attached file is of bytes
+abbrev pub HasByteName : Option Held → Type 0
+HasByteName slot = IfSome slot (λ h. AreBytes h.attachment.name)
+
+-- a machine: its memory is 0 past its size, its registers are in range, and the names of its files are of bytes
 pub record ValidMachine (m : MachineState) : Type 0 where
   pub memory : IsMemory m.processor.memory
   pub size : IsSize m.processor.memory.size
@@ -37,11 +42,16 @@ pub record ValidMachine (m : MachineState) : Type 0 where
   pub switches : m.sr < 2 ^ 16
   pub core : IsCore m
   pub places : length m.slots ≡ 12
+  pub names : AllByRecursion HasByteName m.slots
   pub disk : AreBytes m.disk.bytes
 
 pub record ValidBreak (b : Break) : Type 0 where
   pub address : b.address < 2 ^ 15
   pub actions : AreBytes b.actions
+
+pub record ValidExpect (e : Expect) : Type 0 where
+  pub text : AreBytes e.text
+  pub actions : AreBytes e.actions
 
 -- the watch tables: each list is within its limit, breaks in the order of their addresses, sends in that of their times
 pub record ValidWatch (w : WatchState) : Type 0 where
@@ -49,8 +59,9 @@ pub record ValidWatch (w : WatchState) : Type 0 where
   pub rising : Rising w.breaks.list
   pub each : AllByRecursion ValidBreak w.breaks.list
   pub expects : length w.expects.list ≤ most_expects
-  pub texts : AllByRecursion (λ (e : Expect). AreBytes e.actions) w.expects.list
+  pub texts : AllByRecursion ValidExpect w.expects.list
   pub tail : length w.expects.tail ≤ longest_text
+  pub printed : AreBytes w.expects.tail
   pub sends : length w.sends ≤ most_sends
   pub in_time : InTime w.sends
   pub bytes : AllByRecursion (λ (send : Send). send.1 < 2 ^ 8) w.sends
@@ -76,11 +87,13 @@ abbrev pub ValidAhead : Ahead → Type 0
 ValidAhead (Script t) = ValidTraffic t
 ValidAhead (Answers answers) = AllByRecursion ValidAnswer answers
 
--- and with the keys that are to come, the files, the lines, and what is still to come on them
+-- And with the keys, the files, the lines, and what is still to come on them. A session knows no more keys than it can
+-- take, and takes no more; one that was put back may have taken more than are known now.
 pub record Valid (s : Seen) : Type 0 where
   pub machine : ValidMachine s.machine
   pub watch : ValidWatch s.watch
-  pub taken : s.machine.taken ≤ length s.keys
+  pub taken : s.machine.taken ≤ most_keys
+  pub known : length s.keys ≤ most_keys
   pub keys : AllByRecursion (λ (key : ℕ × ℕ). key.1 < 2 ^ 8) s.keys
   pub files : AllByRecursion (λ (f : NamedBytes). AreBytes f.1) s.files
   pub lines : AllByRecursion ValidLine s.lines

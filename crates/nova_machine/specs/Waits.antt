@@ -1,12 +1,13 @@
 -- A loop that waits for a flag of a unit: a skip that is not taken, and behind it a JMP back to the skip. The flag stays as
 -- it is until an event comes.
-use Rattle.std.specs.Prelude.{◌≡◌, ◌≢◌, ℕ, ◌<◌, ◌≤◌, true, false, List, is_some}
+use Rattle.std.specs.Prelude.{◌≡◌, ◌≢◌, ◌==◌, ◌%◌, ℕ, ◌<◌, ◌≤◌, true, false, List, is_some, if◌then◌else◌}
 use Rattle.nova_word.specs.Bits.{bits}
 use Rattle.nova_memory.specs.Memory.{get}
 use Rattle.nova_memory.specs.Address.{indexed}
 use Rattle.unit_list.specs.Bus.{unit_at}
 use Rattle.nova_processor.specs.Instruction.{following}
-use Rattle.nova_processor.specs.InputOutput.{flag_skips}
+use Rattle.nova_processor.specs.Processor.{ProcessorState}
+use Rattle.nova_processor.specs.InputOutput.{flag_skips, past}
 use Rattle.expect_actions.specs.Breaks.{has_break}
 use Rattle.expect_actions.specs.Watch.{WatchState}
 use Rattle.nova_machine.specs.Machine.{MachineState}
@@ -40,3 +41,7 @@ pub record IsWaiting (m : MachineState) : Type 0 where
 pub record AreUnbroken (watch : WatchState) (m : MachineState) : Type 0 where
   pub test : has_break m.processor.cpu.pc watch.breaks.list ≡ false
   pub back : has_break (following m.processor.cpu.pc) watch.breaks.list ≡ false
+
+-- where so many instructions of such a loop lead from its skip: to the JMP where they are odd
+unfoldable pub halfway : ℕ → ProcessorState → ProcessorState
+halfway count p = if count % 2 == 1 then past p else p

@@ -42,6 +42,7 @@ impl<U: Unit> Machine<U> {
         ensures later { self.old.time ≤ self.new.time }
         ensures time { self.new.time ≡ self.old.time + result.done }
         ensures taken { self.new.taken ≡ self.old.taken }
+        ensures units { self.new.units ≡ self.old.units }
         ensures cause { BurstCause result.end most result.done self.new }
     {
         let burst = self.work(most, watch);
@@ -73,6 +74,7 @@ impl<U: Unit> Machine<U> {
         ensures later { self.old.time ≤ self.new.time }
         ensures time { self.new.time ≡ self.old.time + result.done }
         ensures taken { self.new.taken ≡ self.old.taken }
+        ensures units { self.new.units ≡ self.old.units }
         ensures cause { BurstCause result.end most result.done self.new }
     {
         let budget = most.min(LAST_TIME - self.time).min(self.calm());

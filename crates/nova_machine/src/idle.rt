@@ -43,6 +43,7 @@ impl<U: Unit> Machine<U> {
         ensures later { self.old.time ≤ self.new.time }
         ensures time { self.new.time ≡ self.old.time + result.done }
         ensures taken { self.new.taken ≡ self.old.taken }
+        ensures units { self.new.units ≡ self.old.units }
         ensures cause { BurstCause result.end most result.done self.new }
     {
         // Where a second event comes at once, and the second teletype's line has a port, there are none.
@@ -72,6 +73,7 @@ impl<U: Unit> Machine<U> {
         ensures later { self.old.time ≤ self.new.time }
         ensures time { self.new.time ≡ self.old.time + result.done }
         ensures taken { self.new.taken ≡ self.old.taken }
+        ensures units { self.new.units ≡ self.old.units }
         ensures cause { BurstCause result.end most result.done self.new }
     {
         let budget = self.idle_budget(most, looks, watch, keys);
@@ -187,7 +189,7 @@ impl<U: Unit> Machine<U> {
     }
 
     /// Whether the first terminal line is there and has no port.
-    fn is_closed(&self) -> bool
+    pub(crate) fn is_closed(&self) -> bool
         ensures { result ≡ true → slice_get self.now.lines 0 ≡ Some (unconnected None) }
     {
         match self.lines.first() {

@@ -40,6 +40,13 @@ impl<U: Unit> Machine<U> {
         self.lines.get(number as usize)
     }
 
+    /// All of its terminal lines, as they stand.
+    pub fn lines(&self) -> &[Line]
+        ensures { result.now ≡ self.now.lines }
+    {
+        &self.lines
+    }
+
     /// The files of its units, to be attached and detached as a person at the console does. It takes no time.
     pub fn attached_mut(&mut self) -> &mut Attached
         ensures* writes_back { sem 𝓛 (Lends (the_row U.row U.Unit) attached_row self.entry result (with_attached_files self.old)) }

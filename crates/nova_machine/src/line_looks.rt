@@ -2,12 +2,13 @@
 // and no turn is made for it.
 ghost use Rattle.std.specs.Prelude.{◌≡◌, ◌≢◌, ◌<◌, ◌≤◌, ◌+◌, ℕ, List, [], ◌∷◌, true, false, None, Some, IfSome, option_map};
 ghost use Rattle.event_queue.specs.EventList.{dues};
+ghost use Rattle.unit_list.specs.Bus.{kinds_of};
 ghost use Rattle.host_lines.specs.State.{LineState};
 ghost use Rattle.expect_actions.specs.Watch.{WatchState};
 ghost use Rattle.nova_processor.specs.declared.burst.BurstEnd.TheVariants as burst_end;
 ghost use Rattle.nova_machine.specs.Run.{last_time};
 ghost use Rattle.nova_machine.specs.Looks.{keyboard};
-ghost use Rattle.nova_machine.specs.LineLooks.{second_keyboard, first_looked, AreLooking, IsKeylessNow, AreServed, GoesOn};
+ghost use Rattle.nova_machine.specs.LineLooks.{second_keyboard, first_looked, LookAgain, AreLooking, IsKeylessNow, GoesOn, IsAhead};
 ghost use Rattle.nova_machine.specs.OnLines.{got_of_line, IsOfPoll};
 ghost use Rattle.nova_machine.specs.Service.{answered};
 ghost use Rattle.unit_trait.specs.declared.calls.Got.TheVariants.{Key};
@@ -54,18 +55,21 @@ impl<U: Unit> Machine<U> {
         ensures time { self.new.time ≡ self.old.time + result.done }
         ensures taken { self.new.taken ≡ self.old.taken }
         ensures cause { BurstCause result.end most result.done self.new }
+        ensures kinds { kinds_of self.new.units ≡ kinds_of self.old.units }
     {
         let mut done = 0;
+        let mut period = None;
         'bursts: loop {
             let burst = self.burst(most - done, watch, keys);
             done += burst.done;
-            if is_last(burst) || done >= most {
+            if !self.events.may_be_due() || is_last(burst) || done >= most {
                 return Burst {
                     done,
                     end: burst.end,
                 };
             }
-            if !self.look_on_line(watch, keys, lines) {
+            period = self.look_on_line(period, watch, keys, lines);
+            if period.is_none() {
                 return Burst {
                     done,
                     end: burst.end,
@@ -75,39 +79,58 @@ impl<U: Unit> Machine<U> {
     }
 
     /// Lets the looks of both keyboards pass that are due, where no other event is, with a poll of the line of the
-    /// second teletype; answers whether.
-    fn look_on_line<L: Lines>(&mut self, watch: &Watch, keys: &Keys, lines: &mut L) -> bool
-        ensures told { result ≡ true → AreLinesTold L.tells (L.state lines.old) self.old.lines
-            → AreServed watch.now keys.now (L.state lines.old) self.old (L.state lines.new) self.new }
-        ensures early { result ≡ true → self.old.time < last_time }
-        ensures rest { result ≡ true → dues self.new.events ≡ [] }
-        ensures none { result ≡ false → (self.new ≡ self.old) × (lines.new ≡ lines.old) }
+    /// second teletype. It is known after how many instructions they look again, or asked; the answer is the same, as
+    /// long as no key has come.
+    fn look_on_line<L: Lines>(
+        &mut self,
+        known: Option<u32>,
+        watch: &Watch,
+        keys: &Keys,
+        lines: &mut L,
+    ) -> Option<u32>
+        requires known { IfSome known (λ period. LookAgain period self.old.units) }
+        ensures told { AreLinesTold L.tells (L.state lines.old) self.old.lines
+            → IsAhead watch.now keys.now (L.state lines.old) self.old (L.state lines.new) self.new }
+        ensures again { IfSome result (λ period. LookAgain period self.new.units) }
         ensures slots { self.new.slots ≡ self.old.slots }
         ensures lines { LinesGoOn L.tells (L.state lines.old) self.old.lines (L.state lines.new) self.new.lines }
         ensures time { self.new.time ≡ self.old.time }
         ensures taken { self.new.taken ≡ self.old.taken }
+        ensures kinds { kinds_of self.new.units ≡ kinds_of self.old.units }
+    {
+        if !self.may_look(watch, keys) {
+            return None;
+        }
+        match self.both_look(known) {
+            None => None,
+            Some(period) => self.poll_both(period, lines),
+        }
+    }
+
+    /// Whether both keyboards look now, no other event is due, no key of the console is, and time has not ended.
+    fn may_look(&self, watch: &Watch, keys: &Keys) -> bool
+        ensures due { result ≡ true → dues self.now.events ≡ keyboard ∷ second_keyboard ∷ [] }
+        ensures keyless { result ≡ true → IsKeylessNow watch.now keys.now self.now }
+        ensures early { result ≡ true → self.now.time < last_time }
     {
         if !self.are_both_due() {
-            return false;
-        }
-        if self.time >= LAST_TIME {
             return false;
         }
         if self.keyless_until(watch, keys) <= self.time {
             return false;
         }
-        match self.both_look() {
-            None => false,
-            Some(period) => self.poll_both(period, lines),
-        }
+        self.time < LAST_TIME
     }
 
-    /// After how many instructions both keyboards look again, where they look now, and no other event is due.
-    fn both_look(&mut self) -> Option<u32>
-        requires due { dues self.old.events ≡ keyboard ∷ second_keyboard ∷ [] }
-        ensures looking { IfSome result (λ period. AreLooking period self.old) }
+    /// After how many instructions both keyboards look again, where no key comes: what is known, or what they say.
+    fn both_look(&mut self, known: Option<u32>) -> Option<u32>
+        requires known { IfSome known (λ period. LookAgain period self.old.units) }
+        ensures again { IfSome result (λ period. LookAgain period self.old.units) }
         ensures same { self.new ≡ self.old }
     {
+        if known.is_some() {
+            return known;
+        }
         let first = period_of(&self.places, self.units.as_mut_slice(), KEYBOARD);
         let second = period_of(&self.places, self.units.as_mut_slice(), SECOND_KEYBOARD);
         match (first, second) {
@@ -129,29 +152,33 @@ impl<U: Unit> Machine<U> {
         is_later(self.events.in_order(2))
     }
 
-    /// Polls the line, and lets both looks pass; answers false where the line is not there, and then nothing has
-    /// changed.
-    fn poll_both<L: Lines>(&mut self, period: u32, lines: &mut L) -> bool
+    /// Polls the line, and lets both looks pass; answers after how many instructions they come again, where no key has
+    /// come. Nothing has changed where the line is not there.
+    fn poll_both<L: Lines>(&mut self, period: u32, lines: &mut L) -> Option<u32>
         requires looking { AreLooking period self.old }
-        ensures told { result ≡ true → AreLinesTold L.tells (L.state lines.old) self.old.lines
+        requires early { self.old.time < last_time }
+        ensures told { AreLinesTold L.tells (L.state lines.old) self.old.lines
             → (watch : WatchState) (keys : List (ℕ × ℕ)) → IsKeylessNow watch keys self.old
-            → AreServed watch keys (L.state lines.old) self.old (L.state lines.new) self.new }
-        ensures rest { result ≡ true → dues self.new.events ≡ [] }
-        ensures none { result ≡ false → (self.new ≡ self.old) × (lines.new ≡ lines.old) }
+            → IsAhead watch keys (L.state lines.old) self.old (L.state lines.new) self.new }
+        ensures again { IfSome result (λ later. LookAgain later self.new.units) }
         ensures slots { self.new.slots ≡ self.old.slots }
         ensures lines { LinesGoOn L.tells (L.state lines.old) self.old.lines (L.state lines.new) self.new.lines }
         ensures time { self.new.time ≡ self.old.time }
         ensures taken { self.new.taken ≡ self.old.taken }
+        ensures kinds { kinds_of self.new.units ≡ kinds_of self.old.units }
     {
         match self.key_of_line(0, lines) {
-            None => false,
-            Some(got) => {
-                match key_in(got) {
-                    None => self.look(period),
-                    Some(key) => self.take_key_of_line(period, key),
+            None => None,
+            Some(got) => match key_in(got) {
+                None => {
+                    self.look(period);
+                    Some(period)
                 }
-                true
-            }
+                Some(key) => {
+                    self.take_key_of_line(period, key);
+                    None
+                }
+            },
         }
     }
 
@@ -163,6 +190,7 @@ impl<U: Unit> Machine<U> {
         ensures slots { self.new.slots ≡ self.old.slots }
         ensures lines { self.new.lines ≡ self.old.lines }
         ensures time { self.new.time ≡ self.old.time }
+        ensures kinds { kinds_of self.new.units ≡ kinds_of self.old.units }
     {
         let _ = self.take_due();
         self.wish(KEYBOARD, Queue::After(period));

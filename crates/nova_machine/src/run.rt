@@ -35,6 +35,7 @@ impl<U: Unit> Machine<U> {
     ghost use Rattle.nova_machine.specs.Comes.{Does, AreTold, StopCounts, FileCause};
     ghost use Rattle.nova_machine.specs.LineChanges.{AreLinesTold, LinesGoOn};
     ghost use Rattle.unit_files.specs.Open.{AllOpen};
+    ghost use Rattle.unit_list.specs.Bus.{kinds_of};
     ghost use Rattle.nova_machine.specs.Run.{run};
     ghost use Rattle.nova_machine.specs.StopCauses.{moment_of, Watches, RunCause};
 
@@ -58,6 +59,7 @@ impl<U: Unit> Machine<U> {
         ensures counts { StopCounts (Some result) (S.fault_count out.old) (S.fault_count out.new) }
         ensures unit { HasUnit result }
         ensures slots { self.new.slots ≡ self.old.slots }
+        ensures kinds { kinds_of self.new.units ≡ kinds_of self.old.units }
         ensures lines { LinesGoOn L.tells (L.state lines.old) self.old.lines (L.state lines.new) self.new.lines }
         ensures opened { (F.state files.new).opened ≡ (F.state files.old).opened }
         ensures file_cause { FileCause (Some result) self.old.slots (F.state files.old) (F.state files.new) }

@@ -56,6 +56,7 @@ impl<U: Unit> Machine<U> {
         ensures counts { StopCounts result (S.fault_count out.old) (S.fault_count out.new) }
         ensures unit { IfSome result HasUnit }
         ensures slots { self.new.slots ≡ self.old.slots }
+        ensures kinds { kinds_of self.new.units ≡ kinds_of self.old.units }
         ensures lines { LinesGoOn L.tells (L.state lines.old) self.old.lines (L.state lines.new) self.new.lines }
         ensures opened { (F.state files.new).opened ≡ (F.state files.old).opened }
         ensures file_cause { FileCause result self.old.slots (F.state files.old) (F.state files.new) }
@@ -111,6 +112,7 @@ impl<U: Unit> Machine<U> {
         ensures counts { StopCounts result (S.fault_count out.old) (S.fault_count out.new) }
         ensures unit { IfSome result HasUnit }
         ensures slots { self.new.slots ≡ self.old.slots }
+        ensures kinds { kinds_of self.new.units ≡ kinds_of self.old.units }
         ensures lines { LinesGoOn L.tells (L.state lines.old) self.old.lines (L.state lines.new) self.new.lines }
         ensures opened { (F.state files.new).opened ≡ (F.state files.old).opened }
         ensures file_cause { FileCause result self.old.slots (F.state files.old) (F.state files.new) }
@@ -165,6 +167,7 @@ impl<U: Unit> Machine<U> {
         ensures machine { self.new ≡ (answered unit got self.old).machine }
         ensures stop { result ≡ (answered unit got self.old).stop }
         ensures slots { self.new.slots ≡ self.old.slots }
+        ensures kinds { kinds_of self.new.units ≡ kinds_of self.old.units }
         ensures lines { self.new.lines ≡ self.old.lines }
         ensures dues { dues self.new.events ≡ dues self.old.events }
         ensures time { self.new.time ≡ self.old.time }

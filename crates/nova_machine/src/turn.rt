@@ -29,6 +29,7 @@ impl<U: Unit> Machine<U> {
     ghost use Rattle.nova_machine.specs.StopCauses.{InstructionCause, AttendedCause, EarlyCause, TurnCause};
     ghost use Rattle.nova_machine.specs.LineChanges.{AreLinesTold, LinesGoOn};
     ghost use Rattle.unit_files.specs.Open.{AllOpen};
+    ghost use Rattle.unit_list.specs.Bus.{kinds_of};
     ghost use Rattle.nova_machine.specs.Quiet.{IsPlain};
     ghost use Rattle.nova_machine.specs.Machine.{on_processor};
     ghost use Rattle.nova_processor.specs.Instruction.{arithmetic, memory_reference};
@@ -68,6 +69,7 @@ impl<U: Unit> Machine<U> {
         ensures counts { StopCounts (stop_of result) (S.fault_count out.old) (S.fault_count out.new) }
         ensures unit { IfSome (stop_of result) HasUnit }
         ensures slots { self.new.slots ≡ self.old.slots }
+        ensures kinds { kinds_of self.new.units ≡ kinds_of self.old.units }
         ensures lines { LinesGoOn L.tells (L.state lines.old) self.old.lines (L.state lines.new) self.new.lines }
         ensures opened { (F.state files.new).opened ≡ (F.state files.old).opened }
         ensures file_cause { FileCause (stop_of result) self.old.slots (F.state files.old) (F.state files.new) }
@@ -103,6 +105,7 @@ impl<U: Unit> Machine<U> {
         ensures counts { StopCounts result (S.fault_count out.old) (S.fault_count out.new) }
         ensures unit { IfSome result HasUnit }
         ensures slots { self.new.slots ≡ self.old.slots }
+        ensures kinds { kinds_of self.new.units ≡ kinds_of self.old.units }
         ensures lines { LinesGoOn L.tells (L.state lines.old) self.old.lines (L.state lines.new) self.new.lines }
         ensures opened { (F.state files.new).opened ≡ (F.state files.old).opened }
         ensures file_cause { FileCause result self.old.slots (F.state files.old) (F.state files.new) }
@@ -153,6 +156,7 @@ impl<U: Unit> Machine<U> {
         ensures counts { StopCounts result (S.fault_count out.old) (S.fault_count out.new) }
         ensures unit { IfSome result HasUnit }
         ensures slots { self.new.slots ≡ self.old.slots }
+        ensures kinds { kinds_of self.new.units ≡ kinds_of self.old.units }
         ensures lines { LinesGoOn L.tells (L.state lines.old) self.old.lines (L.state lines.new) self.new.lines }
         ensures opened { (F.state files.new).opened ≡ (F.state files.old).opened }
         ensures file_cause { FileCause result self.old.slots (F.state files.old) (F.state files.new) }
@@ -197,6 +201,7 @@ impl<U: Unit> Machine<U> {
         ensures counts { StopCounts result (S.fault_count out.old) (S.fault_count out.new) }
         ensures unit { IfSome result HasUnit }
         ensures slots { self.new.slots ≡ self.old.slots }
+        ensures kinds { kinds_of self.new.units ≡ kinds_of self.old.units }
         ensures lines { LinesGoOn L.tells (L.state lines.old) self.old.lines (L.state lines.new) self.new.lines }
         ensures opened { (F.state files.new).opened ≡ (F.state files.old).opened }
         ensures file_cause { FileCause result self.old.slots (F.state files.old) (F.state files.new) }
@@ -218,6 +223,7 @@ impl<U: Unit> Machine<U> {
         ensures stop { result ≡ (interrupt self.old).stop }
         ensures other { IsOwn result }
         ensures slots { self.new.slots ≡ self.old.slots }
+        ensures kinds { kinds_of self.new.units ≡ kinds_of self.old.units }
         ensures lines { self.new.lines ≡ self.old.lines }
         ensures unit { IfSome result HasUnit }
         ensures events { self.new.events ≡ self.old.events }
@@ -254,6 +260,7 @@ impl<U: Unit> Machine<U> {
         ensures stop { result ≡ (enter self.old).stop }
         ensures other { IsOwn result }
         ensures slots { self.new.slots ≡ self.old.slots }
+        ensures kinds { kinds_of self.new.units ≡ kinds_of self.old.units }
         ensures lines { self.new.lines ≡ self.old.lines }
         ensures unit { IfSome result HasUnit }
         ensures events { self.new.events ≡ self.old.events }
@@ -278,6 +285,7 @@ impl<U: Unit> Machine<U> {
         ensures machine { self.new ≡ (fetch self.old).machine }
         ensures answer { end_stop result ≡ (fetch self.old).stop }
         ensures slots { self.new.slots ≡ self.old.slots }
+        ensures kinds { kinds_of self.new.units ≡ kinds_of self.old.units }
         ensures lines { self.new.lines ≡ self.old.lines }
         ensures time { end_stop result ≡ None → self.new.time ≡ self.old.time + 1 }
         ensures taken { self.new.taken ≡ self.old.taken }

@@ -1,8 +1,9 @@
-// Loops that wait for a flag of a unit, a skip and a JMP back to it: their rounds pass at once, up to the next event.
+// Loops that wait for a flag of a unit, a skip and a JMP back to it: they pass at once, up to the next event.
 ghost use Rattle.std.specs.Prelude.{ℕ, List, ◌≡◌, ◌+◌, ◌≤◌, ◌||◌, true};
 ghost use Rattle.expect_actions.specs.Breaks.{has_break};
 ghost use Rattle.nova_processor.specs.Instruction.{following};
-ghost use Rattle.nova_machine.specs.Waits.{IsTest, AreUnbroken};
+ghost use Rattle.nova_machine.specs.Machine.{on_processor};
+ghost use Rattle.nova_machine.specs.Waits.{IsTest, AreUnbroken, halfway};
 ghost use Rattle.nova_machine.specs.Looks.{IsLooking, AreNext};
 ghost use Rattle.nova_processor.specs.declared.burst.BurstEnd.TheVariants.{Transfer};
 
@@ -20,8 +21,9 @@ impl<U: Unit> Machine<U> {
     ghost use Rattle.nova_machine.specs.Waits.{IsUntaken, IsWaiting};
     ghost use Rattle.nova_word.specs.Bits.{bits};
 
-    /// Where the machine is at a loop that waits for a flag, lets its rounds pass, up to the next event, and answers
-    /// how many instructions that were, as many as that at the most. All but the time is as it was then.
+    /// Where the machine is at a loop that waits for a flag, lets it go on up to the next event, and answers how many
+    /// instructions that were, as many as that at the most. All but the time is as it was then, and PC where they are
+    /// odd, which is at the JMP.
     pub(crate) fn wait(&mut self, most: u64, watch: &Watch, keys: &Keys) -> u64
         ensures few { result ≤ most }
         ensures told { Bursts watch.now keys.now most result Transfer self.old self.new }
@@ -30,9 +32,13 @@ impl<U: Unit> Machine<U> {
         ensures later { self.old.time ≤ self.new.time }
         ensures time { self.new.time ≡ self.old.time + result }
         ensures taken { self.new.taken ≡ self.old.taken }
+        ensures units { self.new.units ≡ self.old.units }
     {
         if self.meets_break(&watch.breaks) || !self.is_waiting() {
             return 0;
+        }
+        if self.polls_next() {
+            return self.pass_rounds(most, watch);
         }
         match self.looks() {
             None => self.pass_rounds(most, watch),
@@ -40,7 +46,12 @@ impl<U: Unit> Machine<U> {
         }
     }
 
-    /// Lets rounds of such a loop pass, as long as no event comes.
+    /// Whether no look can pass: the second event comes with the first, and the second teletype's line has a port.
+    fn polls_next(&self) -> bool {
+        !self.is_closed() && self.events.others_later() <= self.events.clear_for()
+    }
+
+    /// Lets such a loop go on, as long as no event comes.
     fn pass_rounds(&mut self, most: u64, watch: &Watch) -> u64
         requires unbroken { AreUnbroken watch.now self.old }
         requires waiting { IsWaiting self.old }
@@ -51,14 +62,15 @@ impl<U: Unit> Machine<U> {
         ensures later { self.old.time ≤ self.new.time }
         ensures time { self.new.time ≡ self.old.time + result }
         ensures taken { self.new.taken ≡ self.old.taken }
+        ensures units { self.new.units ≡ self.old.units }
     {
         let budget = most.min(LAST_TIME - self.time).min(self.calm());
-        let rounds = budget / 2;
-        self.pass_time((rounds * 2) as u32);
-        rounds * 2
+        self.go_round(budget);
+        self.pass_time(budget as u32);
+        budget
     }
 
-    /// Lets rounds of such a loop pass, and looks of the keyboards for which no key comes.
+    /// Lets such a loop go on, and looks of the keyboards pass for which no key comes.
     fn pass_rounds_and_looks(&mut self, most: u64, looks: Looks, watch: &Watch, keys: &Keys) -> u64
         requires unbroken { AreUnbroken watch.now self.old }
         requires waiting { IsWaiting self.old }
@@ -71,10 +83,21 @@ impl<U: Unit> Machine<U> {
         ensures later { self.old.time ≤ self.new.time }
         ensures time { self.new.time ≡ self.old.time + result }
         ensures taken { self.new.taken ≡ self.old.taken }
+        ensures units { self.new.units ≡ self.old.units }
     {
-        let rounds = self.idle_budget(most, looks, watch, keys) / 2;
-        self.pass_looks((rounds * 2) as u32, looks);
-        rounds * 2
+        let budget = self.idle_budget(most, looks, watch, keys);
+        self.go_round(budget);
+        self.pass_looks(budget as u32, looks);
+        budget
+    }
+
+    /// Stands where so many instructions of such a loop lead from its skip: behind it, at the JMP, where they are odd.
+    fn go_round(&mut self, count: u64)
+        ensures { self.new ≡ on_processor (halfway count) self.old }
+    {
+        if count % 2 == 1 {
+            self.processor.cpu.pc = self.processor.cpu.pc.plus(1);
+        }
     }
 
     /// Whether a break is at one of the two instructions of such a loop.

@@ -38,10 +38,11 @@ impl Memory {
         })
     }
 
-    /// How many words the machine has, at most 32768.
+    /// How many words the machine has, a multiple of 4096 from 4096 to 32768.
     pub fn size(&self) -> u16
         ensures size { result ≡ self.now.size }
         ensures valid { IsMemory self.now }
+        ensures sized { IsSize self.now.size }
     {
         self.inside.size()
     }

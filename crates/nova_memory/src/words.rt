@@ -13,13 +13,13 @@ pub struct Words {
 }
 
 impl Model for Words {
-    ghost use Rattle.nova_memory.specs.Memory.{MemoryState, IsMemory};
+    ghost use Rattle.nova_memory.specs.Memory.{MemoryState, IsMemory, IsSize};
 
     ghost Value = { MemoryState };
 
     ghost view = { λ m. record { words = m.words; size = m.size } };
 
-    ghost invariant = { λ m. IsMemory (record { words = m.words; size = m.size }) };
+    ghost invariant = { λ m. IsMemory (record { words = m.words; size = m.size }) × IsSize m.size };
 }
 
 impl Words {
@@ -37,10 +37,11 @@ impl Words {
         }
     }
 
-    /// How many words the machine has, at most 32768.
+    /// How many words the machine has, a multiple of 4096 from 4096 to 32768.
     pub fn size(&self) -> u16
         ensures size { result ≡ self.now.size }
         ensures valid { IsMemory self.now }
+        ensures sized { IsSize self.now.size }
     {
         self.size
     }

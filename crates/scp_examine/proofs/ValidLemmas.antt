@@ -35,6 +35,7 @@ cpu-valid m cpu is new = record {
   switches = is.switches;
   core = record { registers = is.core.registers; sound = is.core.sound; listed = is.core.listed; times = is.core.times };
   places = is.places;
+  names = is.names;
   disk = is.disk;
 }
 
@@ -63,6 +64,7 @@ rest-valid m mask sr on hold stop_dev is low fits = record {
   switches = fits;
   core = record { registers = is.core.registers; sound = is.core.sound; listed = is.core.listed; times = is.core.times };
   places = is.places;
+  names = is.names;
   disk = is.disk;
 }
 
@@ -101,6 +103,7 @@ unit-valid m kind i v is takes = record {
     times = is.core.times;
   };
   places = is.places;
+  names = is.names;
   disk = is.disk;
 }
 
@@ -113,6 +116,7 @@ value-valid m (Cell a) v is takes = record {
   switches = is.switches;
   core = record { registers = is.core.registers; sound = is.core.sound; listed = is.core.listed; times = is.core.times };
   places = is.places;
+  names = is.names;
   disk = is.disk;
 }
 value-valid m (Register r) v is takes = register-valid m r v is takes.fits

@@ -1,9 +1,9 @@
 -- What is open and what is attached, once a file was attached or detached.
 use Rattle.std.proofs.Common.{inl, inr, ◌⊎◌, ◌≡◌, ◌≢◌, ℕ, zero, suc, ◌<◌, List, [], ◌∷◌, Option, Some, None, length}
-use Rattle.std.proofs.Common.{get_or, set, map, replicate, refl, ap, sym, ◌∙◌, subst, arith}
+use Rattle.std.proofs.Common.{IfSome, get_or, set, map, replicate, refl, ap, sym, ◌∙◌, subst, arith}
 use Rattle.host_files.specs.State.{FileState, Opened, opened_at, without}
 use Rattle.unit_trait.specs.declared.kind.UnitName.{UnitName}
-use Rattle.unit_files.specs.Attachments.{Held, file_place, held_at, with_held}
+use Rattle.unit_files.specs.Attachments.{Held, file_place, held_at, with_held, IsFileName, HaveFileNames}
 use Rattle.unit_files.specs.Causes.{IsNewId, OnlyKept, AreFrom}
 use Rattle.unit_files.specs.Open.{is_reading, AllOpen, HaveOwnNumbers, IsFree, IsHeldOpen, Around, without_held}
 use Rattle.unit_files.specs.View.{slot_of, held_of}
@@ -178,6 +178,17 @@ own-detached slots p own = record {
   ];
 }
 
+-- and its name, if it has one, is a name of a file
+pub names-set : (slots after : List (Option Held)) (p : ℕ) (x : Option Held) → after ≡ set slots p x
+    → HaveFileNames slots → IfSome x (λ h. IsFileName h.attachment.name) → HaveFileNames after
+names-set slots after p x is have named = record {
+  names = λ q g there. elim (found-after slots p q x g
+      (ap (λ (l : List (Option Held)). get_or l q None) (sym is) ∙ there)) [
+        | inl here ↦ subst (λ (y : Option Held). IfSome y (λ h. IsFileName h.attachment.name)) here.1 named
+        | inr other ↦ have.names q g other.1
+      ];
+}
+
 rest-detached : (slots : List (Option Held)) (p : ℕ) (h : Held) (opened : List Opened) → get_or slots p None ≡ Some h
     → without_held (set slots p None) (without opened h.file) ≡ without_held slots opened
 rest-detached [] p h opened was = absurd (cc)
@@ -213,6 +224,9 @@ open-none n opened = record { there = λ place h is. absurd (none-some h (sym (e
 
 pub own-none : (n : ℕ) → HaveOwnNumbers (replicate n None)
 own-none n = record { apart = λ one other g h is_g is_h same. absurd (none-some g (sym (empty n one) ∙ is_g)) }
+
+pub names-none : (n : ℕ) → HaveFileNames (replicate n None)
+names-none n = record { names = λ place h is. absurd (none-some h (sym (empty n place) ∙ is)) }
 
 rest-none : (n : ℕ) (opened : List Opened) → without_held (replicate n None) opened ≡ opened
 rest-none zero opened = refl

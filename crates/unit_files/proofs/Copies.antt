@@ -1,6 +1,6 @@
 -- The disk's copy of its file, where something is attached or detached.
-use Rattle.std.proofs.Common.{◌≡◌, ℕ, ◌+◌, ◌*◌, ◌<◌, ◌≤◌, Bool, true, false, IsTrue, List, [], ◌∷◌, get_or, length, set, vec_capacity, refl, sym, ◌∙◌, arith}
-use Rattle.std.proofs.Common.{Option, Some, None, Err, ap, zero, suc}
+use Rattle.std.proofs.Common.{◌≡◌, ℕ, ◌+◌, ◌*◌, ◌<◌, ◌≤◌, Bool, true, false, IsTrue, List, [], ◌∷◌, get_or, length, set, vec_capacity, refl, sym, ◌∙◌, subst, arith}
+use Rattle.std.proofs.Common.{Option, Some, None, Err, ap, zero, suc, replicate}
 use Rattle.std.proofs.lemmas.Bool.Decides.{nat_tests}
 use Rattle.std.proofs.lemmas.List.{get_or-set_other, length-append, length-take, length-drop}
 use Rattle.host_files.specs.Lists.{overwritten}
@@ -10,12 +10,12 @@ use Rattle.unit_trait.proofs.EveryKind.{every-kind}
 use Rattle.unit_files.specs.declared.slots.DiskCopy.{DiskCopy}
 use Rattle.unit_files.specs.declared.faults.DetachFault.{DetachFault}
 use Rattle.unit_files.specs.declared.faults.DetachFault.TheVariants as faults
-use Rattle.unit_files.specs.Attachments.{Attachment, Held, file_place, takes_attachment, is_disk, longest_file}
+use Rattle.unit_files.specs.Attachments.{Attachment, Held, file_place, file_units, no_files, takes_attachment, is_disk, longest_file, is_any_attached, attachments_of}
 use Rattle.unit_files.specs.Attachments.{read_only_of, read_only_at, attachment_at}
-use Rattle.unit_files.specs.Buffer.{Buffer, sector_bytes, disk_sectors, disk_bytes, with_sector}
+use Rattle.unit_files.specs.Buffer.{Buffer, AttachedFiles, nothing_attached, sector_bytes, disk_sectors, disk_bytes, with_sector}
 use Rattle.unit_files.specs.Acts.{Failure, HasNone, flush_said, flush_failure, flushed_as, detached_by}
 use Rattle.unit_files.specs.Answers.{said_of_flush, said_of_detach}
-use Rattle.unit_files.specs.View.{CanWrite}
+use Rattle.unit_files.specs.View.{CanWrite, buffer_of}
 
 -- the first place is the disk's, and no other unit's
 first-of : (k : Kind) (n : ℕ) → is_disk k ≡ true → IsTrue (takes_attachment (record { kind = k; unit = n }))
@@ -42,19 +42,30 @@ can-other slots unit x d other can =
       short = can.short;
       room = λ h is. can.room h (sym same ∙ is);
       writable = λ h is written. can.writable h (sym same ∙ is) written;
+      none = λ is. can.none (sym same ∙ is);
     }
 
 true-false : (b : Bool) → b ≡ true → b ≡ false → ⊥
 true-false b is not = absurd (cc)
 
--- a copy of which nothing was written
-pub can-new : (slots : List (Option Held)) (d : DiskCopy) → length d.bytes.items ≤ disk_bytes
-    → disk_bytes ≤ vec_capacity d.bytes → d.written ≡ false → CanWrite slots d
-can-new slots d short room unwritten = record {
+-- the disk has its file, with a copy of which nothing was written
+pub can-new : (slots after : List (Option Held)) (unit : UnitName) (h : Held) (d : DiskCopy) → is_disk unit.kind ≡ true
+    → IsTrue (takes_attachment unit) → after ≡ set slots (file_place unit) (Some h) → 0 < length slots
+    → length d.bytes.items ≤ disk_bytes → disk_bytes ≤ vec_capacity d.bytes → d.written ≡ false → CanWrite after d
+can-new slots after unit h d is takes set_is some short room unwritten = record {
   short = short;
-  room = λ h is. room;
-  writable = λ h is written. absurd (true-false d.written written unwritten);
+  room = λ other there. room;
+  writable = λ other there written. absurd (true-false d.written written unwritten);
+  none = λ none. absurd (some-none h (get_or after 0 None)
+      ((λ i. get_or (set_is i) 0 None) ∙ (λ i. get_or (set slots (first i) (Some h)) 0 None) ∙ filled slots some) none);
 }
+  where
+    first : file_place unit ≡ 0
+    first = first-of unit.kind unit.unit is takes
+
+    filled : (l : List (Option Held)) → 0 < length l → get_or (set l 0 (Some h)) 0 None ≡ Some h
+    filled [] long = absurd (omega (arith, long))
+    filled (x ∷ l) long = refl
 
 emptied : (slots : List (Option Held)) → get_or (set slots 0 None) 0 None ≡ None
 emptied [] = refl
@@ -62,16 +73,17 @@ emptied (x ∷ slots) = refl
 
 -- no file is attached to the disk
 pub can-none : (slots after : List (Option Held)) (unit : UnitName) (d : DiskCopy) → is_disk unit.kind ≡ true
-    → IsTrue (takes_attachment unit) → after ≡ set slots (file_place unit) None → length d.bytes.items ≤ disk_bytes
+    → IsTrue (takes_attachment unit) → after ≡ set slots (file_place unit) None → d.bytes.items ≡ [] → d.written ≡ false
     → CanWrite after d
-can-none slots after unit d is takes set_is short =
+can-none slots after unit d is takes set_is empty unwritten =
     let first = first-of unit.kind unit.unit is takes in
     let none : get_or after 0 None ≡ None =
     (λ i. get_or (set_is i) 0 None) ∙ (λ i. get_or (set slots (first i) None) 0 None) ∙ emptied slots in
     record {
-      short = short;
+      short = subst (λ (l : List ℕ). length l ≤ disk_bytes) (sym empty) (omega arith);
       room = λ h there. absurd (some-none h _ there none);
       writable = λ h there written. absurd (some-none h _ there none);
+      none = λ _. (empty, unwritten);
     }
 
 not-only-read : (slots : List (Option Held)) (place : ℕ) (d : DiskCopy) → CanWrite slots d → place ≡ 0 → d.written
@@ -133,3 +145,22 @@ pub not-detached : (fault : DetachFault) (failing : Option Failure) (unit : Unit
 not-detached faults.NotAttached failing unit attached disk said =
     set-none attached (file_place unit) (none-flushed failing unit (attachment_at attached unit) disk said)
 not-detached (faults.Failed f) failing unit attached disk said = refl
+
+-- ---- nothing is attached
+
+free-are : (slots : List (Option Held)) → is_any_attached (attachments_of slots) ≡ false → slots ≡ replicate (length slots) None
+free-are [] none = refl
+free-are (None ∷ slots) none = ap (λ (l : List (Option Held)). None ∷ l) (free-are slots none)
+free-are (Some h ∷ slots) none = absurd (cc)
+
+abbrev pub files_of : List (Option Held) → DiskCopy → AttachedFiles
+files_of slots d = record { slots = slots; disk = buffer_of d }
+
+-- where no unit has a file, there is no copy of a disk
+pub nothing-there : (slots : List (Option Held)) (d : DiskCopy) → is_any_attached (attachments_of slots) ≡ false
+    → length slots ≡ file_units → CanWrite slots d
+    → files_of slots d ≡ nothing_attached
+nothing-there slots d none all can =
+    let free : slots ≡ no_files = free-are slots none ∙ ap (λ (n : ℕ). replicate n None) all in
+    let copy = can.none (ap (λ (l : List (Option Held)). get_or l 0 None) free) in
+    λ i. record { slots = free i; disk = record { bytes = copy.0 i; written = copy.1 i } }

@@ -1,6 +1,6 @@
 -- What is attached to the units that can have a file (SIMH Users' Guide, "Attaching Devices").
-use Rattle.std.specs.Prelude.{ℕ, ◌+◌, ◌*◌, ◌^◌, ◌&&◌, ◌||◌, Bool, true, false, not, nat_lt, List, map, replicate}
-use Rattle.std.specs.Prelude.{get_or, slice_set, Option, Some, None, option_map, ◌≤◌, length, if◌then◌else◌}
+use Rattle.std.specs.Prelude.{◌≡◌, ℕ, ◌+◌, ◌*◌, ◌^◌, ◌&&◌, ◌||◌, Bool, true, false, not, nat_lt, List, [], ◌∷◌, map, replicate}
+use Rattle.std.specs.Prelude.{get_or, slice_set, Option, Some, None, is_some, option_map, ◌≤◌, length, if◌then◌else◌}
 use Rattle.unit_trait.specs.declared.kind.Kind.{Kind}
 use Rattle.unit_trait.specs.declared.kind.Kind.TheVariants.{Dsk, Mta, Lpt, Ptr, Ptp}
 use Rattle.unit_trait.specs.declared.kind.UnitName.{UnitName}
@@ -103,10 +103,19 @@ writers_write slots = not (read_only_of (get_or slots 9 None)) && not (read_only
 abbrev pub IsFileName : List ℕ → Type 0
 IsFileName name = (1 ≤ length name) × (length name ≤ 255)
 
+-- each attached file has such a name
+pub record HaveFileNames (slots : List (Option Held)) : Type 0 where
+  pub names : (place : ℕ) (h : Held) → get_or slots place None ≡ Some h → IsFileName h.attachment.name
+
 -- the same without the numbers of files
 
 abbrev pub attachments_of : List (Option Held) → List (Option Attachment)
 attachments_of slots = map (λ slot. option_map (λ (h : Held). h.attachment) slot) slots
+
+-- whether something is attached to one of these units
+abbrev pub is_any_attached : List (Option Attachment) → Bool
+is_any_attached [] = false
+is_any_attached (a ∷ attached) = is_some a || is_any_attached attached
 
 abbrev pub no_attachments : List (Option Attachment)
 no_attachments = replicate file_units None

@@ -1,5 +1,5 @@
 -- What contracts see of the files of units.
-use Rattle.std.specs.Prelude.{◌≡◌, ◌≤◌, true, false, List, Option, Some, None, get_or, length, option_map, string_bytes, vec_capacity}
+use Rattle.std.specs.Prelude.{◌≡◌, ◌≤◌, true, false, List, [], Option, Some, None, get_or, length, option_map, string_bytes, vec_capacity}
 use Rattle.host_files.specs.declared.files.FileId.{FileId}
 use Rattle.unit_trait.specs.declared.kind.UnitName.{UnitName}
 use Rattle.unit_files.specs.declared.slots.UnitFile.{UnitFile}
@@ -17,11 +17,12 @@ abbrev pub buffer_of : DiskCopy → Buffer
 buffer_of d = record { bytes = d.bytes.items; written = d.written }
 
 -- The copy has no more bytes than the disk; that of a file that is attached has room for all of them, and no sector of a
--- file that is only read was written.
+-- file that is only read was written. Where no file is attached to the disk, there is no copy.
 pub record CanWrite (slots : List (Option Held)) (d : DiskCopy) : Type 0 where
   pub short : length d.bytes.items ≤ disk_bytes
   pub room : (h : Held) → get_or slots 0 None ≡ Some h → disk_bytes ≤ vec_capacity d.bytes
   pub writable : (h : Held) → get_or slots 0 None ≡ Some h → d.written ≡ true → h.attachment.read_only ≡ false
+  pub none : get_or slots 0 None ≡ None → (d.bytes.items ≡ []) × (d.written ≡ false)
 
 -- the number of a unit's file, with all that is attached to it
 pub record HoldsFile (slots : List (Option Held)) (unit : UnitName) (id : FileId) : Type 0 where

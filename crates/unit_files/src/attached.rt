@@ -1,11 +1,11 @@
 ghost use Rattle.std.specs.Prelude.{◌≡◌, ◌≤◌, ◌<◌, List, IsTrue, IfOk, IfSome, OnErr, Ok, length, option_map, is_some, Some, None};
-ghost use Rattle.std.specs.Prelude.{true, false, if◌then◌else◌, vec_capacity};
+ghost use Rattle.std.specs.Prelude.{true, false, not, map, if◌then◌else◌, vec_capacity};
 ghost use Rattle.host_files.specs.Lists.{bytes_of};
 ghost use Rattle.host_files.specs.State.{Opened, IsOpen, without};
 ghost use Rattle.unit_files.specs.Attachments.{held_at, with_held, attachments_of, with_attachment, is_disk};
 ghost use Rattle.unit_files.specs.Buffer.{nothing_attached, no_buffer, disk_bytes};
 ghost use Rattle.unit_files.specs.Attachments.{attachment_at, takes_attachment, may_write, read_only_at, only_writes};
-ghost use Rattle.unit_files.specs.Attachments.{longest_file, file_place, IsFileName};
+ghost use Rattle.unit_files.specs.Attachments.{longest_file, file_place, IsFileName, HaveFileNames, is_any_attached};
 ghost use Rattle.unit_files.specs.Acts.{attach_said, attach_files, attached_by, buffer_by, refused_first};
 ghost use Rattle.unit_files.specs.Acts.{detach_said, detached_by, buffer_left, flush_said, flush_files, buffer_flushed};
 ghost use Rattle.unit_files.specs.Answers.{said_of_attach, failure_of_attach, first_refusal, IfNoMemory};
@@ -17,7 +17,7 @@ ghost use Rattle.unit_files.specs.Acts.{detached, is_due_back, written_back};
 ghost use Rattle.unit_files.specs.Answers.{failure_in};
 ghost use Rattle.host_files.specs.Lists.{changed};
 ghost use Rattle.host_files.specs.State.{IsWritable, name_at};
-ghost use Rattle.unit_files.specs.View.{held_of, buffer_of, Holds};
+ghost use Rattle.unit_files.specs.View.{held_of, slot_of, buffer_of, Holds};
 
 use crate::faults::{AttachFault, DetachFault, UnitFault};
 use crate::modes::AttachMode;
@@ -37,7 +37,7 @@ pub struct Attached {
 
 impl Model for Attached {
     ghost use Rattle.std.specs.Prelude.{◌≡◌, map, length, IsTrue};
-    ghost use Rattle.unit_files.specs.Attachments.{file_units, writers_write};
+    ghost use Rattle.unit_files.specs.Attachments.{file_units, writers_write, HaveFileNames};
     ghost use Rattle.unit_files.specs.Buffer.{AttachedFiles};
     ghost use Rattle.unit_files.specs.Open.{HaveOwnNumbers};
     ghost use Rattle.unit_files.specs.View.{slot_of, buffer_of, CanWrite};
@@ -47,7 +47,8 @@ impl Model for Attached {
     ghost view = { λ a. record { slots = map slot_of a.slots.items; disk = buffer_of a.disk } };
 
     ghost invariant = { λ a. (length a.slots.items ≡ file_units) × IsTrue (writers_write (map slot_of a.slots.items))
-        × CanWrite (map slot_of a.slots.items) a.disk × HaveOwnNumbers (map slot_of a.slots.items) };
+        × CanWrite (map slot_of a.slots.items) a.disk × HaveOwnNumbers (map slot_of a.slots.items)
+        × HaveFileNames (map slot_of a.slots.items) };
 }
 
 impl Attached {
@@ -243,9 +244,11 @@ impl Attached {
         self.held_file(unit)
     }
 
-    /// The name of a unit's file; none where nothing is attached.
+    /// The name of a unit's file, 1 to 255 bytes; none where nothing is attached.
     pub fn name_of(&self, unit: UnitName) -> Option<&str>
-        ensures { option_map (λ n. n.now) result ≡ option_map (λ h. h.attachment.name) (held_at self.now.slots unit) }
+        ensures file_name { IfSome result (λ n. IsFileName n.now) }
+        ensures name { option_map (λ n. n.now) result
+            ≡ option_map (λ h. h.attachment.name) (held_at self.now.slots unit) }
     {
         match self.unit_file(unit) {
             Some(held) => Some(held.name.as_str()),
@@ -262,6 +265,14 @@ impl Attached {
             Some(held) => held.read_only,
             None => false,
         }
+    }
+
+    /// Whether nothing is attached to any unit. Then there is no copy of a disk either.
+    pub fn is_empty(&self) -> bool
+        ensures any { result ≡ not (is_any_attached (attachments_of self.now.slots)) }
+        ensures nothing { IsTrue result → self.now ≡ nothing_attached }
+    {
+        are_free(&self.slots)
     }
 
     // The number of a unit's open file.
@@ -292,6 +303,7 @@ impl Attached {
         ensures held { option_map (λ f. held_of f.now) result ≡ held_at self.now.slots unit }
         ensures writers { only_writes unit.kind ≡ true → read_only_at self.now.slots unit ≡ false }
         ensures own { HaveOwnNumbers self.now.slots }
+        ensures names { HaveFileNames self.now.slots }
     {
         match self.slots.get(place_of(unit)) {
             Some(slot) => slot.as_ref(),
@@ -302,6 +314,7 @@ impl Attached {
     // Attaches a file that no unit has to a unit, with its bytes where the unit is the disk.
     fn put(&mut self, unit: UnitName, held: UnitFile, bytes: Vec<u8>)
         requires unit { IsTrue (takes_attachment unit) }
+        requires name { IsFileName (held_of held).attachment.name }
         requires own { IsFree self.old.slots held.file.0 }
         requires writers { only_writes unit.kind ≡ true → held.read_only ≡ false }
         requires room { IsTrue (is_disk unit.kind) → disk_bytes ≤ vec_capacity bytes }
@@ -334,6 +347,16 @@ impl Attached {
             self.disk.bytes.clear();
             self.disk.written = false;
         }
+    }
+}
+
+// Whether none of these places has a file.
+fn are_free(slots: &[Option<UnitFile>]) -> bool
+    ensures { result ≡ not (is_any_attached (attachments_of (map slot_of slots.now))) }
+{
+    match slots.split_first() {
+        None => true,
+        Some((first, others)) => first.is_none() && are_free(others),
     }
 }
 

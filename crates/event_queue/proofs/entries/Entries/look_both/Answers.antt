@@ -36,5 +36,5 @@ returns-clause-looked c = λ is.
     let nothing : f.remaining ≡ 0 = search rules in
     ap (λ (u : UnitName). slice_set (slice_set items 0 (event u period)) 1 (event c.second.inside.unit period)) one
     ∙ ap (λ (u : UnitName). slice_set (slice_set items 0 (event e.unit period)) 1 (event u period)) two ∙ both-set period e f items first second later
-    ∙ sym (both-asked period e f items c.requires c.self.invariant.0 first second none nothing later)
+    ∙ sym (both-asked period e f items c.self.invariant.0 first second none nothing later)
     ∙ ap (λ (es : List Event). looked period es) c.self.view_is

@@ -1,4 +1,5 @@
 use Rattle.std.proofs.Common.{◌≡◌, ap, ◌∙◌, rules}
+use Rattle.unit_list.specs.Bus.{kinds_of}
 use Rattle.nova_machine.specs.Machine.{MachineState}
 use Rattle.nova_machine.specs.StopLaws.{fetched}
 use Rattle.nova_machine.proofs.Turns.{turns-execute}
@@ -8,6 +9,9 @@ use Rattle.nova_machine.proofs.machine.Machine.fetch.Goals as goal
 
 pub returns-clause-slots : goal.returns-clause-slots
 returns-clause-slots g c = ap (λ (m : MachineState). m.slots) c.execute.ensures.machine ∙ (turns-execute c.read-word.result c.args.self.now).unchanged.slots
+
+pub returns-clause-kinds : goal.returns-clause-kinds
+returns-clause-kinds g c = ap (λ (m : MachineState). kinds_of m.units) c.execute.ensures.machine ∙ (leaves-execute c.read-word.result c.args.self.now).kinds
 
 pub returns-clause-lines : goal.returns-clause-lines
 returns-clause-lines g c = ap (λ (m : MachineState). m.lines) c.execute.ensures.machine ∙ (leaves-execute c.read-word.result c.args.self.now).lines

@@ -1,13 +1,12 @@
-use Rattle.std.proofs.Common.{◌≡◌, ap, sym, refl, subst, rules, ℕ, ◌<◌, ◌≤◌, List, length, map, slice_get, slice_set, Option, Some, None}
+use Rattle.std.proofs.Common.{◌≡◌, ap, sym, refl, subst, rules, ℕ, ◌<◌, ◌≤◌, List, length, map, slice_get, slice_set, Some}
 use Rattle.std.proofs.lemmas.Option.{slice_get_past, slice_get_read}
-use Rattle.host_lines.specs.Traffic.{Answer}
-use Rattle.host_lines.specs.Told.{IsFirst, record_in, ahead_of}
+use Rattle.host_lines.specs.Told.{ahead_of}
 use Rattle.telnet_lines.specs.Line.{LineOf}
 use Rattle.telnet_lines.specs.Joined.{seen_line}
 use Rattle.unit_trait.specs.declared.calls.Got.{Got}
 use Rattle.unit_trait.specs.declared.calls.Want.TheVariants as want
 use Rattle.nova_machine.specs.Machine.{MachineState}
-use Rattle.nova_machine.specs.OnLines.{lined, got_of_line}
+use Rattle.nova_machine.specs.OnLines.{lined}
 use Rattle.nova_machine.specs.LineChanges.{AreLinesTold, LinesGoOn, DoneOnLine}
 use Rattle.nova_machine.proofs.LineSteps.{StepsAt, lines-stay, one-goes-on, done-no-key, done-poll}
 use Rattle.nova_machine.proofs.machine.Machine.key_of_line.Goals as goal

@@ -1,8 +1,6 @@
-use Rattle.std.proofs.Common.{◌≡◌, ap, sym, refl, subst, rules, Bool, ℕ, ◌<◌, ◌≤◌, List, length, map, slice_get, slice_set, Option, Some, None}
+use Rattle.std.proofs.Common.{◌≡◌, ap, sym, refl, subst, rules, ℕ, ◌<◌, ◌≤◌, List, length, map, slice_get, slice_set, Some}
 use Rattle.std.proofs.lemmas.Option.{slice_get_past, slice_get_read}
-use Rattle.host_lines.specs.Traffic.{Answer}
 use Rattle.host_lines.specs.Told.{ahead_of}
-use Rattle.host_lines.specs.State.{LineState}
 use Rattle.telnet_lines.specs.Line.{LineOf}
 use Rattle.telnet_lines.specs.Joined.{seen_line}
 use Rattle.unit_trait.specs.declared.calls.Got.{Got}

@@ -111,6 +111,7 @@ turns-preserved g c =
           early refl one (subst P (sym none) (c.in-Executed.ensures.told now lt-now whole behind))
           (on note step files g.S.Sink.tells console r last after whole first-of (subst Q rest more)));
       slots = search rules;
+      kinds = c.go_on-burst.ensures.kinds ∙ c.turn.ensures.kinds ∙ c.turns.invariant.kinds;
       lines =
           let before = g.L.Lines.state c.turns.lines in
           let between = g.L.Lines.state c.turn.new.lines in
@@ -154,6 +155,7 @@ turns-init g c = record {
   told = λ told lt note r s after whole first-of still comes. comes;
   lines = lines-stay g.L.Lines.tells (g.L.Lines.state c.args.lines.now) c.args.self.now.lines;
   slots = refl;
+  kinds = refl;
   opened = refl;
   is_open = c.requires.«open»;
   counts = refl;

@@ -1,6 +1,7 @@
-use Rattle.std.proofs.Common.{◌≡◌, ◌≤◌, ℕ, List, Option, None, IfSome}
+use Rattle.std.proofs.Common.{◌≡◌, ◌≤◌, List, Option, None, IfSome}
 use Rattle.unit_files.specs.Open.{AllOpen}
 use Rattle.unit_files.specs.Causes.{IsQuiet}
+use Rattle.unit_list.specs.Bus.{kinds_of}
 use Rattle.nova_machine.specs.declared.machine.Stop.{Stop}
 use Rattle.nova_machine.specs.Notes.{RunNote}
 use Rattle.nova_machine.specs.Seen.{Seen, seen, beside}
@@ -25,6 +26,7 @@ invariant-turns g l = record {
       (output (g.S.Sink.written l.fn.out) (g.L.Lines.state l.fn.lines).sent) after;
   lines : LinesGoOn g.L.Lines.tells (g.L.Lines.state l.fn.lines) l.fn.self.lines (g.L.Lines.state l.lines) l.self.lines;
   slots : l.self.slots ≡ l.fn.self.slots;
+  kinds : kinds_of l.self.units ≡ kinds_of l.fn.self.units;
   opened : (g.F.Files.state l.files).opened ≡ (g.F.Files.state l.fn.files).opened;
   is_open : AllOpen l.self.slots (g.F.Files.state l.files).opened;
   counts : g.S.Sink.fault_count l.out ≡ g.S.Sink.fault_count l.fn.out;

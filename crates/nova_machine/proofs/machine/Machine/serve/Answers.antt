@@ -1,5 +1,6 @@
 use Rattle.std.proofs.Common.{◌≡◌, ℕ, List, ap, refl, sym, subst, ◌∙◌, Option, None, Some, rules}
 use Rattle.event_queue.specs.EventList.{due}
+use Rattle.unit_list.specs.Bus.{kinds_of}
 use Rattle.nova_machine.specs.Notes.{unit_note, failure_of_stop}
 use Rattle.nova_machine.specs.Seen.{seen, beside}
 use Rattle.host_lines.specs.Told.{record_in}
@@ -44,6 +45,7 @@ events-init g c = record {
   lines = lines-stay g.L.Lines.tells (g.L.Lines.state c.args.lines.now) c.args.self.now.lines;
   time = refl;
   slots = refl;
+  kinds = refl;
   opened = refl;
   is_open = c.requires.«open»;
   counts = refl;
@@ -86,6 +88,7 @@ events-preserved g c =
           (subst (λ (ls : List (LineOf ℕ)). LinesGoOn g.L.Lines.tells mid ls new c.serve_unit.new.self.lines) taken c.serve_unit.ensures.lines);
       time = search rules;
       slots = search rules;
+      kinds = c.serve_unit.ensures.kinds ∙ ap (λ (m : MachineState). kinds_of m.units) c.take_due.ensures.taken ∙ c.events.invariant.kinds;
       opened = c.serve_unit.ensures.opened ∙ c.events.invariant.opened;
       is_open = search rules;
       counts = counts-none c.serve_unit.result _ _ goes c.serve_unit.ensures.counts ∙ c.events.invariant.counts;

@@ -1,7 +1,8 @@
-use Rattle.std.proofs.Common.{◌≡◌, ℕ, List, length, Option, None}
+use Rattle.std.proofs.Common.{◌≡◌, List, length, Option, None}
 use Rattle.unit_files.specs.Open.{AllOpen}
 use Rattle.unit_files.specs.Causes.{IsQuiet}
 use Rattle.event_queue.specs.EventList.{dues}
+use Rattle.unit_list.specs.Bus.{kinds_of}
 use Rattle.nova_machine.specs.declared.machine.Stop.{Stop}
 use Rattle.nova_machine.specs.Notes.{UnitNote}
 use Rattle.nova_machine.specs.Seen.{Seen, seen, beside}
@@ -27,6 +28,7 @@ invariant-events g l = record {
   lines : LinesGoOn g.L.Lines.tells (g.L.Lines.state l.fn.lines) l.fn.self.lines (g.L.Lines.state l.lines) l.self.lines;
   time : l.self.time ≡ l.fn.self.time;
   slots : l.self.slots ≡ l.fn.self.slots;
+  kinds : kinds_of l.self.units ≡ kinds_of l.fn.self.units;
   opened : (g.F.Files.state l.files).opened ≡ (g.F.Files.state l.fn.files).opened;
   is_open : AllOpen l.self.slots (g.F.Files.state l.files).opened;
   counts : g.S.Sink.fault_count l.out ≡ g.S.Sink.fault_count l.fn.out;

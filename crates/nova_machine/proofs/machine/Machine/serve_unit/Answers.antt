@@ -11,7 +11,6 @@ use Rattle.nova_machine.specs.declared.service.Hosted.TheVariants.{Gets, Stops}
 use Rattle.nova_machine.specs.declared.service.Hosted.TheVariants as hosted
 use Rattle.nova_machine.specs.declared.machine.Stop.TheVariants.{Wru, Expect}
 use Rattle.nova_machine.specs.Machine.{MachineState}
-use Rattle.host_lines.specs.Traffic.{Answer}
 use Rattle.telnet_lines.specs.Line.{LineOf}
 use Rattle.unit_trait.specs.declared.calls.Got.{Got}
 use Rattle.nova_machine.specs.Notes.{failure_of_stop}

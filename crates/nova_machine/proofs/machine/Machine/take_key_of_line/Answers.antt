@@ -1,4 +1,4 @@
-use Rattle.std.proofs.Common.{◌≡◌, ◌∙◌, List, Option, Some, IfSome, ap, subst}
+use Rattle.std.proofs.Common.{◌≡◌, ◌∙◌, List, Option, Some, IfSome, ap, refl, subst, rules}
 use Rattle.unit_trait.specs.declared.kind.UnitName.{UnitName}
 use Rattle.unit_list.specs.Bus.{kinds_of}
 use Rattle.event_queue.specs.EventList.{Event, due, dues, served, activated}
@@ -6,7 +6,7 @@ use Rattle.nova_machine.specs.Core.{IsAmong}
 use Rattle.nova_machine.specs.Machine.{MachineState}
 use Rattle.nova_machine.specs.Looks.{keyboard}
 use Rattle.nova_machine.specs.LineLooks.{second_keyboard}
-use Rattle.nova_machine.proofs.LineLooks.{second-due, none-left}
+use Rattle.nova_machine.proofs.LineLooks.{second-due, none-left, key-kinds}
 use Rattle.nova_machine.proofs.machine.Machine.take_key_of_line.Goals as goal
 
 pub answer-requires-clause-listed : goal.answer-requires-clause-listed
@@ -24,3 +24,6 @@ returns-clause-dues g c =
     ap (λ (x : MachineState). x.events) c.wish.ensures.machine ∙ ap (λ (x : MachineState). activated keyboard c.args.period x.events) c.take_due.ensures.taken in
     c.answer.ensures.dues ∙ ap (λ (x : MachineState). dues x.events) c.take_due-2.ensures.taken ∙ ap (λ (es : List Event). dues (served es)) events
     ∙ none-left c.args.period m c.requires.looking
+
+pub returns-clause-kinds : goal.returns-clause-kinds
+returns-clause-kinds g c = key-kinds c.args.period c.args.key c.args.self.now c.args.self.now c.answer.new.self refl (search rules)

@@ -6,7 +6,7 @@ use Rattle.nova_machine.specs.Run.{last_time}
 use Rattle.nova_processor.specs.Burst.{IsBurst}
 use Rattle.expect_actions.specs.Breaks.{has_break}
 use Rattle.nova_machine.specs.Bursts.{IsCalm, passed_by}
-use Rattle.nova_machine.proofs.Bursts.{burst-told, calm-less, passed-slots, passed-lines, passed-time}
+use Rattle.nova_machine.proofs.Bursts.{burst-told, calm-less, passed-slots, passed-lines, passed-units, passed-time}
 use Rattle.nova_machine.proofs.InstructionCauses.{passed-taken, any-burst-cause}
 use Rattle.nova_machine.proofs.machine.Machine.work.Goals as goal
 
@@ -36,6 +36,12 @@ returns-clause-lines g c =
     let old = c.args.self.now in
     let is : c.pass_time.new.self ≡ passed_by c.step_to_break-burst.result.done (record old { processor = c.step_to_break-burst.new.self.processor }) = search rules in
     ap (λ (m : MachineState). m.lines) is ∙ passed-lines c.step_to_break-burst.result.done (record old { processor = c.step_to_break-burst.new.self.processor })
+
+pub returns-clause-units : goal.returns-clause-units
+returns-clause-units g c =
+    let old = c.args.self.now in
+    let is : c.pass_time.new.self ≡ passed_by c.step_to_break-burst.result.done (record old { processor = c.step_to_break-burst.new.self.processor }) = search rules in
+    ap (λ (m : MachineState). m.units) is ∙ passed-units c.step_to_break-burst.result.done (record old { processor = c.step_to_break-burst.new.self.processor })
 
 pub returns-clause-later : goal.returns-clause-later
 returns-clause-later g c =

@@ -5,7 +5,7 @@ use Rattle.expect_actions.specs.Watch.{WatchState}
 use Rattle.nova_processor.specs.Burst.{IsBurst}
 use Rattle.nova_machine.specs.Machine.{MachineState}
 use Rattle.nova_machine.specs.Looks.{idled_by, idle_end}
-use Rattle.nova_machine.proofs.Idling.{idle-told, idled-slots, idled-lines, idled-time, idled-taken, end-slots, end-lines, end-time}
+use Rattle.nova_machine.proofs.Idling.{idle-told, idled-slots, idled-lines, idled-units, idled-time, idled-taken, end-slots, end-lines, end-units, end-time}
 use Rattle.nova_machine.proofs.InstructionCauses.{any-idle-cause}
 use Rattle.nova_machine.proofs.machine.Machine.work_on.Goals as goal
 
@@ -45,6 +45,17 @@ returns-clause-lines g c =
     let passed : c.pass_looks.new.self ≡ idled_by period done (record old { processor = q }) = search rules in
     ap (λ (m : MachineState). m.lines) c.end_looks.ensures ∙ end-lines end period c.pass_looks.new.self
     ∙ ap (λ (m : MachineState). m.lines) passed ∙ idled-lines period done (record old { processor = q })
+
+pub returns-clause-units : goal.returns-clause-units
+returns-clause-units g c =
+    let old = c.args.self.now in
+    let q = c.step_to_break-burst.new.self.processor in
+    let done = c.step_to_break-burst.result.done in
+    let end = c.step_to_break-burst.result.end in
+    let period = c.args.looks.period in
+    let passed : c.pass_looks.new.self ≡ idled_by period done (record old { processor = q }) = search rules in
+    ap (λ (m : MachineState). m.units) c.end_looks.ensures ∙ end-units end period c.pass_looks.new.self
+    ∙ ap (λ (m : MachineState). m.units) passed ∙ idled-units period done (record old { processor = q })
 
 pub returns-clause-later : goal.returns-clause-later
 returns-clause-later g c =

@@ -1,11 +1,11 @@
-use Rattle.std.proofs.Common.{◌≡◌, true, false, map, length, List, Option, Some, ap, sym, subst, ◌∙◌, refl, rules}
+use Rattle.std.proofs.Common.{◌≡◌, true, false, map, length, List, Option, Some, ap, sym, subst, ◌∙◌, refl, rules, arith}
 use Rattle.std.proofs.lemmas.List.{length-set, length-map}
-use Rattle.unit_files.specs.Attachments.{Held, attachments_of, writers_write, is_disk}
+use Rattle.unit_files.specs.Attachments.{Held, file_place, attachments_of, writers_write, is_disk}
 use Rattle.unit_files.specs.Buffer.{AttachedFiles}
 use Rattle.unit_files.specs.View.{slot_of, held_of, CanWrite}
 use Rattle.unit_files.specs.declared.slots.UnitFile.{UnitFile}
 use Rattle.unit_files.proofs.Places.{view-set, attachments-set, writers-set, within}
-use Rattle.unit_files.proofs.Attaching.{own-put}
+use Rattle.unit_files.proofs.Attaching.{own-put, names-set}
 use Rattle.unit_files.proofs.Copies.{can-new, can-other}
 use Rattle.unit_files.proofs.attached.Attached.put.Goals as goal
 
@@ -20,8 +20,9 @@ invariant_of-self c =
       ap writers_write view
           ∙ writers-set (map slot_of items) c.args.unit (Some (held_of c.args.held)) long c.self.invariant.1
           c.requires.writers,
-      can-new _ _ (c.requires.short is) (c.requires.room is) refl,
+      can-new (map slot_of items) _ c.args.unit (held_of c.args.held) _ is c.requires.unit view (omega (arith, long)) (c.requires.short is) (c.requires.room is) refl,
       own-put items c.args.self.now.slots _ c.args.unit c.args.held view (ap (λ (a : AttachedFiles). a.slots) c.self.view_is) c.self.invariant.3 c.requires.own,
+      names-set (map slot_of items) _ (file_place c.args.unit) (slot_of h) view c.self.invariant.4 c.requires.name,
     )
 
 pub invariant_of-self-else-is_disk : goal.invariant_of-self-else-is_disk
@@ -39,6 +40,7 @@ invariant_of-self-else-is_disk c =
           (can-other (map slot_of items) c.args.unit (Some (held_of c.args.held)) c.self.inside.disk other
           c.self.invariant.2),
       own-put items c.args.self.now.slots _ c.args.unit c.args.held view (ap (λ (a : AttachedFiles). a.slots) c.self.view_is) c.self.invariant.3 c.requires.own,
+      names-set (map slot_of items) _ (file_place c.args.unit) (slot_of h) view c.self.invariant.4 c.requires.name,
     )
 
 pub returns-then-is_disk-clause-held : goal.returns-then-is_disk-clause-held

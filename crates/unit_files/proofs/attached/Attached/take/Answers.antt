@@ -6,7 +6,7 @@ use Rattle.unit_files.specs.Open.{HaveOwnNumbers}
 use Rattle.unit_files.specs.View.{slot_of, CanWrite}
 use Rattle.unit_files.specs.declared.slots.UnitFile.{UnitFile}
 use Rattle.unit_files.proofs.Places.{view-set, attachments-set, writers-set}
-use Rattle.unit_files.proofs.Attaching.{own-detached}
+use Rattle.unit_files.proofs.Attaching.{own-detached, names-set}
 use Rattle.unit_files.proofs.Copies.{can-none, can-other}
 use Rattle.unit_files.proofs.attached.Attached.take.Goals as goal
 
@@ -19,8 +19,9 @@ invariant_of-self c =
     let is : is_disk c.args.unit.kind ≡ true = search rules in (
       length-set items c.place_of.result h ∙ c.self.invariant.0,
       ap writers_write view ∙ writers-set (map slot_of items) c.args.unit None long c.self.invariant.1 (λ is. refl),
-      can-none (map slot_of items) _ c.args.unit _ is c.requires view (search rules),
+      can-none (map slot_of items) _ c.args.unit _ is c.requires view (search rules) refl,
       subst HaveOwnNumbers (sym view) (own-detached (map slot_of items) (file_place c.args.unit) c.self.invariant.3),
+      names-set (map slot_of items) _ (file_place c.args.unit) None view c.self.invariant.4 tt,
     )
 
 pub invariant_of-self-else-is_disk : goal.invariant_of-self-else-is_disk
@@ -35,6 +36,7 @@ invariant_of-self-else-is_disk c =
       subst (λ (s : List (Option Held)). CanWrite s c.self.inside.disk) (sym view)
           (can-other (map slot_of items) c.args.unit None c.self.inside.disk other c.self.invariant.2),
       subst HaveOwnNumbers (sym view) (own-detached (map slot_of items) (file_place c.args.unit) c.self.invariant.3),
+      names-set (map slot_of items) _ (file_place c.args.unit) None view c.self.invariant.4 tt,
     )
 
 pub returns-then-is_disk-clause-held : goal.returns-then-is_disk-clause-held

@@ -10,5 +10,10 @@ invariant_of-self c =
     let long : length c.args.from.now ≡ sector_bytes = search rules in
     let short : length c.write_into.new.bytes.items ≤ disk_bytes =
     subst (λ (l : List ℕ). length l ≤ disk_bytes) (sym c.write_into.ensures.bytes)
-    (sector-short c.self.inside.disk.bytes.items c.args.from.now c.args.sector c.requires long can.short) in
-    (search rules, search rules, record { short = short; room = search rules; writable = search rules }, c.self.invariant.3)
+    (sector-short c.self.inside.disk.bytes.items c.args.from.now c.args.sector c.requires long can.short) in (
+      search rules,
+      search rules,
+      record { short = short; room = search rules; writable = search rules; none = search rules },
+      c.self.invariant.3,
+      c.self.invariant.4,
+    )
