@@ -17,12 +17,15 @@ pub mod Attaching
 pub mod Together
 pub mod ValidFiles
 pub mod RestoreCounts
+pub mod PortLemmas
 pub mod TakingLemmas
 pub mod SavingLaws
 pub mod PutBackLemmas
 pub mod SavedWatchLemmas
 pub mod SavedLemmas
+pub mod TakenFits
 pub mod SavedFileLemmas
+pub mod TextBytes
 pub mod SavedValidLemmas
 pub mod PutBackWatchLemmas
 pub mod PutBackMachineLemmas

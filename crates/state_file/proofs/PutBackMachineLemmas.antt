@@ -1,5 +1,5 @@
 -- A machine is in range once a valid state was put back.
-use Rattle.std.proofs.Common.{◌≡◌, ℕ, zero, suc, ◌+◌, ◌-◌, ◌*◌, ◌%◌, ◌<◌, ◌≤◌, ◌^◌, ◌&&◌, eqb, Bool, true, false, List, [], ◌∷◌, ◌++◌, length, map, take, replicate, get_or, Option, Some, None, inl, inr, refl, sym, ap, subst, ◌∙◌, arith}
+use Rattle.std.proofs.Common.{◌≡◌, ℕ, zero, suc, ◌+◌, ◌-◌, ◌*◌, ◌%◌, ◌<◌, ◌≤◌, ◌^◌, ◌&&◌, eqb, Bool, true, false, List, [], ◌∷◌, ◌++◌, length, map, take, replicate, get_or, Option, Some, None, IfSome, inl, inr, refl, sym, ap, subst, ◌∙◌, arith}
 use Rattle.std.specs.Prelude.{nat_le, nat_lt, bytes_eq, unwrap_or, slice_get, slice_index_or, option_map}
 use Rattle.std.specs.List.{AllByRecursion, IsDistinct, list_any}
 use Rattle.std.proofs.Math.Seq.{get_or-append_right}
@@ -15,20 +15,21 @@ use Rattle.unit_trait.proofs.Codes.{same-code}
 use Rattle.unit_list.specs.Bus.{AllFit, kinds_of}
 use Rattle.event_queue.specs.EventList.{Event, waiting, Sound}
 use Rattle.event_queue.specs.DueTimes.{scheduled}
-use Rattle.unit_files.specs.Attachments.{Attachment, attachments_of, attachment_at, file_units}
+use Rattle.unit_files.specs.Attachments.{Attachment, attachments_of, attachment_at, file_place, file_units}
 use Rattle.unit_files.specs.Buffer.{disk_unit}
 use Rattle.nova_memory.specs.Memory.{IsMemory, IsSize}
 use Rattle.nova_machine.specs.BusOrder.{place_of}
 use Rattle.nova_machine.specs.Core.{IsAmong, AreListed}
-use Rattle.nova_machine.specs.Valid.{AreBytes, ValidMachine, CopyIsFile}
+use Rattle.nova_machine.specs.Valid.{AreBytes, HasByteName, ValidMachine, CopyIsFile}
 use Rattle.state_file.specs.declared.saved.SavedEvent.{SavedEvent}
 use Rattle.state_file.specs.Parts.{UnitPart, FilePart, MachinePart}
-use Rattle.state_file.specs.Ranges.{is_size, kind_at, standard_kinds, is_position, register_count, within_limits, holds_value, is_event_of, is_free, is_later}
-use Rattle.state_file.specs.Valid.{AreWords, Follow, CanHold, IsUnit, IsEvent, IsMachine}
-use Rattle.state_file.specs.Reading.{next_number, with_event}
-use Rattle.state_file.specs.Restoring.{with_file, with_all, copy_of}
+use Rattle.state_file.specs.Ranges.{is_size, kind_at, standard_kinds, is_position, register_count, within_limits, holds_value, is_event_of, is_free, is_later, FilePlace}
+use Rattle.state_file.specs.Valid.{AreWords, Follow, CanHold, IsUnit, IsEvent, IsMachine, IsFile}
+use Rattle.state_file.specs.Reading.{next_number, with_event, behind_file}
+use Rattle.state_file.specs.Restoring.{unit_of, attachment_of, with_file, with_all, copy_of}
 use Rattle.state_file.specs.PutBack.{memory_from, unit_from, event_from, held_from, machine_from}
 use Rattle.state_file.specs.SavedValid.{AreStandard}
+use Rattle.nova_machine.proofs.ValidBytes.{every-set}
 
 -- ---- memory
 
@@ -289,13 +290,32 @@ not-before : (now : ℕ) (es : List Event) → AllByRecursion (λ (x : ℕ × Un
 not-before now [] = tt
 not-before now (e ∷ es) = (omega arith, not-before now es)
 
+-- ---- the names of files
+
+-- the name of an attached file is of bytes
+abbrev pub HasName : Option Attachment → Type 0
+HasName a = IfSome a (λ (b : Attachment). AreBytes b.name)
+
+names-held : (attached : List (Option Attachment)) → AllByRecursion HasName attached
+    → AllByRecursion HasByteName (map held_from attached)
+names-held [] are = tt
+names-held (None ∷ attached) are = (tt, names-held attached are.1)
+names-held (Some a ∷ attached) are = (are.0, names-held attached are.1)
+
+pub names-put : (base : List (Option Attachment)) (least : FilePlace) (fs : List FilePart) → AllByRecursion HasName base
+    → Follow IsFile behind_file least fs → AllByRecursion HasName (with_all base fs)
+names-put base least [] have are = have
+names-put base least (f ∷ fs) have are =
+    names-put (with_file base f) (behind_file least f) fs
+    (every-set HasName base (file_place (unit_of f)) (Some (attachment_of f)) are.0.name have) are.1
+
 -- ---- the machine
 
 pub machine-in-range : (m : MachinePart) (attached : List (Option Attachment)) (files : List NamedBytes) → IsMachine m
-    → length attached ≡ file_units → AllByRecursion (λ (f : NamedBytes). AreBytes f.1) files
-    → ValidMachine (machine_from m attached files)
+    → length attached ≡ file_units → AllByRecursion HasName attached
+    → AllByRecursion (λ (f : NamedBytes). AreBytes f.1) files → ValidMachine (machine_from m attached files)
 unfolding machine_from
-machine-in-range m attached files is places bytes = record {
+machine-in-range m attached files is places names bytes = record {
   memory = memory-is m.cpu.size_k m.words is.cpu.size_k is.size is.words;
   size = size-from m.cpu.size_k is.cpu.size_k;
   cpu = record { four = is.cpu.few; words = is.cpu.acs; pc = ltb-true m.cpu.pc 32768 is.cpu.pc };
@@ -308,5 +328,6 @@ machine-in-range m attached files is places bytes = record {
     times = not-before m.cpu.time (map event_from m.agenda);
   };
   places = length-map attached held_from ∙ places;
+  names = names-held attached names;
   disk = disk-bytes (attachment_at attached disk_unit) files bytes;
 }

@@ -1,11 +1,12 @@
 -- A session is in range once a valid state was put back.
-use Rattle.std.proofs.Common.{ℕ, ◌≤◌, List, [], ◌∷◌, length, Option, sym, subst, arith}
+use Rattle.std.proofs.Common.{ℕ, ◌≤◌, List, [], ◌∷◌, Option, None, sym, subst, arith}
 use Rattle.std.specs.List.{AllByRecursion}
 use Rattle.std.proofs.lemmas.Bool.{leb-true}
 use Rattle.host_lines.specs.Traffic.{Peer}
 use Rattle.telnet_lines.specs.Line.{LineOf}
 use Rattle.unit_files.specs.Attachments.{Attachment, no_attachments, attachment_at}
 use Rattle.unit_files.specs.Buffer.{disk_unit}
+use Rattle.expect_actions.specs.KeysFile.{most_keys}
 use Rattle.nova_machine.specs.Run.{last_time}
 use Rattle.nova_machine.specs.Seen.{Seen}
 use Rattle.nova_machine.specs.Valid.{ValidLine, Valid as ValidSeen, CopyIsFile, DiskIsItsFile}
@@ -15,7 +16,9 @@ use Rattle.state_file.specs.Restoring.{with_all, copy_of}
 use Rattle.state_file.specs.PutBack.{machine_from, lines_from, put_back}
 use Rattle.state_file.specs.SavedValid.{AreStandard}
 use Rattle.state_file.specs.PutBackValid.{PutBackIsValid}
-use Rattle.state_file.proofs.PutBackMachineLemmas.{units-standard, copy-is, as-many-places, slots-back, machine-in-range}
+use Rattle.state_file.proofs.PutBackMachineLemmas.{units-standard, copy-is, as-many-places, slots-back, HasName, names-put, machine-in-range}
+use Rattle.nova_machine.proofs.ValidBytes.{every-replicate}
+use Rattle.state_file.specs.Reading.{place_of}
 use Rattle.state_file.proofs.PutBackWatchLemmas.{watch-in-range}
 
 lines-in-range : (port : ℕ) (lines : List (LineOf Peer)) → AllByRecursion ValidLine lines
@@ -24,14 +27,15 @@ lines-in-range port [] are = tt
 lines-in-range port (line ∷ lines) are =
     (record { keys = tt; output = tt; few_keys = omega arith; few_bytes = omega arith }, are.1)
 
-valid : (v : State) (present : Seen) → Valid v → ValidSeen present → v.machine.cpu.keys_taken ≤ length present.keys
-    → ValidSeen (put_back v present)
+valid : (v : State) (present : Seen) → Valid v → ValidSeen present → ValidSeen (put_back v present)
 unfolding machine_from
-valid v present is in_range taken = record {
+valid v present is in_range = record {
   machine = machine-in-range v.machine (with_all no_attachments v.files) present.files is.machine
-      (as-many-places no_attachments v.files) in_range.files;
+      (as-many-places no_attachments v.files)
+      (names-put no_attachments (place_of 0 0) v.files (every-replicate HasName 12 None tt) is.files.each) in_range.files;
   watch = watch-in-range v.watch is.watch;
-  taken = taken;
+  taken = leb-true v.machine.cpu.keys_taken most_keys is.machine.cpu.keys_taken;
+  known = in_range.known;
   keys = in_range.keys;
   files = in_range.files;
   lines = lines-in-range v.port present.lines in_range.lines;

@@ -5,10 +5,9 @@ use Rattle.std.specs.List.{AllByRecursion}
 use Rattle.std.proofs.lemmas.Bool.{and_parts, leb-true, ltb-true}
 use Rattle.std.proofs.lemmas.List.{length-map}
 use Rattle.expect_actions.specs.declared.breaks.Break.{Break}
-use Rattle.expect_actions.specs.declared.expects.Expect.{Expect}
 use Rattle.expect_actions.specs.Breaks.{Rising}
 use Rattle.expect_actions.specs.Sends.{Send, InTime}
-use Rattle.nova_machine.specs.Valid.{AreBytes, ValidBreak, ValidWatch}
+use Rattle.nova_machine.specs.Valid.{ValidBreak, ValidExpect, ValidWatch}
 use Rattle.state_file.specs.declared.saved.SavedSend.{SavedSend}
 use Rattle.state_file.specs.Parts.{BreakPart, ExpectPart, WatchPart}
 use Rattle.state_file.specs.Ranges.{is_address, most_breaks, most_expects, longest_text, most_sends, last_send}
@@ -53,10 +52,10 @@ breaks-valid least (b ∷ bs) are = (
   breaks-valid (b.address + 1) bs are.1,
 )
 
-actions-bytes : (es : List ExpectPart) → AllByRecursion IsExpect es
-    → AllByRecursion (λ (e : Expect). AreBytes e.actions) (map expect_from es)
-actions-bytes [] are = tt
-actions-bytes (e ∷ es) are = (are.0.actions.bytes, actions-bytes es are.1)
+expects-valid : (es : List ExpectPart) → AllByRecursion IsExpect es
+    → AllByRecursion ValidExpect (map expect_from es)
+expects-valid [] are = tt
+expects-valid (e ∷ es) are = (record { text = are.0.text; actions = are.0.actions.bytes }, expects-valid es are.1)
 
 sends-from : (low least : ℕ) (sends : List SavedSend) → low ≤ least → Follow IsSend behind_send least sends
     → AllByRecursion (λ (send : Send). low ≤ send.0) (map send_from sends)
@@ -84,8 +83,9 @@ watch-in-range w is = record {
   rising = breaks-rise 0 w.breaks is.breaks;
   each = breaks-valid 0 w.breaks is.breaks;
   expects = at-most expect_from w.expects most_expects is.few_expects;
-  texts = actions-bytes w.expects is.expects;
+  texts = expects-valid w.expects is.expects;
   tail = leb-true (length w.tail) longest_text is.short_tail;
+  printed = is.tail;
   sends = at-most send_from w.sends most_sends is.few_sends;
   in_time = sends-in-time 0 w.sends is.sends;
   bytes = sends-bytes 0 w.sends is.sends;

@@ -2,6 +2,7 @@
 use Rattle.std.proofs.Common.{◌≡◌, ◌⊎◌, inl, inr, ⊎_elim, ℕ, ◌<◌, ◌≤◌, zero, suc, Bool, get_or, List, [], ◌∷◌, Option}
 use Rattle.std.proofs.Common.{Some, None, Ok, Err}
 use Rattle.std.proofs.Common.{refl, sym, ap, subst, ◌∙◌, arith}
+use Rattle.std.specs.List.{AllByRecursion}
 use Rattle.std.specs.Prelude.{option_map}
 use Rattle.fault_counts.specs.Faults.{raised, Rose}
 use Rattle.host_files.specs.declared.files.FileCall.{FileCall}
@@ -13,8 +14,12 @@ use Rattle.unit_files.specs.Attachments.{Held, held_at, attachments_of, attachme
 use Rattle.unit_files.specs.Causes.{OnlyNewCounts, AreFrom, OnlyKept, IsNewId}
 use Rattle.state_file.specs.declared.file_faults.RestoreFault.{RestoreFault}
 use Rattle.state_file.specs.declared.file_faults.RestoreFault.TheVariants as fault
-use Rattle.state_file.specs.RestoringOne.{OnlyItsCount, CompareCalls, CompareCause, IsReadingFault}
-use Rattle.state_file.specs.RestoreCauses.{RestoreCause, IsRestoreFault, IsNewFileFault, OpeningsStand}
+use Rattle.state_file.specs.GivingBack.{IsNotItsFile, OnlyTheirCounts}
+use Rattle.state_file.specs.Listening.{IsPortFault}
+use Rattle.state_file.specs.Parts.{FilePart}
+use Rattle.state_file.specs.Restoring.{unit_of}
+use Rattle.state_file.specs.RestoringOne.{IsFree, OnlyItsCount, CompareCalls, CompareCause, IsReadingFault}
+use Rattle.state_file.specs.RestoreCauses.{RestoreCause, SessionCause, IsRestoreFault, IsNewFileFault, OpeningsStand}
 
 -- ---- whose files are attached
 
@@ -88,6 +93,54 @@ new-counts-behind slots slots' unit a b c none from one two = record {
     earlier file h known there same =
         let fresh = opened-since slots slots' unit h a b none from there in
         let low = fresh.0 in omega (arith, known, low, same)
+
+-- files that were opened in between are given back
+pub new-counts-behind-all : (slots slots' : List (Option Held)) (fs : List FilePart) (a b c : FileState)
+    → AllByRecursion (IsFree (attachments_of slots)) fs → AreFrom slots slots' a b → OnlyNewCounts a b
+    → OnlyTheirCounts slots' fs b c → OnlyNewCounts a c
+new-counts-behind-all slots slots' all a b c free from one two = record {
+  before = λ file known. two.others file (not-theirs file all known free) ∙ one.before file known;
+  later = λ file. let first = one.later file in let then = two.later file in omega (arith, first, then);
+  openings = let first = one.openings in let then = two.openings in omega (arith, first, then);
+  ids = let first = one.ids in let then = two.ids in omega (arith, first, then);
+}
+  where
+    earlier : (file : ℕ) (f : FilePart) (h : Held) → file < a.given → IsFree (attachments_of slots) f
+        → held_at slots' (unit_of f) ≡ Some h → file ≡ h.file → ⊥
+    earlier file f h known none there same =
+        let fresh = opened-since slots slots' (unit_of f) h a b none from there in
+        let low = fresh.0 in omega (arith, known, low, same)
+
+    not-theirs : (file : ℕ) (fs : List FilePart) → file < a.given → AllByRecursion (IsFree (attachments_of slots)) fs
+        → AllByRecursion (IsNotItsFile slots' file) fs
+    not-theirs file [] known none = tt
+    not-theirs file (f ∷ fs) known none =
+        (λ h there same. earlier file f h known none.0 there same, not-theirs file fs known none.1)
+
+-- of no files no count has changed
+pub no-counts : (slots : List (Option Held)) (all : List FilePart) (a : FileState) → OnlyTheirCounts slots all a a
+no-counts slots all a = record {
+  others = λ file apart. refl;
+  later = λ file. omega arith;
+  openings = refl;
+  ids = refl;
+}
+
+-- the first of the files is given back behind the others
+pub their-counts : (slots mid : List (Option Held)) (f : FilePart) (fs all : List FilePart) (unit : UnitName)
+    (a b c : FileState) → all ≡ f ∷ fs → unit ≡ unit_of f → OnlyKept slots mid → OnlyTheirCounts slots fs a b
+    → OnlyItsCount mid unit b c → OnlyTheirCounts slots all a c
+their-counts slots mid f fs all unit a b c is of kept one two =
+    subst (λ (l : List FilePart). OnlyTheirCounts slots l a c) (sym is) (record {
+      others = λ file apart.
+          its.others file (λ h there. apart.0 h (kept (unit_of f) h there)) ∙ one.others file apart.1;
+      later = λ file. let first = one.later file in let then = two.later file in omega (arith, first, then);
+      openings = two.openings ∙ one.openings;
+      ids = two.ids ∙ one.ids;
+    })
+  where
+    its : OnlyItsCount mid (unit_of f) b c
+    its = subst (λ (u : UnitName). OnlyItsCount mid u b c) of two
 
 from-wider : (slots slots' : List (Option Held)) (a b c : FileState) → AreFrom slots slots' a b → c.given ≡ b.given
     → AreFrom slots slots' a c
@@ -192,3 +245,25 @@ module _ (tells : Bool) (slots slots' : List (Option Held)) (unit : UnitName) (a
   cause-compared (fault.Changed u) calls h = λ t. openings ∙ h.openings ∙ first.1 t
   cause-compared fault.Port calls h = absurd calls
   cause-compared fault.OutOfMemory calls h = absurd calls
+
+-- ---- all of a session
+
+-- behind its files
+pub session-cause : (tells : Bool) (e : RestoreFault) (old new : FileState) → RestoreCause tells (Err e) old new
+    → SessionCause tells (Err e) old new
+session-cause tells (fault.Failed f) old new h = h
+session-cause tells (fault.NoFile unit) old new h = h
+session-cause tells (fault.TooLong unit) old new h = h
+session-cause tells (fault.Changed unit) old new h = h
+session-cause tells fault.Port old new h = absurd h
+session-cause tells fault.OutOfMemory old new h = h
+
+-- behind its port
+pub port-cause : (tells : Bool) (e : RestoreFault) (old new : FileState) → IsPortFault e → OpeningsStand tells old new
+    → SessionCause tells (Err e) old new
+port-cause tells (fault.Failed f) old new is h = absurd is
+port-cause tells (fault.NoFile unit) old new is h = absurd is
+port-cause tells (fault.TooLong unit) old new is h = absurd is
+port-cause tells (fault.Changed unit) old new is h = absurd is
+port-cause tells fault.Port old new is h = h
+port-cause tells fault.OutOfMemory old new is h = tt

@@ -21,7 +21,7 @@ use Rattle.state_file.specs.SavedValid.{IsTaken, AreTaken}
 
 -- ---- digests
 
-bytes-both : (xs ys : List ℕ) → AreBytes xs → AreBytes ys → AreBytes (xs ++ ys)
+pub bytes-both : (xs ys : List ℕ) → AreBytes xs → AreBytes ys → AreBytes (xs ++ ys)
 bytes-both [] ys first second = second
 bytes-both (x ∷ xs) ys first second = (first.0, bytes-both xs ys first.1 second)
 

@@ -260,7 +260,7 @@ none-waits [] u none = refl
 none-waits (e ∷ es) u none =
     or_from (same_unit e.unit u) (waits u es) (same-unit-flips e.unit u ∙ none.0) (none-waits es u none.1)
 
-few-events : (es : List Event) → Sound es → length es ≤ most_events
+pub few-events : (es : List Event) → Sound es → length es ≤ most_events
 unfolding IsDistinct
 few-events [] sound = omega arith
 few-events (e ∷ es) sound =

@@ -27,15 +27,12 @@ port-low [] low = omega arith
 port-low (line ∷ lines) low = number-low line.port low.0
 
 saved-valid : (s : Seen) → IsStandard s → Valid (saved s)
-saved-valid s is =
-    let taken = is.valid.taken in
-    let keys = is.keys in
-    record {
-      machine = machine-valid s.machine is.valid.machine is.time (omega (arith, taken, keys)) is.units;
-      files = files-valid s.files (attached_in s.machine) is.files;
-      port = port-low s.lines is.ports;
-      watch = watch-valid s.watch is.valid.watch is.watch;
-    }
+saved-valid s is = record {
+  machine = machine-valid s.machine is.valid.machine is.time is.valid.taken is.units;
+  files = files-valid s.files (attached_in s.machine) is.files;
+  port = port-low s.lines is.ports;
+  watch = watch-valid s.watch is.valid.watch is.watch;
+}
 
 pub saved-is-valid : SavedIsValid
 saved-is-valid = record {

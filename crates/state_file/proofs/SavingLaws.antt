@@ -15,6 +15,7 @@ use Rattle.unit_trait.proofs.Codes.{same-self}
 use Rattle.unit_files.specs.declared.digest.FileDigest.{FileDigest}
 use Rattle.unit_files.specs.declared.faults.UnitFault.{UnitFault}
 use Rattle.unit_files.specs.Attachments.{Attachment, attachment_at, attachments_of, takes_attachment, file_place}
+use Rattle.unit_files.specs.Attachments.{file_units, IsFileName}
 use Rattle.unit_files.specs.Buffer.{AttachedFiles, Buffer, disk_unit}
 use Rattle.unit_files.specs.Acts.{Failure, same_call, failure_at, is_due_back, flushed_as, FlushSaid, flush_said}
 use Rattle.unit_files.specs.Acts.{flush_files, buffer_flushed}
@@ -31,7 +32,7 @@ use Rattle.state_file.specs.RestoringOne.{AreOfTwo, AreApart}
 use Rattle.state_file.specs.Saving.{unit_at, file_places, flag_of, saved_at, saved_files, undigested, failing_first}
 use Rattle.state_file.specs.Saving.{first_undigested, unless_unflushed, files_flushed, copy_flushed, first_unsaved}
 use Rattle.state_file.specs.SavingOne.{unread_file, unread_at, unread_files, read_file, CanDigest, first_unread}
-use Rattle.state_file.specs.SavingOne.{fault_claim, FlushSays}
+use Rattle.state_file.specs.SavingOne.{names_of, AreNamed, fault_claim, FlushSays}
 use Rattle.state_file.proofs.Together.{disk-place}
 
 -- ---- one file
@@ -306,3 +307,38 @@ whole-of n xs rest is = ap (λ (m : ℕ). take m (xs ++ rest)) is ∙ front-of x
 pub length-map : {A B : Type 0} (f : A → B) (xs : List A) → length (map f xs) ≡ length xs
 length-map f [] = refl
 length-map f (x ∷ xs) = ap suc (length-map f xs)
+
+-- ---- the names that were taken
+
+named-back : (files : List FilePart) → AllByRecursion IsFileName (names_of files) → AreNamed files
+named-back [] all = tt
+named-back (f ∷ files) all = (all.0, named-back files all.1)
+
+names-named : (files : List FilePart) → AreNamed files → AllByRecursion IsFileName (names_of files)
+names-named [] all = tt
+names-named (f ∷ files) all = (all.0, names-named files all.1)
+
+-- files with the same names
+pub named-as : (fs gs : List FilePart) → names_of fs ≡ names_of gs → AreNamed gs → AreNamed fs
+named-as fs gs same are =
+    named-back fs (subst (λ (names : List (List ℕ)). AllByRecursion IsFileName names) (sym same) (names-named gs are))
+
+pub as-many-as : (fs gs : List FilePart) → names_of fs ≡ names_of gs → length fs ≡ length gs
+as-many-as fs gs same =
+    sym (length-map (λ (f : FilePart). f.name) fs) ∙ ap (λ (names : List (List ℕ)). length names) same
+    ∙ length-map (λ (f : FilePart). f.name) gs
+
+-- at most one for each place
+few-of : (attached : List (Option Attachment)) (ps : List UnitPlace) → length (unread_files attached ps) ≤ length ps
+few-of attached [] = omega arith
+few-of attached (p ∷ ps) =
+    one (attachment_at attached (unit_at p)) (unread_files attached ps) (length ps) (few-of attached ps)
+  where
+    one : (o : Option Attachment) (rest : List FilePart) (n : ℕ) → length rest ≤ n
+        → length (unread_at p o ++ rest) ≤ suc n
+    one None rest n few = omega arith
+    one (Some a) rest n few = omega arith
+
+pub few-unread : (attached : List (Option Attachment)) → length (unread_files attached file_places) ≤ file_units
+unfolding file_places
+few-unread attached = few-of attached file_places

@@ -1,6 +1,7 @@
 -- The port of line 0 is listened on.
 use Rattle.std.specs.List.{AllByRecursion}
-use Rattle.std.specs.Prelude.{◌≡◌, ℕ, zero, suc, Bool, true, false, IsTrue, List, [], ◌∷◌, Some, None, Result, Ok, Err}
+use Rattle.std.specs.Prelude.{◌≡◌, ◌⊎◌, ℕ, zero, suc, Bool, true, false, IsTrue, List, [], ◌∷◌, Some, None, Result, Ok}
+use Rattle.std.specs.Prelude.{Err}
 use Rattle.host_lines.specs.declared.lines.ListenFault.{ListenFault}
 use Rattle.host_lines.specs.declared.lines.ListenFault.TheVariants as listen
 use Rattle.host_lines.specs.LineCalls.{Listens, ports_after, listen_faults}
@@ -10,7 +11,7 @@ use Rattle.state_file.specs.declared.file_faults.RestoreFault.{RestoreFault}
 use Rattle.state_file.specs.declared.file_faults.RestoreFault.TheVariants as fault
 
 -- whether a port is listened on: it is not 0, and there is a line for it
-abbrev pub wants_port : ℕ → List (LineOf ℕ) → Bool
+abbrev pub wants_port : {P : Type 0} → ℕ → List (LineOf P) → Bool
 wants_port zero lines = false
 wants_port (suc n) [] = false
 wants_port (suc n) (line ∷ others) = true
@@ -46,12 +47,29 @@ IsHeardOn tells port (Err (fault.TooLong unit)) old new = ⊥
 IsHeardOn tells port (Err (fault.Changed unit)) old new = ⊥
 IsHeardOn tells port (Err (fault.Failed f)) old new = ⊥
 
--- What is left of the outside's lines once a session was put back, or was refused: of a refusal that is not the
--- listening's, all.
+-- a port is refused, or memory ran out: no file is refused where a port is listened on
+abbrev pub IsPortFault : RestoreFault → Type 0
+IsPortFault fault.Port = Unit {0}
+IsPortFault fault.OutOfMemory = Unit {0}
+IsPortFault (fault.NoFile unit) = ⊥
+IsPortFault (fault.TooLong unit) = ⊥
+IsPortFault (fault.Changed unit) = ⊥
+IsPortFault (fault.Failed f) = ⊥
+
+-- a port is wanted, and this is what its listening left, which came to nothing
+abbrev pub IsRefusedPort : Bool → ℕ → List (LineOf ℕ) → RestoreFault → LineState → LineState → Type 0
+IsRefusedPort tells port lines f old new = (wants_port port lines ≡ true) × IsHeardOn tells port (Err f) old new
+
+-- What is left of the outside's lines once a session was put back, or was refused. A wanted port is listened on behind
+-- all files: so without one, and where a file was refused, the lines are as they were; and where memory ran out, they
+-- are so, or it ran out in the listening. `Port` is the answer where a listening failed.
 abbrev pub LeavesLines : Bool → ℕ → List (LineOf ℕ) → Result (Unit {0}) RestoreFault → LineState → LineState → Type 0
-LeavesLines tells port lines (Ok u) old new = wants_port port lines ≡ true → IsHeardOn tells port (Ok u) old new
-LeavesLines tells port lines (Err fault.Port) old new = IsHeardOn tells port (Err fault.Port) old new
-LeavesLines tells port lines (Err f) old new = (new.listens ≡ old.listens) × (new.stands ≡ old.stands)
+LeavesLines tells port lines (Ok u) old new =
+    (wants_port port lines ≡ true → IsHeardOn tells port (Ok u) old new) × (wants_port port lines ≡ false → new ≡ old)
+LeavesLines tells port lines (Err fault.Port) old new = IsRefusedPort tells port lines fault.Port old new
+LeavesLines tells port lines (Err fault.OutOfMemory) old new =
+    (new ≡ old) ⊎ IsRefusedPort tells port lines fault.OutOfMemory old new
+LeavesLines tells port lines (Err f) old new = new ≡ old
 
 -- no line has a port: nobody is connected, and nothing waits
 abbrev pub AreClosed : List (LineOf ℕ) → Type 0

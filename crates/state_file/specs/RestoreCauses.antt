@@ -39,3 +39,10 @@ RestoreCause tells (Err (fault.TooLong unit)) old new = OpeningsStand tells old 
 RestoreCause tells (Err (fault.Changed unit)) old new = OpeningsStand tells old new
 RestoreCause tells (Err fault.Port) old new = ⊥
 RestoreCause tells (Err fault.OutOfMemory) old new = Unit {0}
+
+-- The same of all of a session, whose port is listened on behind all files: where that came to nothing, no opening
+-- failed.
+abbrev pub SessionCause : Bool → Result (Unit {0}) RestoreFault → FileState → FileState → Type 0
+SessionCause tells (Err fault.Port) old new = OpeningsStand tells old new
+SessionCause tells (Ok u) old new = RestoreCause tells (Ok u) old new
+SessionCause tells (Err f) old new = RestoreCause tells (Err f) old new

@@ -140,6 +140,11 @@ IsOfThese fs (fault.Failed f) = IsUnitOf fs f.unit
 IsOfThese fs fault.Port = ⊥
 IsOfThese fs fault.OutOfMemory = Unit {0}
 
+-- a refusal of all of a session is that of one of its files, or of its port
+abbrev pub IsOfSession : List FilePart → RestoreFault → Type 0
+IsOfSession fs fault.Port = Unit {0}
+IsOfSession fs f = IsOfThese fs f
+
 -- The same of all of a session, whose port is listened on behind all files: where that came to nothing, no file was refused.
 abbrev pub SaysFirst : Result (Unit {0}) RestoreFault → Option (UnitName × FileRefusal) → Type 0
 SaysFirst (Err fault.Port) said = said ≡ None

@@ -12,7 +12,6 @@ use Rattle.unit_list.specs.Bus.{kinds_of}
 use Rattle.unit_files.specs.Attachments.{Attachment, attachment_at, IsFileName, longest_file, only_writes}
 use Rattle.expect_actions.specs.declared.breaks.Break.{Break}
 use Rattle.expect_actions.specs.declared.expects.Expect.{Expect}
-use Rattle.expect_actions.specs.KeysFile.{most_keys}
 use Rattle.expect_actions.specs.Watch.{WatchState}
 use Rattle.nova_machine.specs.Run.{last_time}
 use Rattle.nova_machine.specs.Seen.{Seen, attached_in}
@@ -64,12 +63,11 @@ pub record AreGiven (w : WatchState) : Type 0 where
 abbrev pub HasPort16 : LineOf Peer → Type 0
 HasPort16 line = IfSome line.port (λ (port : ℕ). port < 2 ^ 16)
 
--- All is in range, time has not passed its end, and no more keys are known than a session takes. The units are those of
--- a standard machine, what is attached is what its kind takes, and breaks, texts and ports are as commands give them.
+-- All is in range, and time has not passed its end. The units are those of a standard machine, what is attached is what
+-- its kind takes, and breaks, texts and ports are as commands give them.
 pub record IsStandard (s : Seen) : Type 0 where
   pub valid : ValidSeen s
   pub time : s.machine.time ≤ last_time
-  pub keys : length s.keys ≤ most_keys
   pub units : AreStandard s.machine.units
   pub files : AreTaken s.files (attached_in s.machine) file_places
   pub watch : AreGiven s.watch

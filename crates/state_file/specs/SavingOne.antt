@@ -1,13 +1,14 @@
 -- What the calls want and answer that save the files of units: their names are taken first, and then each is digested.
-use Rattle.std.specs.Prelude.{◌≡◌, true, false, IsTrue, is_some, List, [], ◌∷◌, map, length, replicate, Option, Some}
+use Rattle.std.specs.Prelude.{◌≡◌, ℕ, true, false, IsTrue, is_some, List, [], ◌∷◌, map, length, replicate, Option, Some}
 use Rattle.std.specs.Prelude.{None, Result, Ok, Err}
-use Rattle.std.specs.List.{flat_map}
+use Rattle.std.specs.List.{AllByRecursion, flat_map}
 use Rattle.sha2.specs.Sha256.{sha256}
 use Rattle.host_files.specs.Lists.{NamedBytes, bytes_of}
 use Rattle.host_files.specs.State.{FileState}
 use Rattle.unit_trait.specs.declared.kind.UnitName.{UnitName}
 use Rattle.unit_files.specs.declared.faults.UnitFault.{UnitFault}
 use Rattle.unit_files.specs.Attachments.{Attachment, Held, takes_attachment, is_disk, attachment_at, attachments_of}
+use Rattle.unit_files.specs.Attachments.{IsFileName}
 use Rattle.unit_files.specs.Buffer.{AttachedFiles, Buffer, disk_unit}
 use Rattle.unit_files.specs.Acts.{Failure, NotFlushed, flush_said}
 use Rattle.unit_files.specs.Answers.{failure_in}
@@ -36,6 +37,13 @@ unread_at p (Some a) = unread_file p a ∷ []
 
 abbrev pub unread_files : List (Option Attachment) → List UnitPlace → List FilePart
 unread_files attached ps = flat_map (λ (p : UnitPlace). unread_at p (attachment_at attached (unit_at p))) ps
+
+abbrev pub names_of : List FilePart → List (List ℕ)
+names_of files = map (λ (f : FilePart). f.name) files
+
+-- each has a name of a file
+abbrev pub AreNamed : List FilePart → Type 0
+AreNamed files = AllByRecursion (λ (f : FilePart). IsFileName f.name) files
 
 -- the same file once it was read
 abbrev pub read_file : List NamedBytes → FilePart → FilePart

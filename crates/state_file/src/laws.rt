@@ -25,8 +25,7 @@ pub fn saved_is_valid()
     ensures { SavedIsValid }
 {}
 
-/// The law that a session into which a valid state was put back is within its limits, as long as no more keys had been
-/// taken than it knows.
+/// The law that a session into which a valid state was put back is within its limits.
 pub fn put_back_is_valid()
     ensures { PutBackIsValid }
 {}

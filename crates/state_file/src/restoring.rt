@@ -10,7 +10,7 @@ ghost use Rattle.unit_files.specs.Buffer.{nothing_attached, no_buffer, disk_unit
 ghost use Rattle.unit_files.specs.Acts.{detached};
 ghost use Rattle.unit_files.specs.Causes.{AreFrom, OnlyKept, OnlyNewCounts};
 ghost use Rattle.unit_files.specs.Open.{AllOpen, Around};
-ghost use Rattle.state_file.specs.GivingBack.{IsHeldIn, IsNoDisk, without_all, copy_behind};
+ghost use Rattle.state_file.specs.GivingBack.{IsHeldIn, IsNoDisk, OnlyTheirCounts, without_all, copy_behind};
 ghost use Rattle.state_file.specs.Parts.{FilePart, file_in};
 ghost use Rattle.state_file.specs.Ranges.{kind_at};
 ghost use Rattle.state_file.specs.Restoring.{files_in, unit_of, is_only_read, mode_of, refusal_of, with_file, with_all};
@@ -278,8 +278,8 @@ pub fn attach_all<F: Files>(
     attach_each(alloc, saved, force, attached, files)
 }
 
-/// Gives back the files of these units, the last one first. Nothing is to be written back, and closings that fail are
-/// not told.
+/// Gives back the files of these units, the last one first. Nothing is to be written back. A closing that fails is told
+/// by the count of its file alone.
 pub fn give_back_all<F: Files>(saved: &[SavedFile], attached: &mut Attached, files: &mut F)
     requires can { AllByRecursion CanAttach (files_in saved.now) }
     requires apart { AreApart (files_in saved.now) }
@@ -292,6 +292,8 @@ pub fn give_back_all<F: Files>(saved: &[SavedFile], attached: &mut Attached, fil
     ensures open { AllOpen attached.new.slots (F.state files.new).opened }
     ensures around { (base : List Opened) → Around attached.old.slots base (F.state files.old).opened
         → Around attached.new.slots base (F.state files.new).opened }
+    ensures kept { OnlyKept attached.old.slots attached.new.slots }
+    ensures counts { OnlyTheirCounts attached.old.slots (files_in saved.now) (F.state files.old) (F.state files.new) }
 {
     match saved.split_first() {
         None => (),

@@ -1,8 +1,8 @@
 // The files of units as they are saved.
-ghost use Rattle.std.specs.Prelude.{◌≡◌, ◌++◌, IsTrue, OnOk, IfOk, IfErr, map};
+ghost use Rattle.std.specs.Prelude.{◌≡◌, ◌≤◌, ◌++◌, IsTrue, OnOk, IfOk, IfErr, length, map};
 ghost use Rattle.std.specs.List.{AllByRecursion};
 ghost use Rattle.unit_files.specs.Acts.{flush_said, flush_files, buffer_flushed};
-ghost use Rattle.unit_files.specs.Attachments.{attachments_of, attachment_at};
+ghost use Rattle.unit_files.specs.Attachments.{attachments_of, attachment_at, file_units};
 ghost use Rattle.unit_files.specs.Buffer.{disk_unit};
 ghost use Rattle.unit_files.specs.Digests.{IsReadingCall};
 ghost use Rattle.unit_files.specs.Open.{AllOpen};
@@ -11,8 +11,8 @@ ghost use Rattle.state_file.specs.Restoring.{files_in, unit_of, IsUnitOf};
 ghost use Rattle.state_file.specs.RestoringOne.{AreApart};
 ghost use Rattle.state_file.specs.Saving.{unit_at, file_places, saved_files, first_unsaved, files_flushed};
 ghost use Rattle.state_file.specs.Saving.{copy_flushed, save_claim, UnlessNoMemory, IfNoMemory, SaveCause};
-ghost use Rattle.state_file.specs.SavingOne.{unread_at, unread_files, CanDigest, Digests, UnitCause, failure_of_write};
-ghost use Rattle.state_file.specs.SavingOne.{FlushSays, IsFlushed, DigestsOne};
+ghost use Rattle.state_file.specs.SavingOne.{unread_at, unread_files, AreNamed, names_of, CanDigest, Digests};
+ghost use Rattle.state_file.specs.SavingOne.{UnitCause, failure_of_write, FlushSays, IsFlushed, DigestsOne};
 
 use crate::file_faults::SaveFault;
 use crate::kinds::kind_at;
@@ -106,8 +106,9 @@ fn add_unread(
     place: UnitPlace,
     found: &mut Vec<SavedFile>,
 ) -> Result<(), AllocError>
-    ensures { OnOk result (files_in found.new.items ≡ files_in found.old.items
+    ensures added { OnOk result (files_in found.new.items ≡ files_in found.old.items
         ++ unread_at place (attachment_at (attachments_of attached.now.slots) (unit_at place))) }
+    ensures named { AreNamed (files_in found.old.items) → OnOk result (AreNamed (files_in found.new.items)) }
 {
     let unit = unit_at(place);
     match attached.name_of(unit) {
@@ -133,7 +134,8 @@ fn unread_files(
     attached: &Attached,
     places: &[UnitPlace],
 ) -> Result<Vec<SavedFile>, AllocError>
-    ensures { IfOk result (λ v. files_in v.items ≡ unread_files (attachments_of attached.now.slots) places.now) }
+    ensures files { IfOk result (λ v. files_in v.items ≡ unread_files (attachments_of attached.now.slots) places.now) }
+    ensures named { IfOk result (λ v. AreNamed (files_in v.items)) }
 {
     let mut found = Vec::new(alloc);
     for place in places {
@@ -145,7 +147,8 @@ fn unread_files(
 // Those of all units.
 #[tactic(auto, unfolding(crate::specs::Saving::file_places))]
 fn all_unread(alloc: Global, attached: &Attached) -> Result<Vec<SavedFile>, AllocError>
-    ensures { IfOk result (λ v. files_in v.items ≡ unread_files (attachments_of attached.now.slots) file_places) }
+    ensures files { IfOk result (λ v. files_in v.items ≡ unread_files (attachments_of attached.now.slots) file_places) }
+    ensures named { IfOk result (λ v. AreNamed (files_in v.items)) }
 {
     unread_files(alloc, attached, &FILE_PLACES)
 }
@@ -179,6 +182,7 @@ fn digest_one<F: Files>(
     requires can { CanDigest attached.old (file_in file.old) }
     requires open { AllOpen attached.old.slots (F.state files.old).opened }
     ensures told { IsTrue F.tells → DigestsOne (F.state files.old).files (file_in file.old) result (file_in file.new) }
+    ensures name { (file_in file.new).name ≡ (file_in file.old).name }
     ensures unit { IfErr result (λ f. f.unit ≡ unit_of (file_in file.old)) }
     ensures calls { IfErr result IsReadingCall }
     ensures kept { attached.new ≡ attached.old }
@@ -207,6 +211,7 @@ fn digest_each<F: Files>(
     requires apart { AreApart (files_in saved.old) }
     requires open { AllOpen attached.old.slots (F.state files.old).opened }
     ensures told { IsTrue F.tells → Digests (F.state files.old).files (files_in saved.old) result (files_in saved.new) }
+    ensures names { names_of (files_in saved.new) ≡ names_of (files_in saved.old) }
     ensures these { IfErr result (λ f. IsUnitOf (files_in saved.old) f.unit) }
     ensures calls { IfErr result IsReadingCall }
     ensures kept { attached.new ≡ attached.old }
@@ -223,11 +228,11 @@ fn digest_each<F: Files>(
     }
 }
 
-/// What is saved of the files that are attached, in bus order: their names, lengths and digests. What the disk holds of
-/// its file is written back first, as `flush` does it; then each file is read. All memory is taken before that, so
-/// after `OutOfMemory` all is as it was. After `Failed` of that write the disk's file is as `flush` leaves it, and its
-/// copy is still to be written back; after `Failed` of a length or a read the copy is written back. The units keep
-/// their files.
+/// What is saved of the files that are attached, in bus order: their names, lengths and digests. They are 12 at the
+/// most, with names of 1 to 255 bytes. What the disk holds of its file is written back first, as `flush` does it; then
+/// each file is read. All memory is taken before that, so after `OutOfMemory` all is as it was. After `Failed` of that
+/// write the disk's file is as `flush` leaves it, and its copy is still to be written back; after `Failed` of a length
+/// or a read the copy is written back. The units keep their files.
 pub fn digest_all<F: Files>(
     alloc: Global,
     attached: &mut Attached,
@@ -236,6 +241,8 @@ pub fn digest_all<F: Files>(
     requires open { AllOpen attached.old.slots (F.state files.old).opened }
     ensures told { IsTrue F.tells → IfOk result (λ v. files_in v.items
         ≡ saved_files (F.state files.new).files (attachments_of attached.old.slots) file_places) }
+    ensures few { IfOk result (λ v. length (files_in v.items) ≤ file_units) }
+    ensures named { IfOk result (λ v. AreNamed (files_in v.items)) }
     ensures first { IsTrue F.tells → UnlessNoMemory result (first_unsaved (save_claim result)
         (attachments_of attached.old.slots) attached.old.disk (F.state files.old).files ≡ save_claim result) }
     ensures slots { attached.new.slots ≡ attached.old.slots }

@@ -1,16 +1,19 @@
 // A saved session is put back.
-ghost use Rattle.std.specs.Prelude.{◌≡◌, ℕ, List, Some, true, false, IsTrue, IsOk, OnOk, OnErr};
+ghost use Rattle.std.specs.Prelude.{◌≡◌, ℕ, List, Some, true, false, IsTrue, IsOk, OnOk, OnErr, IfErr};
 ghost use Rattle.telnet_lines.specs.Line.{unconnected};
 ghost use Rattle.unit_files.specs.Attachments.{attachments_of, attachment_at, no_attachments};
 ghost use Rattle.unit_files.specs.Buffer.{nothing_attached, disk_unit};
+ghost use Rattle.unit_files.specs.Causes.{AreFrom, OnlyNewCounts};
 ghost use Rattle.unit_files.specs.Open.{AllOpen, Around};
 ghost use Rattle.nova_machine.specs.Machine.{attached_files, with_attached_files};
 ghost use Rattle.nova_machine.specs.Seen.{beside, erased};
-ghost use Rattle.state_file.specs.Listening.{IsHeardOn, IsListening, LeavesLines, port_fault, wants_port, with_port};
+ghost use Rattle.state_file.specs.Listening.{IsHeardOn, IsListening, IsPortFault, LeavesLines};
+ghost use Rattle.state_file.specs.Listening.{port_fault, wants_port, with_port};
 ghost use Rattle.state_file.specs.Parts.{state_in};
 ghost use Rattle.state_file.specs.PutBack.{machine_from, watch_from};
 ghost use Rattle.state_file.specs.Putting.{IsPutBack, with_machine_of};
-ghost use Rattle.state_file.specs.Restoring.{claim_in, copy_of, first_refused, with_all, SaysFirst};
+ghost use Rattle.state_file.specs.RestoreCauses.{SessionCause};
+ghost use Rattle.state_file.specs.Restoring.{claim_in, copy_of, first_refused, with_all, IsOfSession, SaysFirst};
 ghost use Rattle.state_file.specs.SavedValid.{AreStandard};
 ghost use Rattle.state_file.specs.Valid.{AreFiles, Valid};
 
@@ -54,6 +57,7 @@ fn fault_of(fault: ListenFault) -> RestoreFault
 }
 
 /// Gives line 0 its port, which is listened on; 0 is none, and then nothing changes. Without line 0 nothing changes.
+/// The refusals are `Port` and `OutOfMemory` alone, and the machine is then as it was.
 pub fn put_port<U: Unit, L: Lines>(
     alloc: Global,
     machine: &mut Machine<U>,
@@ -65,6 +69,8 @@ pub fn put_port<U: Unit, L: Lines>(
     ensures outside { wants_port port machine.old.lines ≡ true
         → IsHeardOn L.tells port result (L.state lines.old) (L.state lines.new) }
     ensures none { wants_port port machine.old.lines ≡ false → IsOk result × (lines.new ≡ lines.old) }
+    ensures wanted { OnErr result (wants_port port machine.old.lines ≡ true) }
+    ensures fault { IfErr result IsPortFault }
 {
     if port == 0 {
         return Ok(());
@@ -79,7 +85,7 @@ pub fn put_port<U: Unit, L: Lines>(
 }
 
 /// Attaches the files of a saved session, and then listens on its port: all that can be refused. A refusal leaves the
-/// machine as it was, and closes what was opened.
+/// machine as it was, and closes what was opened; a closing that fails is told by the count of its file alone.
 pub fn put_outside<U: Unit, F: Files, L: Lines>(
     alloc: Global,
     saved: &Saved,
@@ -92,6 +98,7 @@ pub fn put_outside<U: Unit, F: Files, L: Lines>(
     requires nothing { attached_files machine.old ≡ nothing_attached }
     ensures told { IsTrue F.tells → SaysFirst result (first_refused (claim_in result) force (state_in saved.now).files
         no_attachments (F.state files.old).files) }
+    ensures these { IfErr result (IsOfSession (state_in saved.now).files) }
     ensures machine { OnOk result (machine.new ≡ record (with_attached_files machine.old (attached_files machine.new)) {
       lines = with_port saved.now.port machine.old.lines;
     }) }
@@ -103,6 +110,10 @@ pub fn put_outside<U: Unit, F: Files, L: Lines>(
     ensures files { IsTrue F.tells → (F.state files.new).files ≡ (F.state files.old).files }
     ensures open { AllOpen machine.new.slots (F.state files.new).opened }
     ensures around { Around machine.new.slots (F.state files.old).opened (F.state files.new).opened }
+    ensures from { AreFrom machine.old.slots machine.new.slots (F.state files.old) (F.state files.new) }
+    ensures counts { OnlyNewCounts (F.state files.old) (F.state files.new) }
+    ensures cause { SessionCause F.tells result (F.state files.old) (F.state files.new) }
+    ensures unasked { IfErr result (λ fault. (IsPortFault fault → ⊥) → lines.new ≡ lines.old) }
     ensures lines { LeavesLines L.tells saved.now.port machine.old.lines result (L.state lines.old) (L.state lines.new) }
 {
     attach_all(
@@ -125,7 +136,7 @@ pub fn put_outside<U: Unit, F: Files, L: Lines>(
 /// tables. These are built aside; then each file is attached in bus order, only to be read where it was and else to be
 /// changed, and, unless that is forced, compared in length and digest before the next; then the port is listened on.
 /// The refusals come in this order, `OutOfMemory` in front of each. Behind a refusal the machine and the tables are as
-/// they were, and each file that was opened is closed.
+/// they were, and each file that was opened is closed; a closing that fails is told by the count of its file alone.
 pub fn set_state<U: Unit, F: Files, L: Lines>(
     alloc: Global,
     saved: &Saved,
@@ -140,6 +151,7 @@ pub fn set_state<U: Unit, F: Files, L: Lines>(
     requires nothing { attached_files machine.old ≡ nothing_attached }
     ensures told { IsTrue F.tells → SaysFirst result (first_refused (claim_in result) force (state_in saved.now).files
         no_attachments (F.state files.old).files) }
+    ensures these { IfErr result (IsOfSession (state_in saved.now).files) }
     ensures machine { IsTrue F.tells → OnOk result (erased machine.new ≡ machine_from (state_in saved.now).machine
         (with_all no_attachments (state_in saved.now).files) (F.state files.old).files) }
     ensures back { IsTrue F.tells → (keys : List (ℕ × ℕ)) → OnOk result (IsPutBack (state_in saved.now)
@@ -160,6 +172,10 @@ pub fn set_state<U: Unit, F: Files, L: Lines>(
     ensures files { IsTrue F.tells → (F.state files.new).files ≡ (F.state files.old).files }
     ensures open { AllOpen machine.new.slots (F.state files.new).opened }
     ensures around { Around machine.new.slots (F.state files.old).opened (F.state files.new).opened }
+    ensures from { AreFrom machine.old.slots machine.new.slots (F.state files.old) (F.state files.new) }
+    ensures counts { OnlyNewCounts (F.state files.old) (F.state files.new) }
+    ensures cause { SessionCause F.tells result (F.state files.old) (F.state files.new) }
+    ensures unasked { IfErr result (λ fault. (IsPortFault fault → ⊥) → lines.new ≡ lines.old) }
     ensures lines { LeavesLines L.tells saved.now.port machine.old.lines result (L.state lines.old) (L.state lines.new) }
 {
     let Ok(tables) = watch_from(alloc, saved) else {

@@ -9,7 +9,7 @@ ghost use Rattle.state_file.specs.Parts.{state_in};
 ghost use Rattle.state_file.specs.Saving.{first_unsaved, files_flushed, copy_flushed};
 ghost use Rattle.state_file.specs.Saving.{save_claim, UnlessNoMemory, IfNoMemory, SaveCause};
 ghost use Rattle.state_file.specs.SavedValid.{AreStandard};
-ghost use Rattle.state_file.specs.Valid.{WatchFits};
+ghost use Rattle.state_file.specs.Valid.{Fits};
 ghost use Rattle.state_file.specs.Session.{saved, saved_machine, saved_port, saved_watch};
 
 use crate::file_faults::SaveFault;
@@ -28,7 +28,8 @@ use unit_trait::Unit;
 /// that are attached, and the port of its second teletype. What the disk holds of its file is written back first, and
 /// then each file is read, in bus order. All memory is taken before that, so after `OutOfMemory` all is as it was.
 /// After `Failed` of that write the disk's file is as it leaves it, and its copy is still to be written back; after
-/// `Failed` of a length or a read the copy is written back. Nothing else of the session changes.
+/// `Failed` of a length or a read the copy is written back. Nothing else of the session changes. Whatever files tell,
+/// the answer has a text, which `write_state` writes.
 pub fn take_state<U: Unit, F: Files>(
     alloc: Global,
     machine: &mut Machine<U>,
@@ -39,9 +40,9 @@ pub fn take_state<U: Unit, F: Files>(
     requires open { AllOpen machine.old.slots (F.state files.old).opened }
     ensures told { IsTrue F.tells → IfOk result (λ v. (keys : List (ℕ × ℕ)) (lines : LineState) (whole : List Answer)
         → state_in v ≡ saved (seen (beside watch.now keys (F.state files.new).files lines) whole machine.new)) }
+    ensures fits { IfOk result (λ v. Fits (state_in v)) }
     ensures machine_part { IfOk result (λ v. (state_in v).machine ≡ saved_machine machine.old) }
     ensures watch_part { IfOk result (λ v. (state_in v).watch ≡ saved_watch watch.now) }
-    ensures watch_fits { IfOk result (λ v. WatchFits (state_in v).watch) }
     ensures port_part { IfOk result (λ v. (lines : LineState)
         → (state_in v).port ≡ saved_port (map (seen_line lines) machine.old.lines)) }
     ensures first { IsTrue F.tells → UnlessNoMemory result (first_unsaved (save_claim result)

@@ -9,6 +9,7 @@ ghost use Rattle.state_file.specs.Fields.{machine_in};
 ghost use Rattle.state_file.specs.Parts.{unit_in};
 ghost use Rattle.state_file.specs.Ranges.{kind_at, standard_kinds};
 ghost use Rattle.state_file.specs.SavedValid.{AreStandard};
+ghost use Rattle.state_file.specs.Valid.{MachineFits};
 ghost use Rattle.state_file.specs.Session.{saved_cpu, saved_unit, saved_event, saved_machine, saved_port};
 
 use crate::kinds::{kind_at, position_of, register_count};
@@ -137,8 +138,11 @@ pub fn taken_machine<U: Unit>(
     machine: &Machine<U>,
 ) -> Result<MachineFields, AllocError>
     requires { AreStandard machine.now.units }
-    ensures { IfOk result (λ f. machine_in f ≡ saved_machine machine.now) }
+    ensures machine { IfOk result (λ f. machine_in f ≡ saved_machine machine.now) }
+    ensures fit { IfOk result (λ f. MachineFits (machine_in f)) }
 {
+    machine.core();
+    let _size = machine.memory().size();
     Ok(MachineFields {
         cpu: taken_cpu(machine),
         words: taken_words(alloc, machine.memory())?,

@@ -2,7 +2,7 @@
 ghost use Rattle.state_file.specs.Parts.{state_in};
 ghost use Rattle.state_file.specs.Valid.{Valid};
 
-use crate::texts::{FIRST, both_of, bytes_of, equal, holds, number};
+use crate::texts::{FIRST, bytes_of, equal, holds, number};
 use host_files::{FileCall, FileId, Files, MemFiles};
 use state_file::{RestoreFault, SaveFault, Saved, SavedFile, attach_all, digest_all, read_state};
 use std::alloc::{AllocError, Global};
@@ -11,27 +11,35 @@ use std::test::Fail;
 use unit_files::{Attached, UnitFault};
 use unit_trait::{Kind, UnitName};
 
-/// What a state has behind its agenda, with three files: the disk's, with the bytes `sector`, that of a drive, which is
-/// empty, and the reader's, which is only read, with the bytes `hello`. The digests are from another program.
-const FILES: &str = "03 00 00 00 0004 6469736B 0000000000000006
+/// Three files of a state: the disk's, with the bytes `sector`, that of a drive, which is empty, and the reader's,
+/// which is only read, with the bytes `hello`. The digests are from another program.
+pub const FILES: &str = "03 00 00 00 0004 6469736B 0000000000000006
 9D5D7FCF3AA35A4809F92551AED1F26E3BEB8532C2DDCB279E07F0E3D410251A 01 07 00 0004 7265656C
 0000000000000000 E3B0C44298FC1C149AFBF4C8996FB92427AE41E4649B934CA495991B7852B855 03 00 01 0002 696E
-0000000000000005 2CF24DBA5FB0A30E26E83B2AC5B9E29E1B161E5C1FA7425E73043362938B9824
-0000 0000 00 00 0000";
+0000000000000005 2CF24DBA5FB0A30E26E83B2AC5B9E29E1B161E5C1FA7425E73043362938B9824";
 
-/// The digest of that state.
+/// What it has behind its files: no port, and nothing that is watched.
+const NOTHING_BEHIND: &str = "0000 0000 00 00 0000";
+
+/// The digest of the first state with these files.
 const FILES_DIGEST: &str = "32F6D3473482CFD259C186D591F829FECE70BF577EEC59E57A60E05BB903DC23";
 
 /// What the first state has behind its agenda.
 const NO_FILES: &str = "00 0000 0000 00 00 0000";
 
-fn state_text(alloc: Global) -> Result<Vec<u8>, AllocError> {
+/// Adds the bytes of a text.
+pub fn add_bytes(alloc: Global, out: &mut Vec<u8>, text: &str) -> Result<(), AllocError> {
+    let bytes = bytes_of(alloc, text)?;
+    out.extend_from_slice(bytes.as_slice())
+}
+
+/// The first state with three files.
+pub fn state_text(alloc: Global) -> Result<Vec<u8>, AllocError> {
     let front = FIRST.strip_suffix(NO_FILES).unwrap_or("");
     let mut text = bytes_of(alloc, front)?;
-    let files = bytes_of(alloc, FILES)?;
-    text.extend_from_slice(files.as_slice())?;
-    let digest = both_of(alloc, "", FILES_DIGEST)?;
-    text.extend_from_slice(digest.as_slice())?;
+    add_bytes(alloc, &mut text, FILES)?;
+    add_bytes(alloc, &mut text, NOTHING_BEHIND)?;
+    add_bytes(alloc, &mut text, FILES_DIGEST)?;
     Ok(text)
 }
 
@@ -76,7 +84,7 @@ fn fault_of(text: &str) -> UnitFault {
 }
 
 /// An answer, as `ok`, `NoFile=PTR` or `Failed=MTA7:Read:1`.
-fn answer_of(text: &str) -> Result<(), RestoreFault> {
+pub fn answer_of(text: &str) -> Result<(), RestoreFault> {
     let (kind, of) = text.split_once('=').unwrap_or((text, ""));
     match kind {
         "ok" => Ok(()),
@@ -98,7 +106,7 @@ fn add(alloc: Global, files: &mut MemFiles, word: &str) -> Option<()> {
 }
 
 /// Files with these names and bytes, of which these calls fail.
-fn files_of(alloc: Global, names: &str, fails: &str) -> Option<MemFiles> {
+pub fn files_of(alloc: Global, names: &str, fails: &str) -> Option<MemFiles> {
     let mut files = MemFiles::with_room(alloc, 4_194_305).ok()?;
     for word in names.split_whitespace() {
         add(alloc, &mut files, word)?;
@@ -111,15 +119,15 @@ fn files_of(alloc: Global, names: &str, fails: &str) -> Option<MemFiles> {
 
 /// The columns of a line of a table.
 #[derive(Clone, Copy)]
-struct Row<'a> {
-    line: &'a str,
-    names: &'a str,
-    fails: &'a str,
-    force: bool,
-    answer: &'a str,
+pub struct Row<'a> {
+    pub line: &'a str,
+    pub names: &'a str,
+    pub fails: &'a str,
+    pub force: bool,
+    pub answer: &'a str,
 }
 
-fn row_of(line: &str) -> Row<'_> {
+pub fn row_of(line: &str) -> Row<'_> {
     let (_, rest) = line.split_once(" | ").unwrap_or((line, ""));
     let (names, rest) = rest.split_once(" | ").unwrap_or((rest, ""));
     let (fails, answer) = rest.split_once(" | ").unwrap_or((rest, ""));
@@ -166,7 +174,7 @@ the second opening, forced | disk=sector reel= in=hello | 3F | Failed=MTA7:Openi
 a changed one and all closings | disk=sector reel= in=hellO | 12 13 14 | Changed=PTR";
 
 /// The units have their files, or none has one.
-fn stand(rt: &impl Abort, attached: &Attached, so: bool, line: &str) {
+pub fn stand(rt: &impl Abort, attached: &Attached, so: bool, line: &str) {
     let disk = if so { Some("disk") } else { None };
     let drive = if so { Some("reel") } else { None };
     let reader = if so { Some("in") } else { None };
@@ -234,7 +242,7 @@ fn save_fault_of(text: &str) -> Option<SaveFault> {
     }
 }
 
-fn same_files(found: &[SavedFile], wanted: &[SavedFile]) -> bool {
+pub fn same_files(found: &[SavedFile], wanted: &[SavedFile]) -> bool {
     found.len() == wanted.len()
         && found
             .iter()

@@ -8,6 +8,12 @@ mod ends;
 #[cfg(test)]
 mod faults;
 #[cfg(test)]
+mod same;
+#[cfg(test)]
+mod session;
+#[cfg(test)]
 mod texts;
+#[cfg(test)]
+mod units;
 #[cfg(test)]
 mod whole;

@@ -8,6 +8,7 @@ use Rattle.state_file.specs.Parts.{file_in}
 use Rattle.state_file.specs.Restoring.{files_in}
 use Rattle.state_file.specs.RestoringOne.{CanAttach}
 use Rattle.state_file.proofs.GivingBackLemmas.{still-held, copy-clean}
+use Rattle.state_file.proofs.RestoreCounts.{no-counts, their-counts}
 use Rattle.state_file.proofs.Together.{all-of, head-of, tail-of, apart-of}
 use Rattle.state_file.proofs.restoring.+give_back_all.Goals as goal
 
@@ -50,3 +51,20 @@ pub give_back-requires-clause-clean : goal.give_back-requires-clause-clean
 give_back-requires-clause-clean g t c = λ is.
     ap (λ (b : Buffer). b.written) c.give_back_all.ensures.disk
     ∙ copy-clean c.args.attached.now.disk (files_in c.in-Some.others.now) c.requires.clean
+
+pub returns-in-None-clause-counts : goal.returns-in-None-clause-counts
+returns-in-None-clause-counts g t c =
+    no-counts c.args.attached.now.slots (files_in c.args.saved.now) (g.F.Files.state c.args.files.now)
+
+pub returns-in-Some-clause-kept : goal.returns-in-Some-clause-kept
+returns-in-Some-clause-kept g t c = λ unit h there.
+    c.give_back_all.ensures.kept unit h (c.give_back.ensures.kept unit h there)
+
+pub returns-in-Some-clause-counts : goal.returns-in-Some-clause-counts
+returns-in-Some-clause-counts g t c =
+    let state = g.F.Files.state in
+    let all = all-of c.args.saved.now c.in-Some.first.now c.in-Some.others.now c.in-Some.ensures.cases.0 in
+    their-counts c.args.attached.now.slots c.give_back_all.new.attached.slots (file_in c.in-Some.first.now)
+    (files_in c.in-Some.others.now) (files_in c.args.saved.now) c.unit_of.result (state c.args.files.now)
+    (state c.give_back_all.new.files) (state c.give_back.new.files) all c.unit_of.ensures c.give_back_all.ensures.kept
+    c.give_back_all.ensures.counts c.give_back.ensures.count

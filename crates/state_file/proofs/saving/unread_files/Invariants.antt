@@ -1,8 +1,11 @@
 use Rattle.std.proofs.Common.{◌≡◌, take}
 use Rattle.unit_files.specs.Attachments.{attachments_of}
 use Rattle.state_file.specs.Restoring.{files_in}
-use Rattle.state_file.specs.SavingOne.{unread_files}
+use Rattle.state_file.specs.SavingOne.{unread_files, AreNamed}
 use Rattle.state_file.proofs.saving.unread_files.Given as goal
 
 abbrev pub invariant-loop-place : goal.invariant-loop-place
-invariant-loop-place l = files_in l.found.items ≡ unread_files (attachments_of l.attached.slots) (take l.place-index l.places)
+invariant-loop-place l = record {
+  files : files_in l.found.items ≡ unread_files (attachments_of l.attached.slots) (take l.place-index l.places);
+  named : AreNamed (files_in l.found.items);
+}

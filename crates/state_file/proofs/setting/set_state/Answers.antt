@@ -1,5 +1,6 @@
-use Rattle.std.proofs.Common.{rules, ◌≡◌}
-use Rattle.unit_files.specs.Attachments.{no_attachments}
+use Rattle.std.proofs.Common.{rules, ◌≡◌, subst, Some}
+use Rattle.unit_files.specs.Attachments.{held_at, no_attachments}
+use Rattle.nova_machine.specs.Machine.{MachineState}
 use Rattle.nova_machine.specs.Seen.{beside, erased}
 use Rattle.state_file.specs.Listening.{with_port}
 use Rattle.state_file.specs.Parts.{state_in}
@@ -18,3 +19,8 @@ returns-clause-back g c = λ tells keys.
     (beside c.args.watch.now keys (g.F.Files.state c.args.files.now).files (g.L.Lines.state c.args.lines.now))
     (beside c.in-Ok.tables keys (g.F.Files.state c.put_outside.new.files).files (g.L.Lines.state c.put_outside.new.lines))
     c.args.machine.now c.put_machine.new.machine (c.put_outside.ensures.files tells) machine lines c.in-Ok.ensures
+
+pub returns-clause-from : goal.returns-clause-from
+returns-clause-from g c = λ unit h there.
+    c.in_ok-put_outside.ensures.from unit h
+    (subst (λ (m : MachineState). held_at m.slots unit ≡ Some h) c.put_machine.ensures.machine there)

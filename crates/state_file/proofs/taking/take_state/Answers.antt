@@ -1,24 +1,34 @@
-use Rattle.std.proofs.Common.{◌≡◌, List, Option, map, sym, ap, subst, ◌∙◌}
+use Rattle.std.proofs.Common.{◌≡◌, ◌≤◌, List, Option, length, map, sym, ap, subst, ◌∙◌, arith}
 use Rattle.host_lines.specs.State.{LineState}
 use Rattle.telnet_lines.specs.Joined.{seen_line}
-use Rattle.unit_files.specs.Attachments.{Held, attachments_of}
-use Rattle.state_file.specs.Parts.{WatchPart, State, state_in}
+use Rattle.unit_files.specs.Attachments.{Held, attachments_of, file_units}
+use Rattle.state_file.specs.Parts.{State, state_in}
+use Rattle.state_file.specs.Restoring.{files_in}
 use Rattle.state_file.specs.Saving.{file_places, saved_files}
-use Rattle.state_file.specs.Valid.{WatchFits}
+use Rattle.state_file.specs.Valid.{Fits}
 use Rattle.state_file.specs.Session.{saved_machine, saved_port, saved_watch}
+use Rattle.state_file.proofs.TakenFits.{names-fit}
 use Rattle.state_file.proofs.TakenStates.{taken-is-saved}
 use Rattle.state_file.proofs.taking.take_state.Goals as goal
 
 pub returns-in-Ok-digest_all-clause-machine_part : goal.returns-in-Ok-digest_all-clause-machine_part
-returns-in-Ok-digest_all-clause-machine_part g c = ap (λ (s : State). s.machine) c.joined.ensures ∙ c.in-Ok.ensures
+returns-in-Ok-digest_all-clause-machine_part g c =
+    ap (λ (s : State). s.machine) c.joined.ensures ∙ c.in-Ok.ensures.machine
 
 pub returns-in-Ok-digest_all-clause-watch_part : goal.returns-in-Ok-digest_all-clause-watch_part
 returns-in-Ok-digest_all-clause-watch_part g c = ap (λ (s : State). s.watch) c.joined.ensures ∙ c.in-Ok-taken_watch.ensures.watch
 
-pub returns-in-Ok-digest_all-clause-watch_fits : goal.returns-in-Ok-digest_all-clause-watch_fits
-returns-in-Ok-digest_all-clause-watch_fits g c =
-    subst (λ (w : WatchPart). WatchFits w) (sym (ap (λ (s : State). s.watch) c.joined.ensures))
-    c.in-Ok-taken_watch.ensures.fit
+pub returns-in-Ok-digest_all-clause-fits : goal.returns-in-Ok-digest_all-clause-fits
+returns-in-Ok-digest_all-clause-fits g c =
+    let files = files_in c.in-Ok-digest_all.attachments.items in
+    let few : length files ≤ file_units = c.in-Ok-digest_all.ensures.few in
+    subst (λ (s : State). Fits s) (sym c.joined.ensures)
+    (record {
+      machine = c.in-Ok.ensures.fit;
+      files = omega (arith, few);
+      names = names-fit files c.in-Ok-digest_all.ensures.named;
+      watch = c.in-Ok-taken_watch.ensures.fit;
+    })
 
 pub returns-in-Ok-digest_all-clause-port_part : goal.returns-in-Ok-digest_all-clause-port_part
 returns-in-Ok-digest_all-clause-port_part g c = λ lines.
@@ -30,7 +40,8 @@ returns-in-Ok-digest_all-clause-told g c = λ t keys lines whole.
     let digested = c.in-Ok-digest_all.ensures in
     let x = state_in c.joined.result in
     let m = c.args.machine.now in
-    let machine : x.machine ≡ saved_machine m = ap (λ (s : State). s.machine) c.joined.ensures ∙ c.in-Ok.ensures in
+    let machine : x.machine ≡ saved_machine m =
+    ap (λ (s : State). s.machine) c.joined.ensures ∙ c.in-Ok.ensures.machine in
     let watch : x.watch ≡ saved_watch c.args.watch.now = ap (λ (s : State). s.watch) c.joined.ensures ∙ c.in-Ok-taken_watch.ensures.watch in
     let port : (l : LineState) → x.port ≡ saved_port (map (seen_line l) m.lines) =
     λ l. ap (λ (s : State). s.port) c.joined.ensures ∙ c.taken_port-port.ensures l in
