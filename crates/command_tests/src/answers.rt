@@ -65,6 +65,9 @@ fn fault_named(wanted: &str) -> Option<CommandFault> {
         "Console" => Some(CommandFault::Console),
         "BadSum" => Some(CommandFault::LoadSum(0)),
         "ScriptFailed" => Some(CommandFault::FileFailed(Subject::Script)),
+        "StateFailed" => Some(CommandFault::FileFailed(Subject::State)),
+        "NotState" => Some(CommandFault::NotState),
+        "Truncated" => Some(CommandFault::Truncated),
         "DumpFailed" => Some(CommandFault::FileFailed(Subject::Dump)),
         _ => None,
     }

@@ -20,7 +20,8 @@ pub fn four<P: Drop, Q: Drop, R: Drop, S: Drop>(
     Ok((first, second, third, fourth))
 }
 
-fn two<P: Drop, Q: Drop>(
+/// Boxes of two values.
+pub fn two<P: Drop, Q: Drop>(
     alloc: Global,
     first: P,
     second: Q,
@@ -47,5 +48,14 @@ pub fn push_four<U: Drop>(
     list.push(second)?;
     list.push(third)?;
     list.push(fourth)?;
+    Ok(())
+}
+
+/// Adds two values at the end of a list.
+pub fn push_two<U: Drop>(list: &mut Vec<U>, first: U, second: U) -> Result<(), OutOfMemory>
+    ensures { OnOk result (list.new.items ≡ list.old.items ++ (first ∷ second ∷ [])) }
+{
+    list.push(first)?;
+    list.push(second)?;
     Ok(())
 }

@@ -6,8 +6,6 @@ mod answers;
 #[cfg(test)]
 mod boxes;
 #[cfg(test)]
-mod built_lines;
-#[cfg(test)]
 mod checked;
 #[cfg(test)]
 mod consoles;
@@ -24,4 +22,8 @@ mod rows;
 #[cfg(test)]
 mod sessions;
 #[cfg(test)]
+mod states;
+#[cfg(test)]
 mod tables;
+#[cfg(test)]
+mod units;

@@ -1,6 +1,7 @@
 // Rows of tables: a command line, the room of the console that it is done on and its answer, and what it prints, with bars
 // between them. A $ stands for a newline.
 ghost use Rattle.unit_files.specs.Open.{AllOpen};
+ghost use Rattle.state_file.specs.SavedValid.{AreStandard};
 
 use crate::answers::is_wanted;
 use crate::checked::check;
@@ -31,6 +32,7 @@ pub fn all<U: Unit, F: Files>(
     table: &str,
 ) -> Result<(), AllocError>
     requires open { AllOpen session.old.machine.slots (F.state files.old).opened }
+    requires standard { AreStandard session.old.machine.units }
 {
     for row in table.lines() {
         does(rt, alloc, session, files, read(row))?;
@@ -58,7 +60,9 @@ fn does<U: Unit, F: Files>(
     row: Row,
 ) -> Result<(), AllocError>
     requires open { AllOpen session.old.machine.slots (F.state files.old).opened }
+    requires standard { AreStandard session.old.machine.units }
     ensures open { AllOpen session.new.machine.slots (F.state files.new).opened }
+    ensures standard { AreStandard session.new.machine.units }
 {
     let mut command = Command::new();
     reads(rt, &mut command, row.line);
@@ -89,7 +93,9 @@ fn answers<U: Unit, F: Files, L: Lines>(
     row: Row,
 ) -> Result<(), AllocError>
     requires open { AllOpen session.old.machine.slots (F.state files.old).opened }
+    requires standard { AreStandard session.old.machine.units }
     ensures open { AllOpen session.new.machine.slots (F.state files.new).opened }
+    ensures standard { AreStandard session.new.machine.units }
 {
     let mut out = ByteSink::with_room(alloc, row.room)?;
     let answer = execute(alloc, session, command, files, lines, &mut out);

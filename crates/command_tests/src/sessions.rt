@@ -1,23 +1,21 @@
-// A session with a paper tape reader, a punch, the printer of the console and the keyboard of a second teletype, which
-// has a terminal line.
-ghost use Rattle.std.specs.Prelude.{◌≡◌, [], ◌∷◌, List, IfOk, map};
+// A session of a machine with the standard units, whose second teletype has a terminal line.
+ghost use Rattle.std.specs.Prelude.{◌≡◌, List, IfOk, map, take};
 ghost use Rattle.host_files.specs.State.{Opened};
 ghost use Rattle.unit_files.specs.Open.{AllOpen};
-ghost use Rattle.unit_trait.specs.declared.kind.Kind.TheVariants.{Ptr as readers, Ptp as punches, Tto as teleprinters, Tti1 as keyboards};
+ghost use Rattle.unit_trait.specs.Kinds.{all_kinds};
 ghost use Rattle.unit_trait.specs.Row.{initial_unit};
+ghost use Rattle.state_file.specs.SavedValid.{AreStandard};
 
-use crate::boxes::{four, push_four};
 use crate::checked::check;
 use crate::rows::all;
+use crate::units::standard_units;
 use expect_actions::{Breaks, Expects, Keys, Sends, Watch};
 use file_commands::FaultNote;
 use host_files::{FileCall, Files, MemFiles};
 use nova_word::{Addr, Word};
-use paper_tape::{Ptp, Ptr};
 use scp_commands::Session;
 use std::alloc::{AllocError, Global};
 use std::process::Abort;
-use tty_units::{Tti1, Tto};
 use unit_trait::Unit;
 
 /// A note: its time, its call, and how many bytes were written.
@@ -52,87 +50,30 @@ pub fn play<F: Files>(
     table: &str,
     notes: &[Note],
 ) -> Result<(), AllocError> {
-    let (reader, punch, teleprinter, keyboard) = four(
-        alloc,
-        Ptr::new(),
-        Ptp::new(),
-        Tto::new(),
-        Tti1::new(),
-    )?;
-    // The others become such boxes too, since they go into one list with it.
-    let reader: Box<dyn Unit> = reader;
-    play_with(
-        rt,
-        alloc,
-        reader,
-        punch,
-        teleprinter,
-        keyboard,
-        watched,
-        files,
-        table,
-        notes,
-    )
+    let units = standard_units(alloc)?;
+    play_with(rt, alloc, units, watched, files, table, notes)
 }
 
 fn play_with<U: Unit, F: Files>(
     rt: &impl Abort,
     alloc: Global,
-    reader: U,
-    punch: U,
-    teleprinter: U,
-    keyboard: U,
+    units: Vec<U>,
     watched: Watched,
     files: &mut F,
     table: &str,
     notes: &[Note],
 ) -> Result<(), AllocError>
-    requires reader { U.unit_state reader ≡ initial_unit readers }
-    requires punch { U.unit_state punch ≡ initial_unit punches }
-    requires teleprinter { U.unit_state teleprinter ≡ initial_unit teleprinters }
-    requires keyboard { U.unit_state keyboard ≡ initial_unit keyboards }
+    requires { map U.unit_state units.items ≡ map initial_unit (take 10 all_kinds) }
 {
-    let session = session_of(alloc, reader, punch, teleprinter, keyboard)?;
-    play_in(rt, alloc, session, watched, files, table, notes)
-}
-
-fn play_in<U: Unit, F: Files>(
-    rt: &impl Abort,
-    alloc: Global,
-    session: Session<U>,
-    watched: Watched,
-    files: &mut F,
-    table: &str,
-    notes: &[Note],
-) -> Result<(), AllocError>
-    requires { (opened : List Opened) → AllOpen session.machine.slots opened }
-{
-    let mut session = session;
+    let mut session = opened(alloc, units)?;
     plays(rt, alloc, &mut session, watched, files, table, notes)
 }
 
-/// A session with these units.
-fn session_of<U: Unit>(
-    alloc: Global,
-    reader: U,
-    punch: U,
-    teleprinter: U,
-    keyboard: U,
-) -> Result<Session<U>, AllocError>
-    requires reader { U.unit_state reader ≡ initial_unit readers }
-    requires punch { U.unit_state punch ≡ initial_unit punches }
-    requires teleprinter { U.unit_state teleprinter ≡ initial_unit teleprinters }
-    requires keyboard { U.unit_state keyboard ≡ initial_unit keyboards }
-    ensures { IfOk result (λ s. (opened : List Opened) → AllOpen s.machine.slots opened) }
-{
-    let mut units = Vec::new(alloc);
-    push_four(&mut units, reader, punch, teleprinter, keyboard)?;
-    opened(alloc, units)
-}
-
+/// A session of a machine with these units.
 fn opened<U: Unit>(alloc: Global, units: Vec<U>) -> Result<Session<U>, AllocError>
-    requires { map U.unit_state units.items ≡ map initial_unit (readers ∷ punches ∷ teleprinters ∷ keyboards ∷ []) }
-    ensures { IfOk result (λ s. (opened : List Opened) → AllOpen s.machine.slots opened) }
+    requires { map U.unit_state units.items ≡ map initial_unit (take 10 all_kinds) }
+    ensures open { IfOk result (λ s. (opened : List Opened) → AllOpen s.machine.slots opened) }
+    ensures standard { IfOk result (λ s. AreStandard s.machine.units) }
 {
     Session::new(alloc, units, Keys::none(alloc), 1 << 48)
 }
@@ -146,7 +87,8 @@ fn plays<U: Unit, F: Files>(
     table: &str,
     notes: &[Note],
 ) -> Result<(), AllocError>
-    requires { AllOpen session.old.machine.slots (F.state files.old).opened }
+    requires open { AllOpen session.old.machine.slots (F.state files.old).opened }
+    requires standard { AreStandard session.old.machine.units }
 {
     session.command = 7;
     fill(&mut session.watch, watched);

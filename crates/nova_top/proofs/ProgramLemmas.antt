@@ -16,6 +16,8 @@ use Rattle.telnet_lines.specs.Line.{renamed, unconnected}
 use Rattle.telnet_lines.specs.Joined.{seen_line}
 use Rattle.unit_trait.specs.declared.kind.UnitName.{UnitName}
 use Rattle.unit_trait.specs.Calls.{UnitState}
+use Rattle.unit_list.specs.Bus.{kinds_of}
+use Rattle.unit_list.proofs.Resets.{reset-kinds}
 use Rattle.unit_files.specs.Attachments.{Attachment, Held, attachment_at, file_place, file_units, no_files}
 use Rattle.unit_files.specs.Open.{AllOpen, Around}
 use Rattle.file_commands.specs.declared.note.FaultNote.{FaultNote}
@@ -29,6 +31,7 @@ use Rattle.expect_actions.specs.Watch.{WatchState, empty_watch}
 use Rattle.nova_machine.specs.Machine.{MachineState, new_machine, reset_machine, reset_devices}
 use Rattle.nova_machine.specs.Seen.{seen, beside, erased, attached_in}
 use Rattle.nova_machine.specs.Comes.{Output, output}
+use Rattle.state_file.specs.SavedValid.{AreStandard}
 use Rattle.scp_commands.specs.Live.{Live, CommandState, Beyond, beyond, live_in}
 use Rattle.scp_commands.specs.Doing.{IsLate, ComeBehind}
 use Rattle.scp_script.specs.declared.progress.Finish.{Finish}
@@ -67,6 +70,15 @@ pub new-slots : (workload : Option ℕ) (units : List UnitState) → (with_workl
 unfolding new_machine reset_machine reset_devices
 new-slots None units = refl
 new-slots (Some number) units = refl
+
+-- a new machine of the standard units has their kinds
+new-kinds : (workload : Option ℕ) (units : List UnitState) → kinds_of (with_workload workload (new_machine units)).units ≡ kinds_of units
+unfolding new_machine reset_machine reset_devices
+new-kinds None units = reset-kinds units
+new-kinds (Some number) units = reset-kinds units
+
+pub new-standard : (workload : Option ℕ) (units : List UnitState) → IsStandard units → AreStandard (with_workload workload (new_machine units)).units
+new-standard workload units is = new-kinds workload units ∙ ap kinds_of is
 
 no-closing : (workload : Option ℕ) (units : List UnitState) (live : Live) (n : CommandNote) → live.machine ≡ erased (with_workload workload (new_machine units)) → IsLate live n → ⊥
 no-closing workload units live n new closing =

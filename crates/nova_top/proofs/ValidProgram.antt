@@ -17,13 +17,15 @@ use Rattle.file_commands.specs.declared.note.Subject.TheVariants as subject
 use Rattle.file_commands.specs.Notes.{Note}
 use Rattle.whole_files.specs.Whole.{WholeSaid, WholeIs}
 use Rattle.whole_files.specs.Whole as whole
-use Rattle.expect_actions.specs.KeysFile.{Key, KeysLine, keys_of, time_read, says_read, line_read, next_read, keys_from, keys_read, lines_of, most_keys}
+use Rattle.expect_actions.specs.KeysFile.{Key, KeysLine, keys_of, time_read, says_read, line_read, next_read, keys_from, keys_read, lines_of, most_keys, IsAnswer}
+use Rattle.expect_actions.proofs.AnswerLemmas.{computed_answers}
 use Rattle.expect_actions.specs.Watch.{empty_watch}
 use Rattle.host_lines.specs.Traffic.{Peer, Gone, Ahead}
 use Rattle.telnet_lines.specs.Line.{unconnected, renamed}
+use Rattle.unit_files.specs.Attachments.{Held}
 use Rattle.nova_machine.specs.Machine.{MachineState, reset_devices, reset_machine, new_machine}
 use Rattle.nova_machine.specs.Seen.{unnumbered, erased}
-use Rattle.nova_machine.specs.Valid.{AreBytes, ValidMachine, ValidLine, DiskIsItsFile}
+use Rattle.nova_machine.specs.Valid.{AreBytes, HasByteName, ValidMachine, ValidLine, DiskIsItsFile}
 use Rattle.nova_machine.proofs.StayingValid.{runs-stay-valid, kinds-begin}
 use Rattle.nova_machine.proofs.ValidBytes.{AreFiles, every-append, every-take, every-drop}
 use Rattle.scp_commands.specs.Valid.{ValidLive}
@@ -101,29 +103,44 @@ from-keys time keys place (line ∷ others) all =
     by-says None bytes more = tt
     by-says (Some says) bytes more = more says bytes
 
-read-keys : (bytes : List ℕ) → GivesKeys (keys_read bytes)
+bytes-read : (bytes : List ℕ) → GivesKeys (keys_read bytes)
 unfolding keys_read
-read-keys bytes = from-keys 0 [] 0 (lines_of bytes) tt
+bytes-read bytes = from-keys 0 [] 0 (lines_of bytes) tt
+
+-- of bytes, and no more of them than a session takes
+abbrev GoodKeys : List Key → Type 0
+GoodKeys keys = AllByRecursion KeyByte keys × (length keys ≤ most_keys)
+
+abbrev GivesGood : Result (List Key) ℕ → Type 0
+GivesGood (Ok keys) = GoodKeys keys
+GivesGood (Err place) = Unit {0}
+
+good-answer : (bytes : List ℕ) (r : Result (List Key) ℕ) → GivesKeys r → IsAnswer bytes r → GivesGood r
+good-answer bytes (Ok keys) gives is = (gives, subst (λ (l : List Key). length l ≤ most_keys) (sym is.give) is.kept.few)
+good-answer bytes (Err place) gives is = tt
+
+read-keys : (bytes : List ℕ) → GivesGood (keys_read bytes)
+read-keys bytes = good-answer bytes (keys_read bytes) (bytes-read bytes) (computed_answers bytes)
 
 -- ---- how it starts
 
 abbrev HasBytes : Option (List ℕ) → Type 0
 HasBytes script = IfSome script AreBytes
 
--- a limit and a budget in range, and keys and a script of bytes
+-- a limit and a budget in range, few enough keys, and keys and a script of bytes
 abbrev IsGoodStart : Start → Type 0
 IsGoodStart (Refused status text) = Unit {0}
-IsGoodStart (Begins options keys script) = (options.budget ≤ 2 ^ 32) × IsLimit options.limit × AllByRecursion KeyByte keys × HasBytes script
+IsGoodStart (Begins options keys script) = (options.budget ≤ 2 ^ 32) × IsLimit options.limit × GoodKeys keys × HasBytes script
 
 abbrev AreKeys : Result (List Key) Denial → Type 0
-AreKeys (Ok keys) = AllByRecursion KeyByte keys
+AreKeys (Ok keys) = GoodKeys keys
 AreKeys (Err denial) = Unit {0}
 
 abbrev IsScript : Result (Option (List ℕ)) Denial → Type 0
 IsScript (Ok script) = HasBytes script
 IsScript (Err denial) = Unit {0}
 
-or-keys : (r : Result (List Key) ℕ) → GivesKeys r → AreKeys (or_bad_keys r)
+or-keys : (r : Result (List Key) ℕ) → GivesGood r → AreKeys (or_bad_keys r)
 or-keys (Ok keys) gives = gives
 or-keys (Err place) gives = tt
 
@@ -134,7 +151,7 @@ keys-said name whole.TooLong = tt
 keys-said name whole.CallFailed = tt
 
 keys-taken : (name : Option (List ℕ)) (files : List NamedBytes) (notes : List Note) → AreKeys (taken_keys name files notes).0
-keys-taken None files notes = tt
+keys-taken None files notes = (tt, omega arith)
 keys-taken (Some name) files notes = keys-said name (word_file subject.Keys name files notes).0
 
 script-said : (name : List ℕ) (said : WholeSaid) → GivesWhole said → IsScript (script_from name said)
@@ -208,6 +225,11 @@ workload-valid (Some number) m is =
     let like = filled-like number m.processor.memory is.memory in
     memory-valid m (filled number m.processor.memory) is like.memory (subst IsSize (sym like.size) is.size)
 
+erased-names : (slots : List (Option Held)) → AllByRecursion HasByteName slots → AllByRecursion HasByteName (map unnumbered slots)
+erased-names [] all = tt
+erased-names (None ∷ slots) all = (tt, erased-names slots all.1)
+erased-names (Some h ∷ slots) all = (all.0, erased-names slots all.1)
+
 erased-valid : (m : MachineState) → ValidMachine m → ValidMachine (erased m)
 erased-valid m is = record {
   memory = is.memory;
@@ -217,6 +239,7 @@ erased-valid m is = record {
   switches = is.switches;
   core = record { registers = is.core.registers; sound = is.core.sound; listed = is.core.listed; times = is.core.times };
   places = length-map m.slots unnumbered ∙ is.places;
+  names = erased-names m.slots is.names;
   disk = is.disk;
 }
 
@@ -282,7 +305,8 @@ opening-good words options keys script files ahead input notes handed good =
             machine = erased-valid m (first-valid options.workload);
             watch = runs-stay-valid.nothing_watched;
             taken = omega (arith, taken);
-            keys = good.2;
+            known = good.2.1;
+            keys = good.2.0;
             files = handed.each_file;
             lines = fresh.lines;
             ahead = handed.comes;

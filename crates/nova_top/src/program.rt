@@ -15,6 +15,7 @@ ghost use Rattle.host_lines.specs.Told.{IsFirst, record_in};
 ghost use Rattle.telnet_lines.specs.Line.{unconnected};
 ghost use Rattle.nova_machine.specs.Seen.{seen, beside};
 ghost use Rattle.nova_machine.specs.Comes.{output as heard_output};
+ghost use Rattle.state_file.specs.SavedValid.{AreStandard};
 ghost use Rattle.scp_commands.specs.Live.{beyond};
 ghost use Rattle.scp_script.specs.Loop.{FinishCause, AreKept};
 ghost use Rattle.scp_script.specs.Perform.{beginning, Performed};
@@ -247,7 +248,7 @@ fn refused<U: Unit>(
     }
 }
 
-/// Does all lines of a session on a machine with one terminal line, which has no port.
+/// Does all lines of a session on a machine with the standard units and one terminal line, which has no port.
 fn run_session<U: Unit, C: Source, S: Sink, F: Files, L: Lines>(
     alloc: Global,
     session: Session<U>,
@@ -259,6 +260,7 @@ fn run_session<U: Unit, C: Source, S: Sink, F: Files, L: Lines>(
 ) -> Ending<U>
     requires command { session.command ≡ 0 }
     requires budget { opening.now.budget ≤ 2 ^ 32 }
+    requires standard { AreStandard session.machine.units }
     requires open { AllOpen session.machine.slots (F.state files.old).opened }
     requires lines { session.machine.lines ≡ unconnected None ∷ [] }
     ensures ended { SessionEnds result.status result.machine

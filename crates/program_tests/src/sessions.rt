@@ -4,8 +4,8 @@ use std::test::Fail;
 
 const SESSIONS: &str = "; the first fault of each line, from the left
 lines=FOO~E 8~STEP 0~D SIZE 1~E XYZ~D AC0 200000~GO 1 2~ | prints=Unknown command~Invalid number at 2~Value out of range~Read only name~No such name~Value out of range~Too many arguments at 5~
-; memory of a size, conditions and texts; a line of a command that is not built is not read
-lines=SET CPU 4K~SHOW CPU~D 10000 1~ASSERT SIZE=10000~AS PC>0~ECHO  a b ~RESTORE~SAVE 8 9~B ;~SET TTI1 DISCONNECT~SHOW VERSION~ | prints=CPU, 4K~Value out of range~Assertion failed~ a b ~Not built~Not built~Invalid number at 2~Unit not attached~Nova simulator, project version 1~
+; memory of a size, conditions and texts; a state file without a name
+lines=SET CPU 4K~SHOW CPU~D 10000 1~ASSERT SIZE=10000~AS PC>0~ECHO  a b ~RESTORE~SAVE~B ;~SET TTI1 DISCONNECT~SHOW VERSION~ | prints=CPU, 4K~Value out of range~Assertion failed~ a b ~Too few arguments~Too few arguments~Invalid number at 2~Unit not attached~Nova simulator, project version 1~
 lines=DEPOSIT 40 7~DEPOSIT 100 20040~DEPOSIT PC 100~STEP~EXAMINE AC0~EXIT~ | prints=~Step expired, PC: 00101 (000000)~AC0:\t000007~
 ; an empty input ends well, and not for want of memory
 lines= | prints=

@@ -1,9 +1,9 @@
 -- What the answers to commands say of terminal lines.
-use Rattle.std.proofs.Common.{◌≡◌, sym, refl, subst, ℕ, Bool, true, false, List, [], ◌∷◌, slice_get, slice_set, Option, Some, None, IsSome, OnOk, Ok, Err}
+use Rattle.std.proofs.Common.{◌≡◌, sym, refl, subst, ℕ, Bool, List, [], ◌∷◌, slice_get, slice_set, Option, Some, None, IsSome, Err}
 use Rattle.std.proofs.lemmas.Option.{same_Some}
 use Rattle.host_lines.specs.State.{LineState}
 use Rattle.telnet_lines.specs.Line.{LineOf}
-use Rattle.scp_parser.specs.Command.{Request, Run, Go, Cont, Step, AttachPort, Detach, Disconnect, Exit}
+use Rattle.scp_parser.specs.Command.{Request, Run, Go, Cont, Step, AttachPort, Detach, Disconnect, Restore, Exit}
 use Rattle.scp_commands.specs.declared.fault.CommandFault.TheVariants.{NotBuilt}
 use Rattle.scp_commands.specs.Reply.{Answer}
 use Rattle.scp_commands.specs.Nature.{IsUntold}
@@ -90,6 +90,7 @@ pub untold-stays : (tells : Bool) (r : Request) (answer : Answer) (s : LineState
 untold-stays tells (AttachPort kind port) answer s before after untold same = absurd (cc untold.0)
 untold-stays tells (Disconnect kind) answer s before after untold same = absurd (cc untold.0)
 untold-stays tells (Detach unit) answer s before after untold same = absurd (cc untold.1)
+untold-stays tells (Restore force name) answer s before after untold same = absurd (cc untold.0)
 untold-stays tells (Exit status) answer s before after untold same = absurd (cc untold.1)
 untold-stays tells (Run address) answer s before after untold same = tt
 untold-stays tells (Go address) answer s before after untold same = tt

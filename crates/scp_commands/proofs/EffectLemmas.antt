@@ -1,6 +1,6 @@
 -- What holds of every command: it reads nothing, the status of an exit is small, and one that is refused has changed
 -- nothing but files.
-use Rattle.std.proofs.Common.{◌≡◌, ℕ, Bool, true, false, List, [], ◌∷◌, refl, sym, subst, ◌∙◌, Option, Some, None, Result, Ok, Err, if◌then◌else◌, nat_le, nat_lt, not, ◌==◌, length, ◌+◌, ◌&&◌, ◌^◌, min, unwrap_or, arith, is_none, is_some}
+use Rattle.std.proofs.Common.{◌≡◌, ℕ, Bool, true, false, List, [], ◌∷◌, refl, sym, subst, ◌∙◌, drop, Option, Some, None, Result, Ok, Err, if◌then◌else◌, nat_le, nat_lt, not, ◌==◌, length, ◌+◌, ◌&&◌, ◌^◌, min, unwrap_or, arith, is_none, is_some}
 use Rattle.std.proofs.lemmas.Bool.{leb-true}
 use Rattle.observations.specs.Observations.{Prints, reads_of, map_made}
 use Rattle.observations.proofs.MadeLemmas.{reads_of-append, reads_of-map}
@@ -12,6 +12,7 @@ use Rattle.unit_files.specs.Acts.{AttachSaid, Attached, UnitHasFile, OnlyWrites,
 use Rattle.host_files.specs.Lists.{NamedBytes, bytes_of, changed}
 use Rattle.unit_files.specs.Acts.{Failure, DetachSaid, HadNone, StillHeld, Detached, attach_said, attach_files, detach_said, detach_said_of}
 use Rattle.unit_files.specs.Acts.{closing_said, flush_failure, flush_files, is_due_back, written_back}
+use Rattle.file_commands.specs.declared.note.Subject.{Subject}
 use Rattle.file_commands.specs.declared.note.Subject.TheVariants as subject
 use Rattle.whole_files.specs.Whole.{WholeSaid, WholeIs, whole_act}
 use Rattle.whole_files.specs.Whole as whole
@@ -57,7 +58,16 @@ use Rattle.scp_commands.specs.ShowEffects.{show_reply}
 use Rattle.scp_commands.specs.ExitEffects.{exit_reply}
 use Rattle.scp_commands.specs.SetEffects.{set_size_reply}
 use Rattle.scp_commands.specs.ScriptEffects.{test_answer, echo_reply, assert_reply, do_answer, do_reply, goto_reply}
-use Rattle.scp_commands.specs.WholeCalls.{whole_calls, write_calls}
+use Rattle.scp_commands.specs.WholeCalls.{whole_calls, write_calls, wrote_answer}
+use Rattle.scp_commands.specs.StateEffects.{unit_claim, flushed_with, save_by, save_reply, is_occupied, heard_live, listened_back, ported_back, restored_by, restored_as, restored_from, restore_reply}
+use Rattle.state_file.specs.declared.fault.StateFault.{StateFault}
+use Rattle.state_file.specs.Listening.{wants_port}
+use Rattle.state_file.specs.Parts.{State}
+use Rattle.state_file.specs.Reading.{reading}
+use Rattle.state_file.specs.Restoring.{FileRefusal}
+use Rattle.state_file.specs.Saving.{first_unsaved}
+use Rattle.state_file.specs.Session.{saved}
+use Rattle.state_file.specs.Text.{text}
 use Rattle.scp_commands.specs.TapeEffects.{tape_in, tape_answer, tape_machine, loaded_machine, load_answer, load_reply, can_dump, dump_of, dump_answer, dump_after, dump_reply}
 use Rattle.binary_load.specs.declared.faults.LoadFault.{LoadFault}
 use Rattle.binary_load.specs.declared.faults.LoadFault.TheVariants as tape
@@ -68,6 +78,7 @@ use Rattle.scp_commands.specs.Nature.{nature}
 use Rattle.scp_commands.specs.Remains.{Remains}
 use Rattle.scp_commands.specs.Laws.{LeavesTraces, IsUntouched, RefusalsChangeNothing}
 use Rattle.scp_commands.proofs.TraceLemmas.{files-kept}
+use Rattle.scp_commands.proofs.SaveLemmas.{copy-left}
 
 -- what holds of a reply to a command that was given in that state, flushes the disk or does not, and leaves files changed
 -- only where it is refused with those faults
@@ -474,6 +485,95 @@ fair-dump notes live from to name =
     (fair-dump_after from to name (write_act (write_calls subject.Dump live.machine.time notes) name (dump_of live.machine from to) live.files) live)
     (fair-refused _ live)
 
+-- ---- SAVE and RESTORE
+
+-- what was refused may have flushed the disk, and left a part in a file
+fair-unsaved : (claim : Option (UnitName × Failure)) (name : List ℕ) (who : Subject) (used : ℕ) (live : Live) (files : List NamedBytes)
+    → Fair true (LeavesTraces (request.Save name)) live (record { made = []; answer = Err (FileFailed who); after = standing used (record (flushed_with claim live) { files = files }) })
+fair-unsaved claim name who used live files = record {
+  reads = refl;
+  exit = tt;
+  untouched = λ fault h. record { machine = copy-left claim live.machine; watch = refl; keys = refl; lines = refl; text = refl };
+  all = λ fault h none.
+      let same : FileFailed who ≡ fault = cc in
+      absurd (none (subst (λ (x : CommandFault). LeavesTraces (request.Save name) x) same tt));
+}
+
+fair-save : (notes : List CommandNote) (live : Live) (name : List ℕ) → Fair true (LeavesTraces (request.Save name)) live (save_reply notes live name)
+unfolding save_reply
+fair-save notes live name = by-claim (first_unsaved claim (attached_in live.machine) live.machine.disk live.files)
+  where
+    claim : Option (UnitName × Failure)
+    claim = unit_claim live.machine.time notes
+
+    flushed : Live
+    flushed = flushed_with claim live
+
+    act : WriteAct
+    act = write_act (write_calls subject.State flushed.machine.time notes) name (text (saved flushed)) flushed.files
+
+    by-said : (said : WriteSaid) → Fair true (LeavesTraces (request.Save name)) live
+        (record { made = []; answer = wrote_answer subject.State said; after = standing act.met (record flushed { files = act.files }) })
+    by-said AllWritten = record { reads = refl; exit = tt; untouched = λ fault h. absurd (cc); all = λ fault h none. absurd (cc) }
+    by-said WriteFailed = fair-unsaved claim name subject.State act.met live act.files
+
+    by-claim : (o : Option (UnitName × Failure)) → Fair true (LeavesTraces (request.Save name)) live (save_by o notes name flushed)
+    by-claim (Some call) = fair-unsaved claim name (subject.Unit call.0) 1 live flushed.files
+    by-claim None = by-said act.said
+
+fair-done : {W : CommandFault → Type 0} (used : ℕ) (before after : Live) → Fair false W before (record { made = []; answer = Ok Go; after = standing used after })
+fair-done used before after = record { reads = refl; exit = tt; untouched = λ fault h. absurd (cc); all = λ fault h none. absurd (cc) }
+
+fair-ends : {W : CommandFault → Type 0} (fault : CommandFault) (used : ℕ) (live : Live) → Fair false W live (record { made = []; answer = Err fault; after = standing used live })
+fair-ends fault used live = record {
+  reads = refl;
+  exit = tt;
+  untouched = λ other h. record { machine = refl; watch = refl; keys = refl; lines = refl; text = refl };
+  all = λ other h none. refl;
+}
+
+-- a port that could not be listened on is the one fault that leaves something, and that on lines alone
+fair-listened_back : (force : Bool) (name : List ℕ) (said : Replied) (used : ℕ) (s : State) (live : Live)
+    → Fair false (LeavesTraces (request.Restore force name)) live (listened_back said used s live)
+fair-listened_back force name said used s live = by said.answer
+  where
+    by : (answer : LineAnswer) → Fair false (LeavesTraces (request.Restore force name)) live
+        (record { made = []; answer = listen_answer answer; after = standing used (record (heard_live answer s live) { ahead = said.ahead }) })
+    by Failed = record {
+      reads = refl;
+      exit = tt;
+      untouched = λ fault h. record { machine = refl; watch = refl; keys = refl; lines = refl; text = refl };
+      all = λ fault h none.
+          let same : PortFailed ≡ fault = cc in
+          absurd (none (subst (λ (x : CommandFault). LeavesTraces (request.Restore force name) x) same tt));
+    }
+    by other = fair-done used live _
+
+fair-restored : (force : Bool) (name : List ℕ) (o : Option (UnitName × FileRefusal)) (used : ℕ) (s : State) (live : Live)
+    → Fair false (LeavesTraces (request.Restore force name)) live (restored_by o used s live)
+fair-restored force name (Some refusal) used s live = fair-ends _ _ live
+fair-restored force name None used s live = by-port (wants_port s.port live.lines)
+  where
+    by-port : (b : Bool) → Fair false (LeavesTraces (request.Restore force name)) live (ported_back b used s live)
+    by-port true = fair-listened_back force name (listening live.ahead) used s live
+    by-port false = fair-done used live _
+
+fair-restore : (notes : List CommandNote) (live : Live) (force : Bool) (name : List ℕ) → Fair false (LeavesTraces (request.Restore force name)) live (restore_reply notes live force name)
+unfolding restore_reply
+fair-restore notes live force name =
+    let read = whole_act (whole_calls subject.State live.machine.time notes) name live.files in
+    fair-if (is_occupied (attached_in live.machine) live.lines) live _ _ (fair-refused _ live) (by-said read.0 read.1)
+  where
+    by-state : (r : Result State StateFault) (used : ℕ) → Fair false (LeavesTraces (request.Restore force name)) live (restored_as force used (drop used notes) r live)
+    by-state (Err fault) used = fair-ends _ used live
+    by-state (Ok s) used = fair-restored force name _ used s live
+
+    by-said : (said : WholeSaid) (used : ℕ) → Fair false (LeavesTraces (request.Restore force name)) live (restored_from force (said, used) notes live)
+    by-said (WholeIs bytes) used = by-state (reading bytes) used
+    by-said whole.NotThere used = fair-ends _ used live
+    by-said whole.TooLong used = fair-ends _ used live
+    by-said whole.CallFailed used = fair-ends _ used live
+
 pub fair-effect : (limit : ℕ) (notes : List CommandNote) (live : Live) (r : Request) → Fair (nature r).flushes (LeavesTraces r) live (effect limit notes live r)
 unfolding effect
 fair-effect limit notes live request.Nothing = fair-goes live live
@@ -503,7 +603,8 @@ fair-effect limit notes live (request.Echo text) = fair-echo live text
 fair-effect limit notes live (request.Exit status) = fair-exit notes live status
 fair-effect limit notes live (request.Load name) = fair-load notes live name
 fair-effect limit notes live (request.Dump from to name) = fair-dump notes live from to name
-fair-effect limit notes live r = fair-refused _ live
+fair-effect limit notes live (request.Save name) = fair-save notes live name
+fair-effect limit notes live (request.Restore force name) = fair-restore notes live force name
 
 -- a command reads nothing
 pub does-reads : (limit : ℕ) (notes : List CommandNote) (live : Live) (asked : Asked) → reads_of (does limit notes live asked).made ≡ 0

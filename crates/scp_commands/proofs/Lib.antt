@@ -4,6 +4,7 @@ pub mod RunLemmas
 pub mod StartLemmas
 pub mod RunStopLemmas
 pub mod ListLemmas
+pub mod KindLemmas
 pub mod ShowLemmas
 pub mod TraceLemmas
 pub mod EffectLemmas
@@ -25,6 +26,11 @@ pub mod TapeLemmas
 pub mod ScriptLemmas
 pub mod SetLemmas
 pub mod AskedLemmas
+pub mod LateClaims
+pub mod SaveLemmas
+pub mod RestoreLemmas
+pub mod RestoreLines
+pub mod RestoreNotes
 pub mod PortLemmas
 pub mod PortCommands
 pub mod AnswerLemmas

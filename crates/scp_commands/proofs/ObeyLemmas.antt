@@ -16,7 +16,7 @@ use Rattle.operand_forms.specs.declared.listing.Test.{Test}
 use Rattle.scp_parser.specs.declared.command.Piece.{Piece}
 use Rattle.scp_parser.specs.declared.command.Verb.{Verb}
 use Rattle.scp_parser.specs.declared.command.Verb.TheVariants as verb
-use Rattle.scp_parser.specs.Command.{Request, Break, Expect, Send, Attach, AttachPort, Do, Load, Dump, piece_of, request_of, file_name_of, given_text, given_quoted}
+use Rattle.scp_parser.specs.Command.{Request, Break, Expect, Send, Attach, AttachPort, Do, Load, Dump, Save, Restore, piece_of, request_of, file_name_of, given_text, given_quoted}
 use Rattle.expect_actions.specs.Expects.{most_expects}
 use Rattle.expect_actions.specs.Sends.{most_sends}
 use Rattle.scp_examine.specs.declared.fault.ExamineFault.{ExamineFault}
@@ -25,9 +25,9 @@ use Rattle.scp_examine.specs.Effect.{examine_fault, fault_of_deposit, tested}
 use Rattle.nova_machine.specs.Comes.{Output}
 use Rattle.scp_commands.specs.declared.next.Next.TheVariants.{Go, Goto, Ran}
 use Rattle.scp_commands.specs.declared.fault.CommandFault.TheVariants.{Console, OutOfMemory, NoFile, FileTooLong, FileFailed, PortFailed, NotBuilt}
-use Rattle.scp_commands.specs.declared.fault.CommandFault.TheVariants.{LoadTruncated, LoadSum, PastMemory}
+use Rattle.scp_commands.specs.declared.fault.CommandFault.TheVariants.{LoadTruncated, LoadSum, PastMemory, NotState, Version, BadDigest, BadField, Truncated, Changed}
 use Rattle.scp_commands.specs.Live.{Live, Standing, standing, Beyond, beyond}
-use Rattle.scp_commands.specs.Reply.{Answer, Reply, goes, refused}
+use Rattle.scp_commands.specs.Reply.{Answer, Reply, goes}
 use Rattle.scp_commands.specs.RunEffects.{reset_reply}
 use Rattle.scp_commands.specs.ListEffects.{lacks_device, examine_after, examine_reply, handed, deposit_after, deposit_reply}
 use Rattle.scp_commands.specs.LineEffects.{is_terminal, terminal_line, show_line}
@@ -40,10 +40,9 @@ use Rattle.scp_commands.specs.SetEffects.{set_size_reply}
 use Rattle.scp_commands.specs.ScriptEffects.{test_answer, echo_reply, assert_reply, goto_reply}
 use Rattle.scp_commands.specs.Effect.{effect}
 use Rattle.file_commands.specs.declared.note.Subject.{Subject}
-use Rattle.scp_commands.specs.Nature.{Telling, Nothing, Ported, Attached, Nature, of_nature, plain, nature, IsUntold}
-use Rattle.file_commands.specs.declared.stamp.Stamp.{Stamp}
+use Rattle.scp_commands.specs.Nature.{Telling, Ported, Attached, Nature, of_nature, plain, nature, IsUntold}
 use Rattle.scp_commands.specs.Refusals.{IsMeasured}
-use Rattle.scp_commands.specs.Doing.{Does, Did, FileCause, Keeps, MayWant, AttachNote, IsOwn, IsPlain, IsShown, IsRunAnswer, IsOfPort}
+use Rattle.scp_commands.specs.Doing.{Does, Did, FileCause, Keeps, KeepsBy, CauseBy, note_time, is_restore, MayWant, IsOwn, IsPlain, IsShown, IsRunAnswer, IsOfPort}
 use Rattle.host_files.specs.Lists.{NamedBytes}
 use Rattle.host_lines.specs.Traffic.{Peer, Gone}
 use Rattle.host_lines.specs.Told.{Heard, Named, Records}
@@ -75,14 +74,16 @@ unheard = Named []
 pub lines-kept : (tells : Bool) (s : LineState) (before after : List (LineOf ℕ)) → after ≡ before → LinesLeft tells s before s after
 lines-kept tells s before after same = subst (λ (ls : List (LineOf ℕ)). LinesLeft tells s before s ls) (sym same) (left-same tells s before)
 
--- an answer that speaks of no port, of a command that is no ATTACH of one
-abbrev pub IsNoAttachPort : Request → Type 0
-IsNoAttachPort (AttachPort kind port) = ⊥
-IsNoAttachPort request = Unit {0}
+-- an answer that speaks of no port, of a command that listens on none
+abbrev pub IsNoListener : Request → Type 0
+IsNoListener (AttachPort kind port) = ⊥
+IsNoListener (Restore force name) = ⊥
+IsNoListener request = Unit {0}
 
-pub unlistening : (tells : Bool) (request : Request) (answer : Answer) (old new : LineState) → IsNoAttachPort request → answer ≢ Err PortFailed
+pub unlistening : (tells : Bool) (request : Request) (answer : Answer) (old new : LineState) → IsNoListener request → answer ≢ Err PortFailed
     → ListenCause tells request answer old new
 unlistening tells (AttachPort kind port) answer old new other none = absurd other
+unlistening tells (Restore force name) answer old new other none = absurd other
 unlistening tells request answer old new other none = none
 
 -- nothing was asked of the outside
@@ -91,6 +92,10 @@ unlistened tells (AttachPort kind port) (Err PortFailed) s none = absurd (none r
 unlistened tells (AttachPort kind port) (Err OutOfMemory) s none =
     (record { listens = refl; stands = refl; behind = refl; sent = refl; counted = refl }, λ _. refl)
 unlistened tells (AttachPort kind port) answer s none = tt
+unlistened tells (Restore force name) (Err PortFailed) s none = absurd (none refl)
+unlistened tells (Restore force name) (Err OutOfMemory) s none =
+    (record { listens = refl; stands = refl; behind = refl; sent = refl; counted = refl }, λ _. refl)
+unlistened tells (Restore force name) answer s none = tt
 unlistened tells request answer s none = none
 
 pub own-no-port : (answer : Answer) → IsOwn answer → answer ≢ Err PortFailed
@@ -142,6 +147,46 @@ pub dump-named : (line : List ℕ) (v : Verb) (from to : ℕ) (file : Piece) (r 
 dump-named line v from to file r name read is named =
     let asks = read ∙ ap (request_of line) is in
     asks ∙ ap (Dump from to) (sym (named ∙ ap file_name_of asks))
+
+-- a SAVE and a RESTORE
+pub save-named : (line : List ℕ) (v : Verb) (file : Piece) (r : Request) (name : List ℕ) → r ≡ request_of line v → v ≡ verb.Save file
+    → name ≡ file_name_of r → r ≡ Save name
+save-named line v file r name read is named =
+    let asks = read ∙ ap (request_of line) is in
+    asks ∙ ap Save (sym (named ∙ ap file_name_of asks))
+
+pub restore-named : (line : List ℕ) (v : Verb) (force : Bool) (file : Piece) (r : Request) (name : List ℕ) → r ≡ request_of line v
+    → v ≡ verb.Restore force file → name ≡ file_name_of r → r ≡ Restore force name
+restore-named line v force file r name read is named =
+    let asks = read ∙ ap (request_of line) is in
+    asks ∙ ap (Restore force) (sym (named ∙ ap file_name_of asks))
+
+-- ---- the notes of a command that is no RESTORE, and of one that kept none
+
+pub as-kept : (r : Request) (number before now : ℕ) (tells : Bool) (answer : Answer) (notes notes' : List FaultNote) (old new : FileState) → is_restore r ≡ false
+    → Keeps number now tells answer notes notes' old new → KeepsBy (is_restore r) number before now tells answer notes notes' old new
+as-kept r number before now tells answer notes notes' old new other keeps =
+    subst (λ (b : Bool). KeepsBy b number before now tells answer notes notes' old new) (sym other)
+    (record { kept = keeps.kept; added = keeps.added; few = keeps.few; stamped = keeps.stamped; counted = keeps.counted; cause = keeps.cause })
+
+pub untold-restore : (r : Request) → IsUntold r → is_restore r ≡ false
+untold-restore (Restore force name) untold = absurd (cc untold.0)
+untold-restore r untold = refl
+
+pub want-kept : (b : Bool) (number before now : ℕ) (tells : Bool) (notes notes' : List FaultNote) (state : FileState) → notes' ≡ notes
+    → KeepsBy b number before now tells (Err OutOfMemory) notes notes' state state
+want-kept b number before now tells notes notes' state none = record {
+  kept = [];
+  added = none ∙ sym (append-nil notes);
+  few = omega arith;
+  stamped = tt;
+  counted = counted-none state;
+  cause = by b;
+}
+  where
+    by : (b : Bool) → CauseBy b (record { command = number; time = note_time b before now }) tells (Err OutOfMemory) [] state state
+    by true = tt
+    by false = tt
 
 -- a BREAK, an EXPECT and a SEND, by the texts that they give
 pub break-given : (line : List ℕ) (v : Verb) (at count : ℕ) (actions : Piece) (r : Request) (text : List ℕ) → r ≡ request_of line v → v ≡ verb.Break at count actions
@@ -198,6 +243,12 @@ keeps-none number time tells answer notes notes' state none own = record {
     cause (Err (LoadTruncated place)) own = tt
     cause (Err (LoadSum place)) own = tt
     cause (Err (PastMemory origin)) own = tt
+    cause (Err NotState) own = tt
+    cause (Err (Version version)) own = tt
+    cause (Err (BadDigest given found)) own = tt
+    cause (Err (BadField place)) own = tt
+    cause (Err Truncated) own = tt
+    cause (Err (Changed unit)) own = tt
     cause (Err Console) own = (ConsoleFault, refl)
     cause (Err OutOfMemory) own = tt
     cause (Err fault) own = refl
@@ -329,6 +380,8 @@ may-want spare (AttachPort kind port) few = tt
 may-want spare (Do echo strict name arguments) few = tt
 may-want spare (Load name) few = tt
 may-want spare (Dump from to name) few = tt
+may-want spare (Save name) few = tt
+may-want spare (Restore force name) few = tt
 may-want spare request few = few
 
 -- ---- what is left of the commands, by their nature
@@ -347,6 +400,8 @@ pub record IsNoRunOrFile (v : Verb) : Type 0 where
   pub do_ : (echo strict : Bool) (name arguments : Piece) → v ≡ verb.Do echo strict name arguments → ⊥
   pub load : (name : Piece) → v ≡ verb.Load name → ⊥
   pub dump : (from to : ℕ) (name : Piece) → v ≡ verb.Dump from to name → ⊥
+  pub save : (name : Piece) → v ≡ verb.Save name → ⊥
+  pub restore : (force : Bool) (name : Piece) → v ≡ verb.Restore force name → ⊥
 
 -- a command that neither runs nor works on files or lines
 pub is-untold : (line : List ℕ) (v : Verb) → IsNoRunOrFile v → IsUntold (request_of line v)
@@ -362,6 +417,8 @@ is-untold line (verb.Exit status) o = absurd (o.exit status refl)
 is-untold line (verb.Do echo strict name arguments) o = absurd (o.do_ echo strict name arguments refl)
 is-untold line (verb.Load name) o = absurd (o.load name refl)
 is-untold line (verb.Dump from to name) o = absurd (o.dump from to name refl)
+is-untold line (verb.Save name) o = absurd (o.save name refl)
+is-untold line (verb.Restore force name) o = absurd (o.restore force name refl)
 is-untold line v o = (refl, refl)
 
 -- none of the others that are not plain
@@ -379,6 +436,8 @@ is-plain line (verb.Attach option unit name) untold o = absurd (cc untold.0)
 is-plain line (verb.Do echo strict name arguments) untold o = absurd (cc untold.0)
 is-plain line (verb.Load name) untold o = absurd (cc untold.0)
 is-plain line (verb.Dump from to name) untold o = absurd (cc untold.0)
+is-plain line (verb.Save name) untold o = absurd (cc untold.0)
+is-plain line (verb.Restore force name) untold o = absurd (cc untold.0)
 is-plain line (verb.Break at count actions) untold o = absurd (o.break_ at count actions refl)
 is-plain line (verb.Expect count text actions) untold o = absurd (o.expect count text actions refl)
 is-plain line (verb.AttachPort kind port) untold o = absurd (cc untold.0)
@@ -387,7 +446,7 @@ is-plain line (verb.Detach unit) untold o = absurd (cc untold.1)
 is-plain line (verb.Exit status) untold o = absurd (cc untold.1)
 is-plain line v untold o = refl
 
--- none of those that are plain and built
+-- none of those that are plain
 pub record IsNoPlain (v : Verb) : Type 0 where
   pub nothing : v ≡ verb.Nothing → ⊥
   pub examine : (l : Listing) → v ≡ verb.Examine l → ⊥
@@ -415,48 +474,37 @@ tells-attached takes reads leaves flushes is = absurd (cc (ap (λ (n : Nature). 
 tells-ported : (takes : Bool) (reads : Option Subject) (leaves flushes : Bool) → of_nature Ported takes reads leaves flushes ≡ plain → ⊥
 tells-ported takes reads leaves flushes is = absurd (cc (ap (λ (n : Nature). n.telling) is))
 
--- what is not built
-pub other-is : (limit : ℕ) (own : List CommandNote) (live : Live) (line : List ℕ) (v : Verb) → nature (request_of line v) ≡ plain → IsNoPlain v → effect limit own live (request_of line v) ≡ refused NotBuilt live
-unfolding effect
-other-is limit own live line (verb.Run address) is o = absurd (tells-attached _ _ _ _ is)
-other-is limit own live line (verb.Go address) is o = absurd (tells-attached _ _ _ _ is)
-other-is limit own live line verb.Cont is o = absurd (tells-attached _ _ _ _ is)
-other-is limit own live line (verb.Step count) is o = absurd (tells-attached _ _ _ _ is)
-other-is limit own live line (verb.Attach option unit name) is o = absurd (takes-memory _ _ _ _ is)
-other-is limit own live line (verb.Do echo strict name arguments) is o = absurd (takes-memory _ _ _ _ is)
-other-is limit own live line (verb.Load name) is o = absurd (takes-memory _ _ _ _ is)
-other-is limit own live line (verb.Dump from to name) is o = absurd (takes-memory _ _ _ _ is)
-other-is limit own live line (verb.Break at count actions) is o = absurd (takes-memory _ _ _ _ is)
-other-is limit own live line (verb.Expect count text actions) is o = absurd (takes-memory _ _ _ _ is)
-other-is limit own live line (verb.AttachPort kind port) is o = absurd (takes-memory _ _ _ _ is)
-other-is limit own live line (verb.Disconnect kind) is o = absurd (tells-ported _ _ _ _ is)
-other-is limit own live line (verb.Detach unit) is o = absurd (leaves-part _ _ _ _ is)
-other-is limit own live line (verb.Exit status) is o = absurd (leaves-part _ _ _ _ is)
-other-is limit own live line verb.Nothing is o = absurd (o.nothing refl)
-other-is limit own live line (verb.Examine l) is o = absurd (o.examine l refl)
-other-is limit own live line (verb.Deposit l value) is o = absurd (o.deposit l value refl)
-other-is limit own live line verb.Reset is o = absurd (o.reset refl)
-other-is limit own live line (verb.NoBreak at) is o = absurd (o.no_break at refl)
-other-is limit own live line verb.NoExpect is o = absurd (o.no_expect refl)
-other-is limit own live line (verb.Send after delay text) is o = absurd (o.send after delay text refl)
-other-is limit own live line verb.NoSend is o = absurd (o.no_send refl)
-other-is limit own live line (verb.SetSize k) is o = absurd (o.set_size k refl)
-other-is limit own live line (verb.Show subject) is o = absurd (o.show subject refl)
-other-is limit own live line (verb.Goto label) is o = absurd (o.goto label refl)
-other-is limit own live line (verb.Assert test) is o = absurd (o.assert test refl)
-other-is limit own live line (verb.Echo text) is o = absurd (o.echo text refl)
-other-is limit own live line v is o = refl
-
--- a command that is not built attaches nothing
-pub no-note : (r : Request) (stamp : Stamp) (notes notes' : List FaultNote) (old new : FileState) → AttachNote r (Err NotBuilt) stamp notes notes' old new
-no-note (Attach option unit name) stamp notes notes' old new = tt
-no-note r stamp notes notes' old new = tt
-
--- nor does it read a file
-pub not-measured : (tells : Bool) (r : Request) (old new : FileState) → IsMeasured tells r (Err NotBuilt) old new
-not-measured tells (Do echo strict name arguments) old new = tt
-not-measured tells (Load name) old new = tt
-not-measured tells r old new = tt
+-- there is no other
+pub no-other : (line : List ℕ) (v : Verb) → nature (request_of line v) ≡ plain → IsNoPlain v → ⊥
+no-other line (verb.Run address) is o = absurd (tells-attached _ _ _ _ is)
+no-other line (verb.Go address) is o = absurd (tells-attached _ _ _ _ is)
+no-other line verb.Cont is o = absurd (tells-attached _ _ _ _ is)
+no-other line (verb.Step count) is o = absurd (tells-attached _ _ _ _ is)
+no-other line (verb.Attach option unit name) is o = absurd (takes-memory _ _ _ _ is)
+no-other line (verb.Do echo strict name arguments) is o = absurd (takes-memory _ _ _ _ is)
+no-other line (verb.Load name) is o = absurd (takes-memory _ _ _ _ is)
+no-other line (verb.Dump from to name) is o = absurd (takes-memory _ _ _ _ is)
+no-other line (verb.Break at count actions) is o = absurd (takes-memory _ _ _ _ is)
+no-other line (verb.Expect count text actions) is o = absurd (takes-memory _ _ _ _ is)
+no-other line (verb.AttachPort kind port) is o = absurd (takes-memory _ _ _ _ is)
+no-other line (verb.Disconnect kind) is o = absurd (tells-ported _ _ _ _ is)
+no-other line (verb.Detach unit) is o = absurd (leaves-part _ _ _ _ is)
+no-other line (verb.Exit status) is o = absurd (leaves-part _ _ _ _ is)
+no-other line verb.Nothing is o = absurd (o.nothing refl)
+no-other line (verb.Examine l) is o = absurd (o.examine l refl)
+no-other line (verb.Deposit l value) is o = absurd (o.deposit l value refl)
+no-other line verb.Reset is o = absurd (o.reset refl)
+no-other line (verb.NoBreak at) is o = absurd (o.no_break at refl)
+no-other line verb.NoExpect is o = absurd (o.no_expect refl)
+no-other line (verb.Send after delay text) is o = absurd (o.send after delay text refl)
+no-other line verb.NoSend is o = absurd (o.no_send refl)
+no-other line (verb.SetSize k) is o = absurd (o.set_size k refl)
+no-other line (verb.Show subject) is o = absurd (o.show subject refl)
+no-other line (verb.Goto label) is o = absurd (o.goto label refl)
+no-other line (verb.Assert test) is o = absurd (o.assert test refl)
+no-other line (verb.Echo text) is o = absurd (o.echo text refl)
+no-other line (verb.Save name) is o = absurd (takes-memory _ _ _ _ is)
+no-other line (verb.Restore force name) is o = absurd (takes-memory _ _ _ _ is)
 
 -- no file is opened where the room for notes is not there
 pub none-measured : (tells : Bool) (r : Request) (state : FileState) → IsMeasured tells r (Err OutOfMemory) state state

@@ -1,8 +1,8 @@
 -- What ATTACH and DETACH of the second teletype come to, and SET of it.
-use Rattle.std.proofs.Common.{◌≡◌, ◌∙◌, ap, sym, refl, subst, ℕ, Bool, true, false, true≢false, IsTrue, List, [], ◌∷◌, map, slice_get, slice_set, option_map, Option, Some, None, IsSome, OnOk, is_some, is_none, if◌then◌else◌, Result, Ok, Err}
+use Rattle.std.proofs.Common.{◌≡◌, ◌∙◌, ap, sym, refl, subst, ℕ, Bool, true, false, List, [], ◌∷◌, map, slice_get, slice_set, option_map, Option, Some, None, OnOk, is_some, is_none, if◌then◌else◌, Result, Ok, Err}
 use Rattle.std.proofs.lemmas.Option.{same_Some, slice_get-map}
 use Rattle.host_files.specs.Lists.{NamedBytes}
-use Rattle.host_lines.specs.Traffic.{Peer, Answer as LineAnswer, Ahead, Replied, replied, Quiet, Failed, listening}
+use Rattle.host_lines.specs.Traffic.{Peer, Answer as LineAnswer, Replied, replied, Quiet, Failed, listening}
 use Rattle.host_lines.specs.Told.{IsFirst, record_in, ahead_of}
 use Rattle.host_lines.specs.State.{LineState}
 use Rattle.host_lines.specs.declared.lines.ListenFault.{ListenFault}
@@ -18,7 +18,7 @@ use Rattle.scp_commands.specs.declared.fault.CommandFault.TheVariants.{NotBuilt,
 use Rattle.scp_commands.specs.Live.{Live, standing}
 use Rattle.scp_commands.specs.Reply.{Answer, Reply, goes, refused}
 use Rattle.scp_commands.specs.LineEffects.{terminal_line, ported, closed, unported, hung, hung_up, is_port, listen_with, attach_line, attach_port_reply, with_port, detach_port_reply, disconnect_reply}
-use Rattle.scp_commands.specs.LinesLeft.{LinesLeft, SeenAs, Listened, Tried, Untried, listened_answer, listened_line, ranged, attaches_by, needs_port, AttachCause}
+use Rattle.scp_commands.specs.LinesLeft.{LinesLeft, SeenAs, Listened, Untried, listened_answer, listened_line, ranged, attaches_by, needs_port, AttachCause}
 use Rattle.scp_commands.specs.Doing.{Does, IsRefused}
 use Rattle.scp_commands.proofs.ReplyLemmas.{goes-said, refused-said}
 use Rattle.scp_commands.proofs.PortLemmas.{first-of, closed-none, hung-none, seen-still, left-same, left-listened, left-unlistened}

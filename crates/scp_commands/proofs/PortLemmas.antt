@@ -1,22 +1,22 @@
 -- What commands leave of the ports and the connections of the outside.
-use Rattle.std.proofs.Common.{◌≡◌, ◌≢◌, ◌⊎◌, inl, inr, ◌∙◌, ap, sym, refl, subst, arith, ℕ, ◌+◌, ◌-◌, ◌^◌, ◌≤◌, ◌==◌, Bool, true, false, true≢false, IsTrue, List, [], ◌∷◌, length, suc, map, slice_get, slice_set, Option, Some, None, IsSome, IfSome, is_some, if◌then◌else◌, Result, Ok, Err}
+use Rattle.std.proofs.Common.{◌≡◌, ◌≢◌, ◌⊎◌, inl, inr, ◌∙◌, ap, sym, refl, subst, arith, ℕ, ◌≤◌, ◌==◌, Bool, true, false, true≢false, IsTrue, List, [], ◌∷◌, length, suc, map, slice_get, slice_set, Option, Some, None, IsSome, IfSome, is_some, if◌then◌else◌, Ok, Err}
 use Rattle.std.proofs.lemmas.Option.{same_Some}
 use Rattle.std.proofs.lemmas.Bool.Decides.{eqb_tells}
 use Rattle.fault_counts.specs.Faults.{raised}
-use Rattle.host_lines.specs.Traffic.{Peer, Answer as LineAnswer}
+use Rattle.host_lines.specs.Traffic.{Peer}
 use Rattle.host_lines.specs.Told.{Told, IsFirst, record_in, SameKind}
-use Rattle.host_lines.specs.State.{LineState, IsListened, parties, with_one, without_one}
-use Rattle.host_lines.specs.LineCalls.{ports_after, listen_faults}
+use Rattle.host_lines.specs.State.{LineState, IsListened, parties, with_one}
+use Rattle.host_lines.specs.LineCalls.{listen_faults}
 use Rattle.telnet_lines.specs.Line.{LineOf, IsSettled, unconnected, renamed}
-use Rattle.telnet_lines.specs.Joined.{seen_line, HasCaller, IsLinked, KeepsParties}
+use Rattle.telnet_lines.specs.Joined.{seen_line, HasCaller, KeepsParties}
 use Rattle.telnet_lines.specs.Many.{AreApart}
 use Rattle.telnet_lines.proofs.Several.{stand_apart}
 use Rattle.telnet_lines.proofs.Apart.{is_or_not, same_kind, still_has, recorded_after}
 use Rattle.host_lines.specs.declared.lines.ListenFault.{ListenFault}
 use Rattle.host_lines.specs.declared.lines.ListenFault.TheVariants as listen
-use Rattle.nova_machine.specs.LineChanges.{ports_of, HaveNoPort, HasConnection, AreLinesTold, LinesGoOn}
+use Rattle.nova_machine.specs.LineChanges.{ports_of, HasConnection, AreLinesTold, LinesGoOn}
 use Rattle.nova_machine.proofs.LineSteps.{lines-stay, first-same, first-through, no-ports-same}
-use Rattle.scp_commands.specs.LineEffects.{closed, closed_by, hung, hung_by, unported, hung_up, ported}
+use Rattle.scp_commands.specs.LineEffects.{closed, closed_by, hung, hung_by, unported, hung_up}
 use Rattle.scp_commands.specs.LinesLeft.{HasPort, AreListened, LinesLeft, GivesUp, SeenAs, without_any, Listened}
 
 -- ---- ports

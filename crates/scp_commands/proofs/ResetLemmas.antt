@@ -3,7 +3,7 @@ use Rattle.std.proofs.Common.{◌≡◌, ℕ, ◌==◌, leb, Bool, true, false, 
 use Rattle.std.proofs.lemmas.Bool.{cond_both}
 use Rattle.std.proofs.lemmas.Bool.Decides.{nat_tests}
 use Rattle.unit_trait.specs.declared.kind.Kind.{Kind}
-use Rattle.unit_trait.specs.declared.kind.Kind.TheVariants.{Lpt, Ptr, Ptp, Clk, Tti, Tto, Tti1, Tto1}
+use Rattle.unit_trait.specs.declared.kind.Kind.TheVariants.{Tti}
 use Rattle.unit_trait.specs.declared.kind.UnitName.{UnitName}
 use Rattle.unit_trait.specs.declared.calls.Queue.{Queue}
 use Rattle.unit_trait.specs.declared.calls.Queue.TheVariants as queue

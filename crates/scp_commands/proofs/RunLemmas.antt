@@ -1,7 +1,7 @@
 -- What a run comes to: what it printed with its stop, and the note that is kept of the call that stopped it.
 use Rattle.unit_trait.specs.declared.kind.Kind.{Kind}
 use Rattle.unit_trait.specs.declared.kind.UnitName.{UnitName}
-use Rattle.std.proofs.Common.{not, ◌≡◌, ◌≢◌, inl, ⊎_elim, ℕ, ◌+◌, ◌==◌, ◌≤◌, Bool, true, false, IsTrue, List, [], ◌∷◌, ◌++◌, length, refl, ap, sym, ◌∙◌, subst, append-nil, Option, Some, None, Result, Ok, Err, if◌then◌else◌, arith}
+use Rattle.std.proofs.Common.{not, ◌≡◌, ◌≢◌, ⊎_elim, ℕ, ◌+◌, ◌==◌, ◌≤◌, Bool, true, false, IsTrue, List, [], ◌∷◌, ◌++◌, length, refl, ap, sym, ◌∙◌, subst, append-nil, Option, Some, None, Result, Ok, Err, if◌then◌else◌, arith}
 use Rattle.std.proofs.lemmas.List.{map-append}
 use Rattle.std.proofs.lemmas.Bool.Decides.{nat_tests}
 use Rattle.std.specs.List.{AllByRecursion}
@@ -230,8 +230,9 @@ run-written unit call.SetLength done runs most = most
 run-written unit call.Opening done runs most = absurd runs
 run-written unit call.Closing done runs most = absurd runs
 
-counted-fault : (stamp : Stamp) (f : UnitFault) (slots : List (Option Held)) (old new : FileState) → HasUnit (FileFault f) → IsFaultOf f f.unit slots old new → AreCounted (fault_note stamp f ∷ []) old new
-counted-fault stamp f slots old new unit cause = record {
+pub counted-fault : (stamp : Stamp) (f : UnitFault) (slots : List (Option Held)) (old new : FileState) → MayHaveWritten f.call (subject.Unit f.unit) f.done → IsFaultOf f f.unit slots old new
+    → AreCounted (fault_note stamp f ∷ []) old new
+counted-fault stamp f slots old new possible cause = record {
   files = λ file.
       subst (λ (o : Option FileId). RoseBy (one_if (is_of file o) + 0) (old.faults file) (new.faults file)) (sym cause.file_is)
       (fault-rose (cause.id.0 == file) file cause.held.file (old.faults file) (new.faults file) (ap (λ (n : ℕ). n == file) (sym cause.id_is))
@@ -239,12 +240,12 @@ counted-fault stamp f slots old new unit cause = record {
   openings =
       subst (λ (o : Option FileId). RoseBy (openings_noted (record (fault_note stamp f) { file = o } ∷ [])) old.open_faults new.open_faults) (sym cause.file_is)
       (same-rose old.open_faults new.open_faults cause.openings);
-  possible = (run-written f.unit f.call f.done unit.1 unit.2, tt);
+  possible = (possible, tt);
 }
 
 -- the note that is kept for a stop is counted
 counted-stop : (stamp : Stamp) (stop : Stop) (slots : List (Option Held)) (old new : FileState) → HasUnit stop → coming.FileCause (Some stop) slots old new → AreCounted (stop_notes stamp stop) old new
-counted-stop stamp (FileFault f) slots old new unit cause = counted-fault stamp f slots old new unit cause
+counted-stop stamp (FileFault f) slots old new unit cause = counted-fault stamp f slots old new (run-written f.unit f.call f.done unit.1 unit.2) cause
 counted-stop stamp stop slots old new unit cause = counted-quiet old new cause
 
 few-stop : (stamp : Stamp) (stop : Stop) → length (stop_notes stamp stop) ≤ 16

@@ -1,5 +1,5 @@
 -- The cause of a run's stop, from the machine to the command.
-use Rattle.std.proofs.Common.{◌≡◌, ℕ, Bool, true, false, IsTrue, List, ◌++◌, Option, Some, None, Result, Ok, Err, refl, ap, sym, subst, ◌∙◌}
+use Rattle.std.proofs.Common.{◌≡◌, ℕ, Bool, true, false, IsTrue, List, Option, Some, None, Result, Ok, Err, refl, sym, subst}
 use Rattle.host_files.specs.Streams.{Puts}
 use Rattle.expect_actions.specs.Watch.{WatchState}
 use Rattle.nova_machine.specs.declared.machine.Stop.{Stop}
@@ -10,7 +10,7 @@ use Rattle.scp_commands.specs.Live.{CommandState}
 use Rattle.scp_commands.specs.Reply.{Answer}
 use Rattle.scp_commands.specs.Doing.{told_or_console}
 use Rattle.scp_commands.specs.RunEffects.{stop_text, starting_at, reset_where}
-use Rattle.scp_commands.specs.RunStops.{HasStopped, RunStops, IsNoStop}
+use Rattle.scp_commands.specs.RunStops.{RunStops, IsNoStop}
 
 -- ---- a machine that is readied for a run has the time and the keys that it had
 

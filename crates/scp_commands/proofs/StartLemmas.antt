@@ -1,6 +1,5 @@
 -- What stands before a run, and RESET.
 use Rattle.std.proofs.Common.{map, ◌≡◌, ◌∙◌, ℕ, ◌&&◌, ◌^◌, nat_le, Bool, true, false, List, Option, Some, None, Ok, refl, ap, sym, subst, if◌then◌else◌}
-use Rattle.host_files.specs.Lists.{NamedBytes}
 use Rattle.file_commands.specs.Notes.{CommandNote, Note, notes_said}
 use Rattle.expect_actions.specs.Watch.{WatchState}
 use Rattle.telnet_lines.specs.Line.{LineOf}
@@ -11,7 +10,7 @@ use Rattle.nova_machine.specs.Comes.{Output}
 use Rattle.scp_commands.specs.declared.next.Next.TheVariants.{Go}
 use Rattle.scp_commands.specs.declared.fault.CommandFault.TheVariants.{OutOfRange}
 use Rattle.scp_commands.specs.Live.{Live, with_machine, standing, CommandState, live_in, Beyond}
-use Rattle.scp_commands.specs.Reply.{Answer, goes, refused}
+use Rattle.scp_commands.specs.Reply.{Answer, refused}
 use Rattle.scp_commands.specs.RunEffects.{running, address_fits, starting_at, reset_where, started, run_from, stepped, step_of, reset_reply}
 use Rattle.scp_commands.specs.Doing.{Does, Did}
 use Rattle.scp_commands.proofs.ReplyLemmas.{goes-said, did-same}

@@ -8,15 +8,17 @@ use Rattle.unit_trait.specs.declared.kind.UnitName.{UnitName}
 use Rattle.unit_trait.specs.Kinds.{units_of}
 use Rattle.unit_files.specs.Attachments.{Attachment, Held, attachments_of, attachment_at, with_attachment, file_units, kind_place, file_place, is_disk}
 use Rattle.unit_files.specs.Buffer.{Buffer, no_buffer, disk_unit}
-use Rattle.unit_files.specs.Acts.{Failure, closing_said, flush_failure, Attached, DetachSaid, HadNone, StillHeld, Detached, detach_said_of, detached, buffer_by, buffer_left}
+use Rattle.unit_files.specs.Acts.{Failure, closing_said, flush_failure, flushed_as, flush_said, flush_files, buffer_flushed, Attached, DetachSaid, HadNone, StillHeld, Detached, detach_said_of, detached, buffer_by, buffer_left}
+use Rattle.unit_files.proofs.FlushLaws.{flushes-leave}
 use Rattle.file_commands.specs.Notes.{CommandNote, failure_now}
 use Rattle.file_commands.specs.declared.note.Subject.TheVariants as subject
 use Rattle.file_commands.specs.AllUnits.{Filed, Emptied, emptied_as, said_in, written_in, without_file, emptied}
 use Rattle.nova_machine.specs.Machine.{MachineState}
 use Rattle.nova_machine.specs.Seen.{attached_in}
-use Rattle.nova_machine.specs.Valid.{CopyIsFile, DiskIsItsFile, KeepsFile, LeavesDiskFile}
+use Rattle.nova_machine.specs.Valid.{CopyIsFile, DiskIsItsFile, KeepsFile}
 use Rattle.scp_parser.specs.Command.{IsDrive}
 use Rattle.scp_commands.specs.Live.{Live, with_machine}
+use Rattle.scp_commands.specs.Valid.{CoversFile, FileFollows, CopyFollows}
 use Rattle.scp_commands.proofs.CloseLemmas.{AreOthers}
 
 -- ---- the file is as it was
@@ -25,21 +27,43 @@ copy-kept : (a : Option Attachment) (disk : Buffer) (old new : List NamedBytes) 
 copy-kept None disk old new is keeps = is
 copy-kept (Some a) disk old new is keeps = λ none. is none ∙ sym (keeps none)
 
-pub keeps-same : (a : Option Attachment) (files : List NamedBytes) → KeepsFile a files files
-keeps-same None files = tt
-keeps-same (Some a) files = refl
-
 -- the same attachments and the same copy
-pub copy-same : (live after : Live) → after.machine.slots ≡ live.machine.slots → after.machine.disk ≡ live.machine.disk → DiskIsItsFile live
-    → (after.machine.disk.written ≡ false → LeavesDiskFile live after) → DiskIsItsFile after
-copy-same live after slots disk is leaves =
+pub copy-same : (live after : Live) → after.machine.slots ≡ live.machine.slots → after.machine.disk ≡ live.machine.disk → CopyFollows live after
+copy-same live after slots disk is follows =
     subst (λ (s : List (Option Held)). CopyIsFile (attachment_at (attachments_of s) disk_unit) after.machine.disk after.files) (sym slots)
     (subst (λ (d : Buffer). CopyIsFile (attachment_at (attached_in live.machine) disk_unit) d after.files) (sym disk)
-    (copy-kept (attachment_at (attached_in live.machine) disk_unit) live.machine.disk live.files after.files is (λ none. leaves (ap (λ (d : Buffer). d.written) disk ∙ none))))
+    (copy-kept (attachment_at (attached_in live.machine) disk_unit) live.machine.disk live.files after.files is (λ none. (follows (ap (λ (d : Buffer). d.written) disk ∙ none)).clean none)))
 
-pub leaves-from : (live after : Live) (m : MachineState) → m.slots ≡ live.machine.slots → LeavesDiskFile live after → LeavesDiskFile (with_machine live m) after
-leaves-from live after m slots leaves =
-    subst (λ (s : List (Option Held)). KeepsFile (attachment_at (attachments_of s) disk_unit) live.files after.files) (sym slots) leaves
+pub copy-from : (live : Live) (m : MachineState) → m.slots ≡ live.machine.slots → m.disk ≡ live.machine.disk → DiskIsItsFile live → DiskIsItsFile (with_machine live m)
+copy-from live m slots disk is =
+    subst (λ (s : List (Option Held)). CopyIsFile (attachment_at (attachments_of s) disk_unit) m.disk live.files) (sym slots)
+    (subst (λ (d : Buffer). CopyIsFile (attachment_at (attached_in live.machine) disk_unit) d live.files) (sym disk) is)
+
+pub follows-from : (live after : Live) (m : MachineState) → m.slots ≡ live.machine.slots → m.disk ≡ live.machine.disk → FileFollows live after
+    → FileFollows (with_machine live m) after
+follows-from live after m slots disk follows =
+    subst (λ (s : List (Option Held)). FileFollows (with_machine live (record m { slots = s })) after) (sym slots)
+    (subst (λ (d : Buffer). FileFollows (with_machine live (record m { slots = live.machine.slots; disk = d })) after) (sym disk)
+    (record { clean = follows.clean; back = follows.back }))
+
+-- what the disk holds was written back, or the write failed
+pub copy-written : (fault : Option Failure) (a : Option Attachment) (disk : Buffer) (old new : List NamedBytes) → CopyIsFile a disk old
+    → ((buffer_flushed (flush_said fault disk_unit a disk) disk_unit disk).written ≡ false → disk.written ≡ false → KeepsFile a old new)
+    → ((buffer_flushed (flush_said fault disk_unit a disk) disk_unit disk).written ≡ false → disk.written ≡ true
+    → CoversFile a disk old × KeepsFile a (flush_files None disk_unit a disk old) new)
+    → CopyIsFile a (buffer_flushed (flush_said fault disk_unit a disk) disk_unit disk) new
+copy-written fault None disk old new is clean back = is
+copy-written fault (Some a) disk old new is clean back = λ none. bytes (flush_failure fault disk_unit disk) ∙ by-written disk.written refl none
+  where
+    bytes : (f : Option Failure) → (buffer_flushed (flushed_as f) disk_unit disk).bytes ≡ disk.bytes
+    bytes (Some f) = refl
+    bytes None = refl
+
+    by-written : (b : Bool) → disk.written ≡ b → (buffer_flushed (flush_said fault disk_unit (Some a) disk) disk_unit disk).written ≡ false → disk.bytes ≡ bytes_of new a.name
+    by-written true at none =
+        let both = back none at in
+        sym (flushes-leave.whole disk_unit a disk old at both.0.0 both.0.1) ∙ sym both.1
+    by-written false at none = is at ∙ sym (clean none at)
 
 -- ---- the place of the disk
 
@@ -90,28 +114,29 @@ copy-gone attached files some = subst (λ (o : Option Attachment). CopyIsFile o 
 
 pub copy-attached : (unit : UnitName) (count : ℕ) (a : Attachment) (attached : List (Option Attachment)) (disk : Buffer) (old files : List NamedBytes) → IsDrive unit → 0 < length attached
     → CopyIsFile (attachment_at attached disk_unit) disk old
-    → ((buffer_by (Attached count) unit (bytes_of files a.name) disk).written ≡ false → KeepsFile (attachment_at attached disk_unit) old files)
+    → ((buffer_by (Attached count) unit (bytes_of files a.name) disk).written ≡ false → disk.written ≡ false → KeepsFile (attachment_at attached disk_unit) old files)
     → CopyIsFile (attachment_at (with_attachment attached unit (Some a)) disk_unit) (buffer_by (Attached count) unit (bytes_of files a.name) disk) files
 copy-attached unit count a attached disk old files drive some is keeps = by-disk (is_disk unit.kind) refl keeps
   where
-    by-disk : (b : Bool) → is_disk unit.kind ≡ b → ((if b then record { bytes = bytes_of files a.name; written = false } else disk).written ≡ false → KeepsFile (attachment_at attached disk_unit) old files)
+    by-disk : (b : Bool) → is_disk unit.kind ≡ b
+        → ((if b then record { bytes = bytes_of files a.name; written = false } else disk).written ≡ false → disk.written ≡ false → KeepsFile (attachment_at attached disk_unit) old files)
         → CopyIsFile (attachment_at (with_attachment attached unit (Some a)) disk_unit) (if b then record { bytes = bytes_of files a.name; written = false } else disk) files
     by-disk true at keeps =
         subst (λ (o : Option Attachment). CopyIsFile o (record { bytes = bytes_of files a.name; written = false }) files) (sym (here unit attached (Some a) drive some at)) (λ none. refl)
     by-disk false at keeps =
-        subst (λ (o : Option Attachment). CopyIsFile o disk files) (sym (elsewhere unit attached (Some a) at)) (copy-kept (attachment_at attached disk_unit) disk old files is keeps)
+        subst (λ (o : Option Attachment). CopyIsFile o disk files) (sym (elsewhere unit attached (Some a) at)) (copy-kept (attachment_at attached disk_unit) disk old files is (λ none. keeps none none))
 
 pub copy-detached : (unit : UnitName) (fault : Option Failure) (attached : List (Option Attachment)) (disk : Buffer) (old files : List NamedBytes) → IsDrive unit → 0 < length attached
     → CopyIsFile (attachment_at attached disk_unit) disk old
-    → ((buffer_left (Detached fault) unit disk).written ≡ false → is_disk unit.kind ≡ false → KeepsFile (attachment_at attached disk_unit) old files)
+    → ((buffer_left (Detached fault) unit disk).written ≡ false → disk.written ≡ false → is_disk unit.kind ≡ false → KeepsFile (attachment_at attached disk_unit) old files)
     → CopyIsFile (attachment_at (detached unit attached) disk_unit) (buffer_left (Detached fault) unit disk) files
 copy-detached unit fault attached disk old files drive some is keeps = by-disk (is_disk unit.kind) refl keeps
   where
-    by-disk : (b : Bool) → is_disk unit.kind ≡ b → ((if b then no_buffer else disk).written ≡ false → is_disk unit.kind ≡ false → KeepsFile (attachment_at attached disk_unit) old files)
+    by-disk : (b : Bool) → is_disk unit.kind ≡ b → ((if b then no_buffer else disk).written ≡ false → disk.written ≡ false → is_disk unit.kind ≡ false → KeepsFile (attachment_at attached disk_unit) old files)
         → CopyIsFile (attachment_at (detached unit attached) disk_unit) (if b then no_buffer else disk) files
     by-disk true at keeps = subst (λ (o : Option Attachment). CopyIsFile o no_buffer files) (sym (here unit attached None drive some at)) refl
     by-disk false at keeps =
-        subst (λ (o : Option Attachment). CopyIsFile o disk files) (sym (elsewhere unit attached None at)) (copy-kept (attachment_at attached disk_unit) disk old files is (λ none. keeps none at))
+        subst (λ (o : Option Attachment). CopyIsFile o disk files) (sym (elsewhere unit attached None at)) (copy-kept (attachment_at attached disk_unit) disk old files is (λ none. keeps none none at))
 
 -- ---- all units lose their files
 

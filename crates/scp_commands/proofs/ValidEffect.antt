@@ -1,5 +1,5 @@
 -- Every command keeps what every state is, and what the disk holds of its file.
-use Rattle.std.proofs.Common.{◌≡◌, ◌≢◌, inl, inr, ℕ, ◌+◌, ◌^◌, ◌<◌, ◌≤◌, ◌==◌, ◌&&◌, not, nat_le, nat_lt, min, unwrap_or, Bool, true, false, List, [], ◌∷◌, length, Option, Some, None, option_map, Result, Ok, Err, if◌then◌else◌, refl, sym, subst, ◌∙◌, arith, is_none, is_some}
+use Rattle.std.proofs.Common.{◌≡◌, ◌≢◌, inl, inr, ℕ, zero, suc, ◌+◌, ◌^◌, ◌<◌, ◌≤◌, ◌==◌, ◌&&◌, not, nat_le, nat_lt, min, unwrap_or, Bool, true, false, List, [], ◌∷◌, length, drop, get_or, Option, Some, None, option_map, Result, Ok, Err, if◌then◌else◌, refl, sym, ap, subst, ◌∙◌, arith, is_none, is_some}
 use Rattle.std.proofs.lemmas.Bool.{and_parts, leb-true, ltb-true}
 use Rattle.std.proofs.lemmas.List.{length-map}
 use Rattle.observations.specs.Observations.{Prints, map_made}
@@ -7,7 +7,7 @@ use Rattle.observations.proofs.MadeLemmas.{stands-either, stands-mapped}
 use Rattle.host_files.specs.Lists.{NamedBytes, bytes_of}
 use Rattle.unit_trait.specs.declared.kind.UnitName.{UnitName}
 use Rattle.unit_files.specs.Attachments.{Attachment, Held, attachment_at, with_attachment}
-use Rattle.unit_files.specs.Buffer.{no_buffer, disk_unit}
+use Rattle.unit_files.specs.Buffer.{Buffer, no_buffer, disk_unit}
 use Rattle.unit_files.specs.Acts.{Failure, AttachSaid, Attached, UnitHasFile, OnlyWrites, NotThere, TooLong, CallFailed, attach_said, attach_files, is_read_only, DetachSaid, HadNone, StillHeld, Detached, detach_said, detached}
 use Rattle.file_commands.specs.declared.note.Subject.TheVariants as subject
 use Rattle.file_commands.specs.Notes.{CommandNote, failure_now}
@@ -17,6 +17,7 @@ use Rattle.whole_files.specs.Whole as whole
 use Rattle.whole_files.specs.Writing.{WriteSaid, AllWritten, WriteFailed, write_act}
 use Rattle.expect_actions.specs.Watch.{WatchState}
 use Rattle.expect_actions.specs.Expects.{most_expects}
+use Rattle.expect_actions.specs.KeysFile.{most_keys}
 use Rattle.expect_actions.specs.Sends.{most_sends}
 use Rattle.binary_load.specs.declared.faults.LoadFault.{LoadFault}
 use Rattle.binary_load.specs.Tape.{Tape}
@@ -30,12 +31,25 @@ use Rattle.nova_machine.specs.Valid.{AreBytes, ValidMachine, ValidWatch, ValidLi
 use Rattle.nova_machine.proofs.StayingValid.{runs-stay-valid}
 use Rattle.nova_machine.specs.declared.machine.Stop.{Stop}
 use Rattle.nova_machine.proofs.ValidBytes.{AreFiles, files-found}
+use Rattle.state_file.specs.declared.fault.StateFault.{StateFault}
+use Rattle.state_file.specs.Listening.{wants_port}
+use Rattle.state_file.specs.Parts.{State}
+use Rattle.state_file.specs.PutBack.{put_back}
+use Rattle.state_file.specs.Reading.{reading}
+use Rattle.state_file.specs.Restoring.{FileRefusal, at_unit}
+use Rattle.state_file.specs.Saving.{first_unsaved, files_flushed, copy_flushed}
+use Rattle.state_file.specs.Session.{saved}
+use Rattle.state_file.specs.Text.{text}
+use Rattle.state_file.proofs.FitLaws.{texts-are-read}
+use Rattle.state_file.proofs.PutBackValidLemmas.{put-back-is-valid}
+use Rattle.state_file.proofs.TextBytes.{text-bytes}
 use Rattle.operand_forms.specs.declared.listing.Listing.{Listing}
 use Rattle.operand_forms.specs.declared.listing.Test.{Test}
 use Rattle.scp_parser.specs.declared.command.Shown.{Shown}
 use Rattle.scp_parser.specs.declared.command.Shown.TheVariants as shown
 use Rattle.scp_parser.specs.Command.{Request, IsKept, IsDrive}
 use Rattle.scp_parser.specs.Command as request
+use Rattle.scp_parser.specs.Laws.{IsOfBytes}
 use Rattle.scp_examine.specs.declared.fault.ExamineFault.{ExamineFault}
 use Rattle.scp_examine.specs.Effect.{examine_fault, fault_of_deposit, deposited, tested}
 use Rattle.scp_examine.proofs.ValidLemmas.{LeavesRest, deposited-valid, deposited-leaves}
@@ -43,7 +57,7 @@ use Rattle.nova_machine.specs.Comes.{Output}
 use Rattle.scp_commands.specs.declared.next.Next.{Next}
 use Rattle.scp_commands.specs.declared.next.Next.TheVariants.{Go, Exit}
 use Rattle.scp_commands.specs.declared.fault.CommandFault.{CommandFault}
-use Rattle.scp_commands.specs.declared.fault.CommandFault.TheVariants.{Console, OutOfMemory, NotBuilt}
+use Rattle.scp_commands.specs.declared.fault.CommandFault.TheVariants.{Console, OutOfMemory, NotBuilt, FileFailed}
 use Rattle.scp_commands.specs.Live.{Live, Standing, standing, with_machine, numberless, with_attached}
 use Rattle.scp_commands.specs.Reply.{Answer, Reply, goes, says, refused}
 use Rattle.scp_commands.specs.RunEffects.{stop_line, run_answer, used_by, run_failure, ran, address_fits, started, run_from, stepped, step_of, reset_reply, last_address}
@@ -59,18 +73,20 @@ use Rattle.scp_commands.specs.ShowEffects.{show_reply}
 use Rattle.scp_commands.specs.ExitEffects.{exit_reply}
 use Rattle.scp_commands.specs.SetEffects.{sized, set_size_reply}
 use Rattle.scp_commands.specs.ScriptEffects.{test_answer, assert_answer, echo_reply, assert_reply, do_answer, do_reply, goto_reply}
-use Rattle.scp_commands.specs.WholeCalls.{whole_calls, write_calls}
+use Rattle.scp_commands.specs.WholeCalls.{whole_calls, write_calls, wrote_answer}
+use Rattle.scp_commands.specs.StateEffects.{unit_claim, flushed_with, save_by, save_reply, is_occupied, heard_live, listened_back, ported_back, restored_by, restored_as, restored_from, restore_reply}
 use Rattle.scp_commands.specs.TapeEffects.{tape_in, tape_answer, loaded_machine, load_answer, load_reply, can_dump, dump_of, dump_answer, dump_reply}
 use Rattle.scp_commands.specs.Effect.{effect}
 use Rattle.scp_commands.specs.Doing.{Does}
-use Rattle.scp_commands.specs.Remains.{flushed_machine, flushed, Remains}
+use Rattle.scp_commands.specs.Remains.{flushed_machine, flushed, MachineRemains, Remains}
 use Rattle.scp_commands.specs.Valid.{ValidLive, GivesBytes, CopyFollows, IsValidReply, CommandsKeepStates}
 use Rattle.scp_commands.proofs.SeenLemmas.{attached-with}
 use Rattle.scp_commands.proofs.CloseLemmas.{none-other}
+use Rattle.scp_commands.proofs.SaveLemmas.{copy-left}
 use Rattle.scp_commands.proofs.ValidWatch.{quoted-bytes, break-added, break-removed, breaks-removed, expect-added, expects-removed, sends-added, sends-removed}
 use Rattle.scp_commands.proofs.ValidMachines.{sized-valid, reset-valid, reset-leaves, started-valid, started-leaves, GivesWhole, whole-bytes, loaded-valid, loaded-leaves, written-files}
-use Rattle.scp_commands.proofs.ValidFiles.{Fits, attached-files, flushed-files, attached-fits, attached-valid, detached-valid, filed-valid, IsFiled, emptied-filed}
-use Rattle.scp_commands.proofs.ValidCopies.{keeps-same, copy-same, leaves-from, copy-new, copy-gone, copy-attached, copy-detached, copy-emptied}
+use Rattle.scp_commands.proofs.ValidFiles.{Fits, attached-files, flushed-files, attached-fits, attached-valid, detached-valid, filed-valid, names-seen, IsFiled, emptied-filed}
+use Rattle.scp_commands.proofs.ValidCopies.{copy-same, copy-from, follows-from, copy-written, copy-new, copy-gone, copy-attached, copy-detached, copy-emptied}
 
 attached-count : (m : MachineState) → length (attached_in m) ≡ length m.slots
 attached-count m = length-map m.slots (λ slot. option_map (λ (h : Held). h.attachment) slot)
@@ -92,7 +108,8 @@ changed-live live m w files is machine taken time watch all = record {
   valid = record {
     machine = machine;
     watch = watch;
-    taken = subst (λ (n : ℕ). n ≤ length live.keys) (sym taken) is.valid.taken;
+    taken = subst (λ (n : ℕ). n ≤ most_keys) (sym taken) is.valid.taken;
+    known = is.valid.known;
     keys = is.valid.keys;
     files = all;
     lines = is.valid.lines;
@@ -107,6 +124,20 @@ machine-live live m is machine rest = changed-live live m live.watch live.files 
 pub watch-live : (live : Live) (w : WatchState) → ValidLive live → ValidWatch w → ValidLive (record live { watch = w })
 watch-live live w is watch = changed-live live live.machine w live.files is is.valid.machine refl refl watch is.valid.files
 
+-- the disk's copy was written back
+flushed-machine : (m : MachineState) → ValidMachine m → ValidMachine (flushed_machine m)
+flushed-machine m is = record {
+  memory = is.memory;
+  size = is.size;
+  cpu = is.cpu;
+  mask = is.mask;
+  switches = is.switches;
+  core = record { registers = is.core.registers; sound = is.core.sound; listed = is.core.listed; times = is.core.times };
+  places = is.places;
+  names = is.names;
+  disk = is.disk;
+}
+
 -- ---- replies
 
 -- with other lines
@@ -116,6 +147,7 @@ lined-live live lines is all = record {
     machine = is.valid.machine;
     watch = is.valid.watch;
     taken = is.valid.taken;
+    known = is.valid.known;
     keys = is.valid.keys;
     files = is.valid.files;
     lines = all;
@@ -131,6 +163,7 @@ ahead-live live ahead is valid = record {
     machine = is.valid.machine;
     watch = is.valid.watch;
     taken = is.valid.taken;
+    known = is.valid.known;
     keys = is.valid.keys;
     files = is.valid.files;
     lines = is.valid.lines;
@@ -229,16 +262,17 @@ stands-ran notes step count live is =
         ];
         script = run_answer-gives p.stop;
       };
-      copy = λ copy leaves. ((runs-stay-valid.run_copy note step count live is.valid).copy copy).1 leaves;
+      copy = λ copy follows.
+          let keeps = runs-stay-valid.run_copy note step count live is.valid in
+          (keeps.copy copy).1 (λ none. (follows none).clean (ap (λ (d : Buffer). d.written) (sym (keeps.written none)) ∙ none));
     }
 
 -- a run from another machine with the same files
 stands-from : (live : Live) (m : MachineState) (reply : Reply) → LeavesRest live.machine m → Stands (with_machine live m) reply → Stands live reply
 stands-from live m reply rest stands = record {
   valid = stands.valid;
-  copy = λ is leaves.
-      stands.copy (copy-same live (with_machine live m) rest.slots rest.disk is (λ none. keeps-same (attachment_at (attached_in live.machine) disk_unit) live.files))
-      (λ none. leaves-from live reply.after.live m rest.slots (leaves none));
+  copy = λ is follows.
+      stands.copy (copy-from live m rest.slots rest.disk is) (λ none. follows-from live reply.after.live m rest.slots rest.disk (follows none));
 }
 
 stands-run_from : (limit : ℕ) (notes : List CommandNote) (resets : Bool) (address : Option ℕ) (live : Live) → ValidLive live → Stands live (run_from limit notes resets address live)
@@ -289,8 +323,9 @@ stands-deposit live l value is =
 
 -- ---- files
 
-stands-attach_with : (fault : Option Failure) (option : ℕ) (unit : UnitName) (name : List ℕ) (live : Live) → IsDrive unit → ValidLive live → Stands live (attach_with fault (mode_of option) unit name live)
-stands-attach_with fault option unit name live drive is =
+stands-attach_with : (fault : Option Failure) (option : ℕ) (unit : UnitName) (name : List ℕ) (live : Live) → IsDrive unit → AreBytes name → ValidLive live
+    → Stands live (attach_with fault (mode_of option) unit name live)
+stands-attach_with fault option unit name live drive named is =
     by-said (attach_said fault (mode_of option) unit name (attached_in live.machine) live.files) (attached-fits fault (mode_of option) unit name (attached_in live.machine) live.files)
   where
     files : List NamedBytes
@@ -314,13 +349,13 @@ stands-attach_with fault option unit name live drive is =
         record {
           valid = record {
             after = changed-live live m live.watch files is
-                (attached-valid (Attached count) (mode_of option) unit name (bytes_of files name) live.machine drive fits (files-found files name all) is.valid.machine) refl refl is.valid.watch all;
+                (attached-valid (Attached count) (mode_of option) unit name (bytes_of files name) live.machine drive fits named (files-found files name all) is.valid.machine) refl refl is.valid.watch all;
             made = λ at h. absurd h;
             script = tt;
           };
-          copy = λ copy leaves.
+          copy = λ copy follows.
               subst (λ (l : List (Option Attachment)). CopyIsFile (attachment_at l disk_unit) m.disk files) (sym (attached-with live.machine (with_attachment (attached_in live.machine) unit (Some a))))
-              (copy-attached unit count a (attached_in live.machine) live.machine.disk live.files files drive some copy leaves);
+              (copy-attached unit count a (attached_in live.machine) live.machine.disk live.files files drive some copy (λ none. (follows none).clean));
         }
     by-said UnitHasFile fits = kept _ _ tt
     by-said OnlyWrites fits = kept _ _ tt
@@ -328,11 +363,12 @@ stands-attach_with fault option unit name live drive is =
     by-said TooLong fits = kept _ _ tt
     by-said (CallFailed f) fits = kept _ _ tt
 
-stands-attach : (notes : List CommandNote) (live : Live) (option : ℕ) (unit : UnitName) (name : List ℕ) → IsDrive unit → ValidLive live → Stands live (attach_reply notes live option unit name)
+stands-attach : (notes : List CommandNote) (live : Live) (option : ℕ) (unit : UnitName) (name : List ℕ) → IsDrive unit → AreBytes name → ValidLive live
+    → Stands live (attach_reply notes live option unit name)
 unfolding attach_reply
-stands-attach notes live option unit name drive is =
+stands-attach notes live option unit name drive named is =
     stands-if (lacks_unit live.machine unit) live _ _ (λ _. stands-refused _ live is)
-    (λ _. stands-attach_with (failure_now live.machine.time (subject.Unit unit) notes) option unit name live drive is)
+    (λ _. stands-attach_with (failure_now live.machine.time (subject.Unit unit) notes) option unit name live drive named is)
 
 stands-detach_with : (fault : Option Failure) (unit : UnitName) (live : Live) → IsDrive unit → ValidLive live → Stands live (detach_with fault unit live)
 stands-detach_with fault unit live drive is = by-said (detach_said fault unit (attached_in live.machine) live.machine.disk)
@@ -359,9 +395,9 @@ stands-detach_with fault unit live drive is = by-said (detach_said fault unit (a
             made = λ at h. absurd h;
             script = tt;
           };
-          copy = λ copy leaves.
+          copy = λ copy follows.
               subst (λ (l : List (Option Attachment)). CopyIsFile (attachment_at l disk_unit) m.disk files) (sym (attached-with live.machine (detached unit (attached_in live.machine))))
-              (copy-detached unit failure (attached_in live.machine) live.machine.disk live.files files drive some copy (λ none other. leaves none));
+              (copy-detached unit failure (attached_in live.machine) live.machine.disk live.files files drive some copy (λ none clean other. (follows none).clean clean));
         }
 
 stands-detach : (notes : List CommandNote) (live : Live) (unit : UnitName) → IsDrive unit → ValidLive live → Stands live (detach_reply notes live unit)
@@ -421,7 +457,7 @@ stands-disconnect live is = stands-with_port (terminal_line live.lines) (hung_up
 
 -- all units lose their files, and then that comes
 filed-live : (live : Live) → ValidLive live → IsFiled (filed_in live)
-filed-live live is = record { places = numberless-count live.machine ∙ is.valid.machine.places; disk = is.valid.machine.disk; files = is.valid.files }
+filed-live live is = record { places = numberless-count live.machine ∙ is.valid.machine.places; names = names-seen live.machine.slots is.valid.machine.names; disk = is.valid.machine.disk; files = is.valid.files }
 
 pub stands-emptied : (next : Next) (notes : List CommandNote) (live : Live) → GivesBytes (Ok next) → ValidLive live → Stands live (emptied_reply next (emptied_all notes live) live)
 stands-emptied next notes live gives is = by-keeper e.kept refl
@@ -441,12 +477,12 @@ stands-emptied next notes live gives is = by-keeper e.kept refl
           valid = record {
             after =
                 lined-live (left_by None e.left live) (unported live.lines)
-                (changed-live live m live.watch e.left.files is (filed-valid live.machine e.left.attached e.left.disk is.valid.machine filed.places filed.disk) refl refl is.valid.watch filed.files)
+                (changed-live live m live.watch e.left.files is (filed-valid live.machine e.left.attached e.left.disk is.valid.machine filed.places filed.names filed.disk) refl refl is.valid.watch filed.files)
                 (valid-unported live.lines is.valid.lines);
             made = λ at h. absurd h;
             script = gives;
           };
-          copy = λ copy leaves.
+          copy = λ copy follows.
               subst (λ (l : List (Option Attachment)). CopyIsFile (attachment_at l disk_unit) e.left.disk e.left.files) (sym (attached-with live.machine e.left.attached))
               (copy-emptied live.machine.time _ (filed_in live) notes none-other some copy kept);
         }
@@ -492,7 +528,7 @@ stands-expect live count quoted actions bytes is =
     let text = text_of_quoted quoted in
     stands-if (not (can_be_expected count text)) live _ _ (λ _. stands-refused _ live is)
     (λ _. stands-if (length live.watch.expects.list == most_expects) live _ _ (λ _. stands-refused _ live is)
-    (λ room. stands-watch live _ is (expect-added live.watch count text actions is.valid.watch bytes room)))
+    (λ room. stands-watch live _ is (expect-added live.watch count text actions is.valid.watch (record { text = quoted-bytes quoted; actions = bytes }) room)))
 
 stands-no_expect : (live : Live) → ValidLive live → Stands live (no_expect_reply live)
 unfolding no_expect_reply
@@ -615,9 +651,129 @@ stands-dump notes live from to name is =
     stands-files (dump_answer act.said) act.met live act.files is (written-files (write_calls subject.Dump live.machine.time notes) name (dump_of live.machine from to) live.files bytes is.valid.files) (gives-written act.said))
     (λ _. stands-refused _ live is)
 
+-- ---- SAVE
+
+-- what the disk holds was written back, or is as it was
+left-machine : (flushes : Bool) (m m' : MachineState) → ValidMachine m → MachineRemains flushes m m' → ValidMachine m'
+left-machine false m m' is same = subst ValidMachine (sym same) is
+left-machine true m m' is (inl same) = subst ValidMachine (sym same) is
+left-machine true m m' is (inr same) = subst ValidMachine (sym same) (flushed-machine m is)
+
+flushed-with : (claim : Option (UnitName × Failure)) (live : Live) → ValidLive live → ValidLive (flushed_with claim live)
+flushed-with claim live is =
+    let m = live.machine in
+    let attached = attached_in m in
+    changed-live live (record m { disk = copy_flushed claim attached m.disk }) live.watch (files_flushed claim attached m.disk live.files) is
+    (left-machine true m (record m { disk = copy_flushed claim attached m.disk }) is.valid.machine (copy-left claim m)) refl refl is.valid.watch
+    (flushed-files (at_unit disk_unit claim) disk_unit (attachment_at attached disk_unit) m.disk live.files is.valid.machine.disk is.valid.files)
+
+-- and then other files came
+stands-flushed : (claim : Option (UnitName × Failure)) (answer : Answer) (used : ℕ) (live : Live) (files : List NamedBytes) → ValidLive live → AreFiles files → GivesBytes answer
+    → Stands live (record { made = []; answer = answer; after = standing used (record (flushed_with claim live) { files = files }) })
+stands-flushed claim answer used live files is all gives =
+    let flushed = flushed_with claim live in
+    let there = flushed-with claim live is in
+    record {
+      valid = record {
+        after = changed-live flushed flushed.machine flushed.watch files there there.valid.machine refl refl there.valid.watch all;
+        made = λ at h. absurd h;
+        script = gives;
+      };
+      copy = λ copy follows.
+          copy-written (at_unit disk_unit claim) (attachment_at (attached_in live.machine) disk_unit) live.machine.disk live.files files copy
+          (λ none. (follows none).clean) (λ none. (follows none).back);
+    }
+
+gives-saved : (said : WriteSaid) → GivesBytes (wrote_answer subject.State said)
+gives-saved AllWritten = tt
+gives-saved WriteFailed = tt
+
+stands-save : (notes : List CommandNote) (live : Live) (name : List ℕ) → ValidLive live → Stands live (save_reply notes live name)
+unfolding save_reply
+stands-save notes live name is = by-claim (first_unsaved claim (attached_in live.machine) live.machine.disk live.files)
+  where
+    claim : Option (UnitName × Failure)
+    claim = unit_claim live.machine.time notes
+
+    flushed : Live
+    flushed = flushed_with claim live
+
+    there : ValidLive flushed
+    there = flushed-with claim live is
+
+    by-claim : (o : Option (UnitName × Failure)) → Stands live (save_by o notes name flushed)
+    by-claim (Some call) = stands-flushed claim (Err (FileFailed (subject.Unit call.0))) 1 live flushed.files is there.valid.files tt
+    by-claim None =
+        let calls = write_calls subject.State flushed.machine.time notes in
+        let act = write_act calls name (text (saved flushed)) flushed.files in
+        stands-flushed claim (wrote_answer subject.State act.said) act.met live act.files is
+        (written-files calls name (text (saved flushed)) flushed.files (text-bytes flushed there.valid) there.valid.files) (gives-saved act.said)
+
+-- ---- RESTORE
+
+byte-at : (bytes : List ℕ) (i : ℕ) → AreBytes bytes → get_or bytes i 0 < 2 ^ 8
+byte-at [] i all = omega arith
+byte-at (b ∷ bytes) zero all = all.0
+byte-at (b ∷ bytes) (suc i) all = byte-at bytes i all.1
+
+-- what is read of bytes is valid, and so is a session into which it is put back
+put-back : (bytes : List ℕ) (s : State) (live : Live) → AreBytes bytes → reading bytes ≡ Ok s → ValidLive live → ValidLive (put_back s live)
+put-back bytes s live all read is =
+    let valid = (texts-are-read.only bytes s (λ i. byte-at bytes i all) read).0 in
+    record { valid = put-back-is-valid.valid s live valid is.valid; time = put-back-is-valid.time s live valid }
+
+-- with what is to come on lines
+stands-put_back : (used : ℕ) (s : State) (live : Live) (answer : Answer) (ahead : Ahead) → ValidAhead ahead → GivesBytes answer → ValidLive (put_back s live)
+    → Stands live (record { made = []; answer = answer; after = standing used (record (put_back s live) { ahead = ahead }) })
+stands-put_back used s live answer ahead valid gives back = record {
+  valid = record { after = ahead-live (put_back s live) ahead back valid; made = λ at h. absurd h; script = gives };
+  copy = λ copy follows. put-back-is-valid.disk s live;
+}
+
+stands-listened_back : (said : Replied) (used : ℕ) (s : State) (live : Live) → ValidAhead said.ahead → ValidLive (put_back s live) → ValidLive live → Stands live (listened_back said used s live)
+stands-listened_back said used s live valid back is = by said.answer
+  where
+    by : (answer : LineAnswer) → Stands live (record {
+      made = [];
+      answer = listen_answer answer;
+      after = standing used (record (heard_live answer s live) { ahead = said.ahead });
+    })
+    by Failed = record {
+      valid = record { after = ahead-live live said.ahead is valid; made = λ at h. absurd h; script = tt };
+      copy = copy-same live (record live { ahead = said.ahead }) refl refl;
+    }
+    by other = stands-put_back used s live (Ok Go) said.ahead valid tt back
+
+stands-restored : (o : Option (UnitName × FileRefusal)) (used : ℕ) (s : State) (live : Live) → ValidLive (put_back s live) → ValidLive live → Stands live (restored_by o used s live)
+stands-restored (Some refusal) used s live back is = stands-answers _ _ live is tt
+stands-restored None used s live back is = by-port (wants_port s.port live.lines)
+  where
+    by-port : (b : Bool) → Stands live (ported_back b used s live)
+    by-port true = stands-listened_back (listening live.ahead) used s live (valid-listening live.ahead is.valid.ahead) back is
+    by-port false = stands-put_back used s live (Ok Go) live.ahead is.valid.ahead tt back
+
+stands-read_back : (force : Bool) (said : WholeSaid) (used : ℕ) (notes : List CommandNote) (live : Live) → GivesWhole said → ValidLive live
+    → Stands live (restored_from force (said, used) notes live)
+stands-read_back force (WholeIs bytes) used notes live gives is = by-state (reading bytes) refl
+  where
+    by-state : (r : Result State StateFault) → reading bytes ≡ r → Stands live (restored_as force used (drop used notes) r live)
+    by-state (Err fault) read = stands-answers _ used live is tt
+    by-state (Ok s) read = stands-restored _ used s live (put-back bytes s live gives read is) is
+stands-read_back force whole.NotThere used notes live gives is = stands-answers _ used live is tt
+stands-read_back force whole.TooLong used notes live gives is = stands-answers _ used live is tt
+stands-read_back force whole.CallFailed used notes live gives is = stands-answers _ used live is tt
+
+stands-restore : (notes : List CommandNote) (live : Live) (force : Bool) (name : List ℕ) → ValidLive live → Stands live (restore_reply notes live force name)
+unfolding restore_reply
+stands-restore notes live force name is =
+    let calls = whole_calls subject.State live.machine.time notes in
+    let read = whole_act calls name live.files in
+    stands-if (is_occupied (attached_in live.machine) live.lines) live _ _ (λ _. stands-refused _ live is)
+    (λ _. stands-read_back force read.0 read.1 notes live (whole-bytes calls name live.files is.valid.files) is)
+
 -- ---- all commands
 
-pub stands-effect : (limit : ℕ) (notes : List CommandNote) (live : Live) (r : Request) → ValidLive live → IsKept r → AreBytes (request.given_text r) → Stands live (effect limit notes live r)
+pub stands-effect : (limit : ℕ) (notes : List CommandNote) (live : Live) (r : Request) → ValidLive live → IsKept r → IsOfBytes r → Stands live (effect limit notes live r)
 unfolding effect
 stands-effect limit notes live request.Nothing is kept bytes = stands-goes live live is refl refl
 stands-effect limit notes live (request.Examine l) is kept bytes = stands-examine live l is
@@ -627,13 +783,13 @@ stands-effect limit notes live (request.Go address) is kept bytes = stands-run_f
 stands-effect limit notes live request.Cont is kept bytes = stands-ran notes false limit live is
 stands-effect limit notes live (request.Step count) is kept bytes = stands-step_of limit notes (unwrap_or count 1) live is
 stands-effect limit notes live request.Reset is kept bytes = stands-reset live is
-stands-effect limit notes live (request.Break at count actions) is kept bytes = stands-break live at count actions bytes is
+stands-effect limit notes live (request.Break at count actions) is kept bytes = stands-break live at count actions bytes.text is
 stands-effect limit notes live (request.NoBreak at) is kept bytes = stands-no_break live at is
-stands-effect limit notes live (request.Expect count text actions) is kept bytes = stands-expect live count text actions bytes is
+stands-effect limit notes live (request.Expect count text actions) is kept bytes = stands-expect live count text actions bytes.text is
 stands-effect limit notes live request.NoExpect is kept bytes = stands-no_expect live is
 stands-effect limit notes live (request.Send after delay text) is kept bytes = stands-send live after delay text is
 stands-effect limit notes live request.NoSend is kept bytes = stands-no_send live is
-stands-effect limit notes live (request.Attach option unit name) is kept bytes = stands-attach notes live option unit name kept.1.1 is
+stands-effect limit notes live (request.Attach option unit name) is kept bytes = stands-attach notes live option unit name kept.1.1 bytes.name is
 stands-effect limit notes live (request.AttachPort kind port) is kept bytes = stands-attach_port live port is
 stands-effect limit notes live (request.Detach unit) is kept bytes = stands-detach_where notes live unit kept is
 stands-effect limit notes live (request.SetSize k) is kept bytes = stands-set_size live k is
@@ -646,7 +802,8 @@ stands-effect limit notes live (request.Echo text) is kept bytes = stands-echo l
 stands-effect limit notes live (request.Exit status) is kept bytes = stands-exit notes live status is
 stands-effect limit notes live (request.Load name) is kept bytes = stands-load notes live name is
 stands-effect limit notes live (request.Dump from to name) is kept bytes = stands-dump notes live from to name is
-stands-effect limit notes live r is kept bytes = stands-refused _ live is
+stands-effect limit notes live (request.Save name) is kept bytes = stands-save notes live name is
+stands-effect limit notes live (request.Restore force name) is kept bytes = stands-restore notes live force name is
 
 -- ---- the disk gets a file, or loses it
 
@@ -722,17 +879,7 @@ left-valid reply answer at tells before after is some does = subst (λ (s : Stan
 -- what the disk held was written back
 flushed-valid : (live : Live) → ValidLive live → ValidLive (flushed live)
 flushed-valid live is =
-    changed-live live (flushed_machine live.machine) live.watch (flushed_files None disk_unit live) is
-    (record {
-      memory = is.valid.machine.memory;
-      size = is.valid.machine.size;
-      cpu = is.valid.machine.cpu;
-      mask = is.valid.machine.mask;
-      switches = is.valid.machine.switches;
-      core = record { registers = is.valid.machine.core.registers; sound = is.valid.machine.core.sound; listed = is.valid.machine.core.listed; times = is.valid.machine.core.times };
-      places = is.valid.machine.places;
-      disk = is.valid.machine.disk;
-    })
+    changed-live live (flushed_machine live.machine) live.watch (flushed_files None disk_unit live) is (flushed-machine live.machine is.valid.machine)
     refl refl is.valid.watch (flushed-files None disk_unit (attachment_at (attached_in live.machine) disk_unit) live.machine.disk live.files is.valid.machine.disk is.valid.files)
 
 pub remains-valid : (flushes : Bool) (old new : Live) → ValidLive old → Remains flushes old new → ValidLive new
@@ -742,8 +889,8 @@ remains-valid true old new is (inr same) = subst ValidLive (sym same) (flushed-v
 
 pub commands-keep-states : CommandsKeepStates
 commands-keep-states = record {
-  valid = λ limit notes live r is kept bytes. (stands-effect limit notes live r is kept bytes.text).valid;
-  disk = λ limit notes live r is kept bytes. (stands-effect limit notes live r is kept bytes.text).copy;
+  valid = λ limit notes live r is kept bytes. (stands-effect limit notes live r is kept bytes).valid;
+  disk = λ limit notes live r is kept bytes. (stands-effect limit notes live r is kept bytes).copy;
   attached = attached-anew;
   detached = detached-anew;
   left = left-valid;

@@ -1,5 +1,6 @@
 -- ATTACH, DETACH and the end of a session leave files of bytes, and a machine in which all is in range.
-use Rattle.std.proofs.Common.{◌≡◌, inl, inr, ℕ, zero, suc, ◌+◌, ◌<◌, ◌≤◌, ◌&&◌, nat_le, nat_lt, Bool, true, false, is_some, List, [], ◌∷◌, length, Option, Some, None, option_map, if◌then◌else◌, refl, sym, subst, ◌∙◌, arith}
+use Rattle.std.proofs.Common.{◌≡◌, inl, inr, ℕ, zero, suc, ◌+◌, ◌<◌, ◌≤◌, ◌&&◌, nat_le, nat_lt, Bool, true, false, is_some, List, [], ◌∷◌, length, Option, Some, None, IfSome, option_map, if◌then◌else◌, refl, sym, subst, ◌∙◌, arith}
+use Rattle.std.specs.List.{AllByRecursion}
 use Rattle.std.proofs.lemmas.Bool.{ltb-false}
 use Rattle.std.proofs.lemmas.Bool.Decides.{nat_tests}
 use Rattle.std.proofs.lemmas.List.{length-set, length-map}
@@ -10,11 +11,11 @@ use Rattle.unit_trait.specs.declared.kind.UnitName.{UnitName}
 use Rattle.unit_trait.specs.Registers.{register_at}
 use Rattle.unit_trait.specs.Calls.{UnitState}
 use Rattle.unit_trait.specs.Row.{takes_value}
-use Rattle.unit_list.specs.Bus.{AllFit, kinds_of, with_register_in}
+use Rattle.unit_list.specs.Bus.{AllFit, with_register_in}
 use Rattle.host_files.specs.declared.files.FileCall.TheVariants.{Opening, Length, Write}
 use Rattle.unit_files.specs.declared.modes.AttachMode.{AttachMode}
 use Rattle.unit_files.specs.declared.modes.AttachMode.TheVariants.{Any, MustExist, New, ReadOnly}
-use Rattle.unit_files.specs.Attachments.{Attachment, Held, attachment_at, with_attachment, longest_file, is_disk, only_writes}
+use Rattle.unit_files.specs.Attachments.{Attachment, Held, attachments_of, attachment_at, file_place, with_attachment, longest_file, is_disk, only_writes}
 use Rattle.unit_files.specs.Buffer.{Buffer}
 use Rattle.unit_files.specs.Acts.{Failure, failure_at, AttachSaid, Attached, UnitHasFile, OnlyWrites, NotThere, TooLong, CallFailed, is_read_only, refused_first, opened_files, reading_failure, read_whole, measured_as, opened_said, opening_said, said_unless, attach_said}
 use Rattle.unit_files.specs.Acts.{files_where, files_unless_opening, files_unless, attach_files, is_due_back, piece_of, written_back, flush_files, DetachSaid, HadNone, StillHeld, Detached, detached, buffer_left}
@@ -24,12 +25,13 @@ use Rattle.file_commands.specs.AllUnits.{Filed, Emptied, emptied_as, said_in, wi
 use Rattle.nova_machine.specs.Machine.{MachineState}
 use Rattle.nova_machine.specs.Core.{AreListed}
 use Rattle.nova_machine.specs.Seen.{attached_in}
-use Rattle.nova_machine.specs.Valid.{AreBytes, ValidMachine}
-use Rattle.nova_machine.proofs.ValidBytes.{AreFiles, files-with, files-changed, bytes-take, bytes-overwritten}
+use Rattle.nova_machine.specs.Valid.{AreBytes, HasByteName, ValidMachine}
+use Rattle.nova_machine.proofs.ValidBytes.{AreFiles, every-set, files-with, files-changed, bytes-take, bytes-overwritten}
 use Rattle.scp_parser.specs.Command.{IsDrive}
 use Rattle.scp_commands.specs.Live.{numberless, with_attached}
 use Rattle.scp_commands.specs.FileEffects.{has_position, position_number, positioned, first_place, attached_machine, detached_machine}
-use Rattle.scp_examine.proofs.UnitLemmas.{all_fit-set, kinds-set}
+use Rattle.scp_examine.proofs.UnitLemmas.{all_fit-set}
+use Rattle.scp_commands.proofs.KindLemmas.{positioned-kinds}
 
 -- ---- files
 
@@ -168,12 +170,25 @@ positioned-fit unit place us takes all = by-test (has_position unit.kind) refl
     by-test true is = all_fit-set unit.kind (position_number unit) place us (takes is) all
     by-test false is = all
 
-positioned-kinds : (unit : UnitName) (place : ℕ) (us : List UnitState) → kinds_of (positioned unit place us) ≡ kinds_of us
-positioned-kinds unit place us = by-test (has_position unit.kind)
-  where
-    by-test : (b : Bool) → kinds_of (if b then with_register_in unit.kind (position_number unit) place us else us) ≡ kinds_of us
-    by-test true = kinds-set unit.kind (position_number unit) place us
-    by-test false = refl
+-- ---- the names of files
+
+-- the name of what a unit has is of bytes
+abbrev pub HasName : Option Attachment → Type 0
+HasName a = IfSome a (λ (b : Attachment). AreBytes b.name)
+
+pub names-seen : (slots : List (Option Held)) → AllByRecursion HasByteName slots → AllByRecursion HasName (attachments_of slots)
+names-seen [] all = tt
+names-seen (None ∷ slots) all = (tt, names-seen slots all.1)
+names-seen (Some h ∷ slots) all = (all.0, names-seen slots all.1)
+
+names-held : (attached : List (Option Attachment)) → AllByRecursion HasName attached → AllByRecursion HasByteName (numberless attached)
+names-held [] all = tt
+names-held (None ∷ attached) all = (tt, names-held attached all.1)
+names-held (Some a ∷ attached) all = (all.0, names-held attached all.1)
+
+names-with : (attached : List (Option Attachment)) (unit : UnitName) (a : Option Attachment) → HasName a → AllByRecursion HasName attached
+    → AllByRecursion HasName (with_attachment attached unit a)
+names-with attached unit a here all = every-set HasName attached (file_place unit) a here all
 
 -- ---- the machine
 
@@ -187,9 +202,9 @@ buffer-bytes : (b : Bool) (bytes : List ℕ) (disk : Buffer) → AreBytes bytes 
 buffer-bytes true bytes disk new old = new
 buffer-bytes false bytes disk new old = old
 
-pub attached-valid : (said : AttachSaid) (mode : AttachMode) (unit : UnitName) (name bytes : List ℕ) (m : MachineState) → IsDrive unit → Fits unit said → AreBytes bytes → ValidMachine m
+pub attached-valid : (said : AttachSaid) (mode : AttachMode) (unit : UnitName) (name bytes : List ℕ) (m : MachineState) → IsDrive unit → Fits unit said → AreBytes name → AreBytes bytes → ValidMachine m
     → ValidMachine (attached_machine said mode unit name bytes m)
-attached-valid (Attached count) mode unit name bytes m drive low new is = record {
+attached-valid (Attached count) mode unit name bytes m drive low named new is = record {
   memory = is.memory;
   size = is.size;
   cpu = is.cpu;
@@ -202,18 +217,21 @@ attached-valid (Attached count) mode unit name bytes m drive low new is = record
     times = is.core.times;
   };
   places = attached-length m unit (Some (record { name = name; read_only = is_read_only mode })) ∙ is.places;
+  names =
+      let a : Attachment = record { name = name; read_only = is_read_only mode } in
+      names-held (with_attachment (attached_in m) unit (Some a)) (names-with (attached_in m) unit (Some a) named (names-seen m.slots is.names));
   disk = buffer-bytes (is_disk unit.kind) bytes m.disk new is.disk;
 }
-attached-valid UnitHasFile mode unit name bytes m drive low new is = is
-attached-valid OnlyWrites mode unit name bytes m drive low new is = is
-attached-valid NotThere mode unit name bytes m drive low new is = is
-attached-valid TooLong mode unit name bytes m drive low new is = is
-attached-valid (CallFailed f) mode unit name bytes m drive low new is = is
+attached-valid UnitHasFile mode unit name bytes m drive low named new is = is
+attached-valid OnlyWrites mode unit name bytes m drive low named new is = is
+attached-valid NotThere mode unit name bytes m drive low named new is = is
+attached-valid TooLong mode unit name bytes m drive low named new is = is
+attached-valid (CallFailed f) mode unit name bytes m drive low named new is = is
 
 -- other attachments and another copy
-pub filed-valid : (m : MachineState) (attached : List (Option Attachment)) (disk : Buffer) → ValidMachine m → length (numberless attached) ≡ 12 → AreBytes disk.bytes
-    → ValidMachine (record (with_attached m attached) { disk = disk })
-filed-valid m attached disk is places bytes = record {
+pub filed-valid : (m : MachineState) (attached : List (Option Attachment)) (disk : Buffer) → ValidMachine m → length (numberless attached) ≡ 12 → AllByRecursion HasName attached
+    → AreBytes disk.bytes → ValidMachine (record (with_attached m attached) { disk = disk })
+filed-valid m attached disk is places names bytes = record {
   memory = is.memory;
   size = is.size;
   cpu = is.cpu;
@@ -221,6 +239,7 @@ filed-valid m attached disk is places bytes = record {
   switches = is.switches;
   core = record { registers = is.core.registers; sound = is.core.sound; listed = is.core.listed; times = is.core.times };
   places = places;
+  names = names-held attached names;
   disk = bytes;
 }
 
@@ -238,13 +257,14 @@ detached-valid HadNone unit m is = is
 detached-valid (StillHeld f) unit m is = is
 detached-valid (Detached fault) unit m is =
     filed-valid m (detached unit (attached_in m)) (buffer_left (Detached fault) unit m.disk) is (attached-length m unit None ∙ is.places)
-    (left-bytes (Detached fault) unit m.disk is.disk)
+    (names-with (attached_in m) unit None tt (names-seen m.slots is.names)) (left-bytes (Detached fault) unit m.disk is.disk)
 
 -- ---- all units lose their files
 
--- what stands behind that: as many places, and bytes
+-- what stands behind that: as many places, and names and files of bytes
 pub record IsFiled (s : Filed) : Type 0 where
   pub places : length (numberless s.attached) ≡ 12
+  pub names : AllByRecursion HasName s.attached
   pub disk : AreBytes s.disk.bytes
   pub files : AreFiles s.files
 
@@ -254,6 +274,7 @@ numberless-length attached = length-map attached (λ slot. option_map (λ (x : A
 without-filed : (fault : Option Failure) (u : UnitName) (s : Filed) → IsFiled s → IsFiled (without_file fault u s)
 without-filed fault u s is = record {
   places = numberless-length (detached u s.attached) ∙ length-set s.attached _ None ∙ sym (numberless-length s.attached) ∙ is.places;
+  names = names-with s.attached u None tt is.names;
   disk = left-bytes (said_in fault u s) u s.disk is.disk;
   files = flushed-files fault u (attachment_at s.attached u) s.disk s.files is.disk is.files;
 }
@@ -264,7 +285,7 @@ emptied-filed time [] s notes is = is
 emptied-filed time (u ∷ us) s notes is =
     let fault = failure_now time (subject.Unit u) notes in
     by-said (said_in fault u s) notes _ _
-    (record { places = is.places; disk = is.disk; files = flushed-files fault u (attachment_at s.attached u) s.disk s.files is.disk is.files })
+    (record { places = is.places; names = is.names; disk = is.disk; files = flushed-files fault u (attachment_at s.attached u) s.disk s.files is.disk is.files })
     (λ more. emptied-filed time us (without_file fault u s) more (without-filed fault u s is))
   where
     by-said : (said : DetachSaid) (notes : List CommandNote) (left : Filed) (rest : List CommandNote → Emptied) → IsFiled left → ((more : List CommandNote) → IsFiled (rest more).left)

@@ -35,6 +35,7 @@ memory-valid m memory is new size = record {
   switches = is.switches;
   core = record { registers = is.core.registers; sound = is.core.sound; listed = is.core.listed; times = is.core.times };
   places = is.places;
+  names = is.names;
   disk = is.disk;
 }
 

@@ -7,7 +7,6 @@ use Rattle.std.proofs.lemmas.List.Elements.{All-from_recursion, recursion_from_A
 use Rattle.nova_word.specs.Quoted.{Stands, itself, carriage_return, line_feed, tab, backslash, quote, octal, StandFor, none, more, quoted_read}
 use Rattle.nova_word.proofs.QuotedReadLemmas.{quoted_is_computed}
 use Rattle.expect_actions.specs.declared.breaks.Break.{Break}
-use Rattle.expect_actions.specs.declared.expects.Expect.{Expect}
 use Rattle.expect_actions.specs.Breaks.{break_at, has_break, with_break, without_break, is_at, most_breaks, Rising}
 use Rattle.expect_actions.specs.Breaks as breaks
 use Rattle.expect_actions.specs.Expects.{expect_of, with_expect, no_expects, most_expects}
@@ -15,7 +14,8 @@ use Rattle.expect_actions.specs.Sends.{Send, last_queued, timed, queued, most_se
 use Rattle.expect_actions.specs.Watch.{WatchState, forgotten}
 use Rattle.expect_actions.proofs.BreakLemmas.{below, above, without_is, all_kept, fewer, no_more, rising_filter, rising_with}
 use Rattle.expect_actions.proofs.SendLemmas.{length-timed, sends_stay}
-use Rattle.nova_machine.specs.Valid.{AreBytes, ValidBreak, ValidWatch}
+use Rattle.nova_machine.specs.Valid.{AreBytes, ValidBreak, ValidExpect, ValidWatch}
+use Rattle.nova_machine.proofs.ValidBytes.{every-append}
 use Rattle.scp_commands.specs.WatchEffects.{text_of_quoted, lacks_room_for_break}
 
 -- ---- a quoted text stands for bytes
@@ -92,6 +92,7 @@ break-added w at count actions is low bytes room = record {
   expects = is.expects;
   texts = is.texts;
   tail = is.tail;
+  printed = is.printed;
   sends = is.sends;
   in_time = is.in_time;
   bytes = is.bytes;
@@ -110,6 +111,7 @@ break-removed w at is =
       expects = is.expects;
       texts = is.texts;
       tail = is.tail;
+      printed = is.printed;
       sends = is.sends;
       in_time = is.in_time;
       bytes = is.bytes;
@@ -125,6 +127,7 @@ breaks-removed w is = record {
   expects = is.expects;
   texts = is.texts;
   tail = is.tail;
+  printed = is.printed;
   sends = is.sends;
   in_time = is.in_time;
   bytes = is.bytes;
@@ -134,11 +137,10 @@ breaks-removed w is = record {
 
 -- ---- expects
 
-pub expect-added : (w : WatchState) (count : ℕ) (text actions : List ℕ) → ValidWatch w → AreBytes actions → (length w.expects.list == most_expects) ≡ false
+pub expect-added : (w : WatchState) (count : ℕ) (text actions : List ℕ) → ValidWatch w → ValidExpect (expect_of count text actions) → (length w.expects.list == most_expects) ≡ false
     → ValidWatch (record w { expects = with_expect (expect_of count text actions) w.expects })
-expect-added w count text actions is bytes room =
+expect-added w count text actions is valid room =
     let new = expect_of count text actions in
-    let Given : Expect → Type 0 = λ e. AreBytes e.actions in
     let longer = length-append w.expects.list (new ∷ []) in
     let most = is.expects in
     let short : length w.expects.list < 64 = grind (arith, nat_tests) in
@@ -147,8 +149,9 @@ expect-added w count text actions is bytes room =
       rising = is.rising;
       each = is.each;
       expects = omega (arith, longer, short);
-      texts = recursion_from_All Given (w.expects.list ++ new ∷ []) (All-append Given w.expects.list (new ∷ []) (All-from_recursion Given w.expects.list is.texts) (All-from_recursion Given (new ∷ []) (bytes, tt)));
+      texts = every-append ValidExpect w.expects.list (new ∷ []) is.texts (valid, tt);
       tail = is.tail;
+      printed = is.printed;
       sends = is.sends;
       in_time = is.in_time;
       bytes = is.bytes;
@@ -164,6 +167,7 @@ expects-removed w is = record {
   expects = omega arith;
   texts = tt;
   tail = is.tail;
+  printed = is.printed;
   sends = is.sends;
   in_time = is.in_time;
   bytes = is.bytes;
@@ -195,6 +199,7 @@ sends-added w now after delay text is bytes room =
       expects = is.expects;
       texts = is.texts;
       tail = is.tail;
+      printed = is.printed;
       sends = omega (arith, longer, count, most);
       in_time = sends_stay now after delay text w.sends is.in_time;
       bytes = recursion_from_All SendsByte (w.sends ++ new) (All-append SendsByte w.sends new (All-from_recursion SendsByte w.sends is.bytes) (All-from_recursion SendsByte new (timed-bytes from delay text bytes)));
@@ -210,6 +215,7 @@ sends-removed w is = record {
   expects = is.expects;
   texts = is.texts;
   tail = is.tail;
+  printed = is.printed;
   sends = omega arith;
   in_time = tt;
   bytes = tt;
@@ -227,6 +233,7 @@ watch-forgotten w is = record {
   expects = is.expects;
   texts = is.texts;
   tail = is.tail;
+  printed = is.printed;
   sends = is.sends;
   in_time = is.in_time;
   bytes = is.bytes;

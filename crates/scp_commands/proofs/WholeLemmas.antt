@@ -58,6 +58,9 @@ script-is = record { itself = refl; no_unit = λ unit. refl }
 pub load-is : IsNoUnit subject.Load
 load-is = record { itself = refl; no_unit = λ unit. refl }
 
+pub state-is : IsNoUnit subject.State
+state-is = record { itself = refl; no_unit = λ unit. refl }
+
 pub dump-is : IsNoUnit subject.Dump
 dump-is = record { itself = refl; no_unit = λ unit. refl }
 
@@ -75,7 +78,7 @@ and-false : (b : Bool) → (b && false) ≡ false
 and-false true = refl
 and-false false = refl
 
-not-whole : (whose : Subject) (time : ℕ) (n : CommandNote) (unit : UnitName) → IsNoUnit whose → n.subject ≡ subject.Unit unit
+pub not-whole : (whose : Subject) (time : ℕ) (n : CommandNote) (unit : UnitName) → IsNoUnit whose → n.subject ≡ subject.Unit unit
     → is_of_whole whose time n ≡ false
 not-whole whose time n unit mine is =
     ap (λ (s : Subject). (n.time == time) && same_subject s whose) is
@@ -88,14 +91,14 @@ is-whole whose time done f mine =
     ap (λ (b : Bool). b && same_subject whose whose) (eq-eqb time time refl) ∙ mine.itself
 
 -- a note of the subject stands before others, and one of a unit ends them
-first-note : (whose : Subject) (time : ℕ) (n : CommandNote) (more : List CommandNote) (b : Bool) → is_of_whole whose time n ≡ b
+pub first-note : (whose : Subject) (time : ℕ) (n : CommandNote) (more : List CommandNote) (b : Bool) → is_of_whole whose time n ≡ b
     → take_while (is_of_whole whose time) (n ∷ more) ≡ (if b then n ∷ take_while (is_of_whole whose time) more else [])
 first-note whose time n more b is =
     take_while-cons (is_of_whole whose time) n more
     ∙ ap (λ (c : Bool). if c then n ∷ take_while (is_of_whole whose time) more else []) is
 
 -- a closing that comes behind is none of the subject's
-none-behind : (whose : Subject) (time : ℕ) (live : Live) (behind : List CommandNote) → IsNoUnit whose → ComeBehind live behind
+pub none-behind : (whose : Subject) (time : ℕ) (live : Live) (behind : List CommandNote) → IsNoUnit whose → ComeBehind live behind
     → take_while (is_of_whole whose time) behind ≡ []
 none-behind whose time live [] mine come = refl
 none-behind whose time live (n ∷ behind) mine come =
@@ -109,24 +112,24 @@ call-first whose time done (Some f) more mine =
     first-note whose time (own_note whose time done f) more true (is-whole whose time done f mine)
 
 -- so the notes of the subject are its own
-own-first : (whose : Subject) (time done : ℕ) (live : Live) (failed closing : Option FailedCall) (behind : List CommandNote)
-    → IsNoUnit whose → ComeBehind live behind
+own-first : (whose : Subject) (time done : ℕ) (failed closing : Option FailedCall) (behind : List CommandNote)
+    → IsNoUnit whose → take_while (is_of_whole whose time) behind ≡ []
     → take_while (is_of_whole whose time) (own_both whose time done failed closing ++ behind)
     ≡ own_both whose time done failed closing
-own-first whose time done live failed closing behind mine come =
+own-first whose time done failed closing behind mine none =
     ap (take_while (is_of_whole whose time))
     (append_assoc (own_call whose time done failed) (own_call whose time 0 closing) behind)
     ∙ call-first whose time done failed (own_call whose time 0 closing ++ behind) mine
     ∙ ap (λ (l : List CommandNote). own_call whose time done failed ++ l)
     (call-first whose time 0 closing behind mine
-    ∙ ap (λ (l : List CommandNote). own_call whose time 0 closing ++ l) (none-behind whose time live behind mine come)
+    ∙ ap (λ (l : List CommandNote). own_call whose time 0 closing ++ l) none
     ∙ append-nil (own_call whose time 0 closing))
 
 -- as the calls that a reading claims
-read-calls : (whose : Subject) (time : ℕ) (live : Live) (w : Whole) (behind : List CommandNote) → IsNoUnit whose
-    → ComeBehind live behind → whole_calls whose time (own_both whose time 0 w.failed w.closing ++ behind) ≡ claimed w
-read-calls whose time live w behind mine come =
-    ap (map (λ (n : CommandNote). n.failure.call)) (own-first whose time 0 live w.failed w.closing behind mine come)
+pub read-calls : (whose : Subject) (time : ℕ) (w : Whole) (behind : List CommandNote) → IsNoUnit whose
+    → take_while (is_of_whole whose time) behind ≡ [] → whole_calls whose time (own_both whose time 0 w.failed w.closing ++ behind) ≡ claimed w
+read-calls whose time w behind mine none =
+    ap (map (λ (n : CommandNote). n.failure.call)) (own-first whose time 0 w.failed w.closing behind mine none)
     ∙ by-calls w.failed w.closing
   where
     by-calls : (failed closing : Option FailedCall)
@@ -141,7 +144,7 @@ write-calls : (whose : Subject) (time : ℕ) (live : Live) (w : Written) (behind
     → ComeBehind live behind
     → write_calls whose time (own_both whose time w.done w.failed w.closing ++ behind) ≡ claimed_in_writing w
 write-calls whose time live w behind mine come =
-    ap (map said) (own-first whose time w.done live w.failed w.closing behind mine come) ∙ by-calls w.failed w.closing
+    ap (map said) (own-first whose time w.done w.failed w.closing behind mine (none-behind whose time live behind mine come)) ∙ by-calls w.failed w.closing
   where
     said : CommandNote → FailingCall
     said n = (n.failure.call, n.failure.done)
@@ -154,7 +157,7 @@ write-calls whose time live w behind mine come =
     by-calls (Some f) (Some c) = refl
 
 -- and as many
-read-many : (whose : Subject) (time : ℕ) (w : Whole) → length (own_both whose time 0 w.failed w.closing) ≡ length (claimed w)
+pub read-many : (whose : Subject) (time : ℕ) (w : Whole) → length (own_both whose time 0 w.failed w.closing) ≡ length (claimed w)
 read-many whose time w = by-calls w.failed w.closing
   where
     by-calls : (failed closing : Option FailedCall)
@@ -176,7 +179,7 @@ write-many whose time w = by-calls w.failed w.closing
     by-calls (Some f) (Some c) = refl
 
 -- the notes that are kept say them
-both-said : (whose : Subject) (number time done : ℕ) (failed closing : Option FailedCall)
+pub both-said : (whose : Subject) (number time done : ℕ) (failed closing : Option FailedCall)
     → notes_said (both_notes whose (record { command = number; time = time }) done failed closing)
     ≡ numbered number (own_both whose time done failed closing)
 both-said whose number time done None None = refl
@@ -227,7 +230,7 @@ read-did whose comes_to after number time new name files w answer tells text not
         → ComeBehind new behind
         → read_reply whose comes_to after time name files (own ++ behind) ≡ read_by whose comes_to after (said, length own)
     reply-behind said behind is come =
-        ap (λ (l : List FileCall). read_by whose comes_to after (whole_act l name files)) (read-calls whose time new w behind mine come)
+        ap (λ (l : List FileCall). read_by whose comes_to after (whole_act l name files)) (read-calls whose time w behind mine (none-behind whose time new behind mine come))
         ∙ ap (read_by whose comes_to after) is
         ∙ ap (λ (n : ℕ). read_by whose comes_to after (said, n)) (sym (read-many whose time w))
 
@@ -266,6 +269,61 @@ wrote-plain : (whose : Subject) (said : WriteSaid) → IsPlain (wrote_answer who
 wrote-plain whose AllWritten = tt
 wrote-plain whose WriteFailed = tt
 
+-- the notes of a writing are kept as its own
+pub write-kept : (whose : Subject) (number time : ℕ) (w : Written) (notes notes' : List FaultNote)
+    → notes' ≡ notes ++ write_notes whose (record { command = number; time = time }) w
+    → notes_said notes' ≡ notes_said notes ++ numbered number (own_both whose time w.done w.failed w.closing)
+write-kept whose number time w notes notes' kept =
+    ap notes_said kept ∙ said-append notes (write_notes whose (record { command = number; time = time }) w)
+    ∙ ap (λ (l : List Note). notes_said notes ++ l) (both-said whose number time w.done w.failed w.closing)
+
+-- and it is done, whatever comes behind them
+pub write-does : (whose : Subject) (after : List NamedBytes → Live) (time : ℕ) (new : Live) (name piece : List ℕ)
+    (files files' : List NamedBytes) (w : Written) (answer : Answer) (tells : Bool) (text : Output) (behind : List CommandNote)
+    → IsNoUnit whose → answer ≡ written_answer whose w.answer → new ≡ after files'
+    → (w.answer ≡ Err fault.NoFile → ⊥) → (w.answer ≡ Err fault.TooLong → ⊥)
+    → IfSome (said_of_writing w.answer) (λ (said : WriteSaid). write_act (claimed_in_writing w) name piece files
+    ≡ record { said = said; met = length (claimed_in_writing w); files = files' })
+    → ComeBehind new behind
+    → Does (write_reply whose after time name piece files (own_both whose time w.done w.failed w.closing ++ behind)) answer
+    (standing (length (own_both whose time w.done w.failed w.closing)) new) tells text text
+write-does whose after time new name piece files files' w answer tells text behind mine answered left made fits told come =
+    subst (λ (a : Answer). Does (write_reply whose after time name piece files (own ++ behind)) a (standing (length own) new) tells text text)
+    (sym answered) (by-answer w.answer made fits told)
+  where
+    own : List CommandNote
+    own = own_both whose time w.done w.failed w.closing
+
+    acted : WriteSaid → ℕ → WriteAct
+    acted said met = record { said = said; met = met; files = files' }
+
+    reply-behind : (said : WriteSaid)
+        → write_act (claimed_in_writing w) name piece files ≡ acted said (length (claimed_in_writing w))
+        → write_reply whose after time name piece files (own ++ behind) ≡ write_by whose after (acted said (length own))
+    reply-behind said is =
+        ap (λ (l : List FailingCall). write_by whose after (write_act l name piece files)) (write-calls whose time new w behind mine come)
+        ∙ ap (write_by whose after) is
+        ∙ ap (λ (n : ℕ). write_by whose after (acted said n)) (sym (write-many whose time w))
+
+    does-said : (said : WriteSaid)
+        → write_act (claimed_in_writing w) name piece files ≡ acted said (length (claimed_in_writing w))
+        → Does (write_reply whose after time name piece files (own ++ behind)) (wrote_answer whose said) (standing (length own) new) tells text text
+    does-said said is =
+        subst (λ (r : Reply). Does r (wrote_answer whose said) (standing (length own) new) tells text text)
+        (sym (reply-behind said is))
+        (silent-does (write_by whose after (acted said (length own))) (wrote_answer whose said) (standing (length own) new)
+        tells text (wrote-plain whose said) refl (ap (standing (length own)) left) refl)
+
+    by-answer : (a : Result (Unit {0}) WholeFault) → (a ≡ Err fault.NoFile → ⊥) → (a ≡ Err fault.TooLong → ⊥)
+        → IfSome (said_of_writing a) (λ (said : WriteSaid). write_act (claimed_in_writing w) name piece files
+        ≡ acted said (length (claimed_in_writing w)))
+        → Does (write_reply whose after time name piece files (own ++ behind)) (written_answer whose a) (standing (length own) new) tells text text
+    by-answer (Ok u) made fits told = does-said AllWritten told
+    by-answer (Err fault.Failed) made fits told = does-said WriteFailed told
+    by-answer (Err fault.NoFile) made fits told = absurd (made refl)
+    by-answer (Err fault.TooLong) made fits told = absurd (fits refl)
+    by-answer (Err fault.OutOfMemory) made fits told = tt
+
 pub write-did : (whose : Subject) (after : List NamedBytes → Live) (number time : ℕ) (new : Live) (name piece : List ℕ)
     (files files' : List NamedBytes) (w : Written) (answer : Answer) (tells : Bool) (text : Output) (notes notes' : List FaultNote)
     → IsNoUnit whose → answer ≡ written_answer whose w.answer → new ≡ after files'
@@ -274,50 +332,11 @@ pub write-did : (whose : Subject) (after : List NamedBytes → Live) (number tim
     ≡ record { said = said; met = length (claimed_in_writing w); files = files' })
     → notes' ≡ notes ++ write_notes whose (record { command = number; time = time }) w
     → Did (write_reply whose after time name piece files) number answer new tells text text (notes_said notes) (notes_said notes')
-write-did whose after number time new name piece files files' w answer tells text notes notes' mine answered left made fits told kept =
-    subst (λ (a : Answer). Did (write_reply whose after time name piece files) number a new tells text text (notes_said notes) (notes_said notes'))
-    (sym answered)
-    (record {
-      own = own;
-      kept =
-          ap notes_said kept ∙ said-append notes (write_notes whose (record { command = number; time = time }) w)
-          ∙ ap (λ (l : List Note). notes_said notes ++ l) (both-said whose number time w.done w.failed w.closing);
-      does = λ behind come. by-answer w.answer made fits told behind come;
-    })
-  where
-    own : List CommandNote
-    own = own_both whose time w.done w.failed w.closing
-
-    acted : WriteSaid → ℕ → WriteAct
-    acted said met = record { said = said; met = met; files = files' }
-
-    reply-behind : (said : WriteSaid) (behind : List CommandNote)
-        → write_act (claimed_in_writing w) name piece files ≡ acted said (length (claimed_in_writing w)) → ComeBehind new behind
-        → write_reply whose after time name piece files (own ++ behind) ≡ write_by whose after (acted said (length own))
-    reply-behind said behind is come =
-        ap (λ (l : List FailingCall). write_by whose after (write_act l name piece files)) (write-calls whose time new w behind mine come)
-        ∙ ap (write_by whose after) is
-        ∙ ap (λ (n : ℕ). write_by whose after (acted said n)) (sym (write-many whose time w))
-
-    does-said : (said : WriteSaid) (behind : List CommandNote)
-        → write_act (claimed_in_writing w) name piece files ≡ acted said (length (claimed_in_writing w)) → ComeBehind new behind
-        → Does (write_reply whose after time name piece files (own ++ behind)) (wrote_answer whose said) (standing (length own) new) tells text text
-    does-said said behind is come =
-        subst (λ (r : Reply). Does r (wrote_answer whose said) (standing (length own) new) tells text text)
-        (sym (reply-behind said behind is come))
-        (silent-does (write_by whose after (acted said (length own))) (wrote_answer whose said) (standing (length own) new)
-        tells text (wrote-plain whose said) refl (ap (standing (length own)) left) refl)
-
-    by-answer : (a : Result (Unit {0}) WholeFault) → (a ≡ Err fault.NoFile → ⊥) → (a ≡ Err fault.TooLong → ⊥)
-        → IfSome (said_of_writing a) (λ (said : WriteSaid). write_act (claimed_in_writing w) name piece files
-        ≡ acted said (length (claimed_in_writing w)))
-        → (behind : List CommandNote) → ComeBehind new behind
-        → Does (write_reply whose after time name piece files (own ++ behind)) (written_answer whose a) (standing (length own) new) tells text text
-    by-answer (Ok u) made fits told behind come = does-said AllWritten behind told come
-    by-answer (Err fault.Failed) made fits told behind come = does-said WriteFailed behind told come
-    by-answer (Err fault.NoFile) made fits told behind come = absurd (made refl)
-    by-answer (Err fault.TooLong) made fits told behind come = absurd (fits refl)
-    by-answer (Err fault.OutOfMemory) made fits told behind come = tt
+write-did whose after number time new name piece files files' w answer tells text notes notes' mine answered left made fits told kept = record {
+  own = own_both whose time w.done w.failed w.closing;
+  kept = write-kept whose number time w notes notes' kept;
+  does = λ behind come. write-does whose after time new name piece files files' w answer tells text behind mine answered left made fits told come;
+}
 
 -- ---- the counts
 
@@ -445,7 +464,7 @@ pub record Rises (missing : Bool) (failed closing : Option FailedCall) (old new 
   pub openings : new.open_faults ≡ (if claims.is_opening failed || missing then raised old.open_faults else old.open_faults)
 
 -- what a call before the closing can have written, of a reading and of a writing
-possible-read : (whose : Subject) (failed : Option FailedCall) → IfSome failed (λ (f : FailedCall). MayHaveWritten f.call whose 0)
+pub possible-read : (whose : Subject) (failed : Option FailedCall) → IfSome failed (λ (f : FailedCall). MayHaveWritten f.call whose 0)
 possible-read whose None = tt
 possible-read whose (Some f) = none-done f.call whose 0 refl
 
@@ -467,7 +486,7 @@ possible-both whose stamp done (Some f) None early = (early, tt)
 possible-both whose stamp done (Some f) (Some c) early = (early, (none-done c.call whose 0 refl, tt))
 
 -- the notes are counted, and so are none
-both-counted : (whose : Subject) (stamp : Stamp) (done : ℕ) (missing : Bool) (failed closing : Option FailedCall) (old new : FileState)
+pub both-counted : (whose : Subject) (stamp : Stamp) (done : ℕ) (missing : Bool) (failed closing : Option FailedCall) (old new : FileState)
     → IsClaimed failed closing → IfSome failed (λ (f : FailedCall). MayHaveWritten f.call whose done) → Rises missing failed closing old new
     → AreCounted (both_notes whose stamp done failed closing) old new
 both-counted whose stamp done missing failed closing old new shape early rises = record {
@@ -505,13 +524,13 @@ rose-missing false before now is untold = omega (arith, is)
 
 -- ---- what is kept
 
-few-both : (whose : Subject) (stamp : Stamp) (done : ℕ) (failed closing : Option FailedCall) → length (both_notes whose stamp done failed closing) ≤ 16
+pub few-both : (whose : Subject) (stamp : Stamp) (done : ℕ) (failed closing : Option FailedCall) → length (both_notes whose stamp done failed closing) ≤ 16
 few-both whose stamp done None None = omega arith
 few-both whose stamp done None (Some c) = omega arith
 few-both whose stamp done (Some f) None = omega arith
 few-both whose stamp done (Some f) (Some c) = omega arith
 
-stamped-both : (whose : Subject) (number time done : ℕ) (failed closing : Option FailedCall)
+pub stamped-both : (whose : Subject) (number time done : ℕ) (failed closing : Option FailedCall)
     → AllByRecursion (IsStamped number time) (both_notes whose (record { command = number; time = time }) done failed closing)
 stamped-both whose number time done None None = tt
 stamped-both whose number time done None (Some c) = ((refl, refl), tt)

@@ -1,6 +1,6 @@
 -- What a call comes to that does a command: on a console that had and has these bytes, with callers of lines that had and
 -- have heard these, and with the notes that it kept.
-use Rattle.std.specs.Prelude.{◌≡◌, ◌⊎◌, ℕ, ◌≤◌, ◌<◌, Bool, true, IsTrue, List, [], ◌∷◌, ◌++◌, length, Option, is_some, Result, Ok, Err, false, if◌then◌else◌, Some, None}
+use Rattle.std.specs.Prelude.{◌≡◌, ℕ, ◌≤◌, ◌<◌, Bool, true, IsTrue, List, [], ◌∷◌, ◌++◌, length, Option, is_some, Result, Ok, Err, false, if◌then◌else◌, Some, None}
 use Rattle.std.specs.List.{AllByRecursion, list_any}
 use Rattle.fault_counts.specs.Faults.{raised, Rose}
 use Rattle.observations.specs.Observations.{text_of, sent_of, StandsAt}
@@ -30,18 +30,18 @@ use Rattle.file_commands.specs.Kept.{fault_note}
 use Rattle.file_commands.specs.AllUnits.{attachable}
 use Rattle.nova_machine.specs.declared.machine.Stop.{Stop}
 use Rattle.nova_machine.specs.declared.machine.Stop.TheVariants.{ConsoleFault, FileFault}
-use Rattle.nova_machine.specs.Comes.{Output, output, AreFree, AreTold, FileCause as StopCause}
+use Rattle.nova_machine.specs.Comes.{Output, output, AreTold, FileCause as StopCause}
 use Rattle.nova_machine.specs.LineChanges.{heard_with, AreLinesTold, LinesGoOn}
 use Rattle.nova_machine.specs.Wants.{HasUnit}
 use Rattle.nova_machine.specs.Seen.{attached_in}
-use Rattle.scp_parser.specs.Command.{Request, Attach, Detach, Exit as ExitRequest}
+use Rattle.scp_parser.specs.Command.{Request, Attach, Detach, Restore, Exit as ExitRequest}
 use Rattle.scp_commands.specs.declared.next.Next.{Next}
 use Rattle.scp_commands.specs.declared.next.Next.TheVariants.{Exit, Ran}
 use Rattle.scp_commands.specs.declared.fault.CommandFault.TheVariants.{Console, OutOfMemory, NoFile, FileTooLong, FileFailed, PortFailed}
-use Rattle.scp_commands.specs.declared.fault.CommandFault.TheVariants.{LoadTruncated, LoadSum, PastMemory}
-use Rattle.scp_commands.specs.Live.{Live, Standing, standing, CommandState, Beyond, beyond, live_in}
+use Rattle.scp_commands.specs.declared.fault.CommandFault.TheVariants.{LoadTruncated, LoadSum, PastMemory, NotState, Version, BadDigest, BadField, Truncated, Changed}
+use Rattle.scp_commands.specs.Live.{Live, Standing, standing, CommandState, beyond, live_in}
 use Rattle.scp_commands.specs.Nature.{Telling, nature}
-use Rattle.scp_commands.specs.Nature.Telling.{Nothing, Ported, Listening, Attached, Named}
+use Rattle.scp_commands.specs.Nature.Telling.{Nothing, Ported, Listening, Attached, Named, Whole}
 use Rattle.scp_commands.specs.Remains.{Remains, AreLeft}
 use Rattle.scp_commands.specs.Reply.{Answer, Reply, bare_answer}
 use Rattle.scp_commands.specs.FileEffects.{emptied_all, filed_live, emptied_live}
@@ -106,6 +106,7 @@ pub record Did (reply : List CommandNote → Reply) (number : ℕ) (answer : Ans
 -- gives a terminal its port or takes it away
 abbrev pub told_by : Telling → Bool → List (Option Held) → Bool → LineState → List (LineOf ℕ) → Type 0
 told_by Named tells slots line_tells s lines = IsTrue tells
+told_by Whole tells slots line_tells s lines = IsTrue tells × IsTrue line_tells × AreApart s lines
 told_by Ported tells slots line_tells s lines = AreLinesTold line_tells s lines
 told_by Listening tells slots line_tells s lines = IsTrue line_tells × AreApart s lines
 told_by Attached tells slots line_tells s lines = AreTold tells slots × AreLinesTold line_tells s lines
@@ -156,11 +157,24 @@ FileCause stamp tells (Err FileTooLong) kept old new = AllClosings kept
 FileCause stamp tells (Err (LoadTruncated place)) kept old new = AllClosings kept
 FileCause stamp tells (Err (LoadSum place)) kept old new = AllClosings kept
 FileCause stamp tells (Err (PastMemory origin)) kept old new = AllClosings kept
+FileCause stamp tells (Err NotState) kept old new = AllClosings kept
+FileCause stamp tells (Err (Version version)) kept old new = AllClosings kept
+FileCause stamp tells (Err (BadDigest given found)) kept old new = AllClosings kept
+FileCause stamp tells (Err (BadField place)) kept old new = AllClosings kept
+FileCause stamp tells (Err Truncated) kept old new = AllClosings kept
+FileCause stamp tells (Err (Changed unit)) kept old new = AllClosings kept
 FileCause stamp tells (Err OutOfMemory) kept old new = AllClosings kept
 FileCause stamp tells (Err Console) kept old new = (stop : Stop) × (kept ≡ stop_notes stamp stop)
 FileCause stamp tells (Err fault) kept old new = kept ≡ []
 FileCause stamp tells (Ok (Ran stop)) kept old new = kept ≡ stop_notes stamp stop
 FileCause stamp tells (Ok next) kept old new = AllClosings kept
+
+-- The same of RESTORE, which reads its own file whole before those of units are attached: a closing of it that failed is
+-- noted whatever comes behind it.
+abbrev pub RestoreFileCause : Stamp → Bool → Answer → List FaultNote → FileState → FileState → Type 0
+RestoreFileCause stamp tells (Err NoFile) kept old new = AllClosings kept × ((IsTrue tells → ⊥) → Rose old.open_faults new.open_faults)
+RestoreFileCause stamp tells (Err PortFailed) kept old new = AllClosings kept
+RestoreFileCause stamp tells answer kept old new = FileCause stamp tells answer kept old new
 
 -- what stands on a note
 abbrev pub IsStamped : ℕ → ℕ → FaultNote → Type 0
@@ -175,6 +189,29 @@ pub record Keeps (number time : ℕ) (tells : Bool) (answer : Answer) (notes not
   pub stamped : AllByRecursion (IsStamped number time) kept
   pub counted : AreCounted kept old new
   pub cause : FileCause (record { command = number; time = time }) tells answer kept old new
+
+-- whether that is RESTORE
+abbrev pub is_restore : Request → Bool
+is_restore (Restore force name) = true
+is_restore request = false
+
+-- The notes of RESTORE have the time before it: the machine that is put back has a time of its own.
+abbrev pub note_time : Bool → ℕ → ℕ → ℕ
+note_time true before now = before
+note_time false before now = now
+
+abbrev pub CauseBy : Bool → Stamp → Bool → Answer → List FaultNote → FileState → FileState → Type 0
+CauseBy true stamp tells answer kept old new = RestoreFileCause stamp tells answer kept old new
+CauseBy false stamp tells answer kept old new = FileCause stamp tells answer kept old new
+
+-- the notes of any command
+pub record KeepsBy (restores : Bool) (number before now : ℕ) (tells : Bool) (answer : Answer) (notes notes' : List FaultNote) (old new : FileState) : Type 0 where
+  pub kept : List FaultNote
+  pub added : notes' ≡ notes ++ kept
+  pub few : length kept ≤ 16
+  pub stamped : AllByRecursion (IsStamped number (note_time restores before now)) kept
+  pub counted : AreCounted kept old new
+  pub cause : CauseBy restores (record { command = number; time = note_time restores before now }) tells answer kept old new
 
 -- The console's count of faults rises by one where the answer is that it refused a byte, and stands still with every
 -- other answer.
@@ -197,6 +234,13 @@ IsOfPort (Err (FileFailed who)) = ⊥
 IsOfPort (Ok (Ran stop)) = ⊥
 IsOfPort (Ok (Exit status)) = ⊥
 IsOfPort answer = Unit {0}
+
+-- an answer of RESTORE
+abbrev pub IsRestoreAnswer : Answer → Type 0
+IsRestoreAnswer (Err Console) = ⊥
+IsRestoreAnswer (Ok (Ran stop)) = ⊥
+IsRestoreAnswer (Ok (Exit status)) = ⊥
+IsRestoreAnswer answer = Unit {0}
 
 -- the same of a call that takes no memory
 abbrev pub IsPlain : Answer → Type 0

@@ -1,12 +1,12 @@
 -- What each command does.
-use Rattle.std.specs.Prelude.{ℕ, List, unwrap_or, true, false, Result, Ok, Err, if◌then◌else◌}
+use Rattle.std.specs.Prelude.{ℕ, List, unwrap_or, true, false, Result, Ok, Err}
 use Rattle.file_commands.specs.Notes.{CommandNote}
 use Rattle.scp_parser.specs.declared.fault.ParseFault.{ParseFault}
 use Rattle.scp_parser.specs.Command.{Request, Nothing, Examine, Deposit, Run, Go, Cont, Step, Reset, Break, NoBreak, Expect, NoExpect, Send, NoSend}
-use Rattle.scp_parser.specs.Command.{Attach, AttachPort, Detach, SetSize, Disconnect, Show, Do, Goto, Assert, Echo, Exit, Load, Dump}
+use Rattle.scp_parser.specs.Command.{Attach, AttachPort, Detach, SetSize, Disconnect, Show, Do, Goto, Assert, Echo, Exit, Load, Dump, Save, Restore}
 use Rattle.scp_parser.specs.Reading.{reading}
 use Rattle.scp_commands.specs.declared.fault.CommandFault.{CommandFault}
-use Rattle.scp_commands.specs.declared.fault.CommandFault.TheVariants.{Parse, NotBuilt}
+use Rattle.scp_commands.specs.declared.fault.CommandFault.TheVariants.{Parse}
 use Rattle.scp_commands.specs.Live.{Live}
 use Rattle.scp_commands.specs.Reply.{Reply, goes, refused}
 use Rattle.scp_commands.specs.RunEffects.{running, run_from, step_of, reset_reply}
@@ -19,7 +19,7 @@ use Rattle.scp_commands.specs.ExitEffects.{exit_reply}
 use Rattle.scp_commands.specs.ScriptEffects.{do_reply, goto_reply, echo_reply, assert_reply}
 use Rattle.scp_commands.specs.SetEffects.{set_size_reply}
 use Rattle.scp_commands.specs.TapeEffects.{load_reply, dump_reply}
-use Rattle.scp_commands.specs.Unbuilt.{names_unbuilt}
+use Rattle.scp_commands.specs.StateEffects.{save_reply, restore_reply}
 
 -- a command, where a run may execute so many instructions, and where these calls on files fail
 unfoldable pub effect : ℕ → List CommandNote → Live → Request → Reply
@@ -50,7 +50,8 @@ effect limit notes live (Goto label) = goto_reply live
 effect limit notes live (Exit status) = exit_reply notes live status
 effect limit notes live (Load name) = load_reply notes live name
 effect limit notes live (Dump from to name) = dump_reply notes live from to name
-effect limit notes live request = refused NotBuilt live
+effect limit notes live (Save name) = save_reply notes live name
+effect limit notes live (Restore force name) = restore_reply notes live force name
 
 -- what a line asks for: a command, or the fault by which it is refused before any command
 abbrev pub Asked : Type 0
@@ -61,10 +62,8 @@ abbrev pub read_as : Result Request ParseFault → Asked
 read_as (Ok request) = Ok request
 read_as (Err fault) = Err (Parse fault)
 
--- A line is refused as not built where it names a command that this version does not have, whatever follows; every other
--- line is read.
 unfoldable pub asked : List ℕ → Asked
-asked line = if names_unbuilt line then Err NotBuilt else read_as (reading line)
+asked line = read_as (reading line)
 
 -- what a line does
 unfoldable pub does : ℕ → List CommandNote → Live → Asked → Reply

@@ -1,5 +1,5 @@
 -- The faults of commands, and what each prints.
-use Rattle.std.specs.Prelude.{ℕ, List, [], ◌∷◌, ◌++◌, codes, decimal, Option, Some, None}
+use Rattle.std.specs.Prelude.{ℕ, nat_lt, List, [], ◌∷◌, ◌++◌, codes, decimal, Option, Some, None, if◌then◌else◌}
 use Rattle.nova_word.specs.Numbers.{octal_digits}
 use Rattle.binary_load.specs.declared.faults.LoadFault.{LoadFault}
 use Rattle.binary_load.specs.declared.faults.LoadFault.TheVariants as tape
@@ -15,14 +15,22 @@ use Rattle.unit_files.specs.declared.faults.DetachFault.{DetachFault}
 use Rattle.unit_files.specs.declared.faults.DetachFault.TheVariants as detach
 use Rattle.file_commands.specs.declared.note.Subject.{Subject}
 use Rattle.file_commands.specs.declared.note.Subject.TheVariants as subject
+use Rattle.state_file.specs.declared.fault.StateFault.{StateFault}
+use Rattle.state_file.specs.declared.fault.StateFault.TheVariants as state
+use Rattle.state_file.specs.declared.file_faults.SaveFault.{SaveFault}
+use Rattle.state_file.specs.declared.file_faults.SaveFault.TheVariants as save
+use Rattle.state_file.specs.declared.file_faults.RestoreFault.{RestoreFault}
+use Rattle.state_file.specs.declared.file_faults.RestoreFault.TheVariants as restore
+use Rattle.unit_trait.specs.declared.kind.UnitName.{UnitName}
+use Rattle.unit_trait.specs.Kinds.{units_of, unit_name}
 use Rattle.scp_examine.specs.declared.fault.ExamineFault.{ExamineFault}
 use Rattle.scp_examine.specs.declared.fault.ExamineFault.TheVariants as list
 use Rattle.scp_commands.specs.declared.fault.CommandFault.{CommandFault}
 use Rattle.scp_commands.specs.declared.fault.Detail.{Detail}
-use Rattle.scp_commands.specs.declared.fault.Detail.TheVariants.{Nothing, Place, Address}
+use Rattle.scp_commands.specs.declared.fault.Detail.TheVariants.{Nothing, Place, Address, Version as AVersion, Unit as AUnit}
 use Rattle.scp_commands.specs.declared.fault.CommandFault.TheVariants.{Parse, NoSuchName, OutOfRange, ReadOnlyName, Console, NotBuilt}
 use Rattle.scp_commands.specs.declared.fault.CommandFault.TheVariants.{AlreadyAttached, NotAttached, ReadOnly, NoFile, FileTooLong, FileFailed, PortFailed, Full, AssertFailed, TooDeep, NoLabel, NotInDo, OutOfMemory}
-use Rattle.scp_commands.specs.declared.fault.CommandFault.TheVariants.{LoadTruncated, LoadSum, PastMemory}
+use Rattle.scp_commands.specs.declared.fault.CommandFault.TheVariants.{NotState, Version, BadDigest, BadField, Truncated, Changed, LoadTruncated, LoadSum, PastMemory}
 
 -- the fault of a list
 abbrev pub list_fault : ExamineFault → CommandFault
@@ -56,6 +64,28 @@ abbrev pub tape_fault : LoadFault → CommandFault
 tape_fault (tape.Truncated place) = LoadTruncated place
 tape_fault (tape.BadSum place) = LoadSum place
 tape_fault (tape.PastMemory origin) = PastMemory origin
+
+-- the fault of a state file
+abbrev pub state_fault : StateFault → CommandFault
+state_fault state.NotState = NotState
+state_fault (state.Version version) = Version version
+state_fault (state.BadDigest kept found) = BadDigest kept found
+state_fault (state.BadField place) = BadField place
+state_fault state.Truncated = Truncated
+state_fault state.OutOfMemory = OutOfMemory
+
+-- the fault of a session that was not saved, and of one that was not put back
+abbrev pub save_fault : SaveFault → CommandFault
+save_fault (save.Failed f) = FileFailed (subject.Unit f.unit)
+save_fault save.OutOfMemory = OutOfMemory
+
+abbrev pub restore_fault : RestoreFault → CommandFault
+restore_fault (restore.NoFile unit) = NoFile
+restore_fault (restore.TooLong unit) = FileTooLong
+restore_fault (restore.Changed unit) = Changed unit
+restore_fault (restore.Failed f) = FileFailed (subject.Unit f.unit)
+restore_fault restore.Port = PortFailed
+restore_fault restore.OutOfMemory = OutOfMemory
 
 -- the fault of a break or an expect that was not added
 abbrev pub add_fault : AddFault → CommandFault
@@ -98,6 +128,12 @@ fault_words AssertFailed = Some (codes "Assertion failed")
 fault_words TooDeep = Some (codes "DO nested too deeply")
 fault_words NoLabel = Some (codes "Label not found")
 fault_words NotInDo = Some (codes "Not in a DO file")
+fault_words NotState = Some (codes "Not a state file")
+fault_words (Version version) = Some (codes "State version ")
+fault_words (BadDigest kept found) = Some (codes "State digest mismatch")
+fault_words (BadField place) = Some (codes "State field invalid at ")
+fault_words Truncated = Some (codes "State file truncated")
+fault_words (Changed unit) = Some (codes "Attached file changed: ")
 fault_words (LoadTruncated place) = Some (codes "Load file truncated at ")
 fault_words (LoadSum place) = Some (codes "Load checksum error at ")
 fault_words (PastMemory origin) = Some (codes "Load origin past memory: ")
@@ -105,19 +141,28 @@ fault_words Console = None
 fault_words OutOfMemory = None
 fault_words NotBuilt = Some (codes "Not built")
 
--- what stands behind these words: a place, or the origin of a block
+-- what stands behind these words: a place, the origin of a block, a version, or a unit
 abbrev pub fault_detail : CommandFault → Detail
 fault_detail (Parse fault) = parse_detail fault
+fault_detail (BadField place) = Place place
+fault_detail (Version version) = AVersion version
+fault_detail (Changed unit) = AUnit unit
 fault_detail (LoadTruncated place) = Place place
 fault_detail (LoadSum place) = Place place
 fault_detail (PastMemory origin) = Address origin
 fault_detail fault = Nothing
 
--- a place is decimal, and an address has six octal digits
+-- the name of a unit; nothing for a number that its kind has not
+abbrev pub unit_or_nothing : UnitName → List ℕ
+unit_or_nothing unit = if nat_lt unit.unit (units_of unit.kind) then unit_name unit else []
+
+-- a place and a version are decimal, and an address has six octal digits
 abbrev pub detail_text : Detail → List ℕ
 detail_text Nothing = []
 detail_text (Place place) = decimal place
 detail_text (Address address) = octal_digits 6 address
+detail_text (AVersion version) = decimal version ++ codes " not supported"
+detail_text (AUnit unit) = unit_or_nothing unit
 
 -- words and what stands behind them, as a line
 abbrev pub words_line : List ℕ → Detail → List ℕ

@@ -1,5 +1,5 @@
 -- ATTACH, DETACH, and SHOW of a unit (SIMH Users' Guide, "Attaching Devices").
-use Rattle.std.specs.Prelude.{ℕ, ◌==◌, ◌||◌, Bool, not, is_none, List, [], ◌∷◌, ◌++◌, codes, Option, Some, None, Ok, Err, if◌then◌else◌, ◌+◌}
+use Rattle.std.specs.Prelude.{ℕ, ◌==◌, ◌||◌, Bool, not, is_none, List, [], ◌∷◌, ◌++◌, codes, Option, Some, None, Ok, Err, if◌then◌else◌}
 use Rattle.unit_trait.specs.declared.kind.Kind.{Kind}
 use Rattle.unit_trait.specs.declared.kind.UnitName.{UnitName}
 use Rattle.unit_trait.specs.Kinds.{code_of, unit_name}

@@ -21,14 +21,14 @@ use Rattle.scp_commands.specs.RunEffects.{address_fits, starting_at, running}
 use Rattle.scp_commands.specs.Effect.{effect}
 
 -- the commands that may leave something behind where they are refused with that fault: ATTACH, which may have made or
--- emptied its file before a call on it failed; DETACH and EXIT, whose write may have changed a first part of the disk's
--- file; and DUMP, whose file may have a first part of the tape
+-- emptied its file before a call on it failed; DETACH, EXIT and SAVE, whose write may have changed a first part of the
+-- disk's file; and DUMP and SAVE, whose file may have a first part of the tape or of the state
 abbrev pub traces_by : Bool → CommandFault → Type 0
 traces_by true (FileFailed who) = Unit {0}
 traces_by true fault = ⊥
 traces_by false fault = ⊥
 
--- beside them ATTACH of a port that was not listened on: the call was made
+-- beside them ATTACH of a port that was not listened on, and RESTORE of such a one: the call was made
 abbrev pub LeavesTraces : Request → CommandFault → Type 0
 LeavesTraces request PortFailed = Unit {0}
 LeavesTraces request fault = traces_by (nature request).leaves_part fault

@@ -14,7 +14,7 @@ pub mod WholeCalls
 pub mod ScriptEffects
 pub mod TapeEffects
 pub mod SetEffects
-pub mod Unbuilt
+pub mod StateEffects
 pub mod Effect
 pub mod Nature
 pub mod LinesLeft

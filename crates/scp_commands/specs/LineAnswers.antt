@@ -1,13 +1,15 @@
 -- What the answer to a command says of a machine's terminal lines and of the outside, whether that tells what comes or not.
-use Rattle.std.specs.Prelude.{◌≡◌, ℕ, Bool, true, false, List, [], ◌∷◌, Option, Some, None, IsSome, Ok, Err}
+use Rattle.std.specs.Prelude.{◌≡◌, ℕ, ◌<◌, ◌^◌, Bool, true, false, List, [], ◌∷◌, Option, Some, None, IsSome, Ok, Err}
+use Rattle.fault_counts.specs.Faults.{raised}
 use Rattle.unit_trait.specs.declared.kind.UnitName.{UnitName}
 use Rattle.host_lines.specs.State.{LineState}
 use Rattle.telnet_lines.specs.Line.{LineOf}
-use Rattle.scp_parser.specs.Command.{Request, Run, Go, Cont, Step, AttachPort, Detach, Disconnect, Exit}
-use Rattle.scp_commands.specs.declared.fault.CommandFault.TheVariants.{NotBuilt}
+use Rattle.state_file.specs.Listening.{wants_port, with_port as ported_by, IsListening, AreClosed}
+use Rattle.scp_parser.specs.Command.{Request, Run, Go, Cont, Step, AttachPort, Detach, Disconnect, Restore, Exit}
+use Rattle.scp_commands.specs.declared.fault.CommandFault.TheVariants.{NotBuilt, PortFailed}
 use Rattle.scp_commands.specs.Reply.{Answer}
 use Rattle.scp_commands.specs.LineEffects.{is_terminal, closed, hung}
-use Rattle.scp_commands.specs.LinesLeft.{GivesUp, attaches_by, needs_port}
+use Rattle.scp_commands.specs.LinesLeft.{GivesUp, NotListened, attaches_by, needs_port}
 
 -- Nothing was asked of the outside, and the lines are as they were.
 pub record LinesStay (old : LineState) (before : List (LineOf ℕ)) (new : LineState) (after : List (LineOf ℕ)) : Type 0 where
@@ -66,11 +68,27 @@ abbrev pub DetachesUnit : Option UnitName → Answer → LineState → List (Lin
 DetachesUnit None answer old before new after = ClosesAll answer old before new after
 DetachesUnit (Some unit) answer old before new after = detaches_by (is_terminal unit) answer old before new after
 
+-- RESTORE, by its answer: no line had a port, and the first one has that of the saved session, or none, and it was
+-- listened on; or the listening failed; or nothing was asked.
+pub record RestoresPort (tells : Bool) (old : LineState) (before : List (LineOf ℕ)) (new : LineState) (after : List (LineOf ℕ)) : Type 0 where
+  pub port : ℕ
+  pub range : port < 2 ^ 16
+  pub closed : AreClosed before
+  pub lines : after ≡ ported_by port before
+  pub wanted : wants_port port before ≡ true → IsListening tells port (Ok tt) old new
+  pub other : wants_port port before ≡ false → new ≡ old
+
+abbrev pub RestoresLines : Bool → Answer → LineState → List (LineOf ℕ) → LineState → List (LineOf ℕ) → Type 0
+RestoresLines tells (Ok next) old before new after = RestoresPort tells old before new after
+RestoresLines tells (Err PortFailed) old before new after = (after ≡ before) × NotListened (raised old.faults) old new
+RestoresLines tells (Err fault) old before new after = LinesStay old before new after
+
 -- Any command, memory for which did not run out. What a run leaves is said of every call that polls.
 abbrev pub LinesAnswer : Bool → Request → Answer → LineState → List (LineOf ℕ) → LineState → List (LineOf ℕ) → Type 0
 LinesAnswer tells (AttachPort kind port) answer old before new after = AttachesPort tells port answer old before new after
 LinesAnswer tells (Detach unit) answer old before new after = DetachesUnit unit answer old before new after
 LinesAnswer tells (Disconnect kind) answer old before new after = Disconnects answer old before new after
+LinesAnswer tells (Restore force name) answer old before new after = RestoresLines tells answer old before new after
 LinesAnswer tells (Exit status) answer old before new after = ClosesAll answer old before new after
 LinesAnswer tells (Run address) answer old before new after = Unit {0}
 LinesAnswer tells (Go address) answer old before new after = Unit {0}

@@ -12,7 +12,7 @@ use Rattle.telnet_lines.specs.Line.{LineOf, unconnected}
 use Rattle.telnet_lines.specs.Joined.{seen_line}
 use Rattle.telnet_lines.specs.Many.{AreApart}
 use Rattle.nova_machine.specs.LineChanges.{HasConnection}
-use Rattle.scp_parser.specs.Command.{Request, AttachPort}
+use Rattle.scp_parser.specs.Command.{Request, AttachPort, Restore}
 use Rattle.scp_commands.specs.declared.next.Next.TheVariants.{Go}
 use Rattle.scp_commands.specs.declared.fault.CommandFault.TheVariants.{OutOfMemory, OutOfRange, PortFailed, AlreadyAttached, NotAttached}
 use Rattle.scp_commands.specs.Reply.{Answer}
@@ -85,9 +85,10 @@ Unlistened (Err PortFailed) = Unit {0}
 Unlistened (Err OutOfMemory) = Unit {0}
 Unlistened answer = ⊥
 
--- an ATTACH of a port for which that is so
+-- an ATTACH of a port, or a RESTORE, for which that is so
 abbrev pub IsUnlistened : Request → Answer → Type 0
 IsUnlistened (AttachPort kind port) answer = Unlistened answer
+IsUnlistened (Restore force name) answer = Unlistened answer
 IsUnlistened request answer = ⊥
 
 -- `Port not available` comes only where the count of faults rose. Where memory ran out, no call was made.
@@ -99,6 +100,7 @@ AttachCause tells answer old new = Unit {0}
 -- it is no answer of any other command
 abbrev pub ListenCause : Bool → Request → Answer → LineState → LineState → Type 0
 ListenCause tells (AttachPort kind port) answer old new = AttachCause tells answer old new
+ListenCause tells (Restore force name) answer old new = AttachCause tells answer old new
 ListenCause tells request answer old new = answer ≢ Err PortFailed
 
 -- what a listening answers

@@ -4,7 +4,7 @@ use Rattle.file_commands.specs.declared.note.Subject.{Subject}
 use Rattle.file_commands.specs.declared.note.Subject.TheVariants as subject
 use Rattle.unit_trait.specs.declared.kind.UnitName.{UnitName}
 use Rattle.scp_commands.specs.LineEffects.{is_terminal}
-use Rattle.scp_parser.specs.Command.{Request, Run, Go, Cont, Step, Break, Expect, Attach, AttachPort, Detach, Disconnect, Load, Dump, Do, Exit}
+use Rattle.scp_parser.specs.Command.{Request, Run, Go, Cont, Step, Break, Expect, Attach, AttachPort, Detach, Disconnect, Load, Dump, Save, Restore, Do, Exit}
 
 -- what of files and lines has to be told, so that all that a command does is
 pub data Telling : Type 0 where
@@ -16,8 +16,10 @@ pub data Telling : Type 0 where
   Listening : Telling
   -- all of them, where one is attached that a run may use
   Attached : Telling
-  -- all of them: it works on one by its name
+  -- all files: it works on one by its name
   Named : Telling
+  -- all files and all lines: it works on one by its name, and may listen on a port
+  Whole : Telling
 
 pub record Nature : Type 0 where
   pub telling : Telling
@@ -55,6 +57,8 @@ nature (AttachPort kind port) = of_nature Listening true None false false
 nature (Do echo strict name arguments) = of_nature Named true (Some subject.Script) false false
 nature (Load name) = of_nature Named true (Some subject.Load) false false
 nature (Dump from to name) = of_nature Named true None true false
+nature (Save name) = of_nature Named true None true true
+nature (Restore force name) = of_nature Whole true (Some subject.State) false false
 nature (Run address) = of_nature Attached false None false false
 nature (Go address) = of_nature Attached false None false false
 nature Cont = of_nature Attached false None false false

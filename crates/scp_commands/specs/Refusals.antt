@@ -10,19 +10,20 @@ use Rattle.nova_machine.specs.Machine.{MachineState}
 use Rattle.nova_machine.specs.Seen.{attached_in}
 use Rattle.whole_files.specs.declared.whole.WholeFault.TheVariants as whole
 use Rattle.whole_files.specs.Claims.{WholeCause}
-use Rattle.scp_parser.specs.Command.{Request, Break, Expect, Attach, AttachPort, Dump, Do, Load}
+use Rattle.scp_parser.specs.Command.{Request, Break, Expect, Attach, AttachPort, Dump, Restore, Do, Load}
 use Rattle.scp_commands.specs.declared.fault.CommandFault.TheVariants.{NoFile, FileTooLong, OutOfMemory}
 use Rattle.scp_commands.specs.Reply.{Answer}
 use Rattle.scp_commands.specs.RunEffects.{last_address}
 use Rattle.scp_commands.specs.WatchEffects.{largest_count, lacks_room_for_break, can_be_expected, text_of_quoted}
 use Rattle.scp_commands.specs.LineEffects.{terminal_line, is_port}
 use Rattle.scp_commands.specs.FileEffects.{lacks_unit, mode_of}
+use Rattle.scp_commands.specs.StateEffects.{is_occupied}
 use Rattle.scp_commands.specs.TapeEffects.{can_dump}
 
 -- The command is refused for nothing that can be seen before memory is wanted: a number out of range or a full table of BREAK
 -- and EXPECT; a unit of ATTACH that is not built, has a file already, or only writes where its file is only to be read; a port that
 -- is out of range, or of a terminal that has one;
--- addresses of DUMP that the memory does not have.
+-- addresses of DUMP that the memory does not have; something that is attached, of RESTORE.
 abbrev pub IsUnrefused : Request → MachineState → WatchState → Type 0
 IsUnrefused (Break at count actions) m w =
     ((nat_le at last_address && nat_le count largest_count) ≡ true) × (lacks_room_for_break at w.breaks.list ≡ false)
@@ -33,6 +34,7 @@ IsUnrefused (Attach option unit name) m w =
 IsUnrefused (AttachPort kind port) m w =
     (option_map (λ (line : LineOf ℕ). line.port) (terminal_line m.lines) ≡ Some None) × (is_port port ≡ true)
 IsUnrefused (Dump from to name) m w = can_dump m from to ≡ true
+IsUnrefused (Restore force name) m w = is_occupied (attached_in m) m.lines ≡ false
 IsUnrefused request m w = Unit {0}
 
 -- Why a file that is read whole was not read, also of files that tell nothing, where no call on it failed: it is not there;

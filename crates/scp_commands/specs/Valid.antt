@@ -1,11 +1,14 @@
 -- What every state is within a session, and what commands make of it.
-use Rattle.std.specs.Prelude.{◌≡◌, ◌≢◌, ◌≤◌, ℕ, Bool, false, List, Some, Ok, Err}
+use Rattle.std.specs.Prelude.{◌≡◌, ◌≢◌, ◌≤◌, ℕ, Bool, true, false, List, length, Option, Some, None, IsSome, Ok, Err}
+use Rattle.host_files.specs.Lists.{NamedBytes, find_file, bytes_of}
 use Rattle.observations.specs.Observations.{StandsAt}
 use Rattle.nova_machine.specs.Comes.{Output}
 use Rattle.nova_machine.specs.Run.{last_time}
+use Rattle.nova_machine.specs.Seen.{attached_in}
 use Rattle.nova_machine.specs.Valid.{AreBytes, Valid, DiskIsItsFile, LeavesDiskFile}
 use Rattle.file_commands.specs.Notes.{CommandNote}
-use Rattle.unit_files.specs.Buffer.{disk_unit}
+use Rattle.unit_files.specs.Attachments.{Attachment, attachment_at}
+use Rattle.unit_files.specs.Buffer.{Buffer, disk_unit}
 use Rattle.scp_parser.specs.Command.{Request, Attach, Detach, IsKept}
 use Rattle.scp_parser.specs.Laws.{IsOfBytes}
 use Rattle.scp_commands.specs.declared.next.Next.TheVariants.{Go, Do}
@@ -14,7 +17,7 @@ use Rattle.scp_commands.specs.Live.{Live, Standing}
 use Rattle.scp_commands.specs.Reply.{Answer, Reply}
 use Rattle.scp_commands.specs.Effect.{effect}
 use Rattle.scp_commands.specs.Doing.{Does}
-use Rattle.scp_commands.specs.Remains.{Remains}
+use Rattle.scp_commands.specs.Remains.{flushed, Remains}
 
 -- a state that commands work on: all is in range, and no time comes past the end of time
 pub record ValidLive (live : Live) : Type 0 where
@@ -26,11 +29,25 @@ abbrev pub GivesBytes : Answer → Type 0
 GivesBytes (Ok (Do file)) = AreBytes file.text
 GivesBytes answer = Unit {0}
 
+-- what the disk holds covers its file: the file is there, and is no longer
+abbrev pub CoversFile : Option Attachment → Buffer → List NamedBytes → Type 0
+CoversFile None disk files = Unit {0}
+CoversFile (Some a) disk files = IsSome (find_file files a.name) × (length (bytes_of files a.name) ≤ length disk.bytes)
+
+abbrev pub DiskCoversFile : Live → Type 0
+DiskCoversFile live = CoversFile (attachment_at (attached_in live.machine) disk_unit) live.machine.disk live.files
+
+-- Nobody but the disk has changed its file: it has the bytes that it had, or, where something was to be written back that
+-- covers it, those that it has behind that.
+pub record FileFollows (old new : Live) : Type 0 where
+  pub clean : old.machine.disk.written ≡ false → LeavesDiskFile old new
+  pub back : old.machine.disk.written ≡ true → DiskCoversFile old × LeavesDiskFile (flushed old) new
+
 -- What the disk holds of its file is what is in it in a later state too, where the file has not changed beside the
 -- disk or something is to be written back.
 abbrev pub CopyFollows : Live → Live → Type 0
 CopyFollows old new =
-    DiskIsItsFile old → (new.machine.disk.written ≡ false → LeavesDiskFile old new) → DiskIsItsFile new
+    DiskIsItsFile old → (new.machine.disk.written ≡ false → FileFollows old new) → DiskIsItsFile new
 
 -- a command leaves such a state, each text of it comes in one, and a script that it has read is of bytes
 pub record IsValidReply (reply : Reply) : Type 0 where

@@ -1,6 +1,7 @@
 // DUMP.
 ghost use Rattle.std.specs.Prelude.{length, ◌≡◌, ◌≤◌, ◌<◌, ◌^◌, ℕ, Bool, true, List, false, None, IsTrue, Err};
 ghost use Rattle.host_files.specs.State.{Opened};
+ghost use Rattle.unit_list.specs.Bus.{kinds_of};
 ghost use Rattle.unit_files.specs.Open.{AllOpen, Around};
 ghost use Rattle.file_commands.specs.declared.note.Subject.TheVariants.{Dump as of_dump};
 ghost use Rattle.file_commands.specs.OwnFiles.{AreOwn};
@@ -11,7 +12,7 @@ ghost use Rattle.host_lines.specs.State.{LineState};
 ghost use Rattle.nova_machine.specs.Comes.{Output};
 ghost use Rattle.scp_commands.specs.declared.fault.CommandFault.TheVariants.{OutOfMemory};
 ghost use Rattle.scp_commands.specs.Live.{live_in, beyond};
-ghost use Rattle.scp_commands.specs.WholeCalls.{write_calls, written_answer};
+ghost use Rattle.scp_commands.specs.WholeCalls.{write_calls};
 ghost use Rattle.scp_commands.specs.TapeEffects.{can_dump, dump_after, dump_reply};
 ghost use Rattle.scp_parser.specs.Command.{Dump};
 ghost use Rattle.scp_commands.specs.Refusals.{IsUnrefused};
@@ -21,7 +22,7 @@ use crate::fault::CommandFault;
 use crate::next::Next;
 use crate::session::Session;
 use crate::unit_commands::stamp_of;
-use crate::whole_notes::note_writing;
+use crate::whole_notes::{note_writing, written_answer};
 use binary_load::dump;
 use file_commands::Subject;
 use host_files::Files;
@@ -29,7 +30,7 @@ use nova_machine::Machine;
 use nova_word::{Addr, Word};
 use std::alloc::Global;
 use unit_trait::Unit;
-use whole_files::{WholeFault, write_file};
+use whole_files::write_file;
 
 /// DUMP makes the file of a name, or empties it, writes the words from one address up to another as a loader tape that
 /// starts at PC, and closes it again. It prints nothing.
@@ -71,6 +72,7 @@ pub fn dump_file<U: Unit, F: Files>(
     ensures keys { session.new.keys ≡ session.old.keys }
     ensures limit { session.new.limit ≡ session.old.limit }
     ensures command { session.new.command ≡ session.old.command }
+    ensures kinds { kinds_of session.new.machine.units ≡ kinds_of session.old.machine.units }
     ensures open { AllOpen session.new.machine.slots (F.state files.new).opened }
     ensures around { (base : List Opened) → Around session.old.machine.slots base (F.state files.old).opened
         → Around session.new.machine.slots base (F.state files.new).opened }
@@ -136,6 +138,7 @@ fn write_tape<U: Unit, F: Files>(
     ensures keys { session.new.keys ≡ session.old.keys }
     ensures limit { session.new.limit ≡ session.old.limit }
     ensures command { session.new.command ≡ session.old.command }
+    ensures kinds { kinds_of session.new.machine.units ≡ kinds_of session.old.machine.units }
     ensures open { AllOpen session.new.machine.slots (F.state files.new).opened }
     ensures around { (base : List Opened) → Around session.old.machine.slots base (F.state files.old).opened
         → Around session.new.machine.slots base (F.state files.new).opened }
@@ -143,15 +146,5 @@ fn write_tape<U: Unit, F: Files>(
     let stamp = stamp_of(session);
     let written = write_file(alloc, name, tape, files);
     note_writing(&mut session.notes, Subject::Dump, written, stamp);
-    written_answer(written.answer)
-}
-
-// What is answered of a tape that was written, or not.
-fn written_answer(answer: Result<(), WholeFault>) -> Result<Next, CommandFault>
-    ensures { result ≡ written_answer of_dump answer }
-{
-    match answer {
-        Ok(()) => Ok(Next::Go),
-        Err(fault) => Err(CommandFault::of_whole(Subject::Dump, fault)),
-    }
+    written_answer(Subject::Dump, written.answer)
 }

@@ -1,5 +1,6 @@
 ghost use Rattle.std.specs.Prelude.{◌≡◌, ◌≢◌, ◌≤◌, List, Ok, Err};
 ghost use Rattle.host_files.specs.State.{Opened};
+ghost use Rattle.unit_list.specs.Bus.{kinds_of};
 ghost use Rattle.unit_files.specs.Open.{AllOpen, Around};
 ghost use Rattle.file_commands.specs.OwnFiles.{AreOwn};
 ghost use Rattle.file_commands.specs.Notes.{notes_said};
@@ -8,6 +9,7 @@ ghost use Rattle.host_lines.specs.Traffic.{Answer as LineAnswer};
 ghost use Rattle.host_lines.specs.Told.{Heard, IsFirst, record_in};
 ghost use Rattle.host_lines.specs.State.{LineState};
 ghost use Rattle.nova_machine.specs.Comes.{output};
+ghost use Rattle.state_file.specs.SavedValid.{AreStandard};
 ghost use Rattle.scp_commands.specs.declared.next.Next.TheVariants.{Ran};
 ghost use Rattle.scp_commands.specs.declared.fault.CommandFault.TheVariants.{OutOfMemory, PortFailed};
 ghost use Rattle.scp_commands.specs.Live.{live_in, beyond};
@@ -18,7 +20,7 @@ ghost use Rattle.scp_commands.specs.LineAnswers.{LinesAnswer};
 ghost use Rattle.scp_commands.specs.Remains.{AreLeft};
 ghost use Rattle.scp_commands.specs.Refusals.{IsUnrefused, IsMeasured};
 ghost use Rattle.scp_commands.specs.RunStops.{RunStops, IsNoStop, run_count, is_step};
-ghost use Rattle.scp_commands.specs.Doing.{Did, IsTold, IsRefused, Keeps, ConsoleCounts, MayWant, IsUndone, says_files, IsExitAnswer, RunCause, IsRefusal, AttachNote};
+ghost use Rattle.scp_commands.specs.Doing.{Did, IsTold, IsRefused, Keeps, ConsoleCounts, MayWant, IsUndone, says_files, IsExitAnswer, RunCause, IsRefusal, AttachNote, KeepsBy, is_restore};
 
 use crate::do_command::do_script;
 use crate::dump_command::dump_file;
@@ -28,7 +30,9 @@ use crate::line_commands::{attach_port, disconnect};
 use crate::list_commands::{deposit_list, examine_list};
 use crate::load_command::load_file;
 use crate::next::Next;
+use crate::restore_command::restore;
 use crate::run_commands::{reset, run, run_from, step};
+use crate::save_command::save;
 use crate::script_commands::{assert_condition, echo};
 use crate::session::Session;
 use crate::set_command::set_size;
@@ -45,12 +49,15 @@ use unit_trait::Unit;
 
 /// Does a command, and prints what it has to say.
 ///
-/// A command that is refused has printed nothing and changed nothing, but that ATTACH and DUMP may have made or emptied
-/// their file, and DUMP may have written a first part of it; who called prints the text of its fault. `Console` means
+/// A command that is refused has printed nothing and changed nothing, but that ATTACH, DUMP and SAVE may have made or
+/// emptied their file, DUMP and SAVE may have written a first part of it, and what the disk holds may be written back
+/// by SAVE; who called prints the text of its fault. `Console` means
 /// that the console refused a byte, also within a run: what comes before it was printed, and the session stands as it
-/// did when that byte was to be printed. `OutOfMemory` means that nothing was done: it comes where the room for 16
-/// notes can't be taken, and from BREAK, EXPECT, ATTACH, DO, LOAD and DUMP. A closing that fails then in DO or LOAD is
-/// noted.
+/// did when that byte was to be printed. `OutOfMemory` means that nothing was done, but that SAVE may have written the
+/// disk's copy back: it comes where the room for 16 notes can't be taken, and from BREAK, EXPECT, ATTACH, DO, LOAD,
+/// DUMP, SAVE and RESTORE. A closing that fails then in DO, LOAD or RESTORE is noted.
+///
+/// The machine has the ten units of a standard one, and keeps them.
 ///
 /// `lines` are the ports and connections of the host. Runs poll them for the machine's terminal lines; ATTACH of the
 /// second teletype listens on a port, which may fail and is counted then, and DETACH, DETACH ALL and EXIT give it up.
@@ -62,6 +69,7 @@ pub fn execute<U: Unit, F: Files, L: Lines, S: Sink>(
     lines: &mut L,
     out: &mut S,
 ) -> Result<Next, CommandFault>
+    requires standard { AreStandard session.old.machine.units }
     requires open { AllOpen session.old.machine.slots (F.state files.old).opened }
     ensures refused { IsRefusal command.now result
         → AreLeft (nature command.now).flushes session.old session.new }
@@ -85,13 +93,15 @@ pub fn execute<U: Unit, F: Files, L: Lines, S: Sink>(
     ensures unrefused { result ≡ Err OutOfMemory → 16 ≤ session.old.spare
         → IsUnrefused command.now session.old.machine session.old.watch }
     ensures measured { IsMeasured F.tells command.now result (F.state files.old) (F.state files.new) }
-    ensures keeps { Keeps session.old.command session.new.machine.time F.tells result session.old.notes
-        session.new.notes (F.state files.old) (F.state files.new) }
+    ensures keeps { KeepsBy (is_restore command.now) session.old.command session.old.machine.time
+        session.new.machine.time F.tells result session.old.notes session.new.notes (F.state files.old)
+        (F.state files.new) }
     ensures whose { AreOwn session.old.machine.slots session.new.machine.slots session.old.notes session.new.notes
         (F.state files.old) (F.state files.new) }
     ensures keys { session.new.keys ≡ session.old.keys }
     ensures limit { session.new.limit ≡ session.old.limit }
     ensures command { session.new.command ≡ session.old.command }
+    ensures standard { AreStandard session.new.machine.units }
     ensures counts { ConsoleCounts result (S.fault_count out.old) (S.fault_count out.new) }
     ensures ran { RunCause result session.old.machine.slots (F.state files.old) (F.state files.new) }
     ensures stopped { RunStops (is_step command.now session.old.limit) (run_count command.now session.old.limit) result
@@ -122,6 +132,7 @@ fn obey<U: Unit, F: Files, L: Lines, S: Sink>(
     out: &mut S,
 ) -> Result<Next, CommandFault>
     requires room { 16 ≤ session.old.spare }
+    requires standard { AreStandard session.old.machine.units }
     requires open { AllOpen session.old.machine.slots (F.state files.old).opened }
     ensures refused { IsRefusal command.now result
         → AreLeft (nature command.now).flushes session.old session.new }
@@ -136,8 +147,8 @@ fn obey<U: Unit, F: Files, L: Lines, S: Sink>(
         session.new.machine.lines }
     ensures unasked { IsRefused result → (IsUnlistened command.now result → ⊥) → lines.new ≡ lines.old }
     ensures listening { ListenCause L.tells command.now result (L.state lines.old) (L.state lines.new) }
-    ensures line { LinesAnswer L.tells command.now result (L.state lines.old) session.old.machine.lines
-        (L.state lines.new) session.new.machine.lines }
+    ensures line { result ≢ Err OutOfMemory → LinesAnswer L.tells command.now result (L.state lines.old)
+        session.old.machine.lines (L.state lines.new) session.new.machine.lines }
     ensures undone { result ≡ Err OutOfMemory → IsUndone (nature command.now).flushes (nature command.now).reads_whole
         (says_files F.tells command.now) session.old session.new (S.written out.old) (S.written out.new)
         (F.state files.old) (F.state files.new) }
@@ -145,13 +156,15 @@ fn obey<U: Unit, F: Files, L: Lines, S: Sink>(
     ensures unrefused { result ≡ Err OutOfMemory
         → IsUnrefused command.now session.old.machine session.old.watch }
     ensures measured { IsMeasured F.tells command.now result (F.state files.old) (F.state files.new) }
-    ensures keeps { Keeps session.old.command session.new.machine.time F.tells result session.old.notes
-        session.new.notes (F.state files.old) (F.state files.new) }
+    ensures keeps { KeepsBy (is_restore command.now) session.old.command session.old.machine.time
+        session.new.machine.time F.tells result session.old.notes session.new.notes (F.state files.old)
+        (F.state files.new) }
     ensures whose { AreOwn session.old.machine.slots session.new.machine.slots session.old.notes session.new.notes
         (F.state files.old) (F.state files.new) }
     ensures keys { session.new.keys ≡ session.old.keys }
     ensures limit { session.new.limit ≡ session.old.limit }
     ensures command { session.new.command ≡ session.old.command }
+    ensures kinds { kinds_of session.new.machine.units ≡ kinds_of session.old.machine.units }
     ensures counts { ConsoleCounts result (S.fault_count out.old) (S.fault_count out.new) }
     ensures ran { RunCause result session.old.machine.slots (F.state files.old) (F.state files.new) }
     ensures stopped { RunStops (is_step command.now session.old.limit) (run_count command.now session.old.limit) result
@@ -184,6 +197,10 @@ fn obey<U: Unit, F: Files, L: Lines, S: Sink>(
         Verb::Dump { from, to, .. } => {
             dump_file(alloc, session, *from, *to, command.file_name(), files)
         }
+        Verb::Save(_) => save(alloc, session, command.file_name(), files),
+        Verb::Restore { force, .. } => {
+            restore(alloc, session, *force, command.file_name(), files, lines)
+        }
         _ => obey_untold(alloc, session, command, files, out),
     }
 }
@@ -198,6 +215,7 @@ fn obey_untold<U: Unit, F: Files, S: Sink>(
     out: &mut S,
 ) -> Result<Next, CommandFault>
     requires room { 16 ≤ session.old.spare }
+    requires standard { AreStandard session.old.machine.units }
     requires open { AllOpen session.old.machine.slots (F.state files.old).opened }
     requires part { IsUntold command.now }
     ensures refused { IsRefusal command.now result
@@ -223,6 +241,7 @@ fn obey_untold<U: Unit, F: Files, S: Sink>(
     ensures keys { session.new.keys ≡ session.old.keys }
     ensures limit { session.new.limit ≡ session.old.limit }
     ensures command { session.new.command ≡ session.old.command }
+    ensures kinds { kinds_of session.new.machine.units ≡ kinds_of session.old.machine.units }
     ensures counts { ConsoleCounts result (S.fault_count out.old) (S.fault_count out.new) }
     ensures ran { RunCause result session.old.machine.slots (F.state files.old) (F.state files.new) }
     ensures no_port { result ≢ Err PortFailed }
@@ -245,7 +264,7 @@ fn obey_untold<U: Unit, F: Files, S: Sink>(
     }
 }
 
-// The same of all commands that are plain by nature, and of those that are not built.
+// The same of all commands that are plain by nature.
 #[tactic(auto, using(crate::proofs::RemainLemmas::leaves, file_commands::proofs::OwnFiles::unused), unfolding(crate::specs::Effect::effect))]
 fn obey_plain<U: Unit, F: Files, S: Sink>(
     session: &mut Session<U>,
@@ -254,6 +273,7 @@ fn obey_plain<U: Unit, F: Files, S: Sink>(
     out: &mut S,
 ) -> Result<Next, CommandFault>
     requires room { 16 ≤ session.old.spare }
+    requires standard { AreStandard session.old.machine.units }
     requires open { AllOpen session.old.machine.slots (F.state files.now).opened }
     requires part { nature command.now ≡ plain }
     ensures refused { IsRefusal command.now result
@@ -279,6 +299,7 @@ fn obey_plain<U: Unit, F: Files, S: Sink>(
     ensures keys { session.new.keys ≡ session.old.keys }
     ensures limit { session.new.limit ≡ session.old.limit }
     ensures command { session.new.command ≡ session.old.command }
+    ensures kinds { kinds_of session.new.machine.units ≡ kinds_of session.old.machine.units }
     ensures counts { ConsoleCounts result (S.fault_count out.old) (S.fault_count out.new) }
     ensures ran { RunCause result session.old.machine.slots (F.state files.now) (F.state files.now) }
     ensures no_port { result ≢ Err PortFailed }
@@ -306,6 +327,6 @@ fn obey_plain<U: Unit, F: Files, S: Sink>(
         Verb::Goto(_) => Ok(Next::Goto),
         Verb::Assert(what) => assert_condition(session, what),
         Verb::Echo(_) => echo(command.text(), out),
-        _ => Err(CommandFault::NotBuilt),
+        _ => unreachable!(),
     }
 }

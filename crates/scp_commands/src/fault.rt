@@ -3,8 +3,10 @@ ghost use Rattle.fault_counts.specs.Faults.{CountsFault};
 ghost use Rattle.host_files.specs.Streams.{Puts};
 ghost use Rattle.scp_commands.specs.declared.fault.CommandFault.TheVariants.{Parse};
 ghost use Rattle.scp_commands.specs.FaultText.{list_fault, attach_fault, detach_fault, whole_fault, tape_fault, add_fault};
+ghost use Rattle.scp_commands.specs.FaultText.{state_fault, save_fault, restore_fault, unit_or_nothing};
 ghost use Rattle.scp_commands.specs.FaultText.{parse_words, parse_detail, fault_words, fault_detail, words_line, fault_text};
 
+use crate::unit_names::unit_name;
 use binary_load::LoadFault;
 use expect_actions::AddFault;
 use file_commands::Subject;
@@ -13,7 +15,9 @@ use itoa::Buffer;
 use line_text::Text;
 use scp_examine::ExamineFault;
 use scp_parser::ParseFault;
+use state_file::{RestoreFault, SaveFault, StateFault};
 use unit_files::{AttachFault, DetachFault};
+use unit_trait::{UnitName, units_of};
 use whole_files::WholeFault;
 
 /// Why a command was not done. Nothing has changed then, but for what the commands' own pages say.
@@ -51,6 +55,19 @@ pub enum CommandFault {
     NoLabel,
     /// No script is open.
     NotInDo,
+    /// The file is no state file.
+    NotState,
+    /// The state file is of another version of the format.
+    Version(u16),
+    /// The digest at the end of the state file is not that of the bytes before it.
+    BadDigest { kept: [u8; 32], found: [u8; 32] },
+    /// A field of the state file has a value that it cannot have, or a byte stands behind its end. The place is the
+    /// field's first byte, from 0.
+    BadField(usize),
+    /// The state file ends before a field does.
+    Truncated,
+    /// The file of a unit is not as it was when the session was saved: it has another length, or another digest.
+    Changed(UnitName),
     /// A loader tape ends within a block. The place is its end, in bytes.
     LoadTruncated(usize),
     /// The words of a block of a loader tape do not add up to 0. The place is that of the block, in bytes from 0.
@@ -72,6 +89,9 @@ pub(crate) enum Detail {
     /// A place, in bytes from 0.
     Place(usize),
     Address(u16),
+    /// A version, with the words behind it.
+    Version(u16),
+    Unit(UnitName),
 }
 
 impl CommandFault {
@@ -141,6 +161,44 @@ impl CommandFault {
         }
     }
 
+    /// The fault of a state file.
+    pub fn of_state(fault: StateFault) -> CommandFault
+        ensures { result ≡ state_fault fault }
+    {
+        match fault {
+            StateFault::NotState => CommandFault::NotState,
+            StateFault::Version(version) => CommandFault::Version(version),
+            StateFault::BadDigest { kept, found } => CommandFault::BadDigest { kept, found },
+            StateFault::BadField(place) => CommandFault::BadField(place),
+            StateFault::Truncated => CommandFault::Truncated,
+            StateFault::OutOfMemory => CommandFault::OutOfMemory,
+        }
+    }
+
+    /// The fault of a session that was not saved.
+    pub fn of_save(fault: SaveFault) -> CommandFault
+        ensures { result ≡ save_fault fault }
+    {
+        match fault {
+            SaveFault::Failed(fault) => CommandFault::FileFailed(Subject::Unit(fault.unit)),
+            SaveFault::OutOfMemory => CommandFault::OutOfMemory,
+        }
+    }
+
+    /// The fault of a session that was not put back.
+    pub fn of_restore(fault: RestoreFault) -> CommandFault
+        ensures { result ≡ restore_fault fault }
+    {
+        match fault {
+            RestoreFault::NoFile(_) => CommandFault::NoFile,
+            RestoreFault::TooLong(_) => CommandFault::FileTooLong,
+            RestoreFault::Changed(unit) => CommandFault::Changed(unit),
+            RestoreFault::Failed(fault) => CommandFault::FileFailed(Subject::Unit(fault.unit)),
+            RestoreFault::Port => CommandFault::PortFailed,
+            RestoreFault::OutOfMemory => CommandFault::OutOfMemory,
+        }
+    }
+
     /// The fault of a break or an expect that was not added.
     pub fn of_add(fault: AddFault) -> CommandFault
         ensures { result ≡ add_fault fault }
@@ -172,6 +230,12 @@ impl CommandFault {
             CommandFault::TooDeep => b"DO nested too deeply",
             CommandFault::NoLabel => b"Label not found",
             CommandFault::NotInDo => b"Not in a DO file",
+            CommandFault::NotState => b"Not a state file",
+            CommandFault::Version(_) => b"State version ",
+            CommandFault::BadDigest { .. } => b"State digest mismatch",
+            CommandFault::BadField(_) => b"State field invalid at ",
+            CommandFault::Truncated => b"State file truncated",
+            CommandFault::Changed(_) => b"Attached file changed: ",
             CommandFault::LoadTruncated(_) => b"Load file truncated at ",
             CommandFault::LoadSum(_) => b"Load checksum error at ",
             CommandFault::PastMemory(_) => b"Load origin past memory: ",
@@ -187,9 +251,11 @@ impl CommandFault {
     {
         match self {
             CommandFault::Parse(fault) => parse_detail(fault),
-            CommandFault::LoadTruncated(place) | CommandFault::LoadSum(place) => {
-                Detail::Place(place)
-            }
+            CommandFault::BadField(place)
+            | CommandFault::LoadTruncated(place)
+            | CommandFault::LoadSum(place) => Detail::Place(place),
+            CommandFault::Version(version) => Detail::Version(version),
+            CommandFault::Changed(unit) => Detail::Unit(unit),
             CommandFault::PastMemory(origin) => Detail::Address(origin),
             _ => Detail::Nothing,
         }
@@ -251,5 +317,31 @@ fn put_words<S: Sink>(words: &[u8], detail: Detail, out: &mut S) -> Result<(), F
             digits.push_octal(u32::from(address), 6);
             put_pieces(out, &[words, digits.as_slice(), b"\n"])
         }
+        Detail::Version(version) => {
+            let mut buffer = Buffer::new();
+            put_pieces(
+                out,
+                &[
+                    words,
+                    buffer.format(version).as_bytes(),
+                    b" not supported\n",
+                ],
+            )
+        }
+        Detail::Unit(unit) => {
+            let name = unit_or_nothing(unit);
+            put_pieces(out, &[words, name.as_slice(), b"\n"])
+        }
+    }
+}
+
+// The name of a unit; nothing for a number that its kind has not.
+fn unit_or_nothing(unit: UnitName) -> Text<8>
+    ensures { result ≡ unit_or_nothing unit }
+{
+    if unit.unit < units_of(unit.kind) {
+        unit_name(unit)
+    } else {
+        Text::new()
     }
 }

@@ -3,8 +3,8 @@ ghost use Rattle.scp_commands.specs.Valid.{CommandsKeepStates};
 ghost use Rattle.scp_commands.specs.Laws.{RefusalsChangeNothing, ResetsLeaveTheProgram, SetCpuLeavesTheRest};
 
 /// The law that a command that is refused prints nothing and leaves the machine, the breaks, the expects, the sent
-/// bytes and the keys as they were, and all files too, but for ATTACH, DETACH, EXIT and DUMP where a call on a file
-/// failed: they may have changed that file before.
+/// bytes and the keys as they were, and all files too, but for ATTACH, DETACH, EXIT, SAVE and DUMP where a call on a
+/// file failed: they may have changed that file before, and SAVE may have written back what the disk holds.
 pub fn refusals_change_nothing()
     ensures { RefusalsChangeNothing }
 {}
@@ -29,7 +29,7 @@ pub fn quoted_texts_read_back()
 
 /// The law of what every state is that commands work on: a command leaves such a state, each of its texts comes in one,
 /// and a script that it has read is of bytes. What the disk holds of its file is what is in it, where nothing is to be
-/// written back, as long as nothing else has changed that file.
+/// written back, as long as nothing else has changed that file and it was no longer where SAVE has written it back.
 pub fn commands_keep_states()
     ensures { CommandsKeepStates }
 {}

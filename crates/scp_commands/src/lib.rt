@@ -1,7 +1,6 @@
 //! What each command does to a session: its effect, its answer, and the text of its fault.
 #![tactic(auto)]
 
-mod built_lines;
 pub mod counts;
 mod do_command;
 pub mod do_file;
@@ -16,7 +15,9 @@ mod list_commands;
 mod load_command;
 pub mod next;
 mod quoted_text;
+mod restore_command;
 mod run_commands;
+mod save_command;
 mod script_commands;
 pub mod session;
 mod set_command;
@@ -28,7 +29,6 @@ mod unit_names;
 mod watch_commands;
 mod whole_notes;
 
-pub use built_lines::is_built;
 pub use counts::{MOST_INSTRUCTIONS, is_count};
 pub use do_file::{DoFile, ScriptText};
 pub use execute_command::execute;

@@ -8,6 +8,7 @@ ghost use Rattle.telnet_lines.specs.Joined.{KeepsParties};
 ghost use Rattle.telnet_lines.specs.Many.{AreApart};
 ghost use Rattle.unit_trait.specs.declared.kind.Kind.TheVariants.{Tti1};
 ghost use Rattle.scp_parser.specs.Command.{AttachPort};
+ghost use Rattle.unit_list.specs.Bus.{kinds_of};
 ghost use Rattle.nova_machine.specs.Comes.{Output};
 ghost use Rattle.nova_machine.specs.LineChanges.{AreLinesTold};
 ghost use Rattle.scp_commands.specs.declared.fault.CommandFault.TheVariants.{OutOfMemory};
@@ -57,6 +58,7 @@ pub fn attach_port<U: Unit, L: Lines>(
     ensures own { IsOfPort result }
     ensures exit { IsExitAnswer result }
     ensures rest { session.new ≡ record session.old { machine = session.new.machine } }
+    ensures kinds { kinds_of session.new.machine.units ≡ kinds_of session.old.machine.units }
     ensures slots { session.new.machine.slots ≡ session.old.machine.slots }
     ensures time { session.new.machine.time ≡ session.old.machine.time }
 {
@@ -87,6 +89,7 @@ pub fn detach_port<U: Unit, L: Lines>(
     ensures port { IsOfPort result }
     ensures exit { IsExitAnswer result }
     ensures rest { session.new ≡ record session.old { machine = session.new.machine } }
+    ensures kinds { kinds_of session.new.machine.units ≡ kinds_of session.old.machine.units }
     ensures slots { session.new.machine.slots ≡ session.old.machine.slots }
     ensures time { session.new.machine.time ≡ session.old.machine.time }
 {
@@ -118,6 +121,7 @@ pub fn disconnect<U: Unit, L: Lines>(
     ensures port { IsOfPort result }
     ensures exit { IsExitAnswer result }
     ensures rest { session.new ≡ record session.old { machine = session.new.machine } }
+    ensures kinds { kinds_of session.new.machine.units ≡ kinds_of session.old.machine.units }
     ensures slots { session.new.machine.slots ≡ session.old.machine.slots }
     ensures time { session.new.machine.time ≡ session.old.machine.time }
 {

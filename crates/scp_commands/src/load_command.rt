@@ -1,6 +1,7 @@
 // LOAD.
 ghost use Rattle.std.specs.Prelude.{◌≡◌, ◌≤◌, ℕ, Bool, List, false, Some, IsTrue, Err};
 ghost use Rattle.host_files.specs.State.{Opened};
+ghost use Rattle.unit_list.specs.Bus.{kinds_of};
 ghost use Rattle.unit_files.specs.Open.{AllOpen, Around};
 ghost use Rattle.file_commands.specs.declared.note.Subject.TheVariants.{Load as of_load};
 ghost use Rattle.file_commands.specs.OwnFiles.{AreOwn};
@@ -66,6 +67,7 @@ pub fn load_file<U: Unit, F: Files>(
     ensures keys { session.new.keys ≡ session.old.keys }
     ensures limit { session.new.limit ≡ session.old.limit }
     ensures command { session.new.command ≡ session.old.command }
+    ensures kinds { kinds_of session.new.machine.units ≡ kinds_of session.old.machine.units }
     ensures open { AllOpen session.new.machine.slots (F.state files.new).opened }
     ensures around { (base : List Opened) → Around session.old.machine.slots base (F.state files.old).opened
         → Around session.new.machine.slots base (F.state files.new).opened }

@@ -1,5 +1,6 @@
 // RUN, GO, CONT, STEP and RESET.
 ghost use Rattle.std.specs.Prelude.{◌≡◌, ◌≢◌, ◌≤◌, ◌++◌, ℕ, Bool, List, true, false, IsTrue, min, nat_le};
+ghost use Rattle.unit_list.specs.Bus.{kinds_of};
 ghost use Rattle.unit_files.specs.Open.{AllOpen};
 ghost use Rattle.file_commands.specs.Notes.{notes_said};
 ghost use Rattle.nova_machine.specs.Comes.{AreTold};
@@ -51,6 +52,7 @@ pub fn run_from<U: Unit, F: Files, L: Lines, S: Sink>(
         (S.written out.new) (S.fault_count out.old) (S.fault_count out.new) }
     ensures stopped { RunStops false session.old.limit result session.old session.new S.tells (S.written out.old)
         (S.written out.new) }
+    ensures kinds { kinds_of session.new.machine.units ≡ kinds_of session.old.machine.units }
 {
     if !address_fits(address) {
         return Err(CommandFault::OutOfRange);
@@ -116,6 +118,7 @@ pub fn run<U: Unit, F: Files, L: Lines, S: Sink>(
         (S.written out.new) (S.fault_count out.old) (S.fault_count out.new) }
     ensures stopped { RunStops false session.old.limit result session.old session.new S.tells (S.written out.old)
         (S.written out.new) }
+    ensures kinds { kinds_of session.new.machine.units ≡ kinds_of session.old.machine.units }
 {
     let limit = RunLimit {
         count: session.limit,
@@ -145,6 +148,7 @@ pub fn step<U: Unit, F: Files, L: Lines, S: Sink>(
         (S.written out.new) (S.fault_count out.old) (S.fault_count out.new) }
     ensures stopped { RunStops (nat_le count session.old.limit) (min count session.old.limit) result session.old
         session.new S.tells (S.written out.old) (S.written out.new) }
+    ensures kinds { kinds_of session.new.machine.units ≡ kinds_of session.old.machine.units }
 {
     if is_count(count) {
         step_by(session, count, files, lines, out)
@@ -171,6 +175,7 @@ fn step_by<U: Unit, F: Files, L: Lines, S: Sink>(
         (S.written out.new) (S.fault_count out.old) (S.fault_count out.new) }
     ensures stopped { RunStops (nat_le count session.old.limit) (min count session.old.limit) result session.old
         session.new S.tells (S.written out.old) (S.written out.new) }
+    ensures kinds { kinds_of session.new.machine.units ≡ kinds_of session.old.machine.units }
 {
     let limit = RunLimit {
         count: count.min(session.limit),
@@ -199,6 +204,7 @@ fn run_up_to<U: Unit, F: Files, L: Lines, S: Sink>(
         (S.written out.new) (S.fault_count out.old) (S.fault_count out.new) }
     ensures stopped { RunStops limit.step limit.count result session.old session.new S.tells (S.written out.old)
         (S.written out.new) }
+    ensures kinds { kinds_of session.new.machine.units ≡ kinds_of session.old.machine.units }
 {
     let stop = session.machine.run(limit, &mut session.watch, &session.keys, files, lines, out);
     if is_console_fault(stop) {

@@ -1,5 +1,6 @@
 ghost use Rattle.std.specs.Prelude.{◌≡◌, ◌≤◌, ◌<◌, ◌+◌, List, [], map, IfOk, OnOk, OnErr};
 ghost use Rattle.host_files.specs.State.{Opened};
+ghost use Rattle.unit_list.specs.Bus.{kinds_of};
 ghost use Rattle.unit_files.specs.Open.{AllOpen, Around};
 ghost use Rattle.file_commands.specs.Notes.{notes_said};
 ghost use Rattle.expect_actions.specs.Watch.{empty_watch};
@@ -135,6 +136,7 @@ impl<U: Unit> Session<U> {
         ensures keys { self.new.keys ≡ self.old.keys }
         ensures limit { self.new.limit ≡ self.old.limit }
         ensures command { self.new.command ≡ self.old.command }
+        ensures kinds { kinds_of self.new.machine.units ≡ kinds_of self.old.machine.units }
         ensures open { AllOpen self.new.machine.slots (F.state files.new).opened }
         ensures around { (base : List Opened) → Around self.old.machine.slots base (F.state files.old).opened
             → Around self.new.machine.slots base (F.state files.new).opened }
@@ -163,6 +165,7 @@ impl<U: Unit> Session<U> {
         ensures keys { self.new.keys ≡ self.old.keys }
         ensures limit { self.new.limit ≡ self.old.limit }
         ensures command { self.new.command ≡ self.old.command }
+        ensures kinds { kinds_of self.new.machine.units ≡ kinds_of self.old.machine.units }
         ensures open { AllOpen self.new.machine.slots (F.state files.new).opened }
         ensures around { (base : List Opened) → Around self.old.machine.slots base (F.state files.old).opened
             → Around self.new.machine.slots base (F.state files.new).opened }

@@ -1,9 +1,11 @@
 // The notes of the calls on a file that a command reads or writes whole.
 ghost use Rattle.std.specs.Prelude.{◌≡◌, ◌≤◌, ◌+◌, ◌++◌, vec_len, vec_capacity};
-ghost use Rattle.scp_commands.specs.WholeCalls.{call_notes, read_notes, write_notes};
+ghost use Rattle.scp_commands.specs.WholeCalls.{call_notes, read_notes, write_notes, written_answer};
 
+use crate::fault::CommandFault;
+use crate::next::Next;
 use file_commands::{FaultNote, Stamp, Subject, keep};
-use whole_files::{FailedCall, Whole, Written};
+use whole_files::{FailedCall, Whole, WholeFault, Written};
 
 /// Notes the calls of a reading that failed.
 pub fn note_reading(notes: &mut Vec<FaultNote>, whose: Subject, whole: &Whole, stamp: Stamp)
@@ -23,6 +25,16 @@ pub fn note_writing(notes: &mut Vec<FaultNote>, whose: Subject, written: Written
 {
     note_call(notes, whose, written.done, written.failed, stamp);
     note_call(notes, whose, 0, written.closing, stamp);
+}
+
+/// What is answered of a file that was written, or not.
+pub fn written_answer(whose: Subject, answer: Result<(), WholeFault>) -> Result<Next, CommandFault>
+    ensures { result ≡ written_answer whose answer }
+{
+    match answer {
+        Ok(()) => Ok(Next::Go),
+        Err(fault) => Err(CommandFault::of_whole(whose, fault)),
+    }
 }
 
 // Notes a call, where it failed. It had written so many bytes.

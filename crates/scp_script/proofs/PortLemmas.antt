@@ -5,7 +5,7 @@ use Rattle.host_lines.specs.Traffic.{Answer as LineAnswer}
 use Rattle.host_lines.specs.Told.{ahead_of}
 use Rattle.host_lines.specs.State.{LineState, parties}
 use Rattle.telnet_lines.specs.Line.{LineOf}
-use Rattle.scp_parser.specs.Command.{Request, AttachPort}
+use Rattle.scp_parser.specs.Command.{Request, AttachPort, Restore}
 use Rattle.scp_commands.specs.declared.fault.CommandFault.TheVariants.{OutOfMemory}
 use Rattle.scp_commands.specs.Live.{CommandState, beyond, live_in}
 use Rattle.scp_commands.specs.Reply.{Answer}
@@ -17,7 +17,7 @@ use Rattle.scp_commands.proofs.PortLemmas.{left-same, seen-still}
 pub left-kept : (tells : Bool) (s : LineState) (before after : List (LineOf ℕ)) → after ≡ before → LinesLeft tells s before s after
 left-kept tells s before after same = subst (λ (ls : List (LineOf ℕ)). LinesLeft tells s before s ls) (sym same) (left-same tells s before)
 
--- a command that is refused asks nothing of the lines, but for an ATTACH of a port that is not listened on
+-- a command that is refused asks nothing of the lines, but for an ATTACH or a RESTORE of a port that is not listened on
 abbrev pub IsUnasked : Request → Answer → LineState → LineState → Type 0
 IsUnasked request answer old new = IsRefused answer → (IsUnlistened request answer → ⊥) → new ≡ old
 
@@ -31,6 +31,7 @@ pub record StillSeen (old new : LineState) : Type 0 where
 pub still-seen : (tells : Bool) (request : Request) (old new : LineState) → IsTrue tells → IsUnasked request (Err OutOfMemory) old new → ListenCause tells request (Err OutOfMemory) old new
     → StillSeen old new
 still-seen tells (AttachPort kind port) old new telling unasked (cause, told) = record { told = told telling; behind = cause.behind; sent = cause.sent }
+still-seen tells (Restore force name) old new telling unasked (cause, told) = record { told = told telling; behind = cause.behind; sent = cause.sent }
 still-seen tells request old new telling unasked cause =
     let same = unasked tt (λ none. none) in
     record { told = ap (λ (s : LineState). s.told) same; behind = ap parties same; sent = ap (λ (s : LineState). s.sent) same }

@@ -1,16 +1,25 @@
 -- A command has a script next only where it is a DO.
-use Rattle.std.proofs.Common.{ℕ, ◌+◌, ◌<◌, ◌==◌, Bool, not, true, false, List, length, sym, subst, Option, Some, None, Result, Ok, Err, if◌then◌else◌, nat_le, nat_lt, ◌&&◌, ◌^◌, min, unwrap_or, is_none, is_some}
+use Rattle.std.proofs.Common.{ℕ, ◌+◌, ◌<◌, ◌==◌, Bool, not, true, false, List, length, drop, sym, subst, Option, Some, None, Result, Ok, Err, if◌then◌else◌, nat_le, nat_lt, ◌&&◌, ◌^◌, min, unwrap_or, is_none, is_some}
 use Rattle.file_commands.specs.declared.note.Subject.TheVariants as subject
 use Rattle.file_commands.specs.Notes.{CommandNote, failure_now}
 use Rattle.unit_trait.specs.declared.kind.UnitName.{UnitName}
-use Rattle.host_lines.specs.Traffic.{Answer as LineAnswer, Failed, Peer, listening}
+use Rattle.host_lines.specs.Traffic.{Answer as LineAnswer, Failed, Peer, Replied, listening}
 use Rattle.telnet_lines.specs.Line.{LineOf}
 use Rattle.unit_files.specs.Acts.{AttachSaid, Attached, UnitHasFile, OnlyWrites, NotThere, TooLong, CallFailed, DetachSaid, HadNone, StillHeld, Detached}
-use Rattle.unit_files.specs.Acts.{attach_said, detach_said}
+use Rattle.unit_files.specs.Acts.{Failure, attach_said, detach_said}
+use Rattle.unit_files.specs.Attachments.{no_attachments}
 use Rattle.nova_memory.specs.Memory.{fits_size}
 use Rattle.nova_machine.specs.Seen.{attached_in}
 use Rattle.nova_machine.specs.Run.{run}
 use Rattle.nova_machine.specs.declared.machine.Stop.{Stop}
+use Rattle.state_file.specs.declared.fault.StateFault.{StateFault}
+use Rattle.state_file.specs.Listening.{wants_port}
+use Rattle.state_file.specs.Parts.{State}
+use Rattle.state_file.specs.Reading.{reading}
+use Rattle.state_file.specs.Restoring.{FileRefusal, first_refused}
+use Rattle.state_file.specs.Saving.{first_unsaved}
+use Rattle.state_file.specs.Session.{saved}
+use Rattle.state_file.specs.Text.{text}
 use Rattle.operand_forms.specs.declared.listing.Listing.{Listing}
 use Rattle.operand_forms.specs.declared.listing.Test.{Test}
 use Rattle.scp_parser.specs.declared.command.Shown.{Shown}
@@ -40,7 +49,8 @@ use Rattle.scp_commands.specs.ExitEffects.{exit_reply}
 use Rattle.scp_commands.specs.SetEffects.{set_size_reply}
 use Rattle.scp_commands.specs.ScriptEffects.{test_answer, echo_reply, assert_reply}
 use Rattle.scp_commands.specs.TapeEffects.{tape_in, tape_answer, load_answer, load_reply, can_dump, dump_of, dump_answer, dump_reply}
-use Rattle.scp_commands.specs.WholeCalls.{whole_calls, write_calls}
+use Rattle.scp_commands.specs.WholeCalls.{whole_calls, write_calls, wrote_answer}
+use Rattle.scp_commands.specs.StateEffects.{unit_claim, flushed_with, save_by, save_reply, is_occupied, listened_back, ported_back, restored_by, restored_as, restored_from, restore_reply}
 use Rattle.scp_commands.specs.Effect.{effect}
 use Rattle.binary_load.specs.declared.faults.LoadFault.{LoadFault}
 use Rattle.binary_load.specs.Tape.{Tape}
@@ -247,6 +257,51 @@ dump-none notes live from to name =
     none-if (can_dump live.machine from to) _ _
     (dump_answer-none (write_act (write_calls subject.Dump live.machine.time notes) name (dump_of live.machine from to) live.files).said) tt
 
+save-none : (notes : List CommandNote) (live : Live) (name : List ℕ) → NoScript (save_reply notes live name).answer
+unfolding save_reply
+save-none notes live name =
+    let claim = unit_claim live.machine.time notes in
+    by (flushed_with claim live) (first_unsaved claim (attached_in live.machine) live.machine.disk live.files)
+  where
+    written : (said : WriteSaid) → NoScript (wrote_answer subject.State said)
+    written AllWritten = tt
+    written WriteFailed = tt
+
+    by : (after : Live) (call : Option (UnitName × Failure)) → NoScript (save_by call notes name after).answer
+    by after (Some call) = tt
+    by after None = written (write_act (write_calls subject.State after.machine.time notes) name (text (saved after)) after.files).said
+
+listened-none : (said : Replied) (used : ℕ) (s : State) (live : Live) → NoScript (listened_back said used s live).answer
+listened-none said used s live = by said.answer
+  where
+    by : (a : LineAnswer) → NoScript (listen_answer a)
+    by Failed = tt
+    by other = tt
+
+ported-none : (wanted : Bool) (used : ℕ) (s : State) (live : Live) → NoScript (ported_back wanted used s live).answer
+ported-none true used s live = listened-none (listening live.ahead) used s live
+ported-none false used s live = tt
+
+restored-none : (refusal : Option (UnitName × FileRefusal)) (used : ℕ) (s : State) (live : Live) → NoScript (restored_by refusal used s live).answer
+restored-none (Some refusal) used s live = tt
+restored-none None used s live = ported-none (wants_port s.port live.lines) used s live
+
+state-none : (force : Bool) (used : ℕ) (notes : List CommandNote) (r : Result State StateFault) (live : Live) → NoScript (restored_as force used notes r live).answer
+state-none force used notes (Ok s) live = restored-none (first_refused (unit_claim live.machine.time notes) force s.files no_attachments live.files) used s live
+state-none force used notes (Err fault) live = tt
+
+restore_from-none : (force : Bool) (read : WholeSaid × ℕ) (notes : List CommandNote) (live : Live) → NoScript (restored_from force read notes live).answer
+restore_from-none force (WholeIs bytes, used) notes live = state-none force used (drop used notes) (reading bytes) live
+restore_from-none force (whole.NotThere, used) notes live = tt
+restore_from-none force (whole.TooLong, used) notes live = tt
+restore_from-none force (whole.CallFailed, used) notes live = tt
+
+restore-none : (notes : List CommandNote) (live : Live) (force : Bool) (name : List ℕ) → NoScript (restore_reply notes live force name).answer
+unfolding restore_reply
+restore-none notes live force name =
+    none-if (is_occupied (attached_in live.machine) live.lines) _ _ tt
+    (restore_from-none force (whole_act (whole_calls subject.State live.machine.time notes) name live.files) notes live)
+
 -- there is room for the script that an answer begins
 abbrev pub RoomFor : List Script → Answer → Type 0
 RoomFor scripts (Ok (Do file)) = length scripts < most_scripts
@@ -296,7 +351,9 @@ room-effect scripts limit notes live (request.Exit status) fits = room-none scri
 room-effect scripts limit notes live (request.Do echo strict name arguments) fits = room-any scripts (effect limit notes live (request.Do echo strict name arguments)).answer fits
 room-effect scripts limit notes live (request.Load name) fits = room-none scripts _ (load-none notes live name)
 room-effect scripts limit notes live (request.Dump from to name) fits = room-none scripts _ (dump-none notes live from to name)
-room-effect scripts limit notes live r fits = tt
+room-effect scripts limit notes live (request.Save name) fits = room-none scripts _ (save-none notes live name)
+room-effect scripts limit notes live (request.Restore force name) fits = room-none scripts _ (restore-none notes live force name)
+room-effect scripts limit notes live (request.Goto label) fits = tt
 
 -- where a command was done that has a script next, there is room for it
 pub room-next : (scripts : List Script) (limit : ℕ) (notes : List CommandNote) (live : Live) (r : Request) (next : Next) (at : Standing) (tells : Bool) (before after : Output)

@@ -212,6 +212,18 @@ denied texts what reply (fault.LoadSum place) result texts' at tells before mid 
     denied-by texts what reply (fault.LoadSum place) result texts' at tells before mid after sink sink_now open_now heard does told
 denied texts what reply (fault.PastMemory origin) result texts' at tells before mid after sink sink_now open_now heard does told =
     denied-by texts what reply (fault.PastMemory origin) result texts' at tells before mid after sink sink_now open_now heard does told
+denied texts what reply fault.NotState result texts' at tells before mid after sink sink_now open_now heard does told =
+    denied-by texts what reply fault.NotState result texts' at tells before mid after sink sink_now open_now heard does told
+denied texts what reply (fault.Version version) result texts' at tells before mid after sink sink_now open_now heard does told =
+    denied-by texts what reply (fault.Version version) result texts' at tells before mid after sink sink_now open_now heard does told
+denied texts what reply (fault.BadDigest given found) result texts' at tells before mid after sink sink_now open_now heard does told =
+    denied-by texts what reply (fault.BadDigest given found) result texts' at tells before mid after sink sink_now open_now heard does told
+denied texts what reply (fault.BadField place) result texts' at tells before mid after sink sink_now open_now heard does told =
+    denied-by texts what reply (fault.BadField place) result texts' at tells before mid after sink sink_now open_now heard does told
+denied texts what reply fault.Truncated result texts' at tells before mid after sink sink_now open_now heard does told =
+    denied-by texts what reply fault.Truncated result texts' at tells before mid after sink sink_now open_now heard does told
+denied texts what reply (fault.Changed unit) result texts' at tells before mid after sink sink_now open_now heard does told =
+    denied-by texts what reply (fault.Changed unit) result texts' at tells before mid after sink sink_now open_now heard does told
 denied texts what reply (fault.FileFailed who) result texts' at tells before mid after sink sink_now open_now heard does told =
     denied-by texts what reply (fault.FileFailed who) result texts' at tells before mid after sink sink_now open_now heard does told
 denied texts what reply fault.PortFailed result texts' at tells before mid after sink sink_now open_now heard does told =
@@ -345,6 +357,8 @@ told-of tells slots line_tells ports lines (request.AttachPort kind port) told t
 told-of tells slots line_tells ports lines (request.Do echo strict name arguments) told telling apart = told
 told-of tells slots line_tells ports lines (request.Load name) told telling apart = told
 told-of tells slots line_tells ports lines (request.Dump from to name) told telling apart = told
+told-of tells slots line_tells ports lines (request.Save name) told telling apart = told
+told-of tells slots line_tells ports lines (request.Restore force name) told telling apart = (told, telling, apart)
 told-of tells slots line_tells ports lines (request.Run address) told telling apart = (inl told, inl (telling, apart))
 told-of tells slots line_tells ports lines (request.Go address) told telling apart = (inl told, inl (telling, apart))
 told-of tells slots line_tells ports lines request.Cont told telling apart = (inl told, inl (telling, apart))

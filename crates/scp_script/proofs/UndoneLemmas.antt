@@ -4,7 +4,7 @@ use Rattle.std.specs.List.{AllByRecursion}
 use Rattle.file_commands.specs.declared.note.Subject.{Subject}
 use Rattle.file_commands.specs.declared.note.FaultNote.{FaultNote}
 use Rattle.file_commands.specs.Notes.{Note, notes_said}
-use Rattle.scp_parser.specs.Command.{Request, Do, Load}
+use Rattle.scp_parser.specs.Command.{Request, Do, Load, Restore}
 use Rattle.scp_commands.specs.declared.fault.CommandFault.{CommandFault}
 use Rattle.scp_commands.specs.declared.fault.CommandFault.TheVariants as fault
 use Rattle.nova_machine.specs.Comes.{Output}
@@ -24,6 +24,7 @@ use Rattle.scp_script.proofs.TextLemmas.{same-output}
 pub says : (tells : Bool) (request : Request) → IsTrue tells → IsTrue (says_files tells request)
 says tells (Do echo strict name arguments) told = told
 says tells (Load name) told = told
+says tells (Restore force name) told = told
 says tells request told = refl
 
 same-behind : (before more own : List Note) → before ++ more ≡ before ++ own → more ≡ own

@@ -131,7 +131,7 @@ good-upcoming s is = good-at s s.texts.actions is (record { few = is.texts.few; 
 
 does-stands : (limit : ℕ) (notes : List CommandNote) (live : Live) (what : Asked) → ValidLive live → IsValidAsked what → Stands live (does limit notes live what)
 unfolding does
-does-stands limit notes live (Ok r) is valid = stands-effect limit notes live r is valid.0 valid.1.text
+does-stands limit notes live (Ok r) is valid = stands-effect limit notes live r is valid.0 valid.1
 does-stands limit notes live (Err fault) is valid = stands-refused fault live is
 
 -- a script begins only where there is room for it
@@ -205,13 +205,17 @@ good-over live end state is copy = record {
 rested-holds : (s : Session) → Holds s → Holds (rested s)
 rested-holds s is = record { live = watch-live s.live (forgotten s.live.watch) is.live (watch-forgotten s.live.watch is.live.valid.watch); texts = is.texts; input = is.input }
 
+-- its tables are no part of that
+copy-rested : (live : Live) (s : Session) → CopyFollows live s.live → CopyFollows live (rested s).live
+copy-rested live s copy is follows = copy is (λ none. record { clean = (follows none).clean; back = (follows none).back })
+
 good-following : (live : Live) (answer : Answer) (s : Session) → Holds s → CopyFollows live s.live → IsGoodNext live (following answer s)
 good-following live (Ok (Exit status)) s is copy = good-over live (ExitDone status) (state_of s) is.live copy
-good-following live (Ok Go) s is copy = good-going live (rested s) (rested-holds s is) copy
-good-following live (Ok (Ran stop)) s is copy = good-going live (rested s) (rested-holds s is) copy
-good-following live (Ok (Do file)) s is copy = good-going live (rested s) (rested-holds s is) copy
-good-following live (Ok Goto) s is copy = good-going live (rested s) (rested-holds s is) copy
-good-following live (Err fault) s is copy = good-going live (rested s) (rested-holds s is) copy
+good-following live (Ok Go) s is copy = good-going live (rested s) (rested-holds s is) (copy-rested live s copy)
+good-following live (Ok (Ran stop)) s is copy = good-going live (rested s) (rested-holds s is) (copy-rested live s copy)
+good-following live (Ok (Do file)) s is copy = good-going live (rested s) (rested-holds s is) (copy-rested live s copy)
+good-following live (Ok Goto) s is copy = good-going live (rested s) (rested-holds s is) (copy-rested live s copy)
+good-following live (Err fault) s is copy = good-going live (rested s) (rested-holds s is) (copy-rested live s copy)
 
 -- and all of it
 record IsGoodStep (live : Live) (x : Step) : Type 0 where

@@ -24,10 +24,9 @@ use Rattle.scp_parser.proofs.RequestLemmas.{requests_are_kept}
 use Rattle.scp_commands.specs.declared.do_file.DoFile.{DoFile}
 use Rattle.scp_commands.specs.declared.next.Next.TheVariants.{Go, Ran, Do, Goto, Exit}
 use Rattle.scp_commands.specs.declared.fault.CommandFault.{CommandFault}
-use Rattle.scp_commands.specs.declared.fault.CommandFault.TheVariants.{NotBuilt, TooDeep}
+use Rattle.scp_commands.specs.declared.fault.CommandFault.TheVariants.{TooDeep}
 use Rattle.scp_commands.specs.Reply.{Answer}
 use Rattle.scp_commands.specs.Effect.{Asked, read_as, asked}
-use Rattle.scp_commands.specs.Unbuilt.{names_unbuilt}
 use Rattle.scp_commands.specs.Valid.{GivesBytes}
 use Rattle.scp_script.specs.Scripts.{Script, most_scripts, rest_of, still_open, text_of_line, past_line, begun, arguments_of, checked, or_no_label, label_of, label_in, jumped_to, found_answer, settled_answer, behind_failure, is_assertion, scripts_behind}
 use Rattle.scp_script.specs.Actions.{Texts, text_of_stop, overflows, put_first, behind_refusal, actions_behind, texts_behind}
@@ -43,15 +42,11 @@ IsValidAsked (Err fault) = Unit {0}
 
 pub asked-valid : (line : List ℕ) → AreBytes line → IsValidAsked (asked line)
 unfolding asked
-asked-valid line bytes = by-test (names_unbuilt line)
+asked-valid line bytes = by-read (reading line) refl
   where
     by-read : (r : Result Request ParseFault) → reading line ≡ r → IsValidAsked (read_as r)
     by-read (Ok r) is = (requests_are_kept.kept line r is, requests_are_kept.bytes line r bytes is)
     by-read (Err fault) is = tt
-
-    by-test : (b : Bool) → IsValidAsked (if b then Err NotBuilt else read_as (reading line))
-    by-test true = tt
-    by-test false = by-read (reading line) refl
 
 pub checked-valid : (scripts : List Script) (what : Asked) → IsValidAsked what → IsValidAsked (checked scripts what)
 checked-valid scripts (Ok (request.Do echo strict name arguments)) is = by-room (nat_lt (length scripts) most_scripts)

@@ -7,6 +7,7 @@ ghost use Rattle.host_lines.specs.Traffic.{Answer as LineAnswer};
 ghost use Rattle.host_lines.specs.Told.{Heard, IsFirst, record_in};
 ghost use Rattle.telnet_lines.specs.Many.{AreApart};
 ghost use Rattle.nova_machine.specs.Comes.{output};
+ghost use Rattle.state_file.specs.SavedValid.{AreStandard};
 ghost use Rattle.scp_commands.specs.Live.{live_in, standing, Beyond, beyond};
 ghost use Rattle.scp_commands.specs.LinesLeft.{LinesLeft};
 ghost use Rattle.scp_commands.specs.Effect.{Asked, asked};
@@ -30,7 +31,7 @@ use expect_actions::{Full, Watch};
 use host_files::{Failed, Files, Sink};
 use host_lines::Lines;
 use nova_machine::Stop;
-use scp_commands::{CommandFault, Next, Session, execute, is_built};
+use scp_commands::{CommandFault, Next, Session, execute};
 use scp_parser::{Command, Verb, read_command};
 use script_text::Arguments;
 use std::alloc::{AllocError, Global};
@@ -46,6 +47,7 @@ pub fn answer<U: Unit, F: Files, L: Lines, S: Sink>(
     lines: &mut L,
     out: &mut S,
 ) -> Progress
+    requires standard { AreStandard session.old.machine.units }
     requires open { AllOpen session.old.machine.slots (F.state files.old).opened }
     ensures told { IsTrue F.tells → IsTrue L.tells → AreApart (L.state lines.old) session.old.machine.lines
         → (whole : List LineAnswer) → IsFirst (record_in (L.state lines.new).told) whole
@@ -70,13 +72,11 @@ pub fn answer<U: Unit, F: Files, L: Lines, S: Sink>(
         (F.state files.old) (F.state files.new) }
     ensures keys { session.new.keys ≡ session.old.keys }
     ensures limit { session.new.limit ≡ session.old.limit }
+    ensures standard { AreStandard session.new.machine.units }
     ensures open { AllOpen session.new.machine.slots (F.state files.new).opened }
     ensures around { (base : List Opened) → Around session.old.machine.slots base (F.state files.old).opened
         → Around session.new.machine.slots base (F.state files.new).opened }
 {
-    if !is_built(line) {
-        return deny_line(session, CommandFault::NotBuilt, texts, out);
-    }
     let mut command = Command::new();
     match read_command(line, &mut command) {
         Ok(()) => obey(alloc, session, &command, texts, files, lines, out),
@@ -95,6 +95,7 @@ fn obey<U: Unit, F: Files, L: Lines, S: Sink>(
     lines: &mut L,
     out: &mut S,
 ) -> Progress
+    requires standard { AreStandard session.old.machine.units }
     requires open { AllOpen session.old.machine.slots (F.state files.old).opened }
     ensures told { IsTrue F.tells → IsTrue L.tells → AreApart (L.state lines.old) session.old.machine.lines
         → (whole : List LineAnswer) → IsFirst (record_in (L.state lines.new).told) whole
@@ -119,6 +120,7 @@ fn obey<U: Unit, F: Files, L: Lines, S: Sink>(
         (F.state files.old) (F.state files.new) }
     ensures keys { session.new.keys ≡ session.old.keys }
     ensures limit { session.new.limit ≡ session.old.limit }
+    ensures standard { AreStandard session.new.machine.units }
     ensures open { AllOpen session.new.machine.slots (F.state files.new).opened }
     ensures around { (base : List Opened) → Around session.old.machine.slots base (F.state files.old).opened
         → Around session.new.machine.slots base (F.state files.new).opened }

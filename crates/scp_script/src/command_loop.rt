@@ -9,6 +9,7 @@ ghost use Rattle.host_lines.specs.Traffic.{Answer as LineAnswer};
 ghost use Rattle.host_lines.specs.Told.{IsFirst, record_in};
 ghost use Rattle.telnet_lines.specs.Many.{AreApart};
 ghost use Rattle.nova_machine.specs.Comes.{output};
+ghost use Rattle.state_file.specs.SavedValid.{AreStandard};
 ghost use Rattle.scp_commands.specs.Live.{beyond};
 ghost use Rattle.scp_commands.specs.LinesLeft.{LinesLeft};
 ghost use Rattle.scp_script.specs.Reading.{IsReading, Pays};
@@ -42,6 +43,7 @@ pub fn next_line<U: Unit, C: Source, F: Files, L: Lines, S: Sink>(
     ports: &mut L,
     out: &mut S,
 ) -> Progress
+    requires standard { AreStandard session.old.machine.units }
     requires open { AllOpen session.old.machine.slots (F.state files.old).opened }
     ensures told { NumbersSuffice session.old.command lines.old.budget → (lines.old.reads ≡ true → IsTrue C.tells)
         → IsTrue F.tells → IsTrue L.tells → AreApart (L.state ports.old) session.old.machine.lines → IsTrue S.tells
@@ -68,6 +70,7 @@ pub fn next_line<U: Unit, C: Source, F: Files, L: Lines, S: Sink>(
     ensures reads { lines.new.reads ≡ lines.old.reads }
     ensures keys { session.new.keys ≡ session.old.keys }
     ensures limit { session.new.limit ≡ session.old.limit }
+    ensures standard { AreStandard session.new.machine.units }
     ensures open { AllOpen session.new.machine.slots (F.state files.new).opened }
     ensures around { (base : List Opened) → Around session.old.machine.slots base (F.state files.old).opened
         → Around session.new.machine.slots base (F.state files.new).opened }
@@ -95,6 +98,7 @@ fn action<U: Unit, F: Files, L: Lines, S: Sink>(
     out: &mut S,
 ) -> Progress
     requires some { lines.old.texts.actions ≢ [] }
+    requires standard { AreStandard session.old.machine.units }
     requires open { AllOpen session.old.machine.slots (F.state files.old).opened }
     ensures told { NumbersSuffice session.old.command lines.old.budget → IsTrue F.tells
         → IsTrue L.tells → AreApart (L.state ports.old) session.old.machine.lines → IsTrue S.tells
@@ -117,6 +121,7 @@ fn action<U: Unit, F: Files, L: Lines, S: Sink>(
     ensures reads { lines.new.reads ≡ lines.old.reads }
     ensures keys { session.new.keys ≡ session.old.keys }
     ensures limit { session.new.limit ≡ session.old.limit }
+    ensures standard { AreStandard session.new.machine.units }
     ensures open { AllOpen session.new.machine.slots (F.state files.new).opened }
     ensures around { (base : List Opened) → Around session.old.machine.slots base (F.state files.old).opened
         → Around session.new.machine.slots base (F.state files.new).opened }
@@ -155,6 +160,7 @@ fn input_line<U: Unit, C: Source, F: Files, L: Lines, S: Sink>(
     requires scripts { lines.old.texts.scripts ≡ [] }
     requires reads { lines.old.reads ≡ true }
     requires room { 16 ≤ session.old.spare }
+    requires standard { AreStandard session.old.machine.units }
     requires open { AllOpen session.old.machine.slots (F.state files.old).opened }
     ensures told { NumbersSuffice session.old.command lines.old.budget → IsTrue C.tells → IsTrue F.tells
         → IsTrue L.tells → AreApart (L.state ports.old) session.old.machine.lines → IsTrue S.tells
@@ -180,6 +186,7 @@ fn input_line<U: Unit, C: Source, F: Files, L: Lines, S: Sink>(
     ensures reads { lines.new.reads ≡ lines.old.reads }
     ensures keys { session.new.keys ≡ session.old.keys }
     ensures limit { session.new.limit ≡ session.old.limit }
+    ensures standard { AreStandard session.new.machine.units }
     ensures open { AllOpen session.new.machine.slots (F.state files.new).opened }
     ensures around { (base : List Opened) → Around session.old.machine.slots base (F.state files.old).opened
         → Around session.new.machine.slots base (F.state files.new).opened }
@@ -224,6 +231,7 @@ fn script_line<U: Unit, F: Files, L: Lines, S: Sink>(
     requires line { script.place < length script.text }
     requires actions { lines.old.texts.actions ≡ [] }
     requires scripts { length lines.old.texts.scripts < 10 }
+    requires standard { AreStandard session.old.machine.units }
     requires open { AllOpen session.old.machine.slots (F.state files.old).opened }
     ensures told { NumbersSuffice session.old.command lines.old.budget → IsTrue F.tells
         → IsTrue L.tells → AreApart (L.state ports.old) session.old.machine.lines → IsTrue S.tells
@@ -249,6 +257,7 @@ fn script_line<U: Unit, F: Files, L: Lines, S: Sink>(
     ensures reads { lines.new.reads ≡ lines.old.reads }
     ensures keys { session.new.keys ≡ session.old.keys }
     ensures limit { session.new.limit ≡ session.old.limit }
+    ensures standard { AreStandard session.new.machine.units }
     ensures open { AllOpen session.new.machine.slots (F.state files.new).opened }
     ensures around { (base : List Opened) → Around session.old.machine.slots base (F.state files.old).opened
         → Around session.new.machine.slots base (F.state files.new).opened }

@@ -8,6 +8,7 @@ ghost use Rattle.host_lines.specs.Traffic.{Answer as LineAnswer};
 ghost use Rattle.host_lines.specs.Told.{IsFirst, record_in};
 ghost use Rattle.telnet_lines.specs.Many.{AreApart};
 ghost use Rattle.nova_machine.specs.Comes.{output};
+ghost use Rattle.state_file.specs.SavedValid.{AreStandard};
 ghost use Rattle.scp_commands.specs.Live.{live_in, beyond};
 ghost use Rattle.scp_commands.specs.LinesLeft.{LinesLeft};
 ghost use Rattle.scp_script.specs.Loop.{NumbersSuffice, FinishCause, AreKept, KeptCause};
@@ -50,6 +51,8 @@ pub struct Opening {
 /// The notes that it keeps are those of the calls on files that failed in it, one for each, but for the closing that a
 /// refused ATTACH makes. Memory is taken for those of a command before its line is read.
 ///
+/// The machine has the ten units of a standard one, and keeps them.
+///
 /// `lines` are the ports and connections of the host: a run polls them for the machine's terminal lines, and ATTACH of
 /// the second teletype listens on a port. At EXIT and at the end of the input, where no file had to be kept, that port
 /// is given up with its connection; at any other end it stays.
@@ -62,6 +65,7 @@ pub fn perform<U: Unit, C: Source, F: Files, L: Lines, S: Sink>(
     lines: &mut L,
     out: &mut S,
 ) -> Finish
+    requires standard { AreStandard session.old.machine.units }
     requires open { AllOpen session.old.machine.slots (F.state files.old).opened }
     ensures told { NumbersSuffice session.old.command opening.now.budget → (opening.now.reads ≡ true → IsTrue C.tells)
         → IsTrue F.tells → IsTrue L.tells → AreApart (L.state lines.old) session.old.machine.lines → IsTrue S.tells
@@ -84,6 +88,7 @@ pub fn perform<U: Unit, C: Source, F: Files, L: Lines, S: Sink>(
     ensures unread { opening.now.reads ≡ false → input.new ≡ input.old }
     ensures keys { session.new.keys ≡ session.old.keys }
     ensures limit { session.new.limit ≡ session.old.limit }
+    ensures standard { AreStandard session.new.machine.units }
     ensures open { AllOpen session.new.machine.slots (F.state files.new).opened }
     ensures around { (base : List Opened) → Around session.old.machine.slots base (F.state files.old).opened
         → Around session.new.machine.slots base (F.state files.new).opened }

@@ -2,8 +2,12 @@
 #![tactic(auto)]
 
 #[cfg(test)]
+mod boxes;
+#[cfg(test)]
 mod play;
 #[cfg(test)]
 mod row;
 #[cfg(test)]
 mod sessions;
+#[cfg(test)]
+mod units;

@@ -3,12 +3,15 @@
 // (`files`), the input and its read that fails (`input` and `read`), whether it is read behind the script and after a prompt
 // (`reads=no` and `prompt=no`), the budget and how many bytes the console takes (`room`); and then what is printed
 // (`prints`), how the session finishes and how many reads have failed (`faults`).
-ghost use Rattle.std.specs.Prelude.{List};
+ghost use Rattle.std.specs.Prelude.{◌≡◌, List, IfOk, map, take};
 ghost use Rattle.host_files.specs.State.{Opened};
 ghost use Rattle.unit_files.specs.Open.{AllOpen};
+ghost use Rattle.unit_trait.specs.Kinds.{all_kinds};
+ghost use Rattle.unit_trait.specs.Row.{initial_unit};
+ghost use Rattle.state_file.specs.SavedValid.{AreStandard};
 
 use crate::row::{Row, bytes, decimal, number, text};
-use clock_unit::Clk;
+use crate::units::standard_units;
 use expect_actions::Keys;
 use host_files::{ByteSink, ByteSource, Files, MemFiles, Sink, Source};
 use host_lines::MemLines;
@@ -19,7 +22,7 @@ use std::process::Abort;
 use std::test::Fail;
 use unit_trait::Unit;
 
-/// Plays each line of a table in a session without units, but comments, which begin with a semicolon.
+/// Plays each line of a table in a session with the standard units, but comments, which begin with a semicolon.
 pub fn all(rt: &impl Abort, alloc: Global, base: &str, table: &str) -> Result<(), Fail> {
     for line in table.lines() {
         if !line.starts_with(';') {
@@ -30,8 +33,29 @@ pub fn all(rt: &impl Abort, alloc: Global, base: &str, table: &str) -> Result<()
 }
 
 fn play(rt: &impl Abort, alloc: Global, row: Row<'_>) -> Result<(), Fail> {
-    let mut session = Session::new(alloc, Vec::<Clk>::new(alloc), Keys::none(alloc), 1 << 48)?;
+    let units = standard_units(alloc)?;
+    with_units(rt, alloc, units, row)
+}
+
+fn with_units<U: Unit>(
+    rt: &impl Abort,
+    alloc: Global,
+    units: Vec<U>,
+    row: Row<'_>,
+) -> Result<(), Fail>
+    requires { map U.unit_state units.items ≡ map initial_unit (take 10 all_kinds) }
+{
+    let mut session = opened(alloc, units)?;
     with_session(rt, alloc, &mut session, row)
+}
+
+/// A session of a machine with these units.
+fn opened<U: Unit>(alloc: Global, units: Vec<U>) -> Result<Session<U>, AllocError>
+    requires { map U.unit_state units.items ≡ map initial_unit (take 10 all_kinds) }
+    ensures open { IfOk result (λ s. (opened : List Opened) → AllOpen s.machine.slots opened) }
+    ensures standard { IfOk result (λ s. AreStandard s.machine.units) }
+{
+    Session::new(alloc, units, Keys::none(alloc), 1 << 48)
 }
 
 fn with_session<U: Unit>(
@@ -40,7 +64,8 @@ fn with_session<U: Unit>(
     session: &mut Session<U>,
     row: Row<'_>,
 ) -> Result<(), Fail>
-    requires { (opened : List Opened) → AllOpen session.old.machine.slots opened }
+    requires open { (opened : List Opened) → AllOpen session.old.machine.slots opened }
+    requires standard { AreStandard session.old.machine.units }
 {
     let mut files = files_of(rt, alloc, row)?;
     with_files(rt, alloc, session, &mut files, row)
@@ -90,7 +115,8 @@ fn with_files<U: Unit, F: Files>(
     files: &mut F,
     row: Row<'_>,
 ) -> Result<(), Fail>
-    requires { AllOpen session.old.machine.slots (F.state files.old).opened }
+    requires open { AllOpen session.old.machine.slots (F.state files.old).opened }
+    requires standard { AreStandard session.old.machine.units }
 {
     let room = (number(row, "room", 4096) % 65536) as usize;
     let mut console = ByteSink::with_room(alloc, room)?;
@@ -112,7 +138,8 @@ fn with_console<U: Unit, F: Files, S: Sink>(
     console: &mut S,
     row: Row<'_>,
 ) -> Result<(), Fail>
-    requires { AllOpen session.old.machine.slots (F.state files.old).opened }
+    requires open { AllOpen session.old.machine.slots (F.state files.old).opened }
+    requires standard { AreStandard session.old.machine.units }
 {
     let mut input = input_of(alloc, row)?;
     let finish = finish_of(alloc, session, &mut input, files, console, row)?;
@@ -137,7 +164,8 @@ fn finish_of<U: Unit, C: Source, F: Files, S: Sink>(
     console: &mut S,
     row: Row<'_>,
 ) -> Result<Finish, AllocError>
-    requires { AllOpen session.old.machine.slots (F.state files.old).opened }
+    requires open { AllOpen session.old.machine.slots (F.state files.old).opened }
+    requires standard { AreStandard session.old.machine.units }
 {
     let opening = opening_of(alloc, row)?;
     let mut lines = no_lines(alloc)?;

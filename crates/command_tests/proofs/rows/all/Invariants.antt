@@ -1,5 +1,9 @@
 use Rattle.unit_files.specs.Open.{AllOpen}
+use Rattle.state_file.specs.SavedValid.{AreStandard}
 use Rattle.command_tests.proofs.rows.all.Given as goal
 
 abbrev pub invariant-loop-row : goal.invariant-loop-row
-invariant-loop-row g l = AllOpen l.session.machine.slots (g.F.Files.state l.files).opened
+invariant-loop-row g l = record {
+  is_open : AllOpen l.session.machine.slots (g.F.Files.state l.files).opened;
+  standard : AreStandard l.session.machine.units;
+}

@@ -3,19 +3,21 @@ use Rattle.file_commands.specs.declared.note.FaultNote.{FaultNote}
 use Rattle.file_commands.specs.Notes.{notes_said}
 use Rattle.file_commands.specs.Counts.{AreCounted}
 use Rattle.std.specs.List.{AllByRecursion}
+use Rattle.unit_list.specs.Bus.{kinds_of}
 use Rattle.unit_files.specs.Attachments.{Held, no_files}
 use Rattle.file_commands.specs.OwnFiles.{IsOwnNote, AreOwn}
 use Rattle.file_commands.proofs.OwnFiles.{own-both, all-own}
 use Rattle.nova_machine.specs.Machine.{MachineState}
 use Rattle.file_commands.proofs.Adding.{counted-none}
 use Rattle.host_files.specs.Lists.{NamedBytes}
+use Rattle.state_file.specs.SavedValid.{AreStandard}
 use Rattle.scp_commands.specs.Live.{CommandState, beyond}
 use Rattle.scp_script.specs.Loop.{AreKept}
 use Rattle.nova_top.specs.declared.word_files.Refusal.{Refusal}
 use Rattle.nova_top.specs.Ends.{AreWordClosings, InputTells}
 use Rattle.nova_top.specs.Words.{texts_of}
 use Rattle.nova_top.specs.Workload.{with_workload}
-use Rattle.nova_top.proofs.ProgramLemmas.{Begun, Made, begun-files, begun-line, new-slots, workload-given}
+use Rattle.nova_top.proofs.ProgramLemmas.{Begun, Made, begun-files, begun-line, new-slots, new-standard, workload-given}
 use Rattle.nova_top.proofs.ProgramLemmas.{usage-answer, files-answer, files-memory, files-status, files-cause, session-answer, memory-answer, session-cause, session-status, refused-status, kept-counted, refused-counted, complete-answer, never-unwritten, denied-unwritten, unwritten-whole}
 use Rattle.nova_top.proofs.PortLemmas.{lines-unasked}
 use Rattle.nova_top.proofs.UnreadLemmas.{usage-opened, refused-unopened, refused-measured, session-opened, session-measured}
@@ -111,6 +113,15 @@ unattached g c =
     ∙ ap (λ (m : MachineState). (with_workload workload m).slots) (ap (λ (s : CommandState). s.machine) c.session.view_is ∙ (made g c).machine)
     ∙ new-slots workload units
 
+-- and its units are the standard ones
+standard-units : (g : Over) (c : goal.After-run_session-arg-in-Ok-begin-2-1 g) → AreStandard c.ready.result.machine.units
+standard-units g c =
+    let units = map g.U.Unit.unit_state c.args.units.items in
+    let workload = c.in-Some.options.workload in
+    ap (λ (s : CommandState). kinds_of s.machine.units) c.ready.ensures
+    ∙ ap (λ (m : MachineState). kinds_of (with_workload workload m).units) (ap (λ (s : CommandState). s.machine) c.session.view_is ∙ (made g c).machine)
+    ∙ new-standard workload units c.requires
+
 -- where the session reads the input, no workload is among the words
 told-input : (g : Over) (c : goal.After-run_session-arg-in-Ok-begin-2-1 g) → InputTells (texts_of c.args.words.now) g.C.Source.tells → c.in-Ok-begin.field-0.opening.reads ≡ true → IsTrue g.C.Source.tells
 told-input g c tells on =
@@ -121,6 +132,9 @@ pub run_session-requires-clause-lines : goal.run_session-requires-clause-lines
 run_session-requires-clause-lines g c =
     begun-line g.F.Files.tells (texts_of c.args.words.now) c.in-Some.options _ c.in-Ok-begin.field-0.opening (g.F.Files.state c.args.files.now) (g.F.Files.state c.begin.new.files)
     (begun g (goal.at.run_session-requires-clause-lines g c).After-run_session-arg-in-Ok-begin-2-1)
+
+pub run_session-requires-clause-standard : goal.run_session-requires-clause-standard
+run_session-requires-clause-standard g c = standard-units g (goal.at.run_session-requires-clause-standard g c).After-run_session-arg-in-Ok-begin-2-1
 
 pub run_session-requires-clause-open : goal.run_session-requires-clause-open
 run_session-requires-clause-open g c = (begun g (goal.at.run_session-requires-clause-open g c).After-run_session-arg-in-Ok-begin-2-1).open_

@@ -4,8 +4,9 @@ use Rattle.scp_commands.specs.Live.{CommandState, live_in, beyond}
 use Rattle.nova_machine.specs.Comes.{output}
 use Rattle.scp_commands.specs.declared.fault.CommandFault.TheVariants.{OutOfMemory}
 use Rattle.scp_commands.specs.Effect.{effect}
+use Rattle.scp_commands.specs.Doing.{is_restore}
 use Rattle.scp_commands.proofs.DidLemmas.{did-want}
-use Rattle.scp_commands.proofs.ObeyLemmas.{lines-kept, unlistened, may-want, none-measured}
+use Rattle.scp_commands.proofs.ObeyLemmas.{lines-kept, unlistened, may-want, none-measured, want-kept}
 use Rattle.scp_commands.proofs.execute_command.execute.Goals as goal
 
 pub returns-in-Err-clause-told : goal.returns-in-Err-clause-told
@@ -32,3 +33,8 @@ returns-in-Err-clause-lines g c =
 pub returns-in-Err-clause-listening : goal.returns-in-Err-clause-listening
 returns-in-Err-clause-listening g c =
     unlistened g.L.Lines.tells c.args.command.now (Err OutOfMemory) (g.L.Lines.state c.args.lines.now) (λ is. absurd (cc))
+
+pub returns-in-Err-clause-keeps : goal.returns-in-Err-clause-keeps
+returns-in-Err-clause-keeps g c =
+    want-kept (is_restore c.args.command.now) c.args.session.now.command c.args.session.now.machine.time c.take_room.new.self.machine.time g.F.Files.tells
+    c.args.session.now.notes c.take_room.new.self.notes (g.F.Files.state c.args.files.now) (ap (λ (x : CommandState). x.notes) c.in-Err.ensures.rest)

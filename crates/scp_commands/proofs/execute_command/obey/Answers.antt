@@ -1,13 +1,15 @@
-use Rattle.std.proofs.Common.{ℕ, refl, ap, sym, ◌∙◌, subst, ◌≡◌, true, false, Some, None}
+use Rattle.std.proofs.Common.{ℕ, Bool, refl, ap, sym, ◌∙◌, subst, ◌≡◌, true, false, Some, None}
 use Rattle.file_commands.specs.Notes.{notes_said}
 use Rattle.host_lines.specs.Told.{Heard}
-use Rattle.scp_parser.specs.Command.{request_of, Request, Run, Go, Cont, Step, Attach, AttachPort, Detach, Disconnect, Exit, Do, Load, Dump, file_name_of}
+use Rattle.scp_parser.specs.Command.{request_of, Request, Run, Go, Cont, Step, Attach, AttachPort, Detach, Disconnect, Exit, Do, Load, Dump, Save, Restore, file_name_of}
 use Rattle.scp_commands.specs.Live.{CommandState, live_in, beyond}
 use Rattle.scp_commands.specs.Effect.{effect}
-use Rattle.scp_commands.proofs.ObeyLemmas.{lines-kept, plain-did, keeps-none, port-no-file, IsNoAttachPort, unlistening, unlistened, own-no-port, plain-no-port, run-no-port, noted-did, do-named, load-named, dump-named, IsNoRunOrFile, is-untold}
+use Rattle.scp_commands.proofs.ObeyLemmas.{lines-kept, plain-did, keeps-none, port-no-file, IsNoListener, unlistening, unlistened, own-no-port, plain-no-port, run-no-port, noted-did, do-named, load-named, dump-named, save-named, restore-named, as-kept, untold-restore, IsNoRunOrFile, is-untold}
 use Rattle.scp_commands.specs.ScriptEffects.{do_reply}
 use Rattle.scp_commands.specs.Nature.{nature, IsUntold}
-use Rattle.scp_commands.specs.Doing.{says_files, IsTold, IsRefused, Did}
+use Rattle.scp_commands.specs.Doing.{says_files, IsTold, IsRefused, IsRefusal, IsUndone, KeepsBy, is_restore, Did}
+use Rattle.scp_commands.specs.Remains.{AreLeft}
+use Rattle.scp_commands.specs.StateEffects.{save_reply, restore_reply}
 use Rattle.scp_commands.specs.LinesLeft.{IsUnlistened, ListenCause}
 use Rattle.scp_commands.specs.Refusals.{IsMeasured, IsUnrefused}
 use Rattle.scp_commands.specs.LineEffects.{attach_port_reply, disconnect_reply}
@@ -222,9 +224,12 @@ obey_untold-requires g c =
       do_ = c.in_default.not-Do;
       load = c.in_default.not-Load;
       dump = c.in_default.not-Dump;
+      save = c.in_default.not-Save;
+      restore = c.in_default.not-Restore;
     } in
     record {
       room = c.requires.room;
+      standard = c.requires.standard;
       «open» = c.requires.«open»;
       part = subst (λ (r : Request). IsUntold r) c.command.view_is (is-untold _ c.command.inside.verb others);
     }
@@ -250,8 +255,11 @@ returns-in-AttachPort-clause-told g c = λ told whole first.
 
 pub returns-in-AttachPort-clause-keeps : goal.returns-in-AttachPort-clause-keeps
 returns-in-AttachPort-clause-keeps g c =
-    keeps-none c.args.session.now.command c.attach_port.new.session.machine.time g.F.Files.tells c.attach_port.result c.args.session.now.notes c.attach_port.new.session.notes (g.F.Files.state c.args.files.now)
-    (ap (λ (x : CommandState). x.notes) c.attach_port.ensures.rest) (port-no-file c.attach_port.result c.attach_port.ensures.own)
+    as-kept c.args.command.now c.args.session.now.command c.args.session.now.machine.time c.attach_port.new.session.machine.time g.F.Files.tells c.attach_port.result
+    c.args.session.now.notes c.attach_port.new.session.notes (g.F.Files.state c.args.files.now) (g.F.Files.state c.args.files.now)
+    (ap is_restore (sym c.command.view_is ∙ ap (request_of _) c.in-AttachPort.is))
+    (keeps-none c.args.session.now.command c.attach_port.new.session.machine.time g.F.Files.tells c.attach_port.result c.args.session.now.notes c.attach_port.new.session.notes (g.F.Files.state c.args.files.now)
+    (ap (λ (x : CommandState). x.notes) c.attach_port.ensures.rest) (port-no-file c.attach_port.result c.attach_port.ensures.own))
 
 pub returns-in-AttachPort-clause-lines : goal.returns-in-AttachPort-clause-lines
 returns-in-AttachPort-clause-lines g c = c.attach_port.ensures.left
@@ -300,8 +308,11 @@ returns-in-Disconnect-clause-told g c = λ told whole first.
 
 pub returns-in-Disconnect-clause-keeps : goal.returns-in-Disconnect-clause-keeps
 returns-in-Disconnect-clause-keeps g c =
-    keeps-none c.args.session.now.command c.disconnect.new.session.machine.time g.F.Files.tells c.disconnect.result c.args.session.now.notes c.disconnect.new.session.notes (g.F.Files.state c.args.files.now)
-    (ap (λ (x : CommandState). x.notes) c.disconnect.ensures.rest) (port-no-file c.disconnect.result c.disconnect.ensures.port)
+    as-kept c.args.command.now c.args.session.now.command c.args.session.now.machine.time c.disconnect.new.session.machine.time g.F.Files.tells c.disconnect.result
+    c.args.session.now.notes c.disconnect.new.session.notes (g.F.Files.state c.args.files.now) (g.F.Files.state c.args.files.now)
+    (ap is_restore (sym c.command.view_is ∙ ap (request_of _) c.in-Disconnect.is))
+    (keeps-none c.args.session.now.command c.disconnect.new.session.machine.time g.F.Files.tells c.disconnect.result c.args.session.now.notes c.disconnect.new.session.notes (g.F.Files.state c.args.files.now)
+    (ap (λ (x : CommandState). x.notes) c.disconnect.ensures.rest) (port-no-file c.disconnect.result c.disconnect.ensures.port))
 
 pub returns-in-Disconnect-clause-lines : goal.returns-in-Disconnect-clause-lines
 returns-in-Disconnect-clause-lines g c = c.disconnect.ensures.left
@@ -368,7 +379,7 @@ pub returns-in-Run-clause-listening : goal.returns-in-Run-clause-listening
 returns-in-Run-clause-listening g c =
     let is : c.args.command.now ≡ Run c.in-Run.address = sym c.command.view_is ∙ ap (request_of _) c.in-Run.is in
     unlistening g.L.Lines.tells c.args.command.now c.run_from.result (g.L.Lines.state c.args.lines.now) (g.L.Lines.state c.run_from.new.lines)
-    (subst (λ (r : Request). IsNoAttachPort r) (sym is) tt) (run-no-port c.run_from.result c.run_from.ensures.done.own)
+    (subst (λ (r : Request). IsNoListener r) (sym is) tt) (run-no-port c.run_from.result c.run_from.ensures.done.own)
 
 pub returns-in-Go-clause-lines : goal.returns-in-Go-clause-lines
 returns-in-Go-clause-lines g c =
@@ -381,7 +392,7 @@ pub returns-in-Go-clause-listening : goal.returns-in-Go-clause-listening
 returns-in-Go-clause-listening g c =
     let is : c.args.command.now ≡ Go c.in-Go.address = sym c.command.view_is ∙ ap (request_of _) c.in-Go.is in
     unlistening g.L.Lines.tells c.args.command.now c.run_from-in-Go.result (g.L.Lines.state c.args.lines.now) (g.L.Lines.state c.run_from-in-Go.new.lines)
-    (subst (λ (r : Request). IsNoAttachPort r) (sym is) tt) (run-no-port c.run_from-in-Go.result c.run_from-in-Go.ensures.done.own)
+    (subst (λ (r : Request). IsNoListener r) (sym is) tt) (run-no-port c.run_from-in-Go.result c.run_from-in-Go.ensures.done.own)
 
 pub returns-in-Cont-clause-lines : goal.returns-in-Cont-clause-lines
 returns-in-Cont-clause-lines g c =
@@ -394,7 +405,7 @@ pub returns-in-Cont-clause-listening : goal.returns-in-Cont-clause-listening
 returns-in-Cont-clause-listening g c =
     let is : c.args.command.now ≡ Cont = sym c.command.view_is ∙ ap (request_of _) c.in-Cont.is in
     unlistening g.L.Lines.tells c.args.command.now c.run.result (g.L.Lines.state c.args.lines.now) (g.L.Lines.state c.run.new.lines)
-    (subst (λ (r : Request). IsNoAttachPort r) (sym is) tt) (run-no-port c.run.result c.run.ensures.done.own)
+    (subst (λ (r : Request). IsNoListener r) (sym is) tt) (run-no-port c.run.result c.run.ensures.done.own)
 
 pub returns-in-Step-clause-lines : goal.returns-in-Step-clause-lines
 returns-in-Step-clause-lines g c =
@@ -407,7 +418,7 @@ pub returns-in-Step-clause-listening : goal.returns-in-Step-clause-listening
 returns-in-Step-clause-listening g c =
     let is : c.args.command.now ≡ Step c.in-Step.count = sym c.command.view_is ∙ ap (request_of _) c.in-Step.is in
     unlistening g.L.Lines.tells c.args.command.now c.step.result (g.L.Lines.state c.args.lines.now) (g.L.Lines.state c.step.new.lines)
-    (subst (λ (r : Request). IsNoAttachPort r) (sym is) tt) (run-no-port c.step.result c.step.ensures.done.own)
+    (subst (λ (r : Request). IsNoListener r) (sym is) tt) (run-no-port c.step.result c.step.ensures.done.own)
 
 pub returns-in-Attach-clause-listening : goal.returns-in-Attach-clause-listening
 returns-in-Attach-clause-listening g c =
@@ -429,19 +440,19 @@ pub returns-in-Detach-clause-listening : goal.returns-in-Detach-clause-listening
 returns-in-Detach-clause-listening g c =
     let is : c.args.command.now ≡ Detach c.in-Detach.unit = sym c.command.view_is ∙ ap (request_of _) c.in-Detach.is in
     unlistening g.L.Lines.tells c.args.command.now c.detach_one_or_every.result (g.L.Lines.state c.args.lines.now) (g.L.Lines.state c.detach_one_or_every.new.lines)
-    (subst (λ (r : Request). IsNoAttachPort r) (sym is) tt) (plain-no-port c.detach_one_or_every.result c.detach_one_or_every.ensures.own)
+    (subst (λ (r : Request). IsNoListener r) (sym is) tt) (plain-no-port c.detach_one_or_every.result c.detach_one_or_every.ensures.own)
 
 pub returns-in-Disconnect-clause-listening : goal.returns-in-Disconnect-clause-listening
 returns-in-Disconnect-clause-listening g c =
     let is : c.args.command.now ≡ Disconnect c.in-Disconnect.field-0 = sym c.command.view_is ∙ ap (request_of _) c.in-Disconnect.is in
     unlistening g.L.Lines.tells c.args.command.now c.disconnect.result (g.L.Lines.state c.args.lines.now) (g.L.Lines.state c.disconnect.new.lines)
-    (subst (λ (r : Request). IsNoAttachPort r) (sym is) tt) (plain-no-port c.disconnect.result c.disconnect.ensures.own)
+    (subst (λ (r : Request). IsNoListener r) (sym is) tt) (plain-no-port c.disconnect.result c.disconnect.ensures.own)
 
 pub returns-in-Exit-clause-listening : goal.returns-in-Exit-clause-listening
 returns-in-Exit-clause-listening g c =
     let is : c.args.command.now ≡ Exit c.in-Exit.status = sym c.command.view_is ∙ ap (request_of _) c.in-Exit.is in
     unlistening g.L.Lines.tells c.args.command.now c.exit.result (g.L.Lines.state c.args.lines.now) (g.L.Lines.state c.exit.new.lines)
-    (subst (λ (r : Request). IsNoAttachPort r) (sym is) tt) (plain-no-port c.exit.result c.exit.ensures.own)
+    (subst (λ (r : Request). IsNoListener r) (sym is) tt) (plain-no-port c.exit.result c.exit.ensures.own)
 
 pub returns-in_default-clause-listening : goal.returns-in_default-clause-listening
 returns-in_default-clause-listening g c =
@@ -450,67 +461,67 @@ returns-in_default-clause-listening g c =
 -- what each answer says of the lines
 
 pub returns-in-AttachPort-clause-line : goal.returns-in-AttachPort-clause-line
-returns-in-AttachPort-clause-line g c =
+returns-in-AttachPort-clause-line g c = λ some.
     subst (λ (r : Request). LinesAnswer g.L.Lines.tells r c.attach_port.result (g.L.Lines.state c.args.lines.now) c.args.session.now.machine.lines (g.L.Lines.state c.attach_port.new.lines) c.attach_port.new.session.machine.lines)
     (sym (sym c.command.view_is ∙ ap (request_of _) c.in-AttachPort.is)) c.attach_port.ensures.line
 
 pub returns-in-Detach-clause-line : goal.returns-in-Detach-clause-line
-returns-in-Detach-clause-line g c =
+returns-in-Detach-clause-line g c = λ some.
     subst (λ (r : Request). LinesAnswer g.L.Lines.tells r c.detach_one_or_every.result (g.L.Lines.state c.args.lines.now) c.args.session.now.machine.lines (g.L.Lines.state c.detach_one_or_every.new.lines) c.detach_one_or_every.new.session.machine.lines)
     (sym (sym c.command.view_is ∙ ap (request_of _) c.in-Detach.is)) c.detach_one_or_every.ensures.line
 
 pub returns-in-Disconnect-clause-line : goal.returns-in-Disconnect-clause-line
-returns-in-Disconnect-clause-line g c =
+returns-in-Disconnect-clause-line g c = λ some.
     subst (λ (r : Request). LinesAnswer g.L.Lines.tells r c.disconnect.result (g.L.Lines.state c.args.lines.now) c.args.session.now.machine.lines (g.L.Lines.state c.disconnect.new.lines) c.disconnect.new.session.machine.lines)
     (sym (sym c.command.view_is ∙ ap (request_of _) c.in-Disconnect.is)) c.disconnect.ensures.line
 
 pub returns-in-Exit-clause-line : goal.returns-in-Exit-clause-line
-returns-in-Exit-clause-line g c =
+returns-in-Exit-clause-line g c = λ some.
     subst (λ (r : Request). LinesAnswer g.L.Lines.tells r c.exit.result (g.L.Lines.state c.args.lines.now) c.args.session.now.machine.lines (g.L.Lines.state c.exit.new.lines) c.exit.new.session.machine.lines)
     (sym (sym c.command.view_is ∙ ap (request_of _) c.in-Exit.is)) c.exit.ensures.line
 
 pub returns-in-Run-clause-line : goal.returns-in-Run-clause-line
-returns-in-Run-clause-line g c =
+returns-in-Run-clause-line g c = λ some.
     subst (λ (r : Request). LinesAnswer g.L.Lines.tells r c.run_from.result (g.L.Lines.state c.args.lines.now) c.args.session.now.machine.lines (g.L.Lines.state c.run_from.new.lines) c.run_from.new.session.machine.lines)
     (sym (sym c.command.view_is ∙ ap (request_of _) c.in-Run.is)) tt
 
 pub returns-in-Go-clause-line : goal.returns-in-Go-clause-line
-returns-in-Go-clause-line g c =
+returns-in-Go-clause-line g c = λ some.
     subst (λ (r : Request). LinesAnswer g.L.Lines.tells r c.run_from-in-Go.result (g.L.Lines.state c.args.lines.now) c.args.session.now.machine.lines (g.L.Lines.state c.run_from-in-Go.new.lines) c.run_from-in-Go.new.session.machine.lines)
     (sym (sym c.command.view_is ∙ ap (request_of _) c.in-Go.is)) tt
 
 pub returns-in-Cont-clause-line : goal.returns-in-Cont-clause-line
-returns-in-Cont-clause-line g c =
+returns-in-Cont-clause-line g c = λ some.
     subst (λ (r : Request). LinesAnswer g.L.Lines.tells r c.run.result (g.L.Lines.state c.args.lines.now) c.args.session.now.machine.lines (g.L.Lines.state c.run.new.lines) c.run.new.session.machine.lines)
     (sym (sym c.command.view_is ∙ ap (request_of _) c.in-Cont.is)) tt
 
 pub returns-in-Step-clause-line : goal.returns-in-Step-clause-line
-returns-in-Step-clause-line g c =
+returns-in-Step-clause-line g c = λ some.
     subst (λ (r : Request). LinesAnswer g.L.Lines.tells r c.step.result (g.L.Lines.state c.args.lines.now) c.args.session.now.machine.lines (g.L.Lines.state c.step.new.lines) c.step.new.session.machine.lines)
     (sym (sym c.command.view_is ∙ ap (request_of _) c.in-Step.is)) tt
 
 pub returns-in-Attach-clause-line : goal.returns-in-Attach-clause-line
-returns-in-Attach-clause-line g c =
+returns-in-Attach-clause-line g c = λ some.
     subst (λ (r : Request). LinesAnswer g.L.Lines.tells r c.attach.result (g.L.Lines.state c.args.lines.now) c.args.session.now.machine.lines (g.L.Lines.state c.args.lines.now) c.attach.new.session.machine.lines)
     (sym (sym c.command.view_is ∙ ap (request_of _) c.in-Attach.is)) (stays (g.L.Lines.state c.args.lines.now) c.args.session.now.machine.lines c.attach.new.session.machine.lines c.attach.ensures.terminals)
 
 pub returns-in-Do-clause-line : goal.returns-in-Do-clause-line
-returns-in-Do-clause-line g c =
+returns-in-Do-clause-line g c = λ some.
     subst (λ (r : Request). LinesAnswer g.L.Lines.tells r c.do_script.result (g.L.Lines.state c.args.lines.now) c.args.session.now.machine.lines (g.L.Lines.state c.args.lines.now) c.do_script.new.session.machine.lines)
     (sym (sym c.command.view_is ∙ ap (request_of _) c.in-Do.is)) (stays (g.L.Lines.state c.args.lines.now) c.args.session.now.machine.lines c.do_script.new.session.machine.lines c.do_script.ensures.terminals)
 
 pub returns-in-Load-clause-line : goal.returns-in-Load-clause-line
-returns-in-Load-clause-line g c =
+returns-in-Load-clause-line g c = λ some.
     subst (λ (r : Request). LinesAnswer g.L.Lines.tells r c.load_file.result (g.L.Lines.state c.args.lines.now) c.args.session.now.machine.lines (g.L.Lines.state c.args.lines.now) c.load_file.new.session.machine.lines)
     (sym (sym c.command.view_is ∙ ap (request_of _) c.in-Load.is)) (stays (g.L.Lines.state c.args.lines.now) c.args.session.now.machine.lines c.load_file.new.session.machine.lines c.load_file.ensures.terminals)
 
 pub returns-in-Dump-clause-line : goal.returns-in-Dump-clause-line
-returns-in-Dump-clause-line g c =
+returns-in-Dump-clause-line g c = λ some.
     subst (λ (r : Request). LinesAnswer g.L.Lines.tells r c.dump_file.result (g.L.Lines.state c.args.lines.now) c.args.session.now.machine.lines (g.L.Lines.state c.args.lines.now) c.dump_file.new.session.machine.lines)
     (sym (sym c.command.view_is ∙ ap (request_of _) c.in-Dump.is)) (stays (g.L.Lines.state c.args.lines.now) c.args.session.now.machine.lines c.dump_file.new.session.machine.lines c.dump_file.ensures.terminals)
 
 pub returns-in_default-clause-line : goal.returns-in_default-clause-line
-returns-in_default-clause-line g c =
+returns-in_default-clause-line g c = λ some.
     let others : IsNoRunOrFile c.command.inside.verb = record {
       run = c.in_default.not-Run;
       go = c.in_default.not-Go;
@@ -524,6 +535,197 @@ returns-in_default-clause-line g c =
       do_ = c.in_default.not-Do;
       load = c.in_default.not-Load;
       dump = c.in_default.not-Dump;
+      save = c.in_default.not-Save;
+      restore = c.in_default.not-Restore;
     } in
     untold-stays g.L.Lines.tells c.args.command.now c.obey_untold.result (g.L.Lines.state c.args.lines.now) c.args.session.now.machine.lines c.obey_untold.new.session.machine.lines
     (subst (λ (r : Request). IsUntold r) c.command.view_is (is-untold _ c.command.inside.verb others)) c.obey_untold.ensures.terminals
+
+-- the notes that each keeps
+
+pub returns-in-Attach-clause-keeps : goal.returns-in-Attach-clause-keeps
+returns-in-Attach-clause-keeps g c =
+    as-kept c.args.command.now c.args.session.now.command c.args.session.now.machine.time c.attach.new.session.machine.time g.F.Files.tells c.attach.result
+    c.args.session.now.notes c.attach.new.session.notes (g.F.Files.state c.args.files.now) (g.F.Files.state c.attach.new.files)
+    (ap is_restore (sym c.command.view_is ∙ ap (request_of _) c.in-Attach.is)) c.attach.ensures.keeps
+
+pub returns-in-Do-clause-keeps : goal.returns-in-Do-clause-keeps
+returns-in-Do-clause-keeps g c =
+    as-kept c.args.command.now c.args.session.now.command c.args.session.now.machine.time c.do_script.new.session.machine.time g.F.Files.tells c.do_script.result
+    c.args.session.now.notes c.do_script.new.session.notes (g.F.Files.state c.args.files.now) (g.F.Files.state c.do_script.new.files)
+    (ap is_restore (sym c.command.view_is ∙ ap (request_of _) c.in-Do.is)) c.do_script.ensures.keeps
+
+pub returns-in-Load-clause-keeps : goal.returns-in-Load-clause-keeps
+returns-in-Load-clause-keeps g c =
+    as-kept c.args.command.now c.args.session.now.command c.args.session.now.machine.time c.load_file.new.session.machine.time g.F.Files.tells c.load_file.result
+    c.args.session.now.notes c.load_file.new.session.notes (g.F.Files.state c.args.files.now) (g.F.Files.state c.load_file.new.files)
+    (ap is_restore (sym c.command.view_is ∙ ap (request_of _) c.in-Load.is)) c.load_file.ensures.keeps
+
+pub returns-in-Dump-clause-keeps : goal.returns-in-Dump-clause-keeps
+returns-in-Dump-clause-keeps g c =
+    as-kept c.args.command.now c.args.session.now.command c.args.session.now.machine.time c.dump_file.new.session.machine.time g.F.Files.tells c.dump_file.result
+    c.args.session.now.notes c.dump_file.new.session.notes (g.F.Files.state c.args.files.now) (g.F.Files.state c.dump_file.new.files)
+    (ap is_restore (sym c.command.view_is ∙ ap (request_of _) c.in-Dump.is)) c.dump_file.ensures.keeps
+
+pub returns-in-Detach-clause-keeps : goal.returns-in-Detach-clause-keeps
+returns-in-Detach-clause-keeps g c =
+    as-kept c.args.command.now c.args.session.now.command c.args.session.now.machine.time c.detach_one_or_every.new.session.machine.time g.F.Files.tells c.detach_one_or_every.result
+    c.args.session.now.notes c.detach_one_or_every.new.session.notes (g.F.Files.state c.args.files.now) (g.F.Files.state c.detach_one_or_every.new.files)
+    (ap is_restore (sym c.command.view_is ∙ ap (request_of _) c.in-Detach.is)) c.detach_one_or_every.ensures.keeps
+
+pub returns-in-Exit-clause-keeps : goal.returns-in-Exit-clause-keeps
+returns-in-Exit-clause-keeps g c =
+    as-kept c.args.command.now c.args.session.now.command c.args.session.now.machine.time c.exit.new.session.machine.time g.F.Files.tells c.exit.result
+    c.args.session.now.notes c.exit.new.session.notes (g.F.Files.state c.args.files.now) (g.F.Files.state c.exit.new.files)
+    (ap is_restore (sym c.command.view_is ∙ ap (request_of _) c.in-Exit.is)) c.exit.ensures.keeps
+
+pub returns-in-Run-clause-keeps : goal.returns-in-Run-clause-keeps
+returns-in-Run-clause-keeps g c =
+    as-kept c.args.command.now c.args.session.now.command c.args.session.now.machine.time c.run_from.new.session.machine.time g.F.Files.tells c.run_from.result
+    c.args.session.now.notes c.run_from.new.session.notes (g.F.Files.state c.args.files.now) (g.F.Files.state c.run_from.new.files)
+    (ap is_restore (sym c.command.view_is ∙ ap (request_of _) c.in-Run.is)) c.run_from.ensures.done.keeps
+
+pub returns-in-Go-clause-keeps : goal.returns-in-Go-clause-keeps
+returns-in-Go-clause-keeps g c =
+    as-kept c.args.command.now c.args.session.now.command c.args.session.now.machine.time c.run_from-in-Go.new.session.machine.time g.F.Files.tells c.run_from-in-Go.result
+    c.args.session.now.notes c.run_from-in-Go.new.session.notes (g.F.Files.state c.args.files.now) (g.F.Files.state c.run_from-in-Go.new.files)
+    (ap is_restore (sym c.command.view_is ∙ ap (request_of _) c.in-Go.is)) c.run_from-in-Go.ensures.done.keeps
+
+pub returns-in-Cont-clause-keeps : goal.returns-in-Cont-clause-keeps
+returns-in-Cont-clause-keeps g c =
+    as-kept c.args.command.now c.args.session.now.command c.args.session.now.machine.time c.run.new.session.machine.time g.F.Files.tells c.run.result
+    c.args.session.now.notes c.run.new.session.notes (g.F.Files.state c.args.files.now) (g.F.Files.state c.run.new.files)
+    (ap is_restore (sym c.command.view_is ∙ ap (request_of _) c.in-Cont.is)) c.run.ensures.done.keeps
+
+pub returns-in-Step-clause-keeps : goal.returns-in-Step-clause-keeps
+returns-in-Step-clause-keeps g c =
+    as-kept c.args.command.now c.args.session.now.command c.args.session.now.machine.time c.step.new.session.machine.time g.F.Files.tells c.step.result
+    c.args.session.now.notes c.step.new.session.notes (g.F.Files.state c.args.files.now) (g.F.Files.state c.step.new.files)
+    (ap is_restore (sym c.command.view_is ∙ ap (request_of _) c.in-Step.is)) c.step.ensures.done.keeps
+
+pub returns-in_default-clause-keeps : goal.returns-in_default-clause-keeps
+returns-in_default-clause-keeps g c =
+    let others : IsNoRunOrFile c.command.inside.verb = record {
+      run = c.in_default.not-Run;
+      go = c.in_default.not-Go;
+      cont = c.in_default.not-Cont;
+      step = c.in_default.not-Step;
+      attach = c.in_default.not-Attach;
+      attach_port = c.in_default.not-AttachPort;
+      detach = c.in_default.not-Detach;
+      disconnect = c.in_default.not-Disconnect;
+      exit = c.in_default.not-Exit;
+      do_ = c.in_default.not-Do;
+      load = c.in_default.not-Load;
+      dump = c.in_default.not-Dump;
+      save = c.in_default.not-Save;
+      restore = c.in_default.not-Restore;
+    } in
+    as-kept c.args.command.now c.args.session.now.command c.args.session.now.machine.time c.obey_untold.new.session.machine.time g.F.Files.tells c.obey_untold.result
+    c.args.session.now.notes c.obey_untold.new.session.notes (g.F.Files.state c.args.files.now) (g.F.Files.state c.obey_untold.new.files)
+    (untold-restore c.args.command.now (subst (λ (r : Request). IsUntold r) c.command.view_is (is-untold _ c.command.inside.verb others))) c.obey_untold.ensures.keeps
+
+-- SAVE and RESTORE
+
+pub returns-in-Save-clause-told : goal.returns-in-Save-clause-told
+unfolding effect
+returns-in-Save-clause-told g c = λ told whole first.
+    let s = c.args.session.now in
+    let ports = g.L.Lines.state c.args.lines.now in
+    let new = c.save.new.session in
+    let live = live_in s (beyond (g.F.Files.state c.args.files.now).files ports whole) in
+    let text = output (g.S.Sink.written c.args.out.now) ports.sent in
+    let name = c.file_name-in-Save.result.now in
+    let is = save-named _ c.command.inside.verb _ c.args.command.now name (sym c.command.view_is) c.in-Save.is c.file_name-in-Save.ensures.name in
+    noted-did s.limit s.command live (live_in new (beyond (g.F.Files.state c.save.new.files).files ports whole)) c.args.command.now (Save name)
+    (λ own. save_reply own live name) c.save.result g.S.Sink.tells text text (notes_said s.notes) (notes_said new.notes) is (λ own. refl)
+    (c.save.ensures.told ports whole g.S.Sink.tells text (subst (λ (r : Request). IsTold g.F.Files.tells s.machine.slots g.L.Lines.tells ports s.machine.lines r) is told))
+
+pub returns-in-Save-clause-lines : goal.returns-in-Save-clause-lines
+returns-in-Save-clause-lines g c =
+    lines-kept g.L.Lines.tells (g.L.Lines.state c.args.lines.now) c.args.session.now.machine.lines c.save.new.session.machine.lines c.save.ensures.terminals
+
+pub returns-in-Save-clause-listening : goal.returns-in-Save-clause-listening
+returns-in-Save-clause-listening g c =
+    unlistened g.L.Lines.tells c.args.command.now c.save.result (g.L.Lines.state c.args.lines.now) (own-no-port c.save.result c.save.ensures.own)
+
+pub returns-in-Save-clause-line : goal.returns-in-Save-clause-line
+returns-in-Save-clause-line g c = λ some.
+    subst (λ (r : Request). LinesAnswer g.L.Lines.tells r c.save.result (g.L.Lines.state c.args.lines.now) c.args.session.now.machine.lines (g.L.Lines.state c.args.lines.now) c.save.new.session.machine.lines)
+    (sym (sym c.command.view_is ∙ ap (request_of _) c.in-Save.is)) (stays (g.L.Lines.state c.args.lines.now) c.args.session.now.machine.lines c.save.new.session.machine.lines c.save.ensures.terminals)
+
+pub returns-in-Save-clause-undone : goal.returns-in-Save-clause-undone
+returns-in-Save-clause-undone g c = λ is.
+    let asks = sym c.command.view_is ∙ ap (request_of _) c.in-Save.is in
+    subst (λ (r : Request). IsUndone (nature r).flushes (nature r).reads_whole (says_files g.F.Files.tells r) c.args.session.now c.save.new.session (g.S.Sink.written c.args.out.now)
+    (g.S.Sink.written c.args.out.now) (g.F.Files.state c.args.files.now) (g.F.Files.state c.save.new.files)) (sym asks) (c.save.ensures.undone (g.S.Sink.written c.args.out.now) is)
+
+pub returns-in-Save-clause-refused : goal.returns-in-Save-clause-refused
+returns-in-Save-clause-refused g c = λ refused.
+    let asks = sym c.command.view_is ∙ ap (request_of _) c.in-Save.is in
+    subst (λ (r : Request). AreLeft (nature r).flushes c.args.session.now c.save.new.session) (sym asks)
+    (c.save.ensures.refused (subst (λ (r : Request). IsRefusal r c.save.result) asks refused))
+
+pub returns-in-Save-clause-keeps : goal.returns-in-Save-clause-keeps
+returns-in-Save-clause-keeps g c =
+    as-kept c.args.command.now c.args.session.now.command c.args.session.now.machine.time c.save.new.session.machine.time g.F.Files.tells c.save.result
+    c.args.session.now.notes c.save.new.session.notes (g.F.Files.state c.args.files.now) (g.F.Files.state c.save.new.files)
+    (ap is_restore (sym c.command.view_is ∙ ap (request_of _) c.in-Save.is)) c.save.ensures.keeps
+
+pub returns-in-Restore-clause-told : goal.returns-in-Restore-clause-told
+unfolding effect
+returns-in-Restore-clause-told g c = λ told whole first.
+    let s = c.args.session.now in
+    let ports = g.L.Lines.state c.args.lines.now in
+    let ports' = g.L.Lines.state c.restore.new.lines in
+    let new = c.restore.new.session in
+    let files' = (g.F.Files.state c.restore.new.files).files in
+    let live = live_in s (beyond (g.F.Files.state c.args.files.now).files ports whole) in
+    let text = output (g.S.Sink.written c.args.out.now) ports.sent in
+    let what = c.in-Restore in
+    let name = c.file_name-in-Restore.result.now in
+    let is = restore-named _ c.command.inside.verb what.force _ c.args.command.now name (sym c.command.view_is) what.is c.file_name-in-Restore.ensures.name in
+    let all = subst (λ (r : Request). IsTold g.F.Files.tells s.machine.slots g.L.Lines.tells ports s.machine.lines r) is told in
+    subst (λ (h : Heard). Did (λ own. effect s.limit own live c.args.command.now) s.command c.restore.result (live_in new (beyond files' ports' whole)) g.S.Sink.tells
+    text (output (g.S.Sink.written c.args.out.now) h) (notes_said s.notes) (notes_said new.notes)) (sym c.restore.ensures.sent)
+    (noted-did s.limit s.command live (live_in new (beyond files' ports' whole)) c.args.command.now (Restore what.force name)
+    (λ own. restore_reply own live what.force name) c.restore.result g.S.Sink.tells text text (notes_said s.notes) (notes_said new.notes)
+    is (λ own. refl) (c.restore.ensures.told all.0 all.1 all.2 whole first g.S.Sink.tells text))
+
+pub returns-in-Restore-clause-lines : goal.returns-in-Restore-clause-lines
+returns-in-Restore-clause-lines g c = c.restore.ensures.left
+
+pub returns-in-Restore-clause-unasked : goal.returns-in-Restore-clause-unasked
+returns-in-Restore-clause-unasked g c = λ refused never.
+    let asks = sym c.command.view_is ∙ ap (request_of _) c.in-Restore.is in
+    c.restore.ensures.unasked refused (λ un. never (subst (λ (r : Request). IsUnlistened r c.restore.result) (sym asks) un))
+
+pub returns-in-Restore-clause-listening : goal.returns-in-Restore-clause-listening
+returns-in-Restore-clause-listening g c =
+    let asks = sym c.command.view_is ∙ ap (request_of _) c.in-Restore.is in
+    subst (λ (r : Request). ListenCause g.L.Lines.tells r c.restore.result (g.L.Lines.state c.args.lines.now) (g.L.Lines.state c.restore.new.lines)) (sym asks) c.restore.ensures.listening
+
+pub returns-in-Restore-clause-line : goal.returns-in-Restore-clause-line
+returns-in-Restore-clause-line g c = λ some.
+    subst (λ (r : Request). LinesAnswer g.L.Lines.tells r c.restore.result (g.L.Lines.state c.args.lines.now) c.args.session.now.machine.lines (g.L.Lines.state c.restore.new.lines) c.restore.new.session.machine.lines)
+    (sym (sym c.command.view_is ∙ ap (request_of _) c.in-Restore.is)) (c.restore.ensures.line some)
+
+pub returns-in-Restore-clause-undone : goal.returns-in-Restore-clause-undone
+returns-in-Restore-clause-undone g c = λ is.
+    let text = g.S.Sink.written c.args.out.now in
+    let asks = sym c.command.view_is ∙ ap (request_of _) c.in-Restore.is in
+    let says = ap (says_files g.F.Files.tells) asks in
+    undone-as (nature c.args.command.now).flushes (Some subject.State) (nature c.args.command.now).reads_whole g.F.Files.tells (says_files g.F.Files.tells c.args.command.now) c.args.session.now c.restore.new.session text text
+    (g.F.Files.state c.args.files.now) (g.F.Files.state c.restore.new.files) (ap (λ (r : Request). (nature r).reads_whole) asks) (λ told. sym says ∙ told) (c.restore.ensures.undone text is)
+
+pub returns-in-Restore-clause-unrefused : goal.returns-in-Restore-clause-unrefused
+returns-in-Restore-clause-unrefused g c = λ is.
+    let name = c.file_name-in-Restore.result.now in
+    let asks = restore-named _ c.command.inside.verb c.in-Restore.force _ c.args.command.now name (sym c.command.view_is) c.in-Restore.is c.file_name-in-Restore.ensures.name in
+    subst (λ (r : Request). IsUnrefused r c.args.session.now.machine c.args.session.now.watch) (sym asks) (c.restore.ensures.unrefused is)
+
+pub returns-in-Restore-clause-keeps : goal.returns-in-Restore-clause-keeps
+returns-in-Restore-clause-keeps g c =
+    subst (λ (b : Bool). KeepsBy b c.args.session.now.command c.args.session.now.machine.time c.restore.new.session.machine.time g.F.Files.tells c.restore.result
+    c.args.session.now.notes c.restore.new.session.notes (g.F.Files.state c.args.files.now) (g.F.Files.state c.restore.new.files))
+    (sym (ap is_restore (sym c.command.view_is ∙ ap (request_of _) c.in-Restore.is))) c.restore.ensures.keeps

@@ -1,26 +1,24 @@
-use Rattle.std.proofs.Common.{refl, ap, sym, true, ◌∙◌, subst, Ok, ◌≡◌, Err}
+use Rattle.std.proofs.Common.{refl, ap, sym, true, ◌∙◌, subst, Ok, ◌≡◌}
 use Rattle.file_commands.specs.Notes.{notes_said}
-use Rattle.scp_parser.specs.Command.{Examine, Deposit, request_of, Nothing, Reset, SetSize, Show, Assert, Echo, given_text, NoBreak, NoExpect, Send, NoSend, Request}
+use Rattle.scp_parser.specs.Command.{Examine, Deposit, request_of, Nothing, Reset, SetSize, Show, Assert, Echo, given_text, NoBreak, NoExpect, Send, NoSend}
 use Rattle.scp_commands.specs.Live.{CommandState, live_in, beyond}
 use Rattle.nova_machine.specs.Comes.{output}
 use Rattle.scp_commands.specs.ListEffects.{examine_reply, deposit_reply}
 use Rattle.scp_commands.specs.Effect.{effect}
-use Rattle.scp_commands.proofs.ObeyLemmas.{alone, unheard, plain-did, keeps-none, does-of-no-file, examine-no-file, deposit-no-file, goes-does, goto-does, show-no-file, set_size-no-file, echo-no-file, assert-no-file, reset-no-file, reset-slots, send-given, no_break-no-file, no_expect-no-file, send-no-file, no_send-no-file, IsNoPlain, other-is, no-note, not-measured}
+use Rattle.scp_commands.proofs.ObeyLemmas.{alone, unheard, plain-did, keeps-none, does-of-no-file, examine-no-file, deposit-no-file, goes-does, goto-does, show-no-file, set_size-no-file, echo-no-file, assert-no-file, reset-no-file, reset-slots, send-given, no_break-no-file, no_expect-no-file, send-no-file, no_send-no-file}
 use Rattle.scp_commands.proofs.StartLemmas.{reset-lines}
+use Rattle.scp_commands.proofs.KindLemmas.{where-kinds}
+use Rattle.unit_list.specs.Bus.{kinds_of}
 use Rattle.unit_files.specs.Open.{AllOpen, Around}
 use Rattle.file_commands.proofs.OwnFiles.{unused}
 use Rattle.scp_commands.specs.declared.next.Next.TheVariants.{Go}
 use Rattle.scp_commands.specs.declared.next.Next.TheVariants as next
-use Rattle.scp_commands.specs.Reply.{goes, refused}
+use Rattle.scp_commands.specs.Reply.{goes}
 use Rattle.scp_commands.specs.RunEffects.{reset_reply}
 use Rattle.scp_commands.specs.ShowEffects.{show_reply}
 use Rattle.scp_commands.specs.SetEffects.{set_size_reply}
 use Rattle.scp_commands.specs.ScriptEffects.{echo_reply, assert_reply, goto_reply}
 use Rattle.scp_commands.specs.WatchEffects.{no_break_reply, no_expect_reply, send_reply, no_send_reply}
-use Rattle.scp_commands.specs.Nature.{plain, nature}
-use Rattle.scp_commands.proofs.RemainLemmas.{leaves}
-use Rattle.scp_commands.specs.declared.fault.CommandFault.TheVariants.{NotBuilt}
-use Rattle.scp_commands.proofs.DidLemmas.{refused-does}
 use Rattle.scp_commands.proofs.execute_command.obey_plain.Goals as goal
 
 pub returns-in-Nothing-clause-told : goal.returns-in-Nothing-clause-told
@@ -89,6 +87,10 @@ returns-in-Reset-clause-told g c = λ lines whole heard.
 pub returns-in-Reset-clause-terminals : goal.returns-in-Reset-clause-terminals
 returns-in-Reset-clause-terminals g c =
     ap (λ (x : CommandState). x.machine.lines) c.reset.ensures.rest ∙ reset-lines true c.args.session.now.machine
+
+pub returns-in-Reset-clause-kinds : goal.returns-in-Reset-clause-kinds
+returns-in-Reset-clause-kinds g c =
+    ap (λ (x : CommandState). kinds_of x.machine.units) c.reset.ensures.rest ∙ where-kinds true c.args.session.now.machine
 
 pub returns-in-Reset-clause-keeps : goal.returns-in-Reset-clause-keeps
 returns-in-Reset-clause-keeps g c =
@@ -327,52 +329,3 @@ returns-in-Echo-clause-keeps g c =
     let live = live_in s (alone state.files) in
     keeps-none s.command s.machine.time g.F.Files.tells c.echo.result s.notes s.notes state refl
     (does-of-no-file (echo_reply live c.text.result.now) c.echo.result _ _ _ _ (c.echo.ensures.told live unheard) (echo-no-file live c.text.result.now))
-
-pub returns-in_default : goal.returns-in_default
-returns-in_default g c =
-    let s = c.args.session.now in
-    let state = g.F.Files.state c.args.files.now in
-    let v = c.command.inside.verb in
-    let is-plain = subst (λ (r : Request). nature r ≡ plain) (sym c.command.view_is) c.requires.part in
-    let others : IsNoPlain v = record {
-      nothing = c.in_default.not-Nothing;
-      examine = c.in_default.not-Examine;
-      deposit = c.in_default.not-Deposit;
-      reset = c.in_default.not-Reset;
-      no_break = c.in_default.not-NoBreak;
-      no_expect = c.in_default.not-NoExpect;
-      send = c.in_default.not-Send;
-      no_send = c.in_default.not-NoSend;
-      set_size = c.in_default.not-SetSize;
-      show = c.in_default.not-Show;
-      goto = c.in_default.not-Goto;
-      assert = c.in_default.not-Assert;
-      echo = c.in_default.not-Echo;
-    } in
-    record {
-      no_port = λ is. absurd (cc);
-      terminals = refl;
-      told = λ lines whole heard.
-          let live = live_in s (beyond state.files lines whole) in
-          let text = output (g.S.Sink.written c.args.out.now) heard in
-          plain-did s.limit s.command live live c.args.command.now (request_of _ v) (refused NotBuilt live) (Err NotBuilt) g.S.Sink.tells text text (notes_said s.notes) (notes_said s.notes)
-          (sym c.command.view_is) (λ own. other-is s.limit own live _ v is-plain others) refl (refused-does NotBuilt live g.S.Sink.tells text tt);
-      undone = λ is. absurd (cc);
-      want = λ is. absurd (cc);
-      unrefused = λ is. absurd (cc);
-      measured = not-measured g.F.Files.tells c.args.command.now state state;
-      ran = tt;
-      no_stop = tt;
-      attach_note = no-note c.args.command.now (record { command = s.command; time = s.machine.time }) s.notes s.notes state state;
-      refused = λ is. leaves (nature c.args.command.now).flushes s s refl refl;
-      keeps = keeps-none s.command s.machine.time g.F.Files.tells (Err NotBuilt) s.notes s.notes state refl tt;
-      whose = unused s.machine.slots s.machine.slots s.notes s.notes state refl refl;
-      keys = refl;
-      limit = refl;
-      command = refl;
-      counts = refl;
-      stop = λ is. absurd (cc);
-      exit = tt;
-      «open» = c.requires.«open»;
-      around = λ base around. around;
-    }

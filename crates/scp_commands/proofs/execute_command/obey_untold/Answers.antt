@@ -1,6 +1,6 @@
-use Rattle.std.proofs.Common.{refl, ap, sym, ◌∙◌, subst, ◌≡◌}
+use Rattle.std.proofs.Common.{refl, ap, sym, subst, ◌≡◌}
 use Rattle.file_commands.specs.Notes.{notes_said}
-use Rattle.scp_parser.specs.Command.{request_of, Break, Expect, Request}
+use Rattle.scp_parser.specs.Command.{Break, Expect, Request}
 use Rattle.scp_commands.specs.Live.{CommandState, live_in, beyond}
 use Rattle.nova_machine.specs.Comes.{output}
 use Rattle.scp_commands.specs.Effect.{effect}
@@ -102,6 +102,7 @@ obey_plain-requires g c =
     let untold = subst (λ (r : Request). IsUntold r) (sym c.command.view_is) c.requires.part in
     record {
       room = c.requires.room;
+      standard = c.requires.standard;
       «open» = c.requires.«open»;
       part = subst (λ (r : Request). nature r ≡ plain) c.command.view_is (is-plain _ c.command.inside.verb untold others);
     }

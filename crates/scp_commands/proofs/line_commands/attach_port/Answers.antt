@@ -1,5 +1,4 @@
-use Rattle.std.proofs.Common.{◌≡◌, ap, sym, refl, subst, Bool, true, List, slice_get, Some, None}
-use Rattle.host_lines.specs.State.{LineState}
+use Rattle.std.proofs.Common.{◌≡◌, sym, refl, subst, Bool, slice_get, Some}
 use Rattle.scp_commands.specs.LinesLeft.{attaches_by}
 use Rattle.scp_commands.proofs.PortLemmas.{left-same}
 use Rattle.scp_commands.proofs.PortCommands.{attach-unbuilt, attach-does, attach-left, attach-refused, attach-sent, attach-cause, attach-unrefused}

@@ -1,7 +1,4 @@
-use Rattle.std.proofs.Common.{◌≡◌, ◌∙◌, ap, sym, refl, List, slice_get, slice_set, Some, None}
-use Rattle.telnet_lines.specs.Line.{LineOf}
-use Rattle.nova_machine.specs.Machine.{MachineState}
-use Rattle.scp_commands.specs.Live.{CommandState}
+use Rattle.std.proofs.Common.{◌≡◌, ap, sym, refl, slice_get, Some}
 use Rattle.scp_commands.proofs.PortLemmas.{left-same, close-left, close-seen}
 use Rattle.scp_commands.proofs.PortCommands.{close-refused, detach-unbuilt, detach-does}
 use Rattle.scp_commands.proofs.AnswerLemmas.{none-detaches, first-detaches}

@@ -1,6 +1,7 @@
 use Rattle.std.proofs.Common.{◌≡◌, ◌∙◌, ap, sym, subst, ℕ, Err}
 use Rattle.scp_commands.specs.ListEffects.{handed}
 use Rattle.scp_commands.proofs.ListLemmas.{list_answer, Deposits, deposits-of, deposit-silent, deposit-frame}
+use Rattle.scp_commands.proofs.KindLemmas.{deposit-kinds}
 use Rattle.scp_commands.proofs.list_commands.fill_list.Goals.{in-Ok, in-Err}
 use Rattle.scp_commands.proofs.list_commands.fill_list.Goals as goal
 
@@ -57,3 +58,12 @@ returns-clause-terminals g c =
     let r = c.deposit.result in
     let deposits : Deposits m l c.handed.result r new = deposits-of m new l c.handed.result r c.deposit.ensures.done c.deposit.ensures.refused in
     rw (← c.session.view_is) (deposit-frame m new l c.handed.result r deposits).lines
+
+pub returns-clause-kinds : goal.returns-clause-kinds
+returns-clause-kinds g c =
+    let m = c.session.inside.machine in
+    let new = c.deposit.new.machine in
+    let l = c.args.listing.now in
+    let r = c.deposit.result in
+    let deposits : Deposits m l c.handed.result r new = deposits-of m new l c.handed.result r c.deposit.ensures.done c.deposit.ensures.refused in
+    rw (← c.session.view_is) (deposit-kinds m new l c.handed.result r deposits)

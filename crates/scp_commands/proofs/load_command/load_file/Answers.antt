@@ -12,6 +12,8 @@ use Rattle.scp_commands.proofs.BehindLemmas.{stamp_in}
 use Rattle.scp_commands.proofs.WholeLemmas.{read-claims, read-keeps, short-read, read-own, unread-cause}
 use Rattle.scp_commands.proofs.TapeLemmas.{tape_comes, tape-plain, tape-own, tape-cause, tape-closings, read-slots, read-lines, read-time, read-none, load-did}
 use Rattle.scp_commands.proofs.OwnFileLemmas.{whole-own}
+use Rattle.unit_list.specs.Bus.{kinds_of}
+use Rattle.scp_commands.proofs.KindLemmas.{read-kinds}
 use Rattle.scp_commands.proofs.load_command.load_file.Goals as goal
 
 pub returns-clause-told : goal.returns-clause-told
@@ -117,3 +119,8 @@ returns-clause-whole g c =
     let after = g.F.Files.state c.read_file-whole.new.files in
     unread-cause subject.Load (tape_comes c.session.inside.machine) g.F.Files.tells c.args.name.now c.read_file-whole.result.bytes c.load_bytes.result
     before after (tape-cause g.F.Files.tells c.args.name.now c.session.inside.machine before after) c.load_bytes.ensures.answer c.read_file-whole.ensures.cause
+
+pub returns-clause-kinds : goal.returns-clause-kinds
+returns-clause-kinds g c =
+    rw (← c.session.view_is)
+    (ap (λ (m : MachineState). kinds_of m.units) c.load_bytes.ensures.machine ∙ read-kinds c.read_file-whole.result.bytes c.session.inside.machine)

@@ -21,6 +21,8 @@ use Rattle.scp_commands.specs.RunStops.{RunStops}
 use Rattle.scp_commands.proofs.RunStopLemmas.{started-moment, started-stops}
 use Rattle.scp_commands.proofs.ReplyLemmas.{did-without, refused-said}
 use Rattle.scp_commands.proofs.StartLemmas.{started-slots, started-lines, started-did, run_from-refused}
+use Rattle.unit_list.specs.Bus.{kinds_of}
+use Rattle.scp_commands.proofs.KindLemmas.{started-kinds}
 use Rattle.scp_commands.proofs.run_commands.run_from.Goals as goal
 
 pub returns-then-not-address_fits-clause-done : goal.returns-then-not-address_fits-clause-done
@@ -108,3 +110,7 @@ returns-clause-stopped g c =
 
 pub returns-clause-unasked : goal.returns-clause-unasked
 returns-clause-unasked g c = λ is. absurd (c.run.ensures.never is)
+
+pub returns-clause-kinds : goal.returns-clause-kinds
+returns-clause-kinds g c =
+    c.run.ensures.kinds ∙ ap (λ (s : CommandState). kinds_of s.machine.units) c.start.ensures ∙ started-kinds c.args.resets c.args.address c.args.session.now.machine

@@ -1,4 +1,4 @@
-use Rattle.std.proofs.Common.{◌≡◌, ◌++◌, ◌∷◌, [], ℕ, List, codes, decimal, ap, sym, append_assoc, subst, rules}
+use Rattle.std.proofs.Common.{◌≡◌, ◌++◌, ◌∷◌, [], ℕ, List, codes, decimal, sym, append_assoc, subst, rules}
 use Rattle.host_files.specs.Streams.{Puts}
 use Rattle.scp_commands.proofs.show_command.put_connected.Goals as goal
 

@@ -1,4 +1,4 @@
-use Rattle.std.proofs.Common.{List, ℕ, IsTrue, ◌∙◌, ap, sym, refl, subst}
+use Rattle.std.proofs.Common.{List, ℕ, IsTrue, ◌∙◌, sym, subst}
 use Rattle.host_files.specs.Streams.{Puts}
 use Rattle.scp_commands.proofs.ShowLemmas.{text-free}
 use Rattle.scp_commands.proofs.show_command.put_line.Goals as goal

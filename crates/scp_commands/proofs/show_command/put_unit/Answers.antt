@@ -12,7 +12,7 @@ returns-in-Some-clause-told g c = λ told.
     let unit = c.args.unit in
     let read_only = c.is_read_only-read_only.result in
     let file = c.in-Some.file.now in
-    let held = attachment-is c.args.attached.now.slots unit file read_only c.in-Some.ensures c.is_read_only-read_only.ensures.read_only in
+    let held = attachment-is c.args.attached.now.slots unit file read_only c.in-Some.ensures.name c.is_read_only-read_only.ensures.read_only in
     let name_is : c.as_slice-in-Some.result.now ≡ unit_name unit = search rules in
     let file_is : c.as_bytes.result.now ≡ file = search rules in
     subst (λ (text : List ℕ). Puts before text c.put_attachment.result after)

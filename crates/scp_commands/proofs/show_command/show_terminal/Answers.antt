@@ -1,4 +1,4 @@
-use Rattle.std.proofs.Common.{◌≡◌, ◌∙◌, ap, sym, refl, subst, List, [], slice_get, Some, None}
+use Rattle.std.proofs.Common.{◌≡◌, sym, refl, slice_get, Some, None}
 use Rattle.scp_commands.proofs.PortLemmas.{first-of, none-of}
 use Rattle.scp_commands.proofs.ShowLemmas.{line-shown, no-line-shown}
 use Rattle.scp_commands.proofs.show_command.show_terminal.Goals as goal

@@ -9,6 +9,8 @@ use Rattle.scp_commands.specs.Doing.{Keeps}
 use Rattle.scp_commands.proofs.SeenLemmas.{attached-erased}
 use Rattle.scp_commands.proofs.BehindLemmas.{stamp_in}
 use Rattle.scp_commands.proofs.AttachLemmas.{begins-within, attach-not-built, attach-done, becomes-attached, becomes-refused, attach-keeps}
+use Rattle.unit_list.specs.Bus.{kinds_of}
+use Rattle.scp_commands.proofs.KindLemmas.{positioned-kinds}
 use Rattle.scp_commands.proofs.unit_commands.attach.Goals as goal
 
 pub returns-then-lacks_unit-clause-told : goal.returns-then-lacks_unit-clause-told
@@ -86,3 +88,8 @@ returns-in-Err-clause-keeps g c =
     (attach-keeps s.command s.machine.time c.stamp_of-stamp.result g.F.Files.tells c.args.unit (Err c.in-Err.fault) (Err c.of_attach.result) s.notes.items c.attach_unit.new.notes.items
     (g.F.Files.state c.args.files.now) (g.F.Files.state c.attach_unit.new.files)
     (c.stamp_of-stamp.ensures ∙ ap stamp_in (sym c.session.view_is)) (ap Err c.of_attach.ensures) done.notes done.counted done.own done.missing)
+
+pub returns-in-Ok-clause-kinds : goal.returns-in-Ok-clause-kinds
+returns-in-Ok-clause-kinds g c =
+    rw (← c.session.view_is)
+    (ap (λ (m : MachineState). kinds_of m.units) c.set_position.ensures ∙ positioned-kinds c.args.unit c.first_place.result c.session.inside.machine.units)

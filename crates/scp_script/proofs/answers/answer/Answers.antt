@@ -4,24 +4,13 @@ use Rattle.scp_commands.specs.declared.fault.CommandFault.{CommandFault}
 use Rattle.nova_machine.specs.Comes.{output}
 use Rattle.scp_commands.specs.Live.{live_in, beyond}
 use Rattle.scp_commands.specs.Effect.{Asked, asked}
-use Rattle.scp_commands.proofs.AskedLemmas.{built-asked, unbuilt-asked}
+use Rattle.scp_commands.proofs.AskedLemmas.{asked-as}
 use Rattle.scp_commands.proofs.PortLemmas.{left-same}
 use Rattle.scp_script.specs.Scripts.{checked}
 use Rattle.scp_script.specs.Loop.{Answers, IsShort, coming}
 use Rattle.scp_script.proofs.TextLemmas.{answers-none}
 use Rattle.scp_script.proofs.NoteLemmas.{never-short}
 use Rattle.scp_script.proofs.answers.answer.Goals as goal
-
-pub returns-then-not-is_built-clause-told : goal.returns-then-not-is_built-clause-told
-returns-then-not-is_built-clause-told g c = λ told telling apart whole first.
-    let session = c.args.session.now in
-    let texts = coming c.args.texts.now in
-    let ports = g.L.Lines.state c.args.lines.now in
-    let around = beyond (g.F.Files.state c.args.files.now).files ports whole in
-    let is = unbuilt-asked c.args.line.now (sym c.is_built.ensures ∙ c.if-not-is_built.true) in
-    answers-none session.limit (live_in session around) texts (asked c.args.line.now) session.command c.deny_line.result (coming c.deny_line.new.texts) g.S.Sink.tells
-    (output (g.S.Sink.written c.args.out.now) ports.sent) (output (g.S.Sink.written c.deny_line.new.out) ports.sent) (notes_said session.notes)
-    (λ behind. c.deny_line.ensures.told around ports.sent behind (asked c.args.line.now) (ap (checked texts.scripts) is))
 
 pub returns-in-Ok-clause-told : goal.returns-in-Ok-clause-told
 returns-in-Ok-clause-told g c = λ told telling apart whole first.
@@ -30,7 +19,7 @@ returns-in-Ok-clause-told g c = λ told telling apart whole first.
     let ports' = g.L.Lines.state c.obey.new.lines in
     let live = live_in session (beyond (g.F.Files.state c.args.files.now).files ports whole) in
     let new = live_in c.obey.new.session (beyond (g.F.Files.state c.obey.new.files).files ports' whole) in
-    let is = built-asked c.args.line.now (Ok c.read_command.new.into) (sym c.is_built.ensures ∙ c.if-not-is_built.false) c.in-Ok.ensures.exact in
+    let is = asked-as c.args.line.now (Ok c.read_command.new.into) c.in-Ok.ensures.exact in
     subst (λ (a : Asked). Answers session.limit live (coming c.args.texts.now) a session.command c.obey.result new (coming c.obey.new.texts) g.S.Sink.tells
     (output (g.S.Sink.written c.args.out.now) ports.sent) (output (g.S.Sink.written c.obey.new.out) ports'.sent) (notes_said session.notes) (notes_said c.obey.new.session.notes))
     (sym is) (c.obey.ensures.told told telling apart whole first)
@@ -41,25 +30,17 @@ returns-in-Err-clause-told g c = λ told telling apart whole first.
     let texts = coming c.args.texts.now in
     let ports = g.L.Lines.state c.args.lines.now in
     let around = beyond (g.F.Files.state c.args.files.now).files ports whole in
-    let is = built-asked c.args.line.now (Err c.in-Err.fault) (sym c.is_built.ensures ∙ c.if-not-is_built.false) (c.in-Err.ensures.faulty c.in-Err.fault refl) ∙ ap (λ (f : CommandFault). Err f) (sym c.of_line.ensures) in
-    answers-none session.limit (live_in session around) texts (asked c.args.line.now) session.command c.deny_line-in-Err.result (coming c.deny_line-in-Err.new.texts) g.S.Sink.tells
-    (output (g.S.Sink.written c.args.out.now) ports.sent) (output (g.S.Sink.written c.deny_line-in-Err.new.out) ports.sent) (notes_said session.notes)
-    (λ behind. c.deny_line-in-Err.ensures.told around ports.sent behind (asked c.args.line.now) (ap (checked texts.scripts) is))
-
-pub returns-then-not-is_built-clause-short : goal.returns-then-not-is_built-clause-short
-returns-then-not-is_built-clause-short g c = λ told telling whole own is.
-    let session = c.args.session.now in
-    let ports = g.L.Lines.state c.args.lines.now in
-    let live = live_in session (beyond (g.F.Files.state c.args.files.now).files ports whole) in
-    never-short (asked c.args.line.now) session.command c.deny_line.result live live own (output (g.S.Sink.written c.args.out.now) ports.sent)
-    (output (g.S.Sink.written c.deny_line.new.out) ports.sent) c.deny_line.ensures.memory
+    let is = asked-as c.args.line.now (Err c.in-Err.fault) (c.in-Err.ensures.faulty c.in-Err.fault refl) ∙ ap (λ (f : CommandFault). Err f) (sym c.of_line.ensures) in
+    answers-none session.limit (live_in session around) texts (asked c.args.line.now) session.command c.deny_line.result (coming c.deny_line.new.texts) g.S.Sink.tells
+    (output (g.S.Sink.written c.args.out.now) ports.sent) (output (g.S.Sink.written c.deny_line.new.out) ports.sent) (notes_said session.notes)
+    (λ behind. c.deny_line.ensures.told around ports.sent behind (asked c.args.line.now) (ap (checked texts.scripts) is))
 
 pub returns-in-Ok-clause-short : goal.returns-in-Ok-clause-short
 returns-in-Ok-clause-short g c = λ told telling whole own noted.
     let session = c.args.session.now in
     let ports = g.L.Lines.state c.args.lines.now in
     let ports' = g.L.Lines.state c.obey.new.lines in
-    let is = built-asked c.args.line.now (Ok c.read_command.new.into) (sym c.is_built.ensures ∙ c.if-not-is_built.false) c.in-Ok.ensures.exact in
+    let is = asked-as c.args.line.now (Ok c.read_command.new.into) c.in-Ok.ensures.exact in
     subst (λ (a : Asked). IsShort a session.command c.obey.result (live_in session (beyond (g.F.Files.state c.args.files.now).files ports whole))
     (live_in c.obey.new.session (beyond (g.F.Files.state c.obey.new.files).files ports' whole)) own (output (g.S.Sink.written c.args.out.now) ports.sent)
     (output (g.S.Sink.written c.obey.new.out) ports'.sent))
@@ -70,11 +51,8 @@ returns-in-Err-clause-short g c = λ told telling whole own is.
     let session = c.args.session.now in
     let ports = g.L.Lines.state c.args.lines.now in
     let live = live_in session (beyond (g.F.Files.state c.args.files.now).files ports whole) in
-    never-short (asked c.args.line.now) session.command c.deny_line-in-Err.result live live own (output (g.S.Sink.written c.args.out.now) ports.sent)
-    (output (g.S.Sink.written c.deny_line-in-Err.new.out) ports.sent) c.deny_line-in-Err.ensures.memory
-
-pub returns-then-not-is_built-clause-lines : goal.returns-then-not-is_built-clause-lines
-returns-then-not-is_built-clause-lines g c = left-same g.L.Lines.tells (g.L.Lines.state c.args.lines.now) c.args.session.now.machine.lines
+    never-short (asked c.args.line.now) session.command c.deny_line.result live live own (output (g.S.Sink.written c.args.out.now) ports.sent)
+    (output (g.S.Sink.written c.deny_line.new.out) ports.sent) c.deny_line.ensures.memory
 
 pub returns-in-Err-clause-lines : goal.returns-in-Err-clause-lines
 returns-in-Err-clause-lines g c = left-same g.L.Lines.tells (g.L.Lines.state c.args.lines.now) c.args.session.now.machine.lines

@@ -1,4 +1,5 @@
 use Rattle.std.proofs.Common.{◌≡◌, ◌-◌, true, List, [], Option, refl, ap, sym, ◌∙◌, subst, arith}
+use Rattle.unit_list.specs.Bus.{kinds_of}
 use Rattle.unit_files.specs.Attachments.{Held}
 use Rattle.unit_files.specs.Open.{AllOpen, Around}
 use Rattle.file_commands.specs.declared.note.FaultNote.{FaultNote}
@@ -41,6 +42,7 @@ lines-init g c =
       sink = refl;
       keeps = kept-none c.args.session.now.notes (g.F.Files.state c.args.files.now);
       whose = unused c.args.session.now.machine.slots c.args.session.now.machine.slots c.args.session.now.notes c.args.session.now.notes (g.F.Files.state c.args.files.now) refl refl;
+      standard = c.requires.standard;
       is_open = c.requires.«open»;
       around = λ base around. around;
     }
@@ -96,6 +98,7 @@ lines-preserved g c =
           (subst (λ (kept : List FaultNote). AreOwn first.machine.slots done.machine.slots first.notes kept old new) (sym notes_are)
           (own-both first.machine.slots mid.machine.slots done.machine.slots first.notes mid.notes done.notes old (g.F.Files.state c.lines.files) new
           c.lines.invariant.whose c.in-GoesOn.ensures.whose));
+      standard = ap (λ (x : CommandState). kinds_of x.machine.units) is ∙ c.in-GoesOn.ensures.standard;
       is_open = subst (λ (slots : List (Option Held)). AllOpen slots new.opened) (sym slots_are) c.in-GoesOn.ensures.«open»;
       around = λ base around. subst (λ (slots : List (Option Held)). Around slots base new.opened) (sym slots_are)
           (c.in-GoesOn.ensures.around base (c.lines.invariant.around base around));

@@ -7,6 +7,7 @@ use Rattle.host_lines.specs.Traffic.{Answer}
 use Rattle.host_lines.specs.Told.{IsFirst, record_in}
 use Rattle.telnet_lines.specs.Many.{AreApart}
 use Rattle.nova_machine.specs.Comes.{output}
+use Rattle.state_file.specs.SavedValid.{AreStandard}
 use Rattle.scp_commands.specs.Live.{beyond}
 use Rattle.scp_commands.specs.LinesLeft.{LinesLeft}
 use Rattle.scp_script.specs.Session.{spent_more}
@@ -35,6 +36,7 @@ invariant-lines g l = record {
   sink : g.S.Sink.fault_count l.out ≡ g.S.Sink.fault_count l.fn.out;
   keeps : AreKept l.fn.session.notes l.session.notes (g.F.Files.state l.fn.files) (g.F.Files.state l.files);
   whose : AreOwn l.fn.session.machine.slots l.session.machine.slots l.fn.session.notes l.session.notes (g.F.Files.state l.fn.files) (g.F.Files.state l.files);
+  standard : AreStandard l.session.machine.units;
   is_open : AllOpen l.session.machine.slots (g.F.Files.state l.files).opened;
   around : (base : List Opened) → Around l.fn.session.machine.slots base (g.F.Files.state l.fn.files).opened → Around l.session.machine.slots base (g.F.Files.state l.files).opened;
 }

@@ -1,5 +1,4 @@
-use Rattle.std.proofs.Common.{◌≡◌, ◌∙◌, ap, sym, refl, subst, ℕ, List, Option, None}
-use Rattle.host_lines.specs.State.{LineState}
+use Rattle.std.proofs.Common.{◌∙◌, ap, sym, subst, ℕ, List, Option, None}
 use Rattle.unit_files.specs.Attachments.{Held}
 use Rattle.unit_files.specs.Open.{Around}
 use Rattle.telnet_lines.specs.Line.{LineOf}
