@@ -4,7 +4,7 @@ use Rattle.std.proofs.lemmas.Option.{same_Some}
 use Rattle.host_lines.specs.State.{LineState}
 use Rattle.telnet_lines.specs.Line.{LineOf}
 use Rattle.scp_parser.specs.Command.{Request, Run, Go, Cont, Step, AttachPort, Detach, Disconnect, Restore, Exit}
-use Rattle.scp_commands.specs.declared.fault.CommandFault.TheVariants.{NotBuilt}
+use Rattle.scp_commands.specs.declared.fault.CommandFault.TheVariants.{NoSuchName}
 use Rattle.scp_commands.specs.Reply.{Answer}
 use Rattle.scp_commands.specs.Nature.{IsUntold}
 use Rattle.scp_commands.specs.LineEffects.{closed, hung}
@@ -17,24 +17,24 @@ stays s before after same = record { lines = same; outside = refl }
 -- ---- without a line
 
 module _ (s : LineState) (lines : List (LineOf ℕ)) (none : slice_get lines 0 ≡ None) where
-  pub none-attaches : (tells : Bool) (port : ℕ) → AttachesPort tells port (Err NotBuilt) s lines s lines
+  pub none-attaches : (tells : Bool) (port : ℕ) → AttachesPort tells port (Err NoSuchName) s lines s lines
   none-attaches tells port = by lines none
     where
-      by : (ls : List (LineOf ℕ)) → slice_get ls 0 ≡ None → AttachesPort tells port (Err NotBuilt) s ls s ls
+      by : (ls : List (LineOf ℕ)) → slice_get ls 0 ≡ None → AttachesPort tells port (Err NoSuchName) s ls s ls
       by [] is = record { answer_is = refl; stay = stays s [] [] refl }
       by (l ∷ ls) is = absurd (cc)
 
-  pub none-detaches : DetachesPort (Err NotBuilt) s lines s lines
+  pub none-detaches : DetachesPort (Err NoSuchName) s lines s lines
   none-detaches = by lines none
     where
-      by : (ls : List (LineOf ℕ)) → slice_get ls 0 ≡ None → DetachesPort (Err NotBuilt) s ls s ls
+      by : (ls : List (LineOf ℕ)) → slice_get ls 0 ≡ None → DetachesPort (Err NoSuchName) s ls s ls
       by [] is = record { answer_is = refl; stay = stays s [] [] refl }
       by (l ∷ ls) is = absurd (cc)
 
-  pub none-disconnects : Disconnects (Err NotBuilt) s lines s lines
+  pub none-disconnects : Disconnects (Err NoSuchName) s lines s lines
   none-disconnects = by lines none
     where
-      by : (ls : List (LineOf ℕ)) → slice_get ls 0 ≡ None → Disconnects (Err NotBuilt) s ls s ls
+      by : (ls : List (LineOf ℕ)) → slice_get ls 0 ≡ None → Disconnects (Err NoSuchName) s ls s ls
       by [] is = record { answer_is = refl; stay = stays s [] [] refl }
       by (l ∷ ls) is = absurd (cc)
 

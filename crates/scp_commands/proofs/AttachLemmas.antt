@@ -36,7 +36,7 @@ use Rattle.nova_machine.specs.Seen.{erased, seen, beside, attached_in}
 use Rattle.nova_machine.specs.Comes.{Output}
 use Rattle.nova_machine.proofs.Hearing.{heard-nothing}
 use Rattle.scp_commands.specs.declared.next.Next.TheVariants.{Go}
-use Rattle.scp_commands.specs.declared.fault.CommandFault.TheVariants.{AlreadyAttached, ReadOnly, NoFile, FileTooLong, NotBuilt, FileFailed}
+use Rattle.scp_commands.specs.declared.fault.CommandFault.TheVariants.{AlreadyAttached, ReadOnly, NoFile, FileTooLong, NoSuchName, FileFailed}
 use Rattle.scp_commands.specs.Live.{Live, standing}
 use Rattle.scp_commands.specs.Reply.{Answer, Reply, refused}
 use Rattle.scp_commands.specs.FaultText.{attach_fault}
@@ -133,7 +133,7 @@ reply-is : (notes : List CommandNote) (live : Live) (option : ℕ) (unit : UnitN
     → attach_reply notes live option unit name ≡ said_reply said (mode_of option) unit name files live
 unfolding attach_reply
 reply-is notes live option unit name said files has is left =
-    ap (λ (b : Bool). if b then refused NotBuilt live else attach_with (failure_now live.machine.time (subject.Unit unit) notes) (mode_of option) unit name live) has
+    ap (λ (b : Bool). if b then refused NoSuchName live else attach_with (failure_now live.machine.time (subject.Unit unit) notes) (mode_of option) unit name live) has
     ∙ (λ i. said_reply (sym is i) (mode_of option) unit name (sym left i) live)
 
 -- what is answered
@@ -259,12 +259,12 @@ becomes-refused watch keys files files' lines whole m a held mode unit name faul
     by-fault attach.OutOfMemory = tt
 
 -- there is no such unit
-pub attach-not-built : (number : ℕ) (live : Live) (option : ℕ) (unit : UnitName) (name : List ℕ) (tells : Bool) (text : Output) (notes : List Note) → lacks_unit live.machine unit ≡ true
-    → Did (λ (own : List CommandNote). attach_reply own live option unit name) number (Err NotBuilt) live tells text text notes notes
+pub attach-lacking : (number : ℕ) (live : Live) (option : ℕ) (unit : UnitName) (name : List ℕ) (tells : Bool) (text : Output) (notes : List Note) → lacks_unit live.machine unit ≡ true
+    → Did (λ (own : List CommandNote). attach_reply own live option unit name) number (Err NoSuchName) live tells text text notes notes
 unfolding attach_reply
-attach-not-built number live option unit name tells text notes lacks =
-    refused-did (λ (own : List CommandNote). attach_reply own live option unit name) NotBuilt number live tells text notes tt
-    (λ own. ap (λ (b : Bool). if b then refused NotBuilt live else attach_with (failure_now live.machine.time (subject.Unit unit) own) (mode_of option) unit name live) lacks)
+attach-lacking number live option unit name tells text notes lacks =
+    refused-did (λ (own : List CommandNote). attach_reply own live option unit name) NoSuchName number live tells text notes tt
+    (λ own. ap (λ (b : Bool). if b then refused NoSuchName live else attach_with (failure_now live.machine.time (subject.Unit unit) own) (mode_of option) unit name live) lacks)
 
 -- ---- the notes that are kept
 

@@ -31,7 +31,7 @@ use Rattle.nova_machine.specs.Seen.{erased, seen, beside, attached_in}
 use Rattle.nova_machine.specs.Comes.{Output}
 use Rattle.nova_machine.proofs.Hearing.{heard-nothing}
 use Rattle.scp_commands.specs.declared.next.Next.TheVariants.{Go}
-use Rattle.scp_commands.specs.declared.fault.CommandFault.TheVariants.{NotBuilt, FileFailed}
+use Rattle.scp_commands.specs.declared.fault.CommandFault.TheVariants.{NoSuchName, FileFailed}
 use Rattle.scp_commands.specs.Live.{Live, standing}
 use Rattle.scp_commands.specs.Reply.{Answer, Reply, refused}
 use Rattle.scp_commands.specs.FaultText.{detach_fault}
@@ -91,7 +91,7 @@ reply-is : (notes : List CommandNote) (live : Live) (unit : UnitName) (fault : O
     → detach_reply notes live unit ≡ said_reply said unit files live
 unfolding detach_reply
 reply-is notes live unit fault said files has handed is left =
-    ap (λ (b : Bool). if b then refused NotBuilt live else detach_with (failure_now live.machine.time (subject.Unit unit) notes) unit live) has
+    ap (λ (b : Bool). if b then refused NoSuchName live else detach_with (failure_now live.machine.time (subject.Unit unit) notes) unit live) has
     ∙ ap (λ (f : Option Failure). detach_with f unit live) handed
     ∙ (λ i. said_reply (sym is i) unit (sym left i) live)
 
@@ -154,12 +154,12 @@ detach-did number live new unit r tells text notes notes' has said left after of
         (ap (λ (u : UnitName). Err (FileFailed (subject.Unit u))) of_unit, record { after_is = ap (standing 1) after; written = λ _. sym (append-nil text.console); heard = sym (heard-nothing text.heard) })
 
 -- there is no such unit
-pub detach-not-built : (number : ℕ) (live : Live) (unit : UnitName) (tells : Bool) (text : Output) (notes : List Note) → lacks_unit live.machine unit ≡ true
-    → Did (λ (own : List CommandNote). detach_reply own live unit) number (Err NotBuilt) live tells text text notes notes
+pub detach-lacking : (number : ℕ) (live : Live) (unit : UnitName) (tells : Bool) (text : Output) (notes : List Note) → lacks_unit live.machine unit ≡ true
+    → Did (λ (own : List CommandNote). detach_reply own live unit) number (Err NoSuchName) live tells text text notes notes
 unfolding detach_reply
-detach-not-built number live unit tells text notes lacks =
-    refused-did (λ (own : List CommandNote). detach_reply own live unit) NotBuilt number live tells text notes tt
-    (λ own. ap (λ (b : Bool). if b then refused NotBuilt live else detach_with (failure_now live.machine.time (subject.Unit unit) own) unit live) lacks)
+detach-lacking number live unit tells text notes lacks =
+    refused-did (λ (own : List CommandNote). detach_reply own live unit) NoSuchName number live tells text notes tt
+    (λ own. ap (λ (b : Bool). if b then refused NoSuchName live else detach_with (failure_now live.machine.time (subject.Unit unit) own) unit live) lacks)
 
 -- what its calls say
 pub record Calls (stamp : Stamp) (held : List (Option Attachment)) (disk : Buffer) (live new : Live) (unit : UnitName) (r : Result (Option UnitFault) DetachFault) (before after : List FaultNote) : Type 0 where

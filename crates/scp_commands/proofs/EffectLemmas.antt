@@ -34,7 +34,7 @@ use Rattle.scp_examine.specs.Effect.{examine_fault, fault_of_deposit, tested}
 use Rattle.nova_machine.specs.Comes.{Output}
 use Rattle.scp_commands.specs.declared.next.Next.TheVariants.{Go, Ran, Do, Goto, Exit}
 use Rattle.scp_commands.specs.declared.fault.CommandFault.{CommandFault}
-use Rattle.scp_commands.specs.declared.fault.CommandFault.TheVariants.{OutOfRange, NotBuilt, FileFailed, PortFailed}
+use Rattle.scp_commands.specs.declared.fault.CommandFault.TheVariants.{OutOfRange, NoSuchName, FileFailed, PortFailed}
 use Rattle.scp_commands.specs.Live.{Live, Standing, standing}
 use Rattle.scp_commands.specs.Reply.{Answer, Reply, goes, says, refused}
 use Rattle.scp_commands.specs.Doing.{Does, IsExitAnswer}
@@ -391,7 +391,7 @@ fair-echo : {W : CommandFault → Type 0} (live : Live) (text : List ℕ) → Fa
 unfolding echo_reply
 fair-echo live text = fair-says _ live live
 
-assert-exit : (lacks : Bool) (r : Result Bool ExamineFault) → IsExitAnswer (if lacks then Err NotBuilt else test_answer r)
+assert-exit : (lacks : Bool) (r : Result Bool ExamineFault) → IsExitAnswer (if lacks then Err NoSuchName else test_answer r)
 assert-exit true r = tt
 assert-exit false (Ok true) = tt
 assert-exit false (Ok false) = tt

@@ -19,7 +19,7 @@ use Rattle.scp_examine.specs.Effect.{all_places, listed, examined, examine_fault
 use Rattle.nova_machine.specs.Comes.{Output}
 use Rattle.nova_machine.proofs.Hearing.{heard-nothing}
 use Rattle.scp_commands.specs.declared.next.Next.TheVariants.{Go}
-use Rattle.scp_commands.specs.declared.fault.CommandFault.TheVariants.{NotBuilt}
+use Rattle.scp_commands.specs.declared.fault.CommandFault.TheVariants.{NoSuchName}
 use Rattle.scp_commands.specs.Live.{Live, standing, with_machine, Beyond}
 use Rattle.scp_commands.specs.Reply.{Answer, Reply, refused}
 use Rattle.scp_commands.specs.FaultText.{list_fault}
@@ -107,7 +107,7 @@ pub examine-does : {T : Type 0} (m : MachineState) (watch : WatchState) (keys : 
 unfolding examine_reply
 examine-does m watch keys files l r tells before after there fault told quiet =
     let live = seen (beside watch keys files.files files.lines) files.whole m in
-    subst (λ (b : Bool). Does (if b then refused NotBuilt live else examine_after (examine_fault (erased m) l) live l) (list_answer r) (standing 0 live) tells before after)
+    subst (λ (b : Bool). Does (if b then refused NoSuchName live else examine_after (examine_fault (erased m) l) live l) (list_answer r) (standing 0 live) tells before after)
     (sym (erased-lacks m l.device ∙ there))
     (subst (λ (o : Option ExamineFault). Does (examine_after o live l) (list_answer r) (standing 0 live) tells before after) (sym (erased-fault m l))
     (after-does m l live r tells before after (erased-examined m l) fault told quiet))
@@ -216,7 +216,7 @@ pub deposit-silent : {T : Type 0} (m new : MachineState) (watch : WatchState) (k
 unfolding deposit_reply
 deposit-silent m new watch keys files l value r there deposits =
     let live = seen (beside watch keys files.files files.lines) files.whole m in
-    subst (λ (b : Bool). IsSilent (if b then refused NotBuilt live else deposit_after (fault_of_deposit (erased m) l (handed value)) live l (handed value)) (list_answer r) (seen (beside watch keys files.files files.lines) files.whole new))
+    subst (λ (b : Bool). IsSilent (if b then refused NoSuchName live else deposit_after (fault_of_deposit (erased m) l (handed value)) live l (handed value)) (list_answer r) (seen (beside watch keys files.files files.lines) files.whole new))
     (sym (erased-lacks m l.device ∙ there))
     (subst (λ (o : Option ExamineFault). IsSilent (deposit_after o live l (handed value)) (list_answer r) (seen (beside watch keys files.files files.lines) files.whole new)) (sym (erased-deposit_fault m l (handed value)))
     (after-silent m new watch keys files l (handed value) r deposits))

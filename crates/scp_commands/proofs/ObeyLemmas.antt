@@ -24,7 +24,7 @@ use Rattle.scp_examine.specs.declared.fault.ExamineFault.TheVariants as list
 use Rattle.scp_examine.specs.Effect.{examine_fault, fault_of_deposit, tested}
 use Rattle.nova_machine.specs.Comes.{Output}
 use Rattle.scp_commands.specs.declared.next.Next.TheVariants.{Go, Goto, Ran}
-use Rattle.scp_commands.specs.declared.fault.CommandFault.TheVariants.{Console, OutOfMemory, NoFile, FileTooLong, FileFailed, PortFailed, NotBuilt}
+use Rattle.scp_commands.specs.declared.fault.CommandFault.TheVariants.{Console, OutOfMemory, NoFile, FileTooLong, FileFailed, PortFailed, NoSuchName}
 use Rattle.scp_commands.specs.declared.fault.CommandFault.TheVariants.{LoadTruncated, LoadSum, PastMemory, NotState, Version, BadDigest, BadField, Truncated, Changed}
 use Rattle.scp_commands.specs.Live.{Live, Standing, standing, Beyond, beyond}
 use Rattle.scp_commands.specs.Reply.{Answer, Reply, goes}
@@ -353,7 +353,7 @@ pub assert-no-file : (live : Live) (test : Test) → IsOfNoFile (assert_reply li
 unfolding assert_reply
 assert-no-file live test = by-answer (lacks_device live.machine test.device) (tested live.machine test)
   where
-    by-answer : (lacks : Bool) (r : Result Bool ExamineFault) → IsOfNoFile (if lacks then Err NotBuilt else test_answer r)
+    by-answer : (lacks : Bool) (r : Result Bool ExamineFault) → IsOfNoFile (if lacks then Err NoSuchName else test_answer r)
     by-answer true r = tt
     by-answer false (Ok true) = tt
     by-answer false (Ok false) = tt

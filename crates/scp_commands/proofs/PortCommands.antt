@@ -14,7 +14,7 @@ use Rattle.nova_machine.specs.Machine.{MachineState, with_line}
 use Rattle.nova_machine.specs.Seen.{seen, beside}
 use Rattle.nova_machine.specs.Comes.{Output}
 use Rattle.scp_commands.specs.declared.next.Next.TheVariants.{Go}
-use Rattle.scp_commands.specs.declared.fault.CommandFault.TheVariants.{NotBuilt, NotAttached, AlreadyAttached, OutOfRange, PortFailed, OutOfMemory}
+use Rattle.scp_commands.specs.declared.fault.CommandFault.TheVariants.{NoSuchName, NotAttached, AlreadyAttached, OutOfRange, PortFailed, OutOfMemory}
 use Rattle.scp_commands.specs.Live.{Live, standing}
 use Rattle.scp_commands.specs.Reply.{Answer, Reply, goes, refused}
 use Rattle.scp_commands.specs.LineEffects.{terminal_line, ported, closed, unported, hung, hung_up, is_port, listen_with, attach_line, attach_port_reply, with_port, detach_port_reply, disconnect_reply}
@@ -34,8 +34,8 @@ set-first (l ∷ lines) line at = ap (λ (x : LineOf ℕ). x ∷ lines) (sym (sa
 -- ---- what needs a port
 
 no-terminal : (line : Option (LineOf Peer)) (reply : Reply) (live : Live) (tells : Bool) (text : Output) → line ≡ None
-    → Does (with_port line reply live) (Err NotBuilt) (standing 0 live) tells text text
-no-terminal None reply live tells text none = (refl, refused-said NotBuilt live tells text)
+    → Does (with_port line reply live) (Err NoSuchName) (standing 0 live) tells text text
+no-terminal None reply live tells text none = (refl, refused-said NoSuchName live tells text)
 no-terminal (Some line) reply live tells text none = absurd (cc)
 
 port-does : (line : LineOf Peer) (live live' : Live) (lines' : List (LineOf Peer)) (answer : Answer) (tells : Bool) (text : Output) → terminal_line live.lines ≡ Some line
@@ -70,12 +70,12 @@ hung-up-none (l ∷ lines) line at none =
 
 module _ (watch : WatchState) (keys : List (ℕ × ℕ)) (files : List NamedBytes) (whole : List LineAnswer) (m : MachineState) (tells : Bool) (text : Output) where
   pub detach-unbuilt : (s : LineState) → slice_get m.lines 0 ≡ None
-      → Does (detach_port_reply (seen (beside watch keys files s) whole m)) (Err NotBuilt) (standing 0 (seen (beside watch keys files s) whole m)) tells text text
+      → Does (detach_port_reply (seen (beside watch keys files s) whole m)) (Err NoSuchName) (standing 0 (seen (beside watch keys files s) whole m)) tells text text
   unfolding detach_port_reply
   detach-unbuilt s none = no-terminal _ _ (seen (beside watch keys files s) whole m) tells text (terminal-at s m.lines None none)
 
   pub disconnect-unbuilt : (s : LineState) → slice_get m.lines 0 ≡ None
-      → Does (disconnect_reply (seen (beside watch keys files s) whole m)) (Err NotBuilt) (standing 0 (seen (beside watch keys files s) whole m)) tells text text
+      → Does (disconnect_reply (seen (beside watch keys files s) whole m)) (Err NoSuchName) (standing 0 (seen (beside watch keys files s) whole m)) tells text text
   unfolding disconnect_reply
   disconnect-unbuilt s none = no-terminal _ _ (seen (beside watch keys files s) whole m) tells text (terminal-at s m.lines None none)
 
@@ -104,12 +104,12 @@ module _ (watch : WatchState) (keys : List (ℕ × ℕ)) (files : List NamedByte
   -- ---- ATTACH
 
   pub attach-unbuilt : (s : LineState) (port : ℕ) → slice_get m.lines 0 ≡ None
-      → Does (attach_port_reply (seen (beside watch keys files s) whole m) port) (Err NotBuilt) (standing 0 (seen (beside watch keys files s) whole m)) tells text text
+      → Does (attach_port_reply (seen (beside watch keys files s) whole m) port) (Err NoSuchName) (standing 0 (seen (beside watch keys files s) whole m)) tells text text
   unfolding attach_port_reply
   attach-unbuilt s port none =
       let live = seen (beside watch keys files s) whole m in
-      subst (λ (o : Option (LineOf Peer)). Does (attach_line o port live) (Err NotBuilt) (standing 0 live) tells text text) (sym (terminal-at s m.lines None none))
-      (refl, refused-said NotBuilt live tells text)
+      subst (λ (o : Option (LineOf Peer)). Does (attach_line o port live) (Err NoSuchName) (standing 0 live) tells text text) (sym (terminal-at s m.lines None none))
+      (refl, refused-said NoSuchName live tells text)
 
   -- a line and an outside that are as they were
   same-live : (old new : LineState) (line after : LineOf ℕ) → slice_get m.lines 0 ≡ Some line → after ≡ line → new ≡ old

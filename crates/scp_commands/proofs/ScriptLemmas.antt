@@ -14,7 +14,7 @@ use Rattle.scp_examine.specs.Checks.{condition_fits, item_fault}
 use Rattle.scp_examine.specs.Effect.{compared, test_of, test_after, tested}
 use Rattle.nova_machine.specs.Comes.{Output}
 use Rattle.scp_commands.specs.declared.next.Next.TheVariants.{Go}
-use Rattle.scp_commands.specs.declared.fault.CommandFault.TheVariants.{NotBuilt}
+use Rattle.scp_commands.specs.declared.fault.CommandFault.TheVariants.{NoSuchName}
 use Rattle.scp_commands.specs.Live.{Live, standing, Beyond}
 use Rattle.scp_commands.specs.Reply.{Answer}
 use Rattle.scp_commands.specs.ListEffects.{lacks_device}
@@ -45,8 +45,8 @@ erased-tested m test = erased-test_after (item_fault (shape_of m) test.device te
 
 erased-assert : (m : MachineState) (test : Test) → assert_answer (erased m) test ≡ assert_answer m test
 erased-assert m test =
-    ap (λ (b : Bool). if b then Err NotBuilt else test_answer (tested (erased m) test)) (erased-lacks m test.device)
-    ∙ ap (λ (r : Result Bool ExamineFault). if lacks_device m test.device then Err NotBuilt else test_answer r) (erased-tested m test)
+    ap (λ (b : Bool). if b then Err NoSuchName else test_answer (tested (erased m) test)) (erased-lacks m test.device)
+    ∙ ap (λ (r : Result Bool ExamineFault). if lacks_device m test.device then Err NoSuchName else test_answer r) (erased-tested m test)
 
 -- what is answered is not for the console
 abbrev IsTestsOwn : Result Bool ExamineFault → Type 0
@@ -72,7 +72,7 @@ own-tested : (m : MachineState) (test : Test) → IsTestsOwn (tested m test)
 unfolding tested
 own-tested m test = own-test_after (item_fault (shape_of m) test.device test.item) m test (own-item (shape_of m) test.device test.item)
 
-own-answer : (lacks : Bool) (r : Result Bool ExamineFault) → IsTestsOwn r → IsPlain (if lacks then Err NotBuilt else test_answer r)
+own-answer : (lacks : Bool) (r : Result Bool ExamineFault) → IsTestsOwn r → IsPlain (if lacks then Err NoSuchName else test_answer r)
 own-answer true r own = tt
 own-answer false (Ok true) own = tt
 own-answer false (Ok false) own = tt

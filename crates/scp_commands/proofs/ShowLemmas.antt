@@ -10,7 +10,7 @@ use Rattle.nova_machine.specs.Seen.{seen, beside}
 use Rattle.scp_parser.specs.declared.command.Shown.TheVariants.{Time, Cpu, Queue, Break, Expect, Send, Version, Unit as AUnit}
 use Rattle.nova_machine.specs.Comes.{Output}
 use Rattle.scp_commands.specs.declared.next.Next.TheVariants.{Go}
-use Rattle.scp_commands.specs.declared.fault.CommandFault.TheVariants.{NotBuilt}
+use Rattle.scp_commands.specs.declared.fault.CommandFault.TheVariants.{NoSuchName}
 use Rattle.scp_commands.specs.Live.{standing, Beyond}
 use Rattle.scp_commands.specs.Reply.{Answer, says, refused}
 use Rattle.host_lines.specs.State.{parties}
@@ -93,14 +93,14 @@ sends-does m watch keys files printed answer tells before after is puts quiet =
 
 -- a unit that can have no file here
 pub unit-refused : (m : MachineState) (watch : WatchState) (keys : List (ℕ × ℕ)) (files : Beyond) (unit : UnitName) (tells : Bool) (text : Output) → is_terminal unit ≡ false → lacks_unit m unit ≡ true
-    → Does (show_reply (seen (beside watch keys files.files files.lines) files.whole m) (AUnit unit)) (Err NotBuilt) (standing 0 (seen (beside watch keys files.files files.lines) files.whole m)) tells text text
+    → Does (show_reply (seen (beside watch keys files.files files.lines) files.whole m) (AUnit unit)) (Err NoSuchName) (standing 0 (seen (beside watch keys files.files files.lines) files.whole m)) tells text text
 unfolding show_reply
 unit-refused m watch keys files unit tells text other lacks =
     let live = seen (beside watch keys files.files files.lines) files.whole m in
-    subst (λ (b : Bool). Does (if b then show_line (terminal_line live.lines) live else if lacks_unit m unit then refused NotBuilt live else says (unit_text live.machine unit) live) (Err NotBuilt) (standing 0 live) tells text text)
+    subst (λ (b : Bool). Does (if b then show_line (terminal_line live.lines) live else if lacks_unit m unit then refused NoSuchName live else says (unit_text live.machine unit) live) (Err NoSuchName) (standing 0 live) tells text text)
     (sym other)
-    (subst (λ (b : Bool). Does (if b then refused NotBuilt live else says (unit_text live.machine unit) live) (Err NotBuilt) (standing 0 live) tells text text)
-    (sym lacks) (refl, refused-said NotBuilt live tells text))
+    (subst (λ (b : Bool). Does (if b then refused NoSuchName live else says (unit_text live.machine unit) live) (Err NoSuchName) (standing 0 live) tells text text)
+    (sym lacks) (refl, refused-said NoSuchName live tells text))
 
 -- the second teletype
 pub terminal-does : (m : MachineState) (watch : WatchState) (keys : List (ℕ × ℕ)) (files : Beyond) (unit : UnitName) (answer : Answer) (tells : Bool) (before after : Output)
@@ -110,7 +110,7 @@ pub terminal-does : (m : MachineState) (watch : WatchState) (keys : List (ℕ ×
 unfolding show_reply
 terminal-does m watch keys files unit answer tells before after is does =
     let live = seen (beside watch keys files.files files.lines) files.whole m in
-    subst (λ (b : Bool). Does (if b then show_line (terminal_line live.lines) live else if lacks_unit m unit then refused NotBuilt live else says (unit_text live.machine unit) live) answer (standing 0 live) tells before after)
+    subst (λ (b : Bool). Does (if b then show_line (terminal_line live.lines) live else if lacks_unit m unit then refused NoSuchName live else says (unit_text live.machine unit) live) answer (standing 0 live) tells before after)
     (sym is) does
 
 -- its line, by what is seen of it
@@ -131,11 +131,11 @@ line-shown line others m watch keys files printed answer tells before after is s
     same-text (Some port) (Some conn) = refl
 
 pub no-line-shown : (m : MachineState) (watch : WatchState) (keys : List (ℕ × ℕ)) (files : Beyond) (tells : Bool) (text : Output) → m.lines ≡ []
-    → Does (show_line (terminal_line (seen (beside watch keys files.files files.lines) files.whole m).lines) (seen (beside watch keys files.files files.lines) files.whole m)) (Err NotBuilt) (standing 0 (seen (beside watch keys files.files files.lines) files.whole m)) tells text text
+    → Does (show_line (terminal_line (seen (beside watch keys files.files files.lines) files.whole m).lines) (seen (beside watch keys files.files files.lines) files.whole m)) (Err NoSuchName) (standing 0 (seen (beside watch keys files.files files.lines) files.whole m)) tells text text
 no-line-shown m watch keys files tells text none =
     let live = seen (beside watch keys files.files files.lines) files.whole m in
-    subst (λ (ls : List (LineOf ℕ)). Does (show_line (terminal_line (map (seen_line files.lines) ls)) live) (Err NotBuilt) (standing 0 live) tells text text) (sym none)
-    (refl, refused-said NotBuilt live tells text)
+    subst (λ (ls : List (LineOf ℕ)). Does (show_line (terminal_line (map (seen_line files.lines) ls)) live) (Err NoSuchName) (standing 0 live) tells text text) (sym none)
+    (refl, refused-said NoSuchName live tells text)
 
 pub unit-does : {T E : Type 0} (m : MachineState) (watch : WatchState) (keys : List (ℕ × ℕ)) (files : Beyond) (unit : UnitName) (printed : Result T E) (answer : Answer) (tells : Bool) (before after : Output)
     → is_terminal unit ≡ false → lacks_unit m unit ≡ false → answer ≡ told_or_console printed Go → (IsTrue tells → Puts before.console (unit_line unit (attachment_at (attachments_of m.slots) unit)) printed after.console) → after.heard ≡ before.heard
@@ -143,9 +143,9 @@ pub unit-does : {T E : Type 0} (m : MachineState) (watch : WatchState) (keys : L
 unfolding show_reply
 unit-does m watch keys files unit printed answer tells before after other has is puts quiet =
     let live = seen (beside watch keys files.files files.lines) files.whole m in
-    subst (λ (b : Bool). Does (if b then show_line (terminal_line live.lines) live else if lacks_unit m unit then refused NotBuilt live else says (unit_text live.machine unit) live) answer (standing 0 live) tells before after)
+    subst (λ (b : Bool). Does (if b then show_line (terminal_line live.lines) live else if lacks_unit m unit then refused NoSuchName live else says (unit_text live.machine unit) live) answer (standing 0 live) tells before after)
     (sym other)
-    (subst (λ (b : Bool). Does (if b then refused NotBuilt live else says (unit_text live.machine unit) live) answer (standing 0 live) tells before after) (sym has)
+    (subst (λ (b : Bool). Does (if b then refused NoSuchName live else says (unit_text live.machine unit) live) answer (standing 0 live) tells before after) (sym has)
     (subst (λ (l : List (Option Attachment)). Does (says (unit_line unit (attachment_at l unit)) live) answer (standing 0 live) tells before after) (sym (unnumbered-attachments m.slots))
     (says-does (unit_line unit (attachment_at (attachments_of m.slots) unit)) live printed answer tells before after is puts quiet)))
 

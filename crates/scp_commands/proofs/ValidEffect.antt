@@ -57,7 +57,7 @@ use Rattle.nova_machine.specs.Comes.{Output}
 use Rattle.scp_commands.specs.declared.next.Next.{Next}
 use Rattle.scp_commands.specs.declared.next.Next.TheVariants.{Go, Exit}
 use Rattle.scp_commands.specs.declared.fault.CommandFault.{CommandFault}
-use Rattle.scp_commands.specs.declared.fault.CommandFault.TheVariants.{Console, OutOfMemory, NotBuilt, FileFailed}
+use Rattle.scp_commands.specs.declared.fault.CommandFault.TheVariants.{Console, OutOfMemory, NoSuchName, FileFailed}
 use Rattle.scp_commands.specs.Live.{Live, Standing, standing, with_machine, numberless, with_attached}
 use Rattle.scp_commands.specs.Reply.{Answer, Reply, goes, says, refused}
 use Rattle.scp_commands.specs.RunEffects.{stop_line, run_answer, used_by, run_failure, ran, address_fits, started, run_from, stepped, step_of, reset_reply, last_address}
@@ -833,8 +833,8 @@ attach-anew notes live option name is done = by-lack (lacks_unit live.machine di
     by-said TooLong done = absurd (cc)
     by-said (CallFailed f) done = absurd (cc)
 
-    by-lack : (b : Bool) → (if b then refused NotBuilt live else attach_with fault (mode_of option) disk_unit name live).answer ≡ Ok Go
-        → DiskIsItsFile (if b then refused NotBuilt live else attach_with fault (mode_of option) disk_unit name live).after.live
+    by-lack : (b : Bool) → (if b then refused NoSuchName live else attach_with fault (mode_of option) disk_unit name live).answer ≡ Ok Go
+        → DiskIsItsFile (if b then refused NoSuchName live else attach_with fault (mode_of option) disk_unit name live).after.live
     by-lack true done = absurd (cc)
     by-lack false done = by-said (attach_said fault (mode_of option) disk_unit name (attached_in live.machine) live.files) done
 
@@ -853,8 +853,8 @@ detach-anew notes live is done = by-lack (lacks_unit live.machine disk_unit) don
         subst (λ (l : List (Option Attachment)). CopyIsFile (attachment_at l disk_unit) no_buffer (flushed_files fault disk_unit live))
         (sym (attached-with live.machine (detached disk_unit (attached_in live.machine)))) (copy-gone (attached_in live.machine) (flushed_files fault disk_unit live) (some-attached live is))
 
-    by-lack : (b : Bool) → (if b then refused NotBuilt live else detach_with fault disk_unit live).answer ≡ Ok Go
-        → DiskIsItsFile (if b then refused NotBuilt live else detach_with fault disk_unit live).after.live
+    by-lack : (b : Bool) → (if b then refused NoSuchName live else detach_with fault disk_unit live).answer ≡ Ok Go
+        → DiskIsItsFile (if b then refused NoSuchName live else detach_with fault disk_unit live).after.live
     by-lack true done = absurd (cc)
     by-lack false done = by-said (detach_said fault disk_unit (attached_in live.machine) live.machine.disk) done
 

@@ -28,7 +28,7 @@ use Rattle.scp_examine.specs.declared.fault.ExamineFault.TheVariants as list
 use Rattle.scp_commands.specs.declared.fault.CommandFault.{CommandFault}
 use Rattle.scp_commands.specs.declared.fault.Detail.{Detail}
 use Rattle.scp_commands.specs.declared.fault.Detail.TheVariants.{Nothing, Place, Address, Version as AVersion, Unit as AUnit}
-use Rattle.scp_commands.specs.declared.fault.CommandFault.TheVariants.{Parse, NoSuchName, OutOfRange, ReadOnlyName, Console, NotBuilt}
+use Rattle.scp_commands.specs.declared.fault.CommandFault.TheVariants.{Parse, NoSuchName, OutOfRange, ReadOnlyName, Console}
 use Rattle.scp_commands.specs.declared.fault.CommandFault.TheVariants.{AlreadyAttached, NotAttached, ReadOnly, NoFile, FileTooLong, FileFailed, PortFailed, Full, AssertFailed, TooDeep, NoLabel, NotInDo, OutOfMemory}
 use Rattle.scp_commands.specs.declared.fault.CommandFault.TheVariants.{NotState, Version, BadDigest, BadField, Truncated, Changed, LoadTruncated, LoadSum, PastMemory}
 
@@ -139,7 +139,6 @@ fault_words (LoadSum place) = Some (codes "Load checksum error at ")
 fault_words (PastMemory origin) = Some (codes "Load origin past memory: ")
 fault_words Console = None
 fault_words OutOfMemory = None
-fault_words NotBuilt = Some (codes "Not built")
 
 -- what stands behind these words: a place, the origin of a block, a version, or a unit
 abbrev pub fault_detail : CommandFault → Detail

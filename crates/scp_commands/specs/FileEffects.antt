@@ -19,16 +19,16 @@ use Rattle.nova_machine.specs.Machine.{MachineState}
 use Rattle.nova_machine.specs.Seen.{attached_in}
 use Rattle.scp_commands.specs.declared.next.Next.{Next}
 use Rattle.scp_commands.specs.declared.next.Next.TheVariants.{Go}
-use Rattle.scp_commands.specs.declared.fault.CommandFault.TheVariants.{AlreadyAttached, NotAttached, ReadOnly, NoFile, FileTooLong, FileFailed, NotBuilt}
+use Rattle.scp_commands.specs.declared.fault.CommandFault.TheVariants.{AlreadyAttached, NotAttached, ReadOnly, NoFile, FileTooLong, FileFailed, NoSuchName}
 use Rattle.scp_commands.specs.Live.{Live, standing, with_attached}
 use Rattle.scp_commands.specs.Reply.{Answer, Reply, refused}
 use Rattle.scp_commands.specs.LineEffects.{is_terminal, unported, detach_port_reply}
 
--- whether this version has files for the units of a kind
+-- whether the units of a kind have files
 abbrev pub has_files : Kind → Bool
 has_files kind = takes_files kind
 
--- this version has no file for the unit, or the machine has no unit of its kind
+-- the unit has no files, or the machine has no unit of its kind
 abbrev pub lacks_unit : MachineState → UnitName → Bool
 lacks_unit m unit = not (has_files unit.kind) || is_none (unit_at (code_of unit.kind) m.units)
 
@@ -92,7 +92,7 @@ attach_with fault mode unit name live =
 -- ATTACH opens a file for a unit. A call on it fails where the first of the command's notes says so.
 unfoldable pub attach_reply : List CommandNote → Live → ℕ → UnitName → List ℕ → Reply
 attach_reply notes live option unit name =
-    if lacks_unit live.machine unit then refused NotBuilt live
+    if lacks_unit live.machine unit then refused NoSuchName live
     else attach_with (failure_now live.machine.time (subject.Unit unit) notes) (mode_of option) unit name live
 
 -- ---- DETACH
@@ -135,7 +135,7 @@ detach_with fault unit live =
 -- file; where the closing fails, it has none all the same.
 unfoldable pub detach_reply : List CommandNote → Live → UnitName → Reply
 detach_reply notes live unit =
-    if lacks_unit live.machine unit then refused NotBuilt live
+    if lacks_unit live.machine unit then refused NoSuchName live
     else detach_with (failure_now live.machine.time (subject.Unit unit) notes) unit live
 
 -- the files of a machine's units, with all files

@@ -6,7 +6,7 @@ use Rattle.host_lines.specs.State.{LineState}
 use Rattle.telnet_lines.specs.Line.{LineOf}
 use Rattle.state_file.specs.Listening.{wants_port, with_port as ported_by, IsListening, AreClosed}
 use Rattle.scp_parser.specs.Command.{Request, Run, Go, Cont, Step, AttachPort, Detach, Disconnect, Restore, Exit}
-use Rattle.scp_commands.specs.declared.fault.CommandFault.TheVariants.{NotBuilt, PortFailed}
+use Rattle.scp_commands.specs.declared.fault.CommandFault.TheVariants.{NoSuchName, PortFailed}
 use Rattle.scp_commands.specs.Reply.{Answer}
 use Rattle.scp_commands.specs.LineEffects.{is_terminal, closed, hung}
 use Rattle.scp_commands.specs.LinesLeft.{GivesUp, NotListened, attaches_by, needs_port}
@@ -18,7 +18,7 @@ pub record LinesStay (old : LineState) (before : List (LineOf ℕ)) (new : LineS
 
 -- a machine without the line of the second teletype
 pub record Lineless (answer : Answer) (old : LineState) (before : List (LineOf ℕ)) (new : LineState) (after : List (LineOf ℕ)) : Type 0 where
-  pub answer_is : answer ≡ Err NotBuilt
+  pub answer_is : answer ≡ Err NoSuchName
   pub stay : LinesStay old before new after
 
 -- The first line came to this, by the answer of an ATTACH; all others are as they were.

@@ -7,7 +7,7 @@ use Rattle.unit_trait.specs.declared.kind.UnitName.{UnitName}
 use Rattle.host_lines.specs.Traffic.{Answer as LineAnswer, Failed, Peer, Replied, listening}
 use Rattle.telnet_lines.specs.Line.{LineOf, unconnected}
 use Rattle.scp_commands.specs.declared.next.Next.TheVariants.{Go}
-use Rattle.scp_commands.specs.declared.fault.CommandFault.TheVariants.{AlreadyAttached, NotAttached, OutOfRange, PortFailed, NotBuilt}
+use Rattle.scp_commands.specs.declared.fault.CommandFault.TheVariants.{AlreadyAttached, NotAttached, OutOfRange, PortFailed, NoSuchName}
 use Rattle.scp_commands.specs.Live.{Live, standing}
 use Rattle.scp_commands.specs.Reply.{Answer, Reply, goes, says, refused}
 
@@ -76,7 +76,7 @@ listen_with said port live = record {
 }
 
 abbrev pub attach_line : Option (LineOf Peer) → ℕ → Live → Reply
-attach_line None port live = refused NotBuilt live
+attach_line None port live = refused NoSuchName live
 attach_line (Some line) port live =
     if is_some line.port then refused AlreadyAttached live
     else if is_port port then listen_with (listening live.ahead) port live
@@ -90,7 +90,7 @@ attach_port_reply live port = attach_line (terminal_line live.lines) port live
 
 -- what needs a line that has a port
 abbrev pub with_port : Option (LineOf Peer) → Reply → Live → Reply
-with_port None reply live = refused NotBuilt live
+with_port None reply live = refused NoSuchName live
 with_port (Some line) reply live = if is_none line.port then refused NotAttached live else reply
 
 -- DETACH drops the connection, if one stands, and the port is listened on no longer
@@ -117,5 +117,5 @@ abbrev pub line_text : {P : Type 0} → LineOf P → List ℕ
 line_text line = codes "TTI1" ++ port_text line.port line.connection ++ 10 ∷ []
 
 abbrev pub show_line : Option (LineOf Peer) → Live → Reply
-show_line None live = refused NotBuilt live
+show_line None live = refused NoSuchName live
 show_line (Some line) live = says (line_text line) live

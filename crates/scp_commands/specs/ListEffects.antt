@@ -8,7 +8,7 @@ use Rattle.operand_forms.specs.declared.listing.Name.TheVariants as whose
 use Rattle.operand_forms.specs.declared.listing.Listing.{Listing}
 use Rattle.scp_examine.specs.declared.fault.ExamineFault.{ExamineFault}
 use Rattle.scp_examine.specs.Effect.{examine_fault, examined, fault_of_deposit, deposited}
-use Rattle.scp_commands.specs.declared.fault.CommandFault.TheVariants.{NotBuilt}
+use Rattle.scp_commands.specs.declared.fault.CommandFault.TheVariants.{NoSuchName}
 use Rattle.scp_commands.specs.Live.{Live, with_machine}
 use Rattle.scp_commands.specs.Reply.{Reply, goes, says, refused}
 use Rattle.scp_commands.specs.FaultText.{list_fault}
@@ -25,7 +25,7 @@ examine_after None live l = says (examined live.machine l) live
 -- EXAMINE prints its list
 unfoldable pub examine_reply : Live → Listing → Reply
 examine_reply live l =
-    if lacks_device live.machine l.device then refused NotBuilt live else examine_after (examine_fault live.machine l) live l
+    if lacks_device live.machine l.device then refused NoSuchName live else examine_after (examine_fault live.machine l) live l
 
 -- a value that is too large for its reader is handed on as the largest of 32 bits
 abbrev pub handed : ℕ → ℕ
@@ -38,4 +38,4 @@ deposit_after None live l value = goes (with_machine live (deposited live.machin
 -- DEPOSIT puts its value into its list
 unfoldable pub deposit_reply : Live → Listing → ℕ → Reply
 deposit_reply live l value =
-    if lacks_device live.machine l.device then refused NotBuilt live else deposit_after (fault_of_deposit live.machine l (handed value)) live l (handed value)
+    if lacks_device live.machine l.device then refused NoSuchName live else deposit_after (fault_of_deposit live.machine l (handed value)) live l (handed value)

@@ -8,7 +8,7 @@ use Rattle.operand_forms.specs.declared.listing.Test.{Test}
 use Rattle.scp_examine.specs.declared.fault.ExamineFault.{ExamineFault}
 use Rattle.scp_examine.specs.Effect.{tested}
 use Rattle.scp_commands.specs.declared.next.Next.TheVariants.{Go, Do, Goto}
-use Rattle.scp_commands.specs.declared.fault.CommandFault.TheVariants.{AssertFailed, NotBuilt}
+use Rattle.scp_commands.specs.declared.fault.CommandFault.TheVariants.{AssertFailed, NoSuchName}
 use Rattle.scp_commands.specs.Live.{Live, standing}
 use Rattle.scp_commands.specs.Reply.{Answer, Reply, says}
 use Rattle.scp_commands.specs.FaultText.{list_fault}
@@ -26,7 +26,7 @@ test_answer (Ok false) = Err AssertFailed
 test_answer (Err fault) = Err (list_fault fault)
 
 abbrev pub assert_answer : MachineState → Test → Answer
-assert_answer m test = if lacks_device m test.device then Err NotBuilt else test_answer (tested m test)
+assert_answer m test = if lacks_device m test.device then Err NoSuchName else test_answer (tested m test)
 
 -- ASSERT is refused where its condition is false, and goes on where it is true. It prints nothing and changes nothing.
 unfoldable pub assert_reply : Live → Test → Reply

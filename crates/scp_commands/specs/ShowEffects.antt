@@ -6,7 +6,7 @@ use Rattle.event_queue.specs.EventList.{Event}
 use Rattle.nova_machine.specs.Machine.{MachineState}
 use Rattle.scp_parser.specs.declared.command.Shown.{Shown}
 use Rattle.scp_parser.specs.declared.command.Shown.TheVariants.{Time, Cpu, Queue, Break, Expect, Send, Version, Unit as AUnit}
-use Rattle.scp_commands.specs.declared.fault.CommandFault.TheVariants.{NotBuilt}
+use Rattle.scp_commands.specs.declared.fault.CommandFault.TheVariants.{NoSuchName}
 use Rattle.scp_commands.specs.Live.{Live}
 use Rattle.scp_commands.specs.Reply.{Reply, says, refused}
 use Rattle.scp_commands.specs.FileEffects.{lacks_unit, unit_text}
@@ -38,7 +38,7 @@ queue_text (e ∷ events) = event_line e ++ queue_text events
 abbrev pub show_unit : Live → UnitName → Reply
 show_unit live unit =
     if is_terminal unit then show_line (terminal_line live.lines) live
-    else if lacks_unit live.machine unit then refused NotBuilt live
+    else if lacks_unit live.machine unit then refused NoSuchName live
     else says (unit_text live.machine unit) live
 
 unfoldable pub show_reply : Live → Shown → Reply

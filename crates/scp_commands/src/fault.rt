@@ -25,7 +25,7 @@ use whole_files::WholeFault;
 pub enum CommandFault {
     /// The line is no command.
     Parse(ParseFault),
-    /// A name names nothing.
+    /// A name names nothing, or a unit or device that the machine lacks.
     NoSuchName,
     /// A number is outside its range.
     OutOfRange,
@@ -78,8 +78,6 @@ pub enum CommandFault {
     Console,
     /// Memory ran out, which ends the session. It has no text.
     OutOfMemory,
-    /// This version of the program does not have the command or the subject, or its machine no unit of the device.
-    NotBuilt,
 }
 
 /// What stands behind the words of a fault.
@@ -240,7 +238,6 @@ impl CommandFault {
             CommandFault::LoadSum(_) => b"Load checksum error at ",
             CommandFault::PastMemory(_) => b"Load origin past memory: ",
             CommandFault::Console | CommandFault::OutOfMemory => return None,
-            CommandFault::NotBuilt => b"Not built",
         };
         Some(words)
     }

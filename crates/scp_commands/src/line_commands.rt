@@ -63,7 +63,7 @@ pub fn attach_port<U: Unit, L: Lines>(
     ensures time { session.new.machine.time ≡ session.old.machine.time }
 {
     let Some(line) = session.machine.line(TERMINAL) else {
-        return Err(CommandFault::NotBuilt);
+        return Err(CommandFault::NoSuchName);
     };
     attach_line(alloc, line, port, lines)
 }
@@ -94,7 +94,7 @@ pub fn detach_port<U: Unit, L: Lines>(
     ensures time { session.new.machine.time ≡ session.old.machine.time }
 {
     let Some(line) = session.machine.line(TERMINAL) else {
-        return Err(CommandFault::NotBuilt);
+        return Err(CommandFault::NoSuchName);
     };
     detach_line(line, lines)
 }
@@ -126,7 +126,7 @@ pub fn disconnect<U: Unit, L: Lines>(
     ensures time { session.new.machine.time ≡ session.old.machine.time }
 {
     let Some(line) = session.machine.line(TERMINAL) else {
-        return Err(CommandFault::NotBuilt);
+        return Err(CommandFault::NoSuchName);
     };
     disconnect_line(line, lines)
 }

@@ -31,7 +31,7 @@ pub fn examine_list<U: Unit, S: Sink>(
     ensures exit { IsExitAnswer result }
 {
     if lacks_device(&session.machine, listing.device) {
-        return Err(CommandFault::NotBuilt);
+        return Err(CommandFault::NoSuchName);
     }
     match examine(&session.machine, listing, out) {
         Ok(()) => Ok(Next::Go),
@@ -83,7 +83,7 @@ fn fill_list<U: Unit>(
     ensures terminals { session.new.machine.lines ≡ session.old.machine.lines }
 {
     if lacks_device(&session.machine, listing.device) {
-        return Err(CommandFault::NotBuilt);
+        return Err(CommandFault::NoSuchName);
     }
     match deposit(&mut session.machine, listing, handed(value)) {
         Ok(()) => Ok(Next::Go),

@@ -40,7 +40,7 @@ fn put_line<S: Sink>(text: &[u8], out: &mut S) -> Result<(), Failed>
 }
 
 /// ASSERT is refused as `AssertFailed` where its condition is false. Before that come the faults of its item and of its
-/// condition, and `NotBuilt` where the machine has no unit of its device. It prints nothing, and changes nothing.
+/// condition, and `NoSuchName` where the machine has no unit of its device. It prints nothing, and changes nothing.
 pub fn assert_condition<U: Unit>(session: &Session<U>, what: &Test) -> Result<Next, CommandFault>
     requires { IsTested what.now.item }
     ensures told { (files : Beyond) (tells : Bool) (text : Output)
@@ -57,7 +57,7 @@ fn tested_answer<U: Unit>(machine: &Machine<U>, what: &Test) -> Result<Next, Com
     ensures { result ≡ assert_answer machine.now what.now }
 {
     if lacks_device(machine, what.device) {
-        return Err(CommandFault::NotBuilt);
+        return Err(CommandFault::NoSuchName);
     }
     match holds(machine, what) {
         Ok(true) => Ok(Next::Go),

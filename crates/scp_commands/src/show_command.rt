@@ -93,7 +93,7 @@ fn show_terminal<U: Unit, S: Sink>(machine: &Machine<U>, out: &mut S) -> Result<
     ensures exit { IsExitAnswer result }
 {
     match machine.line_at(TERMINAL) {
-        None => Err(CommandFault::NotBuilt),
+        None => Err(CommandFault::NoSuchName),
         Some(line) => {
             let printed = put_line(line, out);
             told_or_console(printed, Next::Go)
@@ -177,7 +177,7 @@ fn show_unit<U: Unit, S: Sink>(
         return show_terminal(machine, out);
     }
     if lacks_unit(machine, unit) {
-        return Err(CommandFault::NotBuilt);
+        return Err(CommandFault::NoSuchName);
     }
     let printed = put_unit(machine.attached(), unit, out);
     told_or_console(printed, Next::Go)

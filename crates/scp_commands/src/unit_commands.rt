@@ -79,7 +79,7 @@ pub fn attach<U: Unit, F: Files>(
         → Around session.new.machine.slots base (F.state files.new).opened }
 {
     if lacks_unit(&session.machine, unit) {
-        return Err(CommandFault::NotBuilt);
+        return Err(CommandFault::NoSuchName);
     }
     let stamp = stamp_of(session);
     let mode = mode_of(option);
@@ -181,7 +181,7 @@ fn detach<U: Unit, F: Files>(
         → Around session.new.machine.slots base (F.state files.new).opened }
 {
     if lacks_unit(&session.machine, unit) {
-        return Err(CommandFault::NotBuilt);
+        return Err(CommandFault::NoSuchName);
     }
     let stamp = stamp_of(session);
     match detach_unit(
@@ -250,7 +250,7 @@ pub fn is_terminal(unit: UnitName) -> bool
     }
 }
 
-/// Whether this version has no file for a unit, or a machine has no unit of its kind.
+/// Whether a unit has no files, or a machine no unit of its kind.
 pub fn lacks_unit<U: Unit>(machine: &Machine<U>, unit: UnitName) -> bool
     ensures { result ≡ lacks_unit machine.now unit }
 {

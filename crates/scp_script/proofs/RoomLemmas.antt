@@ -30,7 +30,7 @@ use Rattle.scp_examine.specs.declared.fault.ExamineFault.{ExamineFault}
 use Rattle.scp_examine.specs.Effect.{examine_fault, fault_of_deposit, tested}
 use Rattle.scp_commands.specs.declared.next.Next.{Next}
 use Rattle.scp_commands.specs.declared.next.Next.TheVariants.{Go, Ran, Do, Goto, Exit}
-use Rattle.scp_commands.specs.declared.fault.CommandFault.TheVariants.{NotBuilt}
+use Rattle.scp_commands.specs.declared.fault.CommandFault.TheVariants.{NoSuchName}
 use Rattle.scp_commands.specs.Live.{Live, Standing}
 use Rattle.scp_commands.specs.Reply.{Answer, Reply}
 use Rattle.scp_commands.specs.Doing.{Does}
@@ -223,7 +223,7 @@ echo-none : (live : Live) (text : List ℕ) → NoScript (echo_reply live text).
 unfolding echo_reply
 echo-none live text = tt
 
-tested-none : (lacks : Bool) (r : Result Bool ExamineFault) → NoScript (if lacks then Err NotBuilt else test_answer r)
+tested-none : (lacks : Bool) (r : Result Bool ExamineFault) → NoScript (if lacks then Err NoSuchName else test_answer r)
 tested-none true r = tt
 tested-none false (Ok true) = tt
 tested-none false (Ok false) = tt

@@ -238,8 +238,6 @@ denied texts what reply fault.NoLabel result texts' at tells before mid after si
     denied-by texts what reply fault.NoLabel result texts' at tells before mid after sink sink_now open_now heard does told
 denied texts what reply fault.NotInDo result texts' at tells before mid after sink sink_now open_now heard does told =
     denied-by texts what reply fault.NotInDo result texts' at tells before mid after sink sink_now open_now heard does told
-denied texts what reply fault.NotBuilt result texts' at tells before mid after sink sink_now open_now heard does told =
-    denied-by texts what reply fault.NotBuilt result texts' at tells before mid after sink sink_now open_now heard does told
 
 -- a label has no other fault than that it is missing, and that no script is open
 no-label : (found : Option ℕ) (why : CommandFault) → or_no_label found ≡ Err why → fault.NoLabel ≡ why

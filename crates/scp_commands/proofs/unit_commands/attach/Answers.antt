@@ -8,7 +8,7 @@ use Rattle.scp_commands.specs.declared.next.Next.TheVariants.{Go}
 use Rattle.scp_commands.specs.Doing.{Keeps}
 use Rattle.scp_commands.proofs.SeenLemmas.{attached-erased}
 use Rattle.scp_commands.proofs.BehindLemmas.{stamp_in}
-use Rattle.scp_commands.proofs.AttachLemmas.{begins-within, attach-not-built, attach-done, becomes-attached, becomes-refused, attach-keeps}
+use Rattle.scp_commands.proofs.AttachLemmas.{begins-within, attach-lacking, attach-done, becomes-attached, becomes-refused, attach-keeps}
 use Rattle.unit_list.specs.Bus.{kinds_of}
 use Rattle.scp_commands.proofs.KindLemmas.{positioned-kinds}
 use Rattle.scp_commands.proofs.unit_commands.attach.Goals as goal
@@ -17,7 +17,7 @@ pub returns-then-lacks_unit-clause-told : goal.returns-then-lacks_unit-clause-to
 returns-then-lacks_unit-clause-told g c = λ lines whole tells text told.
     let s = c.session.inside in
     rw (← c.session.view_is)
-    (attach-not-built s.command (seen (beside s.watch s.keys (g.F.Files.state c.args.files.now).files lines) whole s.machine) c.args.option c.args.unit c.args.name.now tells text
+    (attach-lacking s.command (seen (beside s.watch s.keys (g.F.Files.state c.args.files.now).files lines) whole s.machine) c.args.option c.args.unit c.args.name.now tells text
     (notes_said s.notes.items) (sym c.lacks_unit.ensures ∙ c.if-lacks_unit.true))
 
 pub set_position-requires-clause-place : goal.set_position-requires-clause-place

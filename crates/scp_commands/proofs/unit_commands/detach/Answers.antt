@@ -6,14 +6,14 @@ use Rattle.nova_machine.specs.Machine.{with_attached_files}
 use Rattle.nova_machine.specs.Seen.{seen, beside}
 use Rattle.scp_commands.proofs.SeenLemmas.{attached-erased}
 use Rattle.scp_commands.proofs.BehindLemmas.{stamp_in}
-use Rattle.scp_commands.proofs.DetachLemmas.{detach_result, detached-live, detach-done, detach-not-built, detach-keeps}
+use Rattle.scp_commands.proofs.DetachLemmas.{detach_result, detached-live, detach-done, detach-lacking, detach-keeps}
 use Rattle.scp_commands.proofs.unit_commands.detach.Goals as goal
 use Rattle.scp_commands.proofs.unit_commands.detach.Goals.{in-Ok, in-Err}
 
 pub returns-then-lacks_unit-clause-told : goal.returns-then-lacks_unit-clause-told
 returns-then-lacks_unit-clause-told g c = λ lines whole tells text.
     rw (← c.session.view_is)
-    (detach-not-built c.session.inside.command (seen (beside c.session.inside.watch c.session.inside.keys (g.F.Files.state c.args.files.now).files lines) whole c.session.inside.machine) c.args.unit tells text
+    (detach-lacking c.session.inside.command (seen (beside c.session.inside.watch c.session.inside.keys (g.F.Files.state c.args.files.now).files lines) whole c.session.inside.machine) c.args.unit tells text
     (notes_said c.session.inside.notes.items) (sym c.lacks_unit.ensures ∙ c.if-lacks_unit.true))
 
 pub returns-clause-told : goal.returns-clause-told
