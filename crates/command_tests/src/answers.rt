@@ -2,6 +2,7 @@
 use file_commands::Subject;
 use nova_machine::Stop;
 use scp_commands::{CommandFault, DoFile, Next};
+use unit_trait::{Kind, UnitName};
 
 /// The bytes of the script that DO reads.
 pub const SCRIPT: &[u8] = b"E 0\nECHO x\n";
@@ -69,6 +70,14 @@ fn fault_named(wanted: &str) -> Option<CommandFault> {
         "NotState" => Some(CommandFault::NotState),
         "Truncated" => Some(CommandFault::Truncated),
         "DumpFailed" => Some(CommandFault::FileFailed(Subject::Dump)),
+        "DiskFailed" => Some(CommandFault::FileFailed(first_unit(Kind::Dsk))),
+        "TapeFailed" => Some(CommandFault::FileFailed(first_unit(Kind::Mta))),
+        "PunchFailed" => Some(CommandFault::FileFailed(first_unit(Kind::Ptp))),
         _ => None,
     }
+}
+
+/// The first unit of a kind.
+pub fn first_unit(kind: Kind) -> Subject {
+    Subject::Unit(UnitName { kind, unit: 0 })
 }

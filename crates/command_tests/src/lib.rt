@@ -22,6 +22,8 @@ mod rows;
 #[cfg(test)]
 mod sessions;
 #[cfg(test)]
+mod state_calls;
+#[cfg(test)]
 mod states;
 #[cfg(test)]
 mod tables;

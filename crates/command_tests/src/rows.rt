@@ -16,11 +16,11 @@ use unit_trait::Unit;
 
 /// What a command is to come to.
 #[derive(Clone, Copy)]
-struct Row<'a> {
-    line: &'a str,
-    room: usize,
-    answer: &'a str,
-    text: &'a str,
+pub struct Row<'a> {
+    pub line: &'a str,
+    pub room: usize,
+    pub answer: &'a str,
+    pub text: &'a str,
 }
 
 /// Does the line of each row in one session, one behind another.
@@ -33,6 +33,8 @@ pub fn all<U: Unit, F: Files>(
 ) -> Result<(), AllocError>
     requires open { AllOpen session.old.machine.slots (F.state files.old).opened }
     requires standard { AreStandard session.old.machine.units }
+    ensures open { AllOpen session.new.machine.slots (F.state files.new).opened }
+    ensures standard { AreStandard session.new.machine.units }
 {
     for row in table.lines() {
         does(rt, alloc, session, files, read(row))?;
@@ -52,7 +54,8 @@ fn read(row: &str) -> Row<'_> {
     }
 }
 
-fn does<U: Unit, F: Files>(
+/// Does the line of a row.
+pub fn does<U: Unit, F: Files>(
     rt: &impl Abort,
     alloc: Global,
     session: &mut Session<U>,

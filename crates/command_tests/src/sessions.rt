@@ -70,7 +70,7 @@ fn play_with<U: Unit, F: Files>(
 }
 
 /// A session of a machine with these units.
-fn opened<U: Unit>(alloc: Global, units: Vec<U>) -> Result<Session<U>, AllocError>
+pub fn opened<U: Unit>(alloc: Global, units: Vec<U>) -> Result<Session<U>, AllocError>
     requires { map U.unit_state units.items ≡ map initial_unit (take 10 all_kinds) }
     ensures open { IfOk result (λ s. (opened : List Opened) → AllOpen s.machine.slots opened) }
     ensures standard { IfOk result (λ s. AreStandard s.machine.units) }

@@ -8,3 +8,4 @@ pub mod StandardLemmas
 pub mod PortLemmas
 pub mod ProgramLemmas
 pub mod ValidProgram
+pub mod ResumptionLemmas

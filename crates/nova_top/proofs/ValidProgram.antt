@@ -19,7 +19,6 @@ use Rattle.whole_files.specs.Whole.{WholeSaid, WholeIs}
 use Rattle.whole_files.specs.Whole as whole
 use Rattle.expect_actions.specs.KeysFile.{Key, KeysLine, keys_of, time_read, says_read, line_read, next_read, keys_from, keys_read, lines_of, most_keys, IsAnswer}
 use Rattle.expect_actions.proofs.AnswerLemmas.{computed_answers}
-use Rattle.expect_actions.specs.Watch.{empty_watch}
 use Rattle.host_lines.specs.Traffic.{Peer, Gone, Ahead}
 use Rattle.telnet_lines.specs.Line.{unconnected, renamed}
 use Rattle.unit_files.specs.Attachments.{Held}

@@ -1,7 +1,7 @@
 -- Laws above the definitions: what holds of every outcome, in a reader's words.
 use Rattle.std.specs.Prelude.{◌≡◌, ◌≢◌, ℕ, ◌≤◌, List, ◌++◌}
-use Rattle.observations.specs.Observations.{Trace, text_of, reads_of, sent_of}
-use Rattle.nova_top.specs.Outside.{Outside, Left, trace_of, outcome, sent_by}
+use Rattle.observations.specs.Observations.{text_of, reads_of, sent_of}
+use Rattle.nova_top.specs.Outside.{Outside, trace_of, outcome, sent_by}
 
 -- a console that takes more comes to the same end, and callers are sent the same, where none of its bytes was refused
 abbrev pub MoreRoomSameEnd : Type 0

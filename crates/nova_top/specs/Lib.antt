@@ -8,3 +8,4 @@ pub mod Laws
 pub mod Program
 pub mod Unread
 pub mod ValidLaws
+pub mod Resumption

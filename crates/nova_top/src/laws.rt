@@ -1,4 +1,5 @@
 ghost use Rattle.nova_top.specs.Laws.{MoreRoomSameEnd, TakesFirstPart, WholeWithoutFaults};
+ghost use Rattle.nova_top.specs.Resumption.{RestoredProgramsGoOn};
 ghost use Rattle.nova_top.specs.ValidLaws.{ProgramStaysValid};
 
 /// The law that a console that takes more comes to the same end, where none of its bytes was refused.
@@ -20,4 +21,11 @@ pub fn whole_without_faults()
 /// and what the program leaves is in range, wherever it ends.
 pub fn program_stays_valid()
     ensures { ProgramStaysValid }
+{}
+
+/// The law that a program that restores a saved session goes on as that session, and ends as the program does that
+/// saved it and went on, where both have the same outside from there on and no call on a file, the console or the
+/// input fails.
+pub fn restored_programs_go_on()
+    ensures { RestoredProgramsGoOn }
 {}

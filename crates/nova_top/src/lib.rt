@@ -11,7 +11,8 @@ mod words;
 mod workload;
 
 pub use laws::{
-    console_takes_first_part, more_room_same_end, program_stays_valid, whole_without_faults,
+    console_takes_first_part, more_room_same_end, program_stays_valid, restored_programs_go_on,
+    whole_without_faults,
 };
 pub use program::{Ending, simulate};
 pub use standard::is_standard;

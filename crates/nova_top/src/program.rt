@@ -28,6 +28,7 @@ ghost use Rattle.nova_top.specs.Unread.{IsUnopened, AreMeasured};
 ghost use Rattle.nova_top.specs.Program.{IsRefused, RefusedCause, RefusalCause, SessionEnds};
 ghost use Rattle.nova_top.specs.Program.{denial_of, IsDenied, DeniedCause, status_printed};
 ghost use Rattle.nova_top.specs.Workload.{with_workload};
+ghost use Rattle.nova_top.specs.Resumption.{ResumesSaved};
 
 use crate::options::Options;
 use crate::word_files::{Beginning, Refusal, begin};
@@ -103,6 +104,13 @@ pub fn simulate<U: Unit, C: Source, S: Sink, F: Files, L: Lines>(
         → IsComplete (texts_of words.now) (C.left input.old) (C.left input.new) (S.written output.old)
         (S.written output.new) (beyond (F.state files.old).files (L.state lines.old) whole)
         (beyond (F.state files.new).files (L.state lines.new) whole) result.status result.machine }
+    ensures resumed { InputTells (texts_of words.now) C.tells → IsTrue F.tells → IsTrue L.tells → IsTrue S.tells
+        → result.status ≢ 102 → result.status ≢ 103 → result.status ≢ 106
+        → (whole : List LineAnswer) → IsFirst (record_in (L.state lines.new).told) whole
+        → ResumesSaved (texts_of words.now) (C.left input.old) (C.left input.new) (S.written output.old)
+        (S.written output.new) (beyond (F.state files.old).files (L.state lines.old) whole)
+        (beyond (F.state files.new).files (L.state lines.new) whole) result.status result.machine
+        (notes_said result.faults.items) }
     ensures ports { LinesAtEnd result.machine (L.state lines.old) (L.state lines.new) }
     ensures cause { StatusCause (texts_of words.now) result.status (S.fault_count output.old) (S.fault_count output.new)
         (C.fault_count input.old) (C.fault_count input.new) }

@@ -16,6 +16,8 @@ mod disk;
 #[cfg(test)]
 mod files;
 #[cfg(test)]
+mod in_turn;
+#[cfg(test)]
 mod play;
 #[cfg(test)]
 mod row;
@@ -23,6 +25,8 @@ mod row;
 mod sessions;
 #[cfg(test)]
 mod standard;
+#[cfg(test)]
+mod standard_units;
 #[cfg(test)]
 mod tapes;
 #[cfg(test)]

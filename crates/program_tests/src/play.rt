@@ -1,5 +1,5 @@
-// How a row is played. It says the words, which files are there before (`before`), which call on them fails and how
-// many bytes that writes (`fails`), which read of the input fails (`read`), how many bytes the console takes
+// How a row is played. It says the words, which files are there before (`before`), how many bytes each may have
+// (`space`), which call on them fails and how many bytes that writes (`fails`), which read of the input fails (`read`), how many bytes the console takes
 // (`room`), and the input (`lines` and `more`), what a caller types (`types`) and which call on terminal lines fails
 // (`refuses`); and then what is printed (`prints` and `then`, as far as there is room), the status, the note of the
 // failed call (`note`), what is left of the input (`left`), files behind it (`after`), words of memory (`cells`),
@@ -101,7 +101,8 @@ fn with_lines<U: Unit, L: Lines>(
     files_stand(rt, alloc, &files, row)
 }
 
-fn with_files<U: Unit, L: Lines, F: Files>(
+/// Plays a row with these units over files that are there.
+pub fn with_files<U: Unit, L: Lines, F: Files>(
     rt: &impl Abort,
     alloc: Global,
     units: Vec<U>,
@@ -209,8 +210,8 @@ fn input_of(alloc: Global, row: Row<'_>) -> Result<ByteSource, AllocError> {
 }
 
 /// The files that are there before. Those of a row stand between &, each as its name, a colon and its bytes.
-fn files_of(rt: &impl Abort, alloc: Global, row: Row<'_>) -> Result<MemFiles, AllocError> {
-    let mut files = MemFiles::with_room(alloc, 2048)?;
+pub fn files_of(rt: &impl Abort, alloc: Global, row: Row<'_>) -> Result<MemFiles, AllocError> {
+    let mut files = MemFiles::with_room(alloc, number(row, "space", 2048))?;
     put_all(rt, alloc, &mut files, row)?;
     fail(&mut files, row)?;
     Ok(files)
@@ -248,7 +249,7 @@ fn put(rt: &impl Abort, alloc: Global, files: &mut MemFiles, file: &str) -> Resu
 }
 
 /// Files are as the row says: with these bytes, or not there where it has no colon.
-fn files_stand(
+pub fn files_stand(
     rt: &impl Abort,
     alloc: Global,
     files: &MemFiles,
@@ -418,6 +419,7 @@ fn subject_of(word: &str) -> Option<Subject> {
         "MTA0" => Some(unit_of(Kind::Mta, 0)),
         "MTA7" => Some(unit_of(Kind::Mta, 7)),
         "LPT" => Some(unit_of(Kind::Lpt, 0)),
+        "State" => Some(Subject::State),
         _ => None,
     }
 }

@@ -20,6 +20,8 @@ pub mod DetachLemmas
 pub mod AttachLemmas
 pub mod ObeyLemmas
 pub mod WholeLemmas
+pub mod WholeSays
+pub mod BackLemmas
 pub mod OwnFileLemmas
 pub mod DoLemmas
 pub mod TapeLemmas
@@ -42,3 +44,7 @@ pub mod ValidFiles
 pub mod ValidMachines
 pub mod ValidCopies
 pub mod ValidEffect
+pub mod SameCommandLemmas
+pub mod OwnTexts
+pub mod ResumptionLemmas
+pub mod PassedBreaks

@@ -28,7 +28,7 @@ copy-kept None disk old new is keeps = is
 copy-kept (Some a) disk old new is keeps = λ none. is none ∙ sym (keeps none)
 
 -- the same attachments and the same copy
-pub copy-same : (live after : Live) → after.machine.slots ≡ live.machine.slots → after.machine.disk ≡ live.machine.disk → CopyFollows live after
+pub copy-same : (live after : Live) → after.machine.slots ≡ live.machine.slots → after.machine.disk ≡ live.machine.disk → CopyFollows false live after
 copy-same live after slots disk is follows =
     subst (λ (s : List (Option Held)). CopyIsFile (attachment_at (attachments_of s) disk_unit) after.machine.disk after.files) (sym slots)
     (subst (λ (d : Buffer). CopyIsFile (attachment_at (attached_in live.machine) disk_unit) d after.files) (sym disk)
@@ -39,11 +39,11 @@ copy-from live m slots disk is =
     subst (λ (s : List (Option Held)). CopyIsFile (attachment_at (attachments_of s) disk_unit) m.disk live.files) (sym slots)
     (subst (λ (d : Buffer). CopyIsFile (attachment_at (attached_in live.machine) disk_unit) d live.files) (sym disk) is)
 
-pub follows-from : (live after : Live) (m : MachineState) → m.slots ≡ live.machine.slots → m.disk ≡ live.machine.disk → FileFollows live after
-    → FileFollows (with_machine live m) after
+pub follows-from : (live after : Live) (m : MachineState) → m.slots ≡ live.machine.slots → m.disk ≡ live.machine.disk → FileFollows false live after
+    → FileFollows false (with_machine live m) after
 follows-from live after m slots disk follows =
-    subst (λ (s : List (Option Held)). FileFollows (with_machine live (record m { slots = s })) after) (sym slots)
-    (subst (λ (d : Buffer). FileFollows (with_machine live (record m { slots = live.machine.slots; disk = d })) after) (sym disk)
+    subst (λ (s : List (Option Held)). FileFollows false (with_machine live (record m { slots = s })) after) (sym slots)
+    (subst (λ (d : Buffer). FileFollows false (with_machine live (record m { slots = live.machine.slots; disk = d })) after) (sym disk)
     (record { clean = follows.clean; back = follows.back }))
 
 -- what the disk holds was written back, or the write failed

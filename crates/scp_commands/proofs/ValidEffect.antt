@@ -77,6 +77,7 @@ use Rattle.scp_commands.specs.WholeCalls.{whole_calls, write_calls, wrote_answer
 use Rattle.scp_commands.specs.StateEffects.{unit_claim, flushed_with, save_by, save_reply, is_occupied, heard_live, listened_back, ported_back, restored_by, restored_as, restored_from, restore_reply}
 use Rattle.scp_commands.specs.TapeEffects.{tape_in, tape_answer, loaded_machine, load_answer, load_reply, can_dump, dump_of, dump_answer, dump_reply}
 use Rattle.scp_commands.specs.Effect.{effect}
+use Rattle.scp_commands.specs.Nature.{nature}
 use Rattle.scp_commands.specs.Doing.{Does}
 use Rattle.scp_commands.specs.Remains.{flushed_machine, flushed, MachineRemains, Remains}
 use Rattle.scp_commands.specs.Valid.{ValidLive, GivesBytes, CopyFollows, IsValidReply, CommandsKeepStates}
@@ -95,9 +96,13 @@ numberless-count : (m : MachineState) → length (numberless (attached_in m)) �
 numberless-count m = length-map (attached_in m) (λ slot. option_map (λ (a : Attachment). record { file = 0; attachment = a }) slot) ∙ attached-count m
 
 -- what holds of a reply to a command that was given in that state
-pub record Stands (live : Live) (reply : Reply) : Type 0 where
+pub record StandsBy (flushes : Bool) (live : Live) (reply : Reply) : Type 0 where
   pub valid : IsValidReply reply
-  pub copy : CopyFollows live reply.after.live
+  pub copy : CopyFollows flushes live reply.after.live
+
+-- the same of one that flushes nothing before its work
+abbrev pub Stands : Live → Reply → Type 0
+Stands live reply = StandsBy false live reply
 
 -- ---- states
 
@@ -669,7 +674,7 @@ flushed-with claim live is =
 
 -- and then other files came
 stands-flushed : (claim : Option (UnitName × Failure)) (answer : Answer) (used : ℕ) (live : Live) (files : List NamedBytes) → ValidLive live → AreFiles files → GivesBytes answer
-    → Stands live (record { made = []; answer = answer; after = standing used (record (flushed_with claim live) { files = files }) })
+    → StandsBy true live (record { made = []; answer = answer; after = standing used (record (flushed_with claim live) { files = files }) })
 stands-flushed claim answer used live files is all gives =
     let flushed = flushed_with claim live in
     let there = flushed-with claim live is in
@@ -681,14 +686,14 @@ stands-flushed claim answer used live files is all gives =
       };
       copy = λ copy follows.
           copy-written (at_unit disk_unit claim) (attachment_at (attached_in live.machine) disk_unit) live.machine.disk live.files files copy
-          (λ none. (follows none).clean) (λ none. (follows none).back);
+          (λ none. (follows none).clean) (λ none. (follows none).back refl);
     }
 
 gives-saved : (said : WriteSaid) → GivesBytes (wrote_answer subject.State said)
 gives-saved AllWritten = tt
 gives-saved WriteFailed = tt
 
-stands-save : (notes : List CommandNote) (live : Live) (name : List ℕ) → ValidLive live → Stands live (save_reply notes live name)
+stands-save : (notes : List CommandNote) (live : Live) (name : List ℕ) → ValidLive live → StandsBy true live (save_reply notes live name)
 unfolding save_reply
 stands-save notes live name is = by-claim (first_unsaved claim (attached_in live.machine) live.machine.disk live.files)
   where
@@ -701,7 +706,7 @@ stands-save notes live name is = by-claim (first_unsaved claim (attached_in live
     there : ValidLive flushed
     there = flushed-with claim live is
 
-    by-claim : (o : Option (UnitName × Failure)) → Stands live (save_by o notes name flushed)
+    by-claim : (o : Option (UnitName × Failure)) → StandsBy true live (save_by o notes name flushed)
     by-claim (Some call) = stands-flushed claim (Err (FileFailed (subject.Unit call.0))) 1 live flushed.files is there.valid.files tt
     by-claim None =
         let calls = write_calls subject.State flushed.machine.time notes in
@@ -773,7 +778,7 @@ stands-restore notes live force name is =
 
 -- ---- all commands
 
-pub stands-effect : (limit : ℕ) (notes : List CommandNote) (live : Live) (r : Request) → ValidLive live → IsKept r → IsOfBytes r → Stands live (effect limit notes live r)
+pub stands-effect : (limit : ℕ) (notes : List CommandNote) (live : Live) (r : Request) → ValidLive live → IsKept r → IsOfBytes r → StandsBy (nature r).flushes live (effect limit notes live r)
 unfolding effect
 stands-effect limit notes live request.Nothing is kept bytes = stands-goes live live is refl refl
 stands-effect limit notes live (request.Examine l) is kept bytes = stands-examine live l is

@@ -1,13 +1,13 @@
 -- RESET, RUN, SET CPU and LOAD leave a machine in which all is in range, and bytes are read of files of bytes.
-use Rattle.std.proofs.Common.{◌≡◌, inl, inr, ℕ, ◌-◌, ◌*◌, ◌%◌, ◌^◌, ◌<◌, ◌≤◌, ◌==◌, ◌&&◌, nat_le, nat_lt, Bool, true, false, List, [], ◌∷◌, length, take, replicate, get_or, Option, Some, None, IfSome, Result, Ok, Err, if◌then◌else◌, refl, sym, subst, ◌∙◌, arith, length-append}
+use Rattle.std.proofs.Common.{◌≡◌, inl, inr, ℕ, ◌-◌, ◌*◌, ◌%◌, ◌^◌, ◌<◌, ◌≤◌, ◌==◌, ◌&&◌, nat_le, Bool, true, false, List, [], ◌∷◌, length, take, replicate, get_or, Option, Some, None, IfSome, Result, Ok, Err, refl, sym, subst, ◌∙◌, arith, length-append}
 use Rattle.std.specs.Prelude.{bytes_eq}
 use Rattle.std.proofs.lemmas.Bool.{and_parts, leb-true, eqb-true, cases_lt, cond_both}
 use Rattle.std.proofs.lemmas.List.{length-take-le, length-replicate, get_or-append_right, get_or-replicate, get_or_past}
 use Rattle.std.proofs.lemmas.List.Elements.{All-append, All-take, All-replicate}
 use Rattle.host_files.specs.declared.files.FileCall.{FileCall}
-use Rattle.host_files.specs.declared.files.FileCall.TheVariants.{Opening, Length, Read, Write, Closing}
+use Rattle.host_files.specs.declared.files.FileCall.TheVariants.{Opening, Write, Closing}
 use Rattle.host_files.specs.Lists.{NamedBytes, find_file, with_file}
-use Rattle.whole_files.specs.Whole.{WholeSaid, WholeIs, NotThere, TooLong, CallFailed, longest_file, closed, bytes_act, open_act, found_act, whole_act}
+use Rattle.whole_files.specs.Whole.{WholeSaid, WholeIs, NotThere, TooLong, CallFailed, whole_act}
 use Rattle.whole_files.specs.Writing.{FailingCall, WriteSaid, AllWritten, WriteFailed, closed_act, made_act, write_act}
 use Rattle.binary_load.specs.declared.faults.LoadFault.{LoadFault}
 use Rattle.binary_load.specs.Tape.{Tape, put_all}
@@ -23,6 +23,7 @@ use Rattle.scp_examine.proofs.ValidLemmas.{LeavesRest, pc-valid}
 use Rattle.scp_commands.specs.RunEffects.{last_address, address_fits, starting_at, reset_where}
 use Rattle.scp_commands.specs.SetEffects.{sized}
 use Rattle.scp_commands.specs.TapeEffects.{tape_in, tape_machine, loaded_machine}
+use Rattle.scp_commands.proofs.WholeSays.{SaysBytes, whole-says}
 
 -- ---- another memory
 
@@ -114,35 +115,7 @@ started-leaves false address m = starting-leaves address m
 
 -- the bytes that are read are bytes
 abbrev pub GivesWhole : WholeSaid → Type 0
-GivesWhole (WholeIs bytes) = AreBytes bytes
-GivesWhole said = Unit {0}
-
-closed-said : (said : WholeSaid) (failing : List FileCall) (met : ℕ) → (closed said failing met).0 ≡ said
-closed-said said [] met = refl
-closed-said said (Closing ∷ failing) met = refl
-closed-said said (call ∷ failing) met = refl
-
-gives-closed : (said : WholeSaid) (failing : List FileCall) (met : ℕ) → GivesWhole said → GivesWhole (closed said failing met).0
-gives-closed said failing met gives = subst GivesWhole (sym (closed-said said failing met)) gives
-
-gives-bytes : (failing : List FileCall) (bytes : List ℕ) → AreBytes bytes → GivesWhole (bytes_act failing bytes).0
-gives-bytes [] bytes all = gives-closed (WholeIs bytes) [] 0 all
-gives-bytes (Read ∷ failing) [] all = gives-closed (WholeIs []) (Read ∷ failing) 0 all
-gives-bytes (Read ∷ failing) (b ∷ bytes) all = gives-closed CallFailed failing 1 tt
-gives-bytes (call ∷ failing) bytes all = gives-closed (WholeIs bytes) (call ∷ failing) 0 all
-
-gives-measured : (b : Bool) (failing : List FileCall) (bytes : List ℕ) → AreBytes bytes → GivesWhole (if b then closed TooLong failing 0 else bytes_act failing bytes).0
-gives-measured true failing bytes all = gives-closed TooLong failing 0 tt
-gives-measured false failing bytes all = gives-bytes failing bytes all
-
-gives-open : (failing : List FileCall) (bytes : List ℕ) → AreBytes bytes → GivesWhole (open_act failing bytes).0
-gives-open [] bytes all = gives-measured (nat_lt longest_file (length bytes)) [] bytes all
-gives-open (Length ∷ failing) bytes all = gives-closed CallFailed failing 1 tt
-gives-open (call ∷ failing) bytes all = gives-measured (nat_lt longest_file (length bytes)) (call ∷ failing) bytes all
-
-gives-found : (failing : List FileCall) (o : Option (List ℕ)) → IfSome o AreBytes → GivesWhole (found_act failing o).0
-gives-found failing None all = tt
-gives-found failing (Some bytes) all = gives-open failing bytes all
+GivesWhole said = SaysBytes AreBytes said
 
 file-bytes : (files : List NamedBytes) (name : List ℕ) → AreFiles files → IfSome (find_file files name) AreBytes
 file-bytes [] name all = tt
@@ -150,10 +123,7 @@ file-bytes (f ∷ files) name all =
     cond_both (bytes_eq f.0 name) (Some f.1) (find_file files name) (λ (o : Option (List ℕ)). IfSome o AreBytes) (λ _. all.0) (λ _. file-bytes files name all.1)
 
 pub whole-bytes : (failing : List FileCall) (name : List ℕ) (files : List NamedBytes) → AreFiles files → GivesWhole (whole_act failing name files).0
-unfolding whole_act
-whole-bytes [] name files all = gives-found [] (find_file files name) (file-bytes files name all)
-whole-bytes (Opening ∷ failing) name files all = tt
-whole-bytes (call ∷ failing) name files all = gives-found (call ∷ failing) (find_file files name) (file-bytes files name all)
+whole-bytes failing name files all = whole-says AreBytes failing name files (file-bytes files name all)
 
 -- ---- LOAD
 

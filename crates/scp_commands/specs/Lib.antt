@@ -15,6 +15,7 @@ pub mod ScriptEffects
 pub mod TapeEffects
 pub mod SetEffects
 pub mod StateEffects
+pub mod StateAnswers
 pub mod Effect
 pub mod Nature
 pub mod LinesLeft
@@ -25,3 +26,6 @@ pub mod RunStops
 pub mod Doing
 pub mod Laws
 pub mod Valid
+pub mod SameCommand
+pub mod Resumption
+pub mod PassedBreaks

@@ -14,6 +14,7 @@ use Rattle.scp_parser.specs.Laws.{IsOfBytes}
 use Rattle.scp_commands.specs.declared.next.Next.TheVariants.{Go, Do}
 use Rattle.scp_commands.specs.declared.fault.CommandFault.TheVariants.{OutOfMemory}
 use Rattle.scp_commands.specs.Live.{Live, Standing}
+use Rattle.scp_commands.specs.Nature.{nature}
 use Rattle.scp_commands.specs.Reply.{Answer, Reply}
 use Rattle.scp_commands.specs.Effect.{effect}
 use Rattle.scp_commands.specs.Doing.{Does}
@@ -37,17 +38,17 @@ CoversFile (Some a) disk files = IsSome (find_file files a.name) × (length (byt
 abbrev pub DiskCoversFile : Live → Type 0
 DiskCoversFile live = CoversFile (attachment_at (attached_in live.machine) disk_unit) live.machine.disk live.files
 
--- Nobody but the disk has changed its file: it has the bytes that it had, or, where something was to be written back that
--- covers it, those that it has behind that.
-pub record FileFollows (old new : Live) : Type 0 where
+-- Nobody but the disk has changed its file: it has the bytes that it had, where nothing was to be written back; and where
+-- something was, that covers it, and a SAVE has written it back, those that it has behind that.
+pub record FileFollows (flushes : Bool) (old new : Live) : Type 0 where
   pub clean : old.machine.disk.written ≡ false → LeavesDiskFile old new
-  pub back : old.machine.disk.written ≡ true → DiskCoversFile old × LeavesDiskFile (flushed old) new
+  pub back : flushes ≡ true → old.machine.disk.written ≡ true → DiskCoversFile old × LeavesDiskFile (flushed old) new
 
 -- What the disk holds of its file is what is in it in a later state too, where the file has not changed beside the
 -- disk or something is to be written back.
-abbrev pub CopyFollows : Live → Live → Type 0
-CopyFollows old new =
-    DiskIsItsFile old → (new.machine.disk.written ≡ false → FileFollows old new) → DiskIsItsFile new
+abbrev pub CopyFollows : Bool → Live → Live → Type 0
+CopyFollows flushes old new =
+    DiskIsItsFile old → (new.machine.disk.written ≡ false → FileFollows flushes old new) → DiskIsItsFile new
 
 -- a command leaves such a state, each text of it comes in one, and a script that it has read is of bytes
 pub record IsValidReply (reply : Reply) : Type 0 where
@@ -60,7 +61,7 @@ pub record CommandsKeepStates : Type 0 where
   pub valid : (limit : ℕ) (notes : List CommandNote) (live : Live) (r : Request) → ValidLive live → IsKept r
       → IsOfBytes r → IsValidReply (effect limit notes live r)
   pub disk : (limit : ℕ) (notes : List CommandNote) (live : Live) (r : Request) → ValidLive live → IsKept r
-      → IsOfBytes r → CopyFollows live (effect limit notes live r).after.live
+      → IsOfBytes r → CopyFollows (nature r).flushes live (effect limit notes live r).after.live
   -- an ATTACH of the disk and a DETACH of it make that so anew
   pub attached : (limit : ℕ) (notes : List CommandNote) (live : Live) (option : ℕ) (name : List ℕ) → ValidLive live
       → (effect limit notes live (Attach option disk_unit name)).answer ≡ Ok Go

@@ -17,6 +17,7 @@ ghost use Rattle.scp_commands.specs.Effect.{effect};
 ghost use Rattle.scp_commands.specs.Nature.{nature, plain, IsUntold};
 ghost use Rattle.scp_commands.specs.LinesLeft.{LinesLeft, IsUnlistened, ListenCause};
 ghost use Rattle.scp_commands.specs.LineAnswers.{LinesAnswer};
+ghost use Rattle.scp_commands.specs.StateAnswers.{PutsSessionBack};
 ghost use Rattle.scp_commands.specs.Remains.{AreLeft};
 ghost use Rattle.scp_commands.specs.Refusals.{IsUnrefused, IsMeasured};
 ghost use Rattle.scp_commands.specs.RunStops.{RunStops, IsNoStop, run_count, is_step};
@@ -86,6 +87,7 @@ pub fn execute<U: Unit, F: Files, L: Lines, S: Sink>(
     ensures listening { ListenCause L.tells command.now result (L.state lines.old) (L.state lines.new) }
     ensures line { result ≢ Err OutOfMemory → LinesAnswer L.tells command.now result (L.state lines.old)
         session.old.machine.lines (L.state lines.new) session.new.machine.lines }
+    ensures back { PutsSessionBack F.tells (F.state files.old).files command.now result session.old session.new }
     ensures undone { result ≡ Err OutOfMemory → IsUndone (nature command.now).flushes (nature command.now).reads_whole
         (says_files F.tells command.now) session.old session.new (S.written out.old) (S.written out.new)
         (F.state files.old) (F.state files.new) }
@@ -149,6 +151,7 @@ fn obey<U: Unit, F: Files, L: Lines, S: Sink>(
     ensures listening { ListenCause L.tells command.now result (L.state lines.old) (L.state lines.new) }
     ensures line { result ≢ Err OutOfMemory → LinesAnswer L.tells command.now result (L.state lines.old)
         session.old.machine.lines (L.state lines.new) session.new.machine.lines }
+    ensures back { PutsSessionBack F.tells (F.state files.old).files command.now result session.old session.new }
     ensures undone { result ≡ Err OutOfMemory → IsUndone (nature command.now).flushes (nature command.now).reads_whole
         (says_files F.tells command.now) session.old session.new (S.written out.old) (S.written out.new)
         (F.state files.old) (F.state files.new) }

@@ -1,4 +1,7 @@
 ghost use Rattle.scp_commands.specs.QuotedText.{QuotedTextsReadBack};
+ghost use Rattle.scp_commands.specs.PassedBreaks.{BreaksArePassedOnce};
+ghost use Rattle.scp_commands.specs.Resumption.{RestorePutsBack};
+ghost use Rattle.scp_commands.specs.SameCommand.{SameStateSameCommand};
 ghost use Rattle.scp_commands.specs.Valid.{CommandsKeepStates};
 ghost use Rattle.scp_commands.specs.Laws.{RefusalsChangeNothing, ResetsLeaveTheProgram, SetCpuLeavesTheRest};
 
@@ -32,4 +35,24 @@ pub fn quoted_texts_read_back()
 /// written back, as long as nothing else has changed that file and it was no longer where SAVE has written it back.
 pub fn commands_keep_states()
     ensures { CommandsKeepStates }
+{}
+
+/// The law that calls that do one command on the same state come to the same answer and state, and print and send the
+/// same, where no call on a file fails, the console refuses no byte and memory suffices.
+pub fn same_state_same_command()
+    ensures { SameStateSameCommand }
+{}
+
+/// The law of what RESTORE puts in place, where it is done and its file has the text of what was saved of a session:
+/// the machine, what is attached to it, the watch tables and the line are those of that session; the keys and the files
+/// are the present ones, and so is what is still to come on lines, less one listening where there is a port. And a SAVE
+/// in which no call on a file fails leaves such a file.
+pub fn restore_puts_back()
+    ensures { RestorePutsBack }
+{}
+
+/// The law of what becomes of a break where a run is split: a run of n + k counts it and stops at it, and a run of k
+/// behind one of n passes it once, in its first turn.
+pub fn breaks_are_passed_once()
+    ensures { BreaksArePassedOnce }
 {}

@@ -35,8 +35,8 @@ pub use execute_command::execute;
 pub use fault::CommandFault;
 pub use file_commands::{FaultNote, Subject};
 pub use laws::{
-    commands_keep_states, quoted_texts_read_back, refusals_change_nothing,
-    resets_leave_the_program, set_cpu_leaves_the_rest,
+    breaks_are_passed_once, commands_keep_states, quoted_texts_read_back, refusals_change_nothing,
+    resets_leave_the_program, restore_puts_back, same_state_same_command, set_cpu_leaves_the_rest,
 };
 pub use next::Next;
 pub use session::Session;

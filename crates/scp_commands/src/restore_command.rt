@@ -1,5 +1,5 @@
 // RESTORE.
-ghost use Rattle.std.specs.Prelude.{◌≡◌, ◌≢◌, ◌<◌, ◌≤◌, ◌++◌, ℕ, Bool, true, false, List, Some, IsTrue, IfOk, Err, vec_len, vec_capacity};
+ghost use Rattle.std.specs.Prelude.{◌≡◌, ◌≢◌, ◌<◌, ◌≤◌, ◌++◌, ℕ, Bool, true, false, List, Some, IsTrue, IfOk, OnOk, Err, vec_len, vec_capacity};
 ghost use Rattle.host_files.specs.State.{Opened};
 ghost use Rattle.unit_files.specs.Buffer.{nothing_attached};
 ghost use Rattle.unit_files.specs.Open.{AllOpen, Around};
@@ -24,6 +24,7 @@ ghost use Rattle.scp_commands.specs.Live.{live_in, beyond};
 ghost use Rattle.scp_commands.specs.LinesLeft.{LinesLeft, Unlistened, AttachCause};
 ghost use Rattle.scp_commands.specs.LineAnswers.{RestoresLines};
 ghost use Rattle.scp_commands.specs.Refusals.{IsUnrefused};
+ghost use Rattle.scp_commands.specs.StateAnswers.{PutsBack};
 ghost use Rattle.scp_commands.specs.StateEffects.{has_port, is_occupied, restore_notes, restore_reply};
 ghost use Rattle.scp_commands.specs.Doing.{Did, KeepsBy, IsUndone, IsRestoreAnswer, IsExitAnswer, IsRefused};
 
@@ -80,6 +81,7 @@ pub fn restore<U: Unit, F: Files, L: Lines>(
     ensures listening { AttachCause L.tells result (L.state lines.old) (L.state lines.new) }
     ensures line { result ≢ Err OutOfMemory → RestoresLines L.tells result (L.state lines.old)
         session.old.machine.lines (L.state lines.new) session.new.machine.lines }
+    ensures back { OnOk result (PutsBack F.tells (F.state files.old).files name.now session.old session.new) }
     ensures undone { (text : List ℕ) → result ≡ Err OutOfMemory
         → IsUndone false (Some of_state) F.tells session.old session.new text text (F.state files.old)
         (F.state files.new) }

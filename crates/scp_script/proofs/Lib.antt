@@ -15,3 +15,4 @@ pub mod ActionLemmas
 pub mod CoreLemmas
 pub mod ValidTexts
 pub mod ValidSessions
+pub mod ResumptionLemmas

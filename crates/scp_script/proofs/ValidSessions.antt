@@ -16,16 +16,17 @@ use Rattle.scp_parser.specs.Command as request
 use Rattle.scp_commands.specs.declared.next.Next.TheVariants.{Go, Ran, Do, Goto, Exit}
 use Rattle.scp_commands.specs.declared.fault.CommandFault.TheVariants.{TooDeep}
 use Rattle.scp_commands.specs.Live.{Live, Standing}
+use Rattle.scp_commands.specs.Remains.{flushes_of}
 use Rattle.scp_commands.specs.Reply.{Answer, Reply}
 use Rattle.scp_commands.specs.Effect.{Asked, does, asked}
 use Rattle.scp_commands.specs.Valid.{ValidLive, CopyFollows}
 use Rattle.scp_commands.proofs.ValidWatch.{watch-forgotten}
-use Rattle.scp_commands.proofs.ValidEffect.{Stands, watch-live, stands-refused, stands-emptied, stands-effect, remains-valid}
+use Rattle.scp_commands.proofs.ValidEffect.{StandsBy, watch-live, stands-refused, stands-emptied, stands-effect, remains-valid}
 use Rattle.scp_script.specs.Lines.{Arrival, InputEnds, Unpaid, LineComes, arrival}
 use Rattle.scp_script.specs.Scripts.{Script, most_scripts, still_open, cost_of_line, text_of_line, echo_text, checked, settled_answer}
 use Rattle.scp_script.specs.Actions.{Texts, texts_of, texts_behind}
 use Rattle.scp_script.specs.Session.{State, Session, state_of, state_at, asking_input, asking_in, asking_at, asking, behind_line, behind_script_line, behind_action, SessionEnd, ExitDone, AllDone, InputEnded, FlushFailed, BudgetSpent}
-use Rattle.scp_script.specs.Session.{Upcoming, Ends, Comes, upcoming_of, upcoming_in, upcoming_at, upcoming, complaint, text_reply, flushes_next, Following, Going, Over, rested, following, Step, text_step, closed, end_state, step_upcoming, step, Course, after_step, texts, course, trace, ComesTo}
+use Rattle.scp_script.specs.Session.{Upcoming, Ends, Comes, upcoming_of, upcoming_in, upcoming_at, upcoming, complaint, text_reply, flushes_in, flushes_next, Following, Going, Over, rested, following, Step, text_step, closed, end_state, step_upcoming, step, Course, after_step, texts, course, trace, ComesTo}
 use Rattle.scp_script.specs.declared.progress.Finish.{Finish}
 use Rattle.scp_script.specs.declared.progress.Finish.TheVariants.{OutOfMemory}
 use Rattle.scp_script.specs.Perform.{IsSession, IsPerformed}
@@ -129,10 +130,20 @@ good-upcoming s is = good-at s s.texts.actions is (record { few = is.texts.few; 
 
 -- ---- what a text does
 
-does-stands : (limit : ℕ) (notes : List CommandNote) (live : Live) (what : Asked) → ValidLive live → IsValidAsked what → Stands live (does limit notes live what)
+does-stands : (limit : ℕ) (notes : List CommandNote) (live : Live) (what : Asked) → ValidLive live → IsValidAsked what → StandsBy (flushes_of what) live (does limit notes live what)
 unfolding does
 does-stands limit notes live (Ok r) is valid = stands-effect limit notes live r is valid.0 valid.1
 does-stands limit notes live (Err fault) is valid = stands-refused fault live is
+
+-- a script that has no room is no command that flushes, and neither is one that has
+checked-flushes : (scripts : List Script) (what : Asked) → flushes_of (checked scripts what) ≡ flushes_of what
+checked-flushes scripts (Ok (request.Do echo strict name arguments)) = by-room (nat_lt (length scripts) most_scripts)
+  where
+    by-room : (b : Bool) → flushes_of (if b then Ok (request.Do echo strict name arguments) else Err TooDeep) ≡ false
+    by-room true = refl
+    by-room false = refl
+checked-flushes scripts (Ok r) = refl
+checked-flushes scripts (Err fault) = refl
 
 -- a script begins only where there is room for it
 does-room : (scripts : List Script) (limit : ℕ) (notes : List CommandNote) (live : Live) (what : Asked) → RoomFor scripts (does limit notes live (checked scripts what)).answer
@@ -158,7 +169,7 @@ record Comes_to (t : Texts) (live : Live) (what : Asked) (reply : Reply) : Type 
   after : ValidLive reply.after.live
   made : (at : Standing) → StandsAt at reply.made → ValidLive at.live
   texts : ValidTexts (texts_behind t what reply.answer reply.after.live.watch)
-  copy : CopyFollows live reply.after.live
+  copy : CopyFollows (flushes_of (checked t.scripts what)) live reply.after.live
 
 text-comes : (limit : ℕ) (t : Texts) (notes : List CommandNote) (live : Live) (what : Asked) → ValidLive live → ValidTexts t → IsValidAsked what → Comes_to t live what (text_reply limit t notes live what)
 unfolding text_reply
@@ -180,36 +191,36 @@ text-comes limit t notes live what is valid good =
 -- ---- one text of a session
 
 -- what comes behind it
-record IsGoodNext (live : Live) (next : Following) : Type 0 where
+record IsGoodNext (flushes : Bool) (live : Live) (next : Following) : Type 0 where
   going : (t : Session) → next ≡ Going t → Holds t
   over : (end : SessionEnd) (at : State) → next ≡ Over end at → ValidLive at.live
-  copy : (t : Session) → next ≡ Going t → CopyFollows live t.live
-  closed : (end : SessionEnd) (at : State) → next ≡ Over end at → CopyFollows live at.live
+  copy : (t : Session) → next ≡ Going t → CopyFollows flushes live t.live
+  closed : (end : SessionEnd) (at : State) → next ≡ Over end at → CopyFollows flushes live at.live
 
-good-going : (live : Live) (t : Session) → Holds t → CopyFollows live t.live → IsGoodNext live (Going t)
-good-going live t holds copy = record {
+good-going : {flushes : Bool} (live : Live) (t : Session) → Holds t → CopyFollows flushes live t.live → IsGoodNext flushes live (Going t)
+good-going {flushes} live t holds copy = record {
   going = λ u h. let same : t ≡ u = cc h in subst Holds same holds;
   over = λ end at h. absurd (cc h);
-  copy = λ u h. let same : t ≡ u = cc h in subst (λ (x : Session). CopyFollows live x.live) same copy;
+  copy = λ u h. let same : t ≡ u = cc h in subst (λ (x : Session). CopyFollows flushes live x.live) same copy;
   closed = λ end at h. absurd (cc h);
 }
 
-good-over : (live : Live) (end : SessionEnd) (state : State) → ValidLive state.live → CopyFollows live state.live → IsGoodNext live (Over end state)
-good-over live end state is copy = record {
+good-over : {flushes : Bool} (live : Live) (end : SessionEnd) (state : State) → ValidLive state.live → CopyFollows flushes live state.live → IsGoodNext flushes live (Over end state)
+good-over {flushes} live end state is copy = record {
   going = λ u h. absurd (cc h);
   over = λ other at h. let same : state ≡ at = cc h in subst (λ (x : State). ValidLive x.live) same is;
   copy = λ u h. absurd (cc h);
-  closed = λ other at h. let same : state ≡ at = cc h in subst (λ (x : State). CopyFollows live x.live) same copy;
+  closed = λ other at h. let same : state ≡ at = cc h in subst (λ (x : State). CopyFollows flushes live x.live) same copy;
 }
 
 rested-holds : (s : Session) → Holds s → Holds (rested s)
 rested-holds s is = record { live = watch-live s.live (forgotten s.live.watch) is.live (watch-forgotten s.live.watch is.live.valid.watch); texts = is.texts; input = is.input }
 
 -- its tables are no part of that
-copy-rested : (live : Live) (s : Session) → CopyFollows live s.live → CopyFollows live (rested s).live
+copy-rested : {flushes : Bool} (live : Live) (s : Session) → CopyFollows flushes live s.live → CopyFollows flushes live (rested s).live
 copy-rested live s copy is follows = copy is (λ none. record { clean = (follows none).clean; back = (follows none).back })
 
-good-following : (live : Live) (answer : Answer) (s : Session) → Holds s → CopyFollows live s.live → IsGoodNext live (following answer s)
+good-following : {flushes : Bool} (live : Live) (answer : Answer) (s : Session) → Holds s → CopyFollows flushes live s.live → IsGoodNext flushes live (following answer s)
 good-following live (Ok (Exit status)) s is copy = good-over live (ExitDone status) (state_of s) is.live copy
 good-following live (Ok Go) s is copy = good-going live (rested s) (rested-holds s is) (copy-rested live s copy)
 good-following live (Ok (Ran stop)) s is copy = good-going live (rested s) (rested-holds s is) (copy-rested live s copy)
@@ -218,12 +229,12 @@ good-following live (Ok Goto) s is copy = good-going live (rested s) (rested-hol
 good-following live (Err fault) s is copy = good-going live (rested s) (rested-holds s is) (copy-rested live s copy)
 
 -- and all of it
-record IsGoodStep (live : Live) (x : Step) : Type 0 where
+record IsGoodStep (flushes : Bool) (live : Live) (x : Step) : Type 0 where
   made : (at : State) → StandsAt at x.made → ValidLive at.live
-  next : IsGoodNext live x.next
+  next : IsGoodNext flushes live x.next
 
 text-good : (first : List (Observation State)) (behind : Session) (what : Asked) → Holds behind → IsValidAsked what → ((at : State) → StandsAt at first → ValidLive at.live)
-    → IsGoodStep behind.live (text_step first behind what)
+    → IsGoodStep (flushes_of (checked behind.texts.scripts what)) behind.live (text_step first behind what)
 unfolding text_step
 text-good first behind what is valid before =
     let reply = text_reply behind.limit behind.texts (handed behind.spent behind.notes) behind.live what in
@@ -267,29 +278,30 @@ asking-valid s is at h = subst (λ (x : State). ValidLive x.live) (sym (asking-a
 
 -- ---- the end
 
-closed-good : (s : Session) (end : SessionEnd) → Holds s → IsGoodNext s.live (Over end (closed s))
+closed-good : (s : Session) (end : SessionEnd) → Holds s → IsGoodNext false s.live (Over end (closed s))
 unfolding closed
 closed-good s end is =
     let stands = stands-emptied Go (handed s.spent s.notes) s.live tt is.live in
     good-over s.live end (closed s) stands.valid.after stands.copy
 
-copy-here : (live : Live) → CopyFollows live live
+copy-here : (live : Live) → CopyFollows false live live
 copy-here live is leaves = is
 
-end-good : (s : Session) (end : SessionEnd) → Holds s → IsGoodNext s.live (Over end (end_state end s))
+end-good : (s : Session) (end : SessionEnd) → Holds s → IsGoodNext false s.live (Over end (end_state end s))
 end-good s InputEnded is = closed-good s InputEnded is
 end-good s FlushFailed is = closed-good s FlushFailed is
 end-good s (ExitDone status) is = good-over s.live (ExitDone status) (state_of s) is.live (copy-here s.live)
 end-good s AllDone is = good-over s.live AllDone (state_of s) is.live (copy-here s.live)
 end-good s BudgetSpent is = good-over s.live BudgetSpent (state_of s) is.live (copy-here s.live)
 
-upcoming-good : (s : Session) (u : Upcoming) → Holds s → IsGoodUpcoming s u → IsGoodStep s.live (step_upcoming s u)
+upcoming-good : (s : Session) (u : Upcoming) → Holds s → IsGoodUpcoming s u → IsGoodStep (flushes_in u) s.live (step_upcoming s u)
 upcoming-good s (Ends end) is good = record { made = asking-valid s is.live; next = end-good s end is }
 upcoming-good s (Comes text behind) is good =
-    subst (λ (live : Live). IsGoodStep live (text_step (asking s) behind (asked text))) good.2
-    (text-good (asking s) behind (asked text) good.1 (asked-valid text good.0) (asking-valid s is.live))
+    subst (λ (live : Live). IsGoodStep (flushes_of (asked text)) live (text_step (asking s) behind (asked text))) good.2
+    (subst (λ (b : Bool). IsGoodStep b behind.live (text_step (asking s) behind (asked text))) (checked-flushes behind.texts.scripts (asked text))
+    (text-good (asking s) behind (asked text) good.1 (asked-valid text good.0) (asking-valid s is.live)))
 
-step-good : (s : Session) → Holds s → IsGoodStep s.live (step s)
+step-good : (s : Session) → Holds s → IsGoodStep (flushes_next s) s.live (step s)
 unfolding step
 step-good s is = upcoming-good s (upcoming s) is (good-upcoming s is)
 
@@ -327,7 +339,7 @@ record IsGoodCourse (c : Course) : Type 0 where
   made : (at : State) → StandsAt at c.trace.made → ValidLive at.live
   ended : ValidLive c.trace.ended.state.live
 
-after-good : (live : Live) (made : List (Observation State)) (next : Following) (goes_on : Session → Course) → ((at : State) → StandsAt at made → ValidLive at.live) → IsGoodNext live next
+after-good : {flushes : Bool} (live : Live) (made : List (Observation State)) (next : Following) (goes_on : Session → Course) → ((at : State) → StandsAt at made → ValidLive at.live) → IsGoodNext flushes live next
     → ((t : Session) → Holds t → IsGoodCourse (goes_on t)) → IsGoodCourse (after_step made next goes_on)
 after-good live made (Going t) goes_on first next more =
     let rest = more t (next.going t refl) in

@@ -8,3 +8,4 @@ pub mod Perform
 pub mod Laws
 pub mod Core
 pub mod Valid
+pub mod Resumption

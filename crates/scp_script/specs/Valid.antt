@@ -10,7 +10,7 @@ use Rattle.scp_commands.specs.Valid.{ValidLive, CopyFollows}
 use Rattle.scp_script.specs.declared.progress.Finish.{Finish}
 use Rattle.scp_script.specs.Scripts.{Script, most_scripts}
 use Rattle.scp_script.specs.Actions.{Texts}
-use Rattle.scp_script.specs.Session.{State, Session, SessionEnd, Going, Over, step, trace, ComesTo}
+use Rattle.scp_script.specs.Session.{State, Session, SessionEnd, Going, Over, flushes_next, step, trace, ComesTo}
 use Rattle.scp_script.specs.Perform.{IsPerformed}
 
 -- a script that is open: its text is of bytes, its next line stands within it, and its name and arguments are ten at
@@ -47,9 +47,10 @@ pub record SessionsStayValid : Type 0 where
   pub made : (s : Session) (at : State) → ValidSession s → StandsAt at (trace s).made → ValidLive at.live
   pub ended : (s : Session) → ValidSession s → ValidLive (trace s).ended.state.live
   -- and the disk's copy is that of its file still
-  pub disk : (s t : Session) → ValidSession s → (step s).next ≡ Going t → CopyFollows s.live t.live
+  pub disk : (s t : Session) → ValidSession s → (step s).next ≡ Going t
+      → CopyFollows (flushes_next s) s.live t.live
   pub closed : (s : Session) (end : SessionEnd) (at : State) → ValidSession s → (step s).next ≡ Over end at
-      → CopyFollows s.live at.live
+      → CopyFollows (flushes_next s) s.live at.live
   -- what a call has left that performs a session, over whichever console and input, also where memory ran out
   pub left : (start : Session) (finish : Finish) (live : Live) (rest : List ℕ) (before after : Output) → ValidSession start
       → IsPerformed start finish live rest before after → ValidLive live

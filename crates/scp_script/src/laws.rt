@@ -1,5 +1,6 @@
 ghost use Rattle.scp_script.specs.Valid.{SessionsStayValid};
 ghost use Rattle.scp_script.specs.Core.{SameCoreSameFuture, CutBehindTexts};
+ghost use Rattle.scp_script.specs.Resumption.{RestoredGoesOn, SameCoreSameFinish, SavedAndRestoredGoOnAlike};
 ghost use Rattle.scp_script.specs.Laws.{ActionsAreForgotten, EndedScriptsDoNotMatter, LineByLine, LinesAreConsumed};
 
 /// The law that a session goes line by line, to its own end and not to that of the bound in its definition.
@@ -38,4 +39,22 @@ pub fn ended_scripts_do_not_matter()
 /// else has changed that file and it was no longer where SAVE has written it back.
 pub fn sessions_stay_valid()
     ensures { SessionsStayValid }
+{}
+
+/// The law that calls that perform sessions of one core come to the same finish and state, read the same, and print and
+/// send the same, where no call on a file fails, the console refuses no byte, no read fails and memory suffices.
+pub fn sessions_end_alike()
+    ensures { SameCoreSameFinish }
+{}
+
+/// The law that a session in which a saved one was restored goes on as that one, with the rest of the input, the
+/// budget, the limit of a run, the prompt, the keys and what is to come on lines as they are then.
+pub fn restored_session_goes_on()
+    ensures { RestoredGoesOn }
+{}
+
+/// The law that a session that was saved and goes on, and one into which it is restored with the same outside, do the
+/// same from there on.
+pub fn saved_and_restored_go_on_alike()
+    ensures { SavedAndRestoredGoOnAlike }
 {}

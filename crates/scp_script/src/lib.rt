@@ -13,8 +13,10 @@ mod script_stack;
 mod texts;
 
 pub use laws::{
-    actions_are_forgotten, ended_scripts_do_not_matter, lines_are_consumed, same_core_same_future,
-    session_goes_line_by_line, session_is_cut_behind_texts, sessions_stay_valid,
+    actions_are_forgotten, ended_scripts_do_not_matter, lines_are_consumed,
+    restored_session_goes_on, same_core_same_future, saved_and_restored_go_on_alike,
+    session_goes_line_by_line, session_is_cut_behind_texts, sessions_end_alike,
+    sessions_stay_valid,
 };
 pub use perform_session::{Opening, perform};
 pub use progress::Finish;

@@ -20,6 +20,7 @@ use Rattle.nova_top.specs.Workload.{with_workload}
 use Rattle.nova_top.proofs.ProgramLemmas.{Begun, Made, begun-files, begun-line, new-slots, new-standard, workload-given}
 use Rattle.nova_top.proofs.ProgramLemmas.{usage-answer, files-answer, files-memory, files-status, files-cause, session-answer, memory-answer, session-cause, session-status, refused-status, kept-counted, refused-counted, complete-answer, never-unwritten, denied-unwritten, unwritten-whole}
 use Rattle.nova_top.proofs.PortLemmas.{lines-unasked}
+use Rattle.nova_top.proofs.ResumptionLemmas.{resumes-saved}
 use Rattle.nova_top.proofs.UnreadLemmas.{usage-opened, refused-unopened, refused-measured, session-opened, session-measured}
 use Rattle.nova_top.proofs.program.simulate.Given.{Over}
 use Rattle.nova_top.proofs.program.simulate.Goals as goal
@@ -276,3 +277,25 @@ pub returns-in-Ok-begin-clause-measured : goal.returns-in-Ok-begin-clause-measur
 returns-in-Ok-begin-clause-measured g c = λ is.
     session-measured g.F.Files.tells (texts_of c.args.words.now) c.in-Some.options c.run_session.result.machine (g.F.Files.state c.args.files.now) (g.F.Files.state c.run_session.new.files)
     (sym c.options_of.ensures.options ∙ c.in-Some.is) c.in-Ok-begin.ensures.unread
+
+-- ---- a session that was restored
+
+pub returns-in_default-clause-resumed : goal.returns-in_default-clause-resumed
+returns-in_default-clause-resumed g c = λ source files telling sink no_byte other no_read whole first.
+    let lines = g.L.Lines.state c.args.lines.now in
+    let old = beyond (g.F.Files.state c.args.files.now).files lines whole in
+    resumes-saved (texts_of c.args.words.now) (g.C.Source.left c.args.input.now) (g.C.Source.left c.args.input.now) (g.S.Sink.written c.args.output.now) (g.S.Sink.written c.usage.new.output) old old
+    c.usage.result.status c.usage.result.machine (notes_said c.usage.result.faults.items) (returns-in_default-clause-outcome g c source files telling sink other whole first) no_byte no_read
+
+pub returns-in-Err-clause-resumed : goal.returns-in-Err-clause-resumed
+returns-in-Err-clause-resumed g c = λ source files telling sink no_byte other no_read whole first.
+    let lines = g.L.Lines.state c.args.lines.now in
+    resumes-saved (texts_of c.args.words.now) (g.C.Source.left c.args.input.now) (g.C.Source.left c.args.input.now) (g.S.Sink.written c.args.output.now) (g.S.Sink.written c.refuse_files.new.output)
+    (beyond (g.F.Files.state c.args.files.now).files lines whole) (beyond (g.F.Files.state c.begin.new.files).files lines whole) c.refuse_files.result.status c.refuse_files.result.machine
+    (notes_said c.refuse_files.result.faults.items) (returns-in-Err-clause-outcome g c source files telling sink other whole first) no_byte no_read
+
+pub returns-in-Ok-begin-clause-resumed : goal.returns-in-Ok-begin-clause-resumed
+returns-in-Ok-begin-clause-resumed g c = λ source files telling sink no_byte other no_read whole first.
+    resumes-saved (texts_of c.args.words.now) (g.C.Source.left c.args.input.now) (g.C.Source.left c.run_session.new.input) (g.S.Sink.written c.args.output.now) (g.S.Sink.written c.run_session.new.output)
+    (beyond (g.F.Files.state c.args.files.now).files (g.L.Lines.state c.args.lines.now) whole) (beyond (g.F.Files.state c.run_session.new.files).files (g.L.Lines.state c.run_session.new.lines) whole)
+    c.run_session.result.status c.run_session.result.machine (notes_said c.run_session.result.faults.items) (returns-in-Ok-begin-clause-outcome g c source files telling sink other whole first) no_byte no_read

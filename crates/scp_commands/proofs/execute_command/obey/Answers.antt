@@ -10,10 +10,12 @@ use Rattle.scp_commands.specs.Nature.{nature, IsUntold}
 use Rattle.scp_commands.specs.Doing.{says_files, IsTold, IsRefused, IsRefusal, IsUndone, KeepsBy, is_restore, Did}
 use Rattle.scp_commands.specs.Remains.{AreLeft}
 use Rattle.scp_commands.specs.StateEffects.{save_reply, restore_reply}
+use Rattle.scp_commands.specs.StateAnswers.{PutsSessionBack}
 use Rattle.scp_commands.specs.LinesLeft.{IsUnlistened, ListenCause}
 use Rattle.scp_commands.specs.Refusals.{IsMeasured, IsUnrefused}
 use Rattle.scp_commands.specs.LineEffects.{attach_port_reply, disconnect_reply}
 use Rattle.scp_commands.specs.ExitEffects.{exit_reply}
+use Rattle.scp_commands.proofs.BackLemmas.{untold-back, done-back}
 use Rattle.scp_commands.proofs.PortLemmas.{left-run}
 use Rattle.scp_commands.proofs.RemainLemmas.{undone-as, undone-none}
 use Rattle.file_commands.specs.declared.note.Subject.TheVariants as subject
@@ -729,3 +731,98 @@ returns-in-Restore-clause-keeps g c =
     subst (λ (b : Bool). KeepsBy b c.args.session.now.command c.args.session.now.machine.time c.restore.new.session.machine.time g.F.Files.tells c.restore.result
     c.args.session.now.notes c.restore.new.session.notes (g.F.Files.state c.args.files.now) (g.F.Files.state c.restore.new.files))
     (sym (ap is_restore (sym c.command.view_is ∙ ap (request_of _) c.in-Restore.is))) c.restore.ensures.keeps
+
+-- what a RESTORE has put back
+
+pub returns-in-AttachPort-clause-back : goal.returns-in-AttachPort-clause-back
+returns-in-AttachPort-clause-back g c =
+    subst (λ (r : Request). PutsSessionBack g.F.Files.tells (g.F.Files.state c.args.files.now).files r c.attach_port.result c.args.session.now c.attach_port.new.session)
+    (sym (sym c.command.view_is ∙ ap (request_of _) c.in-AttachPort.is)) tt
+
+pub returns-in-Detach-clause-back : goal.returns-in-Detach-clause-back
+returns-in-Detach-clause-back g c =
+    subst (λ (r : Request). PutsSessionBack g.F.Files.tells (g.F.Files.state c.args.files.now).files r c.detach_one_or_every.result c.args.session.now c.detach_one_or_every.new.session)
+    (sym (sym c.command.view_is ∙ ap (request_of _) c.in-Detach.is)) tt
+
+pub returns-in-Disconnect-clause-back : goal.returns-in-Disconnect-clause-back
+returns-in-Disconnect-clause-back g c =
+    subst (λ (r : Request). PutsSessionBack g.F.Files.tells (g.F.Files.state c.args.files.now).files r c.disconnect.result c.args.session.now c.disconnect.new.session)
+    (sym (sym c.command.view_is ∙ ap (request_of _) c.in-Disconnect.is)) tt
+
+pub returns-in-Exit-clause-back : goal.returns-in-Exit-clause-back
+returns-in-Exit-clause-back g c =
+    subst (λ (r : Request). PutsSessionBack g.F.Files.tells (g.F.Files.state c.args.files.now).files r c.exit.result c.args.session.now c.exit.new.session)
+    (sym (sym c.command.view_is ∙ ap (request_of _) c.in-Exit.is)) tt
+
+pub returns-in-Run-clause-back : goal.returns-in-Run-clause-back
+returns-in-Run-clause-back g c =
+    subst (λ (r : Request). PutsSessionBack g.F.Files.tells (g.F.Files.state c.args.files.now).files r c.run_from.result c.args.session.now c.run_from.new.session)
+    (sym (sym c.command.view_is ∙ ap (request_of _) c.in-Run.is)) tt
+
+pub returns-in-Go-clause-back : goal.returns-in-Go-clause-back
+returns-in-Go-clause-back g c =
+    subst (λ (r : Request). PutsSessionBack g.F.Files.tells (g.F.Files.state c.args.files.now).files r c.run_from-in-Go.result c.args.session.now c.run_from-in-Go.new.session)
+    (sym (sym c.command.view_is ∙ ap (request_of _) c.in-Go.is)) tt
+
+pub returns-in-Cont-clause-back : goal.returns-in-Cont-clause-back
+returns-in-Cont-clause-back g c =
+    subst (λ (r : Request). PutsSessionBack g.F.Files.tells (g.F.Files.state c.args.files.now).files r c.run.result c.args.session.now c.run.new.session)
+    (sym (sym c.command.view_is ∙ ap (request_of _) c.in-Cont.is)) tt
+
+pub returns-in-Step-clause-back : goal.returns-in-Step-clause-back
+returns-in-Step-clause-back g c =
+    subst (λ (r : Request). PutsSessionBack g.F.Files.tells (g.F.Files.state c.args.files.now).files r c.step.result c.args.session.now c.step.new.session)
+    (sym (sym c.command.view_is ∙ ap (request_of _) c.in-Step.is)) tt
+
+pub returns-in-Attach-clause-back : goal.returns-in-Attach-clause-back
+returns-in-Attach-clause-back g c =
+    subst (λ (r : Request). PutsSessionBack g.F.Files.tells (g.F.Files.state c.args.files.now).files r c.attach.result c.args.session.now c.attach.new.session)
+    (sym (sym c.command.view_is ∙ ap (request_of _) c.in-Attach.is)) tt
+
+pub returns-in-Do-clause-back : goal.returns-in-Do-clause-back
+returns-in-Do-clause-back g c =
+    subst (λ (r : Request). PutsSessionBack g.F.Files.tells (g.F.Files.state c.args.files.now).files r c.do_script.result c.args.session.now c.do_script.new.session)
+    (sym (sym c.command.view_is ∙ ap (request_of _) c.in-Do.is)) tt
+
+pub returns-in-Load-clause-back : goal.returns-in-Load-clause-back
+returns-in-Load-clause-back g c =
+    subst (λ (r : Request). PutsSessionBack g.F.Files.tells (g.F.Files.state c.args.files.now).files r c.load_file.result c.args.session.now c.load_file.new.session)
+    (sym (sym c.command.view_is ∙ ap (request_of _) c.in-Load.is)) tt
+
+pub returns-in-Dump-clause-back : goal.returns-in-Dump-clause-back
+returns-in-Dump-clause-back g c =
+    subst (λ (r : Request). PutsSessionBack g.F.Files.tells (g.F.Files.state c.args.files.now).files r c.dump_file.result c.args.session.now c.dump_file.new.session)
+    (sym (sym c.command.view_is ∙ ap (request_of _) c.in-Dump.is)) tt
+
+pub returns-in-Save-clause-back : goal.returns-in-Save-clause-back
+returns-in-Save-clause-back g c =
+    subst (λ (r : Request). PutsSessionBack g.F.Files.tells (g.F.Files.state c.args.files.now).files r c.save.result c.args.session.now c.save.new.session)
+    (sym (sym c.command.view_is ∙ ap (request_of _) c.in-Save.is)) tt
+
+pub returns-in_default-clause-back : goal.returns-in_default-clause-back
+returns-in_default-clause-back g c =
+    let others : IsNoRunOrFile c.command.inside.verb = record {
+      run = c.in_default.not-Run;
+      go = c.in_default.not-Go;
+      cont = c.in_default.not-Cont;
+      step = c.in_default.not-Step;
+      attach = c.in_default.not-Attach;
+      attach_port = c.in_default.not-AttachPort;
+      detach = c.in_default.not-Detach;
+      disconnect = c.in_default.not-Disconnect;
+      exit = c.in_default.not-Exit;
+      do_ = c.in_default.not-Do;
+      load = c.in_default.not-Load;
+      dump = c.in_default.not-Dump;
+      save = c.in_default.not-Save;
+      restore = c.in_default.not-Restore;
+    } in
+    untold-back g.F.Files.tells (g.F.Files.state c.args.files.now).files c.args.command.now c.obey_untold.result c.args.session.now c.obey_untold.new.session
+    (subst (λ (r : Request). IsUntold r) c.command.view_is (is-untold _ c.command.inside.verb others))
+
+pub returns-in-Restore-clause-back : goal.returns-in-Restore-clause-back
+returns-in-Restore-clause-back g c =
+    let name = c.file_name-in-Restore.result.now in
+    let asks = restore-named _ c.command.inside.verb c.in-Restore.force _ c.args.command.now name (sym c.command.view_is) c.in-Restore.is c.file_name-in-Restore.ensures.name in
+    subst (λ (r : Request). PutsSessionBack g.F.Files.tells (g.F.Files.state c.args.files.now).files r c.restore.result c.args.session.now c.restore.new.session) (sym asks)
+    (done-back g.F.Files.tells (g.F.Files.state c.args.files.now).files c.in-Restore.force name c.restore.result c.args.session.now c.restore.new.session c.restore.ensures.back)

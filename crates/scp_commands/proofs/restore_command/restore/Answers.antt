@@ -14,6 +14,9 @@ use Rattle.nova_machine.specs.Seen.{seen, beside}
 use Rattle.unit_files.specs.Attachments.{no_attachments}
 use Rattle.state_file.specs.Listening.{wants_port, LeavesLines}
 use Rattle.state_file.specs.Parts.{state_in}
+use Rattle.state_file.specs.Putting.{with_machine_of}
+use Rattle.state_file.specs.Reading.{reading}
+use Rattle.telnet_lines.specs.Line.{LineOf}
 use Rattle.state_file.specs.PutBack.{put_back}
 use Rattle.unit_trait.specs.declared.kind.UnitName.{UnitName}
 use Rattle.state_file.specs.Restoring.{FileRefusal, claim_in, first_refused, SaysFirst}
@@ -23,6 +26,7 @@ use Rattle.scp_commands.specs.declared.fault.CommandFault.{CommandFault}
 use Rattle.scp_commands.specs.LinesLeft.{Unlistened}
 use Rattle.scp_commands.specs.StateEffects.{restore_notes, restore_reply, restored_by}
 use Rattle.scp_commands.specs.WholeCalls.{read_notes}
+use Rattle.scp_commands.proofs.BackLemmas.{read-is-file}
 use Rattle.scp_commands.proofs.BehindLemmas.{stamp_in}
 use Rattle.scp_commands.proofs.DidLemmas.{refused-did}
 use Rattle.scp_commands.proofs.ObeyLemmas.{lines-kept}
@@ -205,6 +209,26 @@ returns-in-Ok-set_state-clause-whose g c =
     (whole-own subject.State c.stamp_of-stamp.result 0 w.failed w.closing s.machine.slots s.machine.slots s.notes.items c.note_reading.new.notes.items before mid
     refl (read-claims w read.shape) read.failed read.closing read.ids c.note_reading.ensures.notes)
     (unnoted s.machine.slots c.set_state.new.machine.slots c.note_reading.new.notes.items mid after set.from set.counts.ids))
+
+pub returns-in-Ok-set_state-clause-back : goal.returns-in-Ok-set_state-clause-back
+returns-in-Ok-set_state-clause-back g c =
+    let s = c.session.inside in
+    let w = c.read_file-whole.result in
+    let set = c.in-Ok-set_state.ensures in
+    let before = (g.F.Files.state c.args.files.now).files in
+    rw (← c.session.view_is)
+    (record {
+      saved = state_in c.in-Ok-saved_in.saved;
+      valid = c.in-Ok-saved_in.ensures.valid;
+      read = λ told. ap reading (sym (read-is-file w c.in-Ok.bytes c.args.name.now before c.in-Ok.ensures.bytes (c.read_file-whole.ensures.said told))) ∙ c.in-Ok-saved_in.ensures.exact;
+      machine = subst (λ (lines : List (LineOf ℕ)). c.set_state.new.machine ≡ record (with_machine_of s.machine (state_in c.in-Ok-saved_in.saved).machine) {
+        slots = c.set_state.new.machine.slots;
+        disk = c.set_state.new.machine.disk;
+        lines = lines;
+      }) set.ports set.rest;
+      attached = set.attached;
+      watch = set.watch;
+    })
 
 -- ---- it was not
 

@@ -1,0 +1,116 @@
+-- A program in which a saved session was restored goes on from there as that session, and as the program goes on that has
+-- saved it.
+use Rattle.std.proofs.Common.{◌≡◌, ◌≢◌, ℕ, suc, ◌+◌, List, ◌++◌, length, drop, refl, ap, sym, ◌∙◌}
+use Rattle.std.proofs.lemmas.List.{drop-drop}
+use Rattle.std.specs.Prelude.{Option}
+use Rattle.observations.specs.Observations.{Observation, Trace, after_made, map_trace, text_of, reads_of, sent_of}
+use Rattle.observations.specs.Cut.{Outcome}
+use Rattle.observations.proofs.MadeLemmas.{text_of-append, text_of-map, reads_of-append, reads_of-map, sent_of-append, sent_of-map}
+use Rattle.host_files.specs.Lists.{NamedBytes}
+use Rattle.host_lines.specs.Traffic.{Ahead}
+use Rattle.host_lines.specs.Told.{ahead_of}
+use Rattle.file_commands.specs.Notes.{Note}
+use Rattle.expect_actions.specs.KeysFile.{Key}
+use Rattle.nova_machine.specs.Machine.{MachineState}
+use Rattle.nova_machine.specs.LineChanges.{heard_with}
+use Rattle.scp_commands.specs.Live.{Beyond}
+use Rattle.scp_script.specs.Session.{State, Session, asking, Course, trace, ComesTo}
+use Rattle.scp_script.specs.Resumption.{resumed, behind_save, SavedAndRestored}
+use Rattle.scp_script.proofs.CoreLemmas.{course-behind}
+use Rattle.scp_script.proofs.LawLemmas.{lines-are-consumed}
+use Rattle.scp_script.proofs.ResumptionLemmas.{restored-comes, saves-come, traces-saved, saved-and-restored-go-on-alike}
+use Rattle.nova_top.specs.declared.options.Options.{Options}
+use Rattle.nova_top.specs.Words.{options_of}
+use Rattle.nova_top.specs.Outside.{Outside, Start, Begins, Left, left_by, start_of, opening, trace_from, trace_of, whole_trace, outcome, session_with, sent_by}
+use Rattle.nova_top.specs.Ends.{IsOutcome, handed_in}
+use Rattle.nova_top.specs.Resumption.{Reaches, EndsAsThat, ResumesSaved, Ran, IsRun, EndAlike, RestoredProgramsGoOn}
+use Rattle.nova_top.proofs.OutsideLemmas.{whole-outcome}
+
+-- the trace of a program whose session begins so
+whole-is : (words : List (List ℕ)) (input : List ℕ) (files : List NamedBytes) (ahead : Ahead) (notes : List Note) (start : Start × ℕ) → start_of (options_of words) words files notes ≡ start
+    → whole_trace words input files ahead notes ≡ trace_from words start.0 files ahead input (drop start.1 notes)
+unfolding whole_trace
+whole-is words input files ahead notes start is = ap (λ (s : Start × ℕ). trace_from words s.0 files ahead input (drop s.1 notes)) is
+
+opening-input : (words : List (List ℕ)) (options : Options) (keys : List Key) (script : Option (List ℕ)) (files : List NamedBytes) (ahead : Ahead) (input : List ℕ) (own : List Note)
+    → (opening words options keys script files ahead input own).input ≡ input
+unfolding session_with
+opening-input words options keys script files ahead input own = refl
+
+trace-behind : (count : ℕ) (s t : Session) (made : List (Observation State)) → ComesTo count s made t → trace s ≡ after_made made (trace t)
+unfolding trace
+trace-behind count s t made comes = ap (λ (c : Course). c.trace) (course-behind count s t made comes)
+
+-- what is left of an input behind that many reads of its session
+read-behind : (count : ℕ) (s t : Session) (made : List (Observation State)) (more : ℕ) → ComesTo count s made t → drop (reads_of made + more) s.input ≡ drop more t.input
+read-behind count s t made more comes =
+    let is = lines-are-consumed.texts count s t made comes in
+    sym (drop-drop more (reads_of made) s.input) ∙ ap (λ (n : ℕ). drop more (drop n s.input)) is.reads ∙ ap (drop more) (sym is.rest)
+
+-- a program whose session came so far ends as that one does
+ends-behind : (words : List (List ℕ)) (input left before after : List ℕ) (old new : Beyond) (status : ℕ) (machine : Option MachineState) (notes : List Note) (options : Options) (keys : List Key) (script : Option (List ℕ)) (used count : ℕ)
+    (front : List (Observation State)) (t : Session) → IsOutcome words input left before after old new status machine notes → status ≢ 102 → status ≢ 106
+    → start_of (options_of words) words old.files notes ≡ (Begins options keys script, used)
+    → ComesTo count (opening words options keys script old.files (ahead_of old.lines.told old.whole) input (drop used notes)) front t
+    → EndsAsThat t front left before after old new status machine
+ends-behind words input left before after old new status machine notes options keys script used count front t out no_byte no_read starts comes =
+    let ahead = ahead_of old.lines.told old.whole in
+    let start = opening words options keys script old.files ahead input (drop used notes) in
+    let o : Outside = handed_in words input old notes (length out.taken) out.gives in
+    let status_is : (outcome o).status ≡ status = ap (λ (x : Outcome Left). x.status) out.is in
+    let w = whole-outcome o (λ e. no_byte (sym status_is ∙ e)) (λ e. no_read (sym status_is ∙ e)) in
+    let all : trace_of o ≡ map_trace left_by (after_made front (trace t)) =
+    whole-is words input old.files ahead notes (Begins options keys script, used) starts ∙ ap (map_trace left_by) (trace-behind count start t front comes) in
+    let made = front ++ (trace t).made in
+    let console : out.taken ≡ text_of front ++ text_of (trace t).made =
+    sym (ap (λ (x : Outcome Left). x.console) out.is) ∙ w.console ∙ ap (λ (x : Trace Left). text_of x.made) all ∙ text_of-map left_by made ∙ text_of-append front (trace t).made in
+    let reads : out.made ≡ reads_of front + reads_of (trace t).made =
+    sym (ap (λ (x : Outcome Left). x.reads) out.is) ∙ w.reads ∙ ap (λ (x : Trace Left). reads_of x.made) all ∙ reads_of-map left_by made ∙ reads_of-append front (trace t).made in
+    let sent : sent_by o ≡ sent_of front ++ sent_of (trace t).made =
+    w.sent ∙ ap (λ (x : Trace Left). sent_of x.made) all ∙ sent_of-map left_by made ∙ sent_of-append front (trace t).made in
+    let opened = opening-input words options keys script old.files ahead input (drop used notes) in
+    record {
+      status_is = sym status_is ∙ w.status ∙ ap (λ (x : Trace Left). x.ended.status) all;
+      is = ap (λ (x : Outcome Left). x.state) (sym out.is) ∙ w.state ∙ ap (λ (x : Trace Left). x.ended.state) all;
+      rest = out.rest ∙ ap (λ (n : ℕ). drop n input) reads ∙ ap (drop (reads_of front + reads_of (trace t).made)) (sym opened) ∙ read-behind count start t front (reads_of (trace t).made) comes;
+      printed = out.written ∙ ap (λ (l : List ℕ). before ++ l) console;
+      heard = out.heard ∙ ap (heard_with old.lines.sent) sent;
+    }
+
+pub resumes-saved : (words : List (List ℕ)) (input left before after : List ℕ) (old new : Beyond) (status : ℕ) (machine : Option MachineState) (notes : List Note) → IsOutcome words input left before after old new status machine notes
+    → status ≢ 102 → status ≢ 106 → ResumesSaved words input left before after old new status machine notes
+resumes-saved words input left before after old new status machine notes out no_byte no_read front at behind s used reaches back =
+    let start = opening words reaches.options reaches.keys reaches.script old.files (ahead_of old.lines.told old.whole) input (drop reaches.used notes) in
+    ends-behind words input left before after old new status machine notes reaches.options reaches.keys reaches.script reaches.used (suc reaches.count) (front ++ asking at) (resumed s used behind) out no_byte no_read reaches.starts
+    (restored-comes reaches.count start at behind s used front reaches.comes back)
+
+-- ---- the program that has saved it
+
+alike : (one other : Ran) (front begin : List (Observation State)) (saving behind restoring present : Session) (name : List ℕ) (used : ℕ) → IsRun one → IsRun other
+    → Reaches one.words one.input one.old one.notes front saving → Reaches other.words other.input other.old other.notes begin restoring
+    → SavedAndRestored saving behind restoring present name used → EndAlike (front ++ asking saving) (begin ++ asking restoring) one other
+alike one other front begin saving behind restoring present name used first second reaches comes both =
+    let s = (behind_save name behind).live in
+    let start = opening one.words reaches.options reaches.keys reaches.script one.old.files (ahead_of one.old.lines.told one.old.whole) one.input (drop reaches.used one.notes) in
+    let a = ends-behind one.words one.input one.left one.before one.after one.old one.new one.status one.machine one.notes reaches.options reaches.keys reaches.script reaches.used (suc reaches.count) (front ++ asking saving) (behind_save name behind)
+    first.outcome first.no_byte first.no_read reaches.starts (saves-come reaches.count start saving behind name front reaches.comes both.saves) in
+    let b = resumes-saved other.words other.input other.left other.before other.after other.old other.new other.status other.machine other.notes second.outcome second.no_byte second.no_read begin restoring present s used comes
+    (saved-and-restored-go-on-alike.restores saving behind restoring present name used both) in
+    let same = traces-saved saving behind restoring present name used both in
+    record {
+      statuses = a.status_is ∙ ap (λ (z : Trace State). z.ended.status) same ∙ sym b.status_is;
+      states = a.is ∙ ap (λ (z : Trace State). left_by z.ended.state) same ∙ sym b.is;
+      rests = a.rest ∙ ap (λ (z : Trace State). drop (reads_of z.made) behind.input) same ∙ ap (drop (reads_of (trace (resumed s used present)).made)) (sym both.outside.input) ∙ sym b.rest;
+      added = text_of (trace (behind_save name behind)).made;
+      first = a.printed;
+      second = b.printed ∙ ap (λ (z : Trace State). other.before ++ (text_of (begin ++ asking restoring) ++ text_of z.made)) (sym same);
+      sent = sent_of (trace (behind_save name behind)).made;
+      first_heard = a.heard;
+      second_heard = b.heard ∙ ap (λ (z : Trace State). heard_with other.old.lines.sent (sent_of (begin ++ asking restoring) ++ sent_of z.made)) (sym same);
+    }
+
+pub restored-programs-go-on : RestoredProgramsGoOn
+restored-programs-go-on = record {
+  restored = λ r run. resumes-saved r.words r.input r.left r.before r.after r.old r.new r.status r.machine r.notes run.outcome run.no_byte run.no_read;
+  alike = alike;
+}

@@ -1,0 +1,84 @@
+-- What SAVE leaves of a session, and what RESTORE puts in place of the one that was saved.
+use Rattle.std.specs.Prelude.{◌≡◌, ℕ, zero, suc, Bool, false, List, [], length, None, Ok}
+use Rattle.host_files.specs.Lists.{NamedBytes, bytes_of, with_file}
+use Rattle.host_lines.specs.Traffic.{Ahead, listening}
+use Rattle.file_commands.specs.Notes.{CommandNote}
+use Rattle.nova_machine.specs.Seen.{attached_in}
+use Rattle.state_file.specs.Parts.{State}
+use Rattle.state_file.specs.PutBack.{CanBeSaved}
+use Rattle.state_file.specs.Session.{saved_port, saved}
+use Rattle.state_file.specs.Text.{text}
+use Rattle.state_file.specs.Valid.{Fits}
+use Rattle.state_file.specs.Laws.{HasWidths}
+use Rattle.state_file.specs.SavedValid.{IsStandard}
+use Rattle.scp_parser.specs.Command.{Save, Restore}
+use Rattle.scp_commands.specs.declared.next.Next.TheVariants.{Go}
+use Rattle.scp_commands.specs.Live.{Live, standing}
+use Rattle.scp_commands.specs.Reply.{Reply}
+use Rattle.scp_commands.specs.StateEffects.{flushed_with, is_occupied}
+use Rattle.scp_commands.specs.Effect.{effect}
+
+-- a command that is done, prints nothing, and has used so many notes
+abbrev pub done_with : ℕ → Live → Reply
+done_with used live = record { made = []; answer = Ok Go; after = standing used live }
+
+-- ---- SAVE
+
+-- the state file of that name was made, or emptied, and has the text of what is saved
+abbrev pub state_made : List ℕ → Live → Live
+state_made name live = record live { files = with_file live.files name (text (saved live)) }
+
+-- What SAVE leaves where no call on a file fails: what the disk holds of its file is written back, and then the state file
+-- is made.
+abbrev pub left_by_save : List ℕ → Live → Live
+left_by_save name live = state_made name (flushed_with None live)
+
+-- ---- RESTORE
+
+-- what is still to come on lines, less the listening on a port; 0 is none
+abbrev pub ahead_behind : ℕ → Ahead → Ahead
+ahead_behind zero ahead = ahead
+ahead_behind (suc port) ahead = (listening ahead).ahead
+
+-- A saved session goes on in a present one: the machine with what is attached to it, the watch tables and the line are
+-- those that were saved. The keys and the files are the present ones, and so is what is still to come on lines, less the
+-- listening on the port, where the line has one.
+abbrev pub continued : Live → Live → Live
+continued s present = record present {
+  machine = s.machine;
+  watch = s.watch;
+  lines = s.lines;
+  ahead = ahead_behind (saved_port s.lines) present.ahead;
+}
+
+-- what was saved of a session at a time when its files were these
+abbrev pub saved_among : List NamedBytes → Live → State
+saved_among files s = saved (record s { files = files })
+
+-- A file has the text of what was saved of the session s when the files were those: s can be saved, and each number and each
+-- list of what was saved fits its field. Since then the state file itself may have changed, as by the SAVE.
+pub record HoldsSaved (files then_files : List NamedBytes) (name : List ℕ) (s : Live) : Type 0 where
+  pub can : CanBeSaved s
+  pub fits : Fits (saved_among then_files s)
+  pub widths : HasWidths (saved_among then_files s)
+  pub bytes : bytes_of files name ≡ text (saved_among then_files s)
+
+-- a RESTORE of that file is done, and has used so many notes
+pub record IsRestored (limit : ℕ) (notes : List CommandNote) (live : Live) (force : Bool) (name : List ℕ) (used : ℕ) : Type 0 where
+  pub done : (effect limit notes live (Restore force name)).answer ≡ Ok Go
+  pub uses : (effect limit notes live (Restore force name)).after.used ≡ used
+
+pub record RestorePutsBack : Type 0 where
+  -- a RESTORE that is done, of the text of any session that was saved, puts that session in place, where the files are those
+  -- of that session and the machine has its one line
+  pub restored : (limit : ℕ) (notes : List CommandNote) (live s : Live) (force : Bool) (name : List ℕ) (then_files : List NamedBytes) (used : ℕ)
+      → IsRestored limit notes live force name used → HoldsSaved live.files then_files name s → live.files ≡ s.files → length live.lines ≡ 1
+      → effect limit notes live (Restore force name) ≡ done_with used (continued s live)
+  -- it is done only where nothing is attached and no line has a port
+  pub unoccupied : (limit : ℕ) (notes : List CommandNote) (live : Live) (force : Bool) (name : List ℕ) (used : ℕ) → IsRestored limit notes live force name used
+      → is_occupied (attached_in live.machine) live.lines ≡ false
+  -- what is saved of any session of a standard machine fits
+  pub standard : (s : Live) → IsStandard s → Fits (saved s) × HasWidths (saved s)
+  -- a SAVE in which no call on a file fails is done, and its file has the text of what is saved
+  pub saved : (limit : ℕ) (live : Live) (name : List ℕ) → effect limit [] live (Save name) ≡ done_with 0 (left_by_save name live)
+  pub holds : (live : Live) (name : List ℕ) → bytes_of (left_by_save name live).files name ≡ text (saved_among (flushed_with None live).files (left_by_save name live))
