@@ -12,7 +12,7 @@ use Rattle.unit_files.specs.declared.faults.DetachFault.{DetachFault}
 use Rattle.unit_files.specs.declared.faults.DetachFault.TheVariants as faults
 use Rattle.unit_files.specs.Attachments.{Attachment, Held, file_place, file_units, no_files, takes_attachment, is_disk, longest_file, is_any_attached, attachments_of}
 use Rattle.unit_files.specs.Attachments.{read_only_of, read_only_at, attachment_at}
-use Rattle.unit_files.specs.Buffer.{Buffer, AttachedFiles, nothing_attached, sector_bytes, disk_sectors, disk_bytes, with_sector}
+use Rattle.unit_files.specs.Buffer.{Buffer, AttachedFiles, nothing_attached, no_marks, sector_bytes, disk_sectors, disk_bytes, with_sector}
 use Rattle.unit_files.specs.Acts.{Failure, HasNone, flush_said, flush_failure, flushed_as, detached_by}
 use Rattle.unit_files.specs.Answers.{said_of_flush, said_of_detach}
 use Rattle.unit_files.specs.View.{CanWrite, buffer_of}
@@ -43,6 +43,7 @@ can-other slots unit x d other can =
       room = λ h is. can.room h (sym same ∙ is);
       writable = λ h is written. can.writable h (sym same ∙ is) written;
       none = λ is. can.none (sym same ∙ is);
+      unmarked = can.unmarked;
     }
 
 true-false : (b : Bool) → b ≡ true → b ≡ false → ⊥
@@ -51,13 +52,15 @@ true-false b is not = absurd (cc)
 -- the disk has its file, with a copy of which nothing was written
 pub can-new : (slots after : List (Option Held)) (unit : UnitName) (h : Held) (d : DiskCopy) → is_disk unit.kind ≡ true
     → IsTrue (takes_attachment unit) → after ≡ set slots (file_place unit) (Some h) → 0 < length slots
-    → length d.bytes.items ≤ disk_bytes → disk_bytes ≤ vec_capacity d.bytes → d.written ≡ false → CanWrite after d
-can-new slots after unit h d is takes set_is some short room unwritten = record {
+    → length d.bytes.items ≤ disk_bytes → disk_bytes ≤ vec_capacity d.bytes → d.written ≡ false → d.marks ≡ no_marks
+    → CanWrite after d
+can-new slots after unit h d is takes set_is some short room unwritten unmarked = record {
   short = short;
   room = λ other there. room;
   writable = λ other there written. absurd (true-false d.written written unwritten);
   none = λ none. absurd (some-none h (get_or after 0 None)
       ((λ i. get_or (set_is i) 0 None) ∙ (λ i. get_or (set slots (first i) (Some h)) 0 None) ∙ filled slots some) none);
+  unmarked = λ _. unmarked;
 }
   where
     first : file_place unit ≡ 0
@@ -74,8 +77,8 @@ emptied (x ∷ slots) = refl
 -- no file is attached to the disk
 pub can-none : (slots after : List (Option Held)) (unit : UnitName) (d : DiskCopy) → is_disk unit.kind ≡ true
     → IsTrue (takes_attachment unit) → after ≡ set slots (file_place unit) None → d.bytes.items ≡ [] → d.written ≡ false
-    → CanWrite after d
-can-none slots after unit d is takes set_is empty unwritten =
+    → d.marks ≡ no_marks → CanWrite after d
+can-none slots after unit d is takes set_is empty unwritten unmarked =
     let first = first-of unit.kind unit.unit is takes in
     let none : get_or after 0 None ≡ None =
     (λ i. get_or (set_is i) 0 None) ∙ (λ i. get_or (set slots (first i) None) 0 None) ∙ emptied slots in
@@ -84,6 +87,7 @@ can-none slots after unit d is takes set_is empty unwritten =
       room = λ h there. absurd (some-none h _ there none);
       writable = λ h there written. absurd (some-none h _ there none);
       none = λ _. (empty, unwritten);
+      unmarked = λ _. unmarked;
     }
 
 not-only-read : (slots : List (Option Held)) (place : ℕ) (d : DiskCopy) → CanWrite slots d → place ≡ 0 → d.written
@@ -163,4 +167,5 @@ pub nothing-there : (slots : List (Option Held)) (d : DiskCopy) → is_any_attac
 nothing-there slots d none all can =
     let free : slots ≡ no_files = free-are slots none ∙ ap (λ (n : ℕ). replicate n None) all in
     let copy = can.none (ap (λ (l : List (Option Held)). get_or l 0 None) free) in
-    λ i. record { slots = free i; disk = record { bytes = copy.0 i; written = copy.1 i } }
+    let unmarked = can.unmarked copy.1 in
+    λ i. record { slots = free i; disk = record { bytes = copy.0 i; written = copy.1 i; marks = unmarked i } }

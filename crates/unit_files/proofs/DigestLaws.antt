@@ -1,12 +1,12 @@
 -- The digest of a unit's file, where no call fails.
-use Rattle.std.proofs.Common.{◌≡◌, ◌≤◌, ◌&&◌, Bool, true, false, List, length, Option, Some, None, IsSome, nat_lt, refl, ap, sym, ◌∙◌, if◌then◌else◌}
+use Rattle.std.proofs.Common.{◌≡◌, ◌&&◌, Bool, true, false, List, length, Option, Some, None, IsSome, nat_lt, refl, ap, sym, ◌∙◌, if◌then◌else◌}
 use Rattle.host_files.specs.Lists.{NamedBytes, find_file, bytes_of}
 use Rattle.unit_trait.specs.declared.kind.UnitName.{UnitName}
 use Rattle.unit_files.specs.Attachments.{Attachment, is_disk}
-use Rattle.unit_files.specs.Buffer.{Buffer}
+use Rattle.unit_files.specs.Buffer.{Buffer, no_marks}
 use Rattle.unit_files.specs.Acts.{Failure, is_due_back, FlushSaid, Flushed, flushed_as, flush_said, flush_files, buffer_flushed}
 use Rattle.unit_files.specs.Digests.{digest_read, digest_measured, digest_said, behind_flush, buffer_digested}
-use Rattle.unit_files.specs.Laws.{DigestsAreOfTheFile}
+use Rattle.unit_files.specs.Laws.{IsCopyOutside, DigestsAreOfTheFile}
 use Rattle.unit_files.proofs.FlushLaws.{flushes-leave}
 
 -- no failure is met
@@ -15,7 +15,7 @@ none-met true f is = is
 none-met false f is = refl
 
 -- nothing is to be written back behind a writing back
-marked-off : (test : Bool) (disk : Buffer) → (test && (if test then record disk { written = false } else disk).written) ≡ false
+marked-off : (test : Bool) (disk : Buffer) → (test && (if test then record disk { written = false; marks = no_marks } else disk).written) ≡ false
 marked-off true disk = refl
 marked-off false disk = refl
 
@@ -31,9 +31,9 @@ module _ (unit : UnitName) (a : Attachment) (disk : Buffer) (files : List NamedB
       ∙ ap (λ (f : Option Failure). digest_read f bytes) (none-met (nat_lt 0 (length bytes)) None refl)
 
   copy : is_due_back unit disk ≡ true → IsSome (find_file files a.name)
-      → length (bytes_of files a.name) ≤ length disk.bytes
+      → IsCopyOutside disk (bytes_of files a.name)
       → digest_said None unit (Some a) disk files ≡ digest_read None disk.bytes
-  copy due there short = behind ∙ ap (digest_read None) (flushes-leave.whole unit a disk files due there short)
+  copy due there outside = behind ∙ ap (digest_read None) (flushes-leave.whole unit a disk files due there outside)
 
   file : is_due_back unit disk ≡ false
       → digest_said None unit (Some a) disk files ≡ digest_read None (bytes_of files a.name)

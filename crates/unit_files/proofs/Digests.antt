@@ -6,7 +6,7 @@ use Rattle.std.proofs.Math.Seq.{take-append-add}
 use Rattle.std.proofs.lemmas.List.{take-append-drop, take-append-le, length-take-le}
 use Rattle.fault_counts.specs.Faults.{raised}
 use Rattle.host_files.specs.declared.files.FileCall.TheVariants.{Write}
-use Rattle.host_files.specs.Lists.{NamedBytes, bytes_of, changed, overwritten}
+use Rattle.host_files.specs.Lists.{NamedBytes, bytes_of, changed}
 use Rattle.host_files.specs.State.{FileState, content, name_at}
 use Rattle.unit_trait.specs.declared.kind.UnitName.{UnitName}
 use Rattle.unit_files.specs.declared.digest.FileDigest.{FileDigest}
@@ -15,7 +15,7 @@ use Rattle.unit_files.specs.declared.faults.DetachFault.{DetachFault}
 use Rattle.unit_files.specs.declared.faults.DetachFault.TheVariants as detach
 use Rattle.unit_files.specs.Attachments.{Attachment, Held, held_at}
 use Rattle.unit_files.specs.Buffer.{Buffer}
-use Rattle.unit_files.specs.Acts.{Failure, failure_at, is_due_back, piece_of, flushed_as, flush_failure, flush_said, flush_files}
+use Rattle.unit_files.specs.Acts.{Failure, failure_at, is_due_back, piece_of, written_pages, flushed_as, flush_failure, flush_said, flush_files}
 use Rattle.unit_files.specs.Acts.{buffer_flushed, FlushSaid, HasNone, NotFlushed, Flushed}
 use Rattle.unit_files.specs.Answers.{failure_in, said_of_flush, failure_of_flush}
 use Rattle.unit_files.specs.Causes.{IsQuiet, IsFaultOf, FlushCause}
@@ -54,8 +54,8 @@ pub same-files : (fault : Option Failure) (unit : UnitName) (a : Option Attachme
 unfolding flush_files
 same-files fault unit None disk files is = refl
 same-files fault unit (Some a) disk files is =
-    ap (λ (f : Option Failure). if is_due_back unit disk then changed files a.name (λ (old : List ℕ). overwritten old 0
-    (piece_of f disk.bytes)) else files) is
+    ap (λ (f : Option Failure). if is_due_back unit disk then changed files a.name (λ (old : List ℕ). written_pages
+    disk.marks 0 (piece_of f disk.bytes) old) else files) is
 
 module _ (fault : Option Failure) (unit : UnitName) (a : Option Attachment) (disk : Buffer)
     (other : failure_at Write fault ≡ None) (flushed : Flushed ≡ flush_said None unit a disk) where

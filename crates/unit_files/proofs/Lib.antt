@@ -8,3 +8,8 @@ pub mod FlushLaws
 pub mod SectorLaws
 pub mod Digests
 pub mod DigestLaws
+pub mod Overwriting
+pub mod Pages
+pub mod Marks
+pub mod PageLaws
+pub mod WrittenPages

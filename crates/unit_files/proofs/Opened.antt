@@ -66,12 +66,12 @@ read-at-file fault a b place files name is same within =
 
 pub written-back-file : (fault : Option Failure) (unit : UnitName) (a : Option Attachment) (b : Attachment)
     (disk : Buffer) (files : List NamedBytes) (name : List ℕ) → a ≡ Some b → name ≡ b.name → is_due_back unit disk ≡ true
-    → flush_files fault unit a disk files ≡ changed files name (written_back fault disk.bytes)
+    → flush_files fault unit a disk files ≡ changed files name (written_back fault disk)
 unfolding flush_files
 written-back-file fault unit a b disk files name is same due =
     ap (λ (x : Option Attachment). flush_files fault unit x disk files) is
-    ∙ ap (λ (t : Bool). if t then changed files b.name (written_back fault disk.bytes) else files) due
-    ∙ ap (λ (n : List ℕ). changed files n (written_back fault disk.bytes)) (sym same)
+    ∙ ap (λ (t : Bool). if t then changed files b.name (written_back fault disk) else files) due
+    ∙ ap (λ (n : List ℕ). changed files n (written_back fault disk)) (sym same)
 
 pub written-at-file : (fault : Option Failure) (a : Option Attachment) (b : Attachment) (place byte : ℕ)
     (files : List NamedBytes) (name : List ℕ) → a ≡ Some b → name ≡ b.name → place < most_bytes

@@ -1,63 +1,13 @@
 -- A sector that was written is read back, and other sectors stay.
-use Rattle.std.proofs.Common.{◌≡◌, ◌≢◌, ◌⊎◌, ◌<◌, ◌≤◌, ◌+◌, ◌-◌, ◌*◌, ℕ, List, [], ◌∷◌, ◌++◌, length, get_or, take, drop, replicate, inl, inr, refl, ap, sym, ◌∙◌, arith}
+use Rattle.std.proofs.Common.{◌≡◌, ◌≢◌, ◌⊎◌, ◌<◌, ◌≤◌, ◌+◌, ◌-◌, ◌*◌, ℕ, List, [], ◌∷◌, ◌++◌, length, drop, replicate, inl, inr, sym, ◌∙◌, arith}
 use Rattle.std.proofs.lemmas.Bool.{cases_lt}
-use Rattle.std.proofs.lemmas.List.{get_or-drop, get_or-take, get_or_past, get_or_append_left, get_or-append_right, get_or-replicate, length-append, length-replicate, length-take-le, ext_get_or}
+use Rattle.std.proofs.lemmas.List.{get_or-drop, get_or-take, length-append, length-replicate, length-take-le, ext_get_or}
 use Rattle.std.proofs.lemmas.Nat.{mul-add-lt}
 use Rattle.std.proofs.Math.Nat.{mul_comm}
-use Rattle.host_files.specs.Lists.{filled, overwritten}
+use Rattle.host_files.specs.Lists.{overwritten}
 use Rattle.unit_files.specs.Buffer.{sector_bytes, sector_of, with_sector}
 use Rattle.unit_files.specs.Laws.{SectorsReadBack}
-
--- the byte at a place, and 0 past the end
-abbrev at : List ℕ → ℕ → ℕ
-at xs i = get_or xs i 0
-
-zero-read : (n i : ℕ) → at (replicate n 0) i ≡ 0
-zero-read n i = elim (cases_lt i n) [
-  | inl low ↦ get_or-replicate n i 0 0 low
-  | inr high ↦ get_or_past (replicate n 0) i 0 (omega (arith, length-replicate {A = ℕ} n 0, high))
-]
-
--- zero bytes behind bytes change none that is read
-zeros-behind : (xs : List ℕ) (n i : ℕ) → at (xs ++ replicate n 0) i ≡ at xs i
-zeros-behind xs n i = elim (cases_lt i (length xs)) [
-  | inl in_front ↦ get_or_append_left xs (replicate n 0) 0 i in_front
-  | inr behind ↦
-      get_or-append_right xs (replicate n 0) (length xs) i 0 refl behind
-      ∙ zero-read n (i - length xs) ∙ sym (get_or_past xs i 0 behind)
-]
-
--- a piece that is written over bytes at a place
-module _ (bytes : List ℕ) (p : ℕ) (b : ℕ) (rest : List ℕ) where
-  abbrev front : List ℕ
-  front = take p (filled bytes p)
-
-  abbrev tail : List ℕ
-  tail = drop (p + length (b ∷ rest)) bytes
-
-  front-long : length front ≡ p
-  front-long = length-take-le p (filled bytes p) (omega (arith, length-append bytes (replicate (p - length bytes) 0), length-replicate {A = ℕ} (p - length bytes) 0))
-
-  both-long : length (front ++ (b ∷ rest)) ≡ p + length (b ∷ rest)
-  both-long = length-append front (b ∷ rest) ∙ ap (λ (n : ℕ). n + length (b ∷ rest)) front-long
-
-  over-before : (i : ℕ) → i < p → at (overwritten bytes p (b ∷ rest)) i ≡ at bytes i
-  over-before i low =
-      get_or_append_left (front ++ (b ∷ rest)) tail 0 i (omega (arith, both-long, low))
-      ∙ get_or_append_left front (b ∷ rest) 0 i (omega (arith, front-long, low))
-      ∙ get_or-take p (filled bytes p) i 0 low ∙ zeros-behind bytes (p - length bytes) i
-
-  over-within : (i : ℕ) → i < length (b ∷ rest) → at (overwritten bytes p (b ∷ rest)) (p + i) ≡ at (b ∷ rest) i
-  over-within i within =
-      get_or_append_left (front ++ (b ∷ rest)) tail 0 (p + i) (omega (arith, both-long, within))
-      ∙ get_or-append_right front (b ∷ rest) p (p + i) 0 front-long (omega arith)
-      ∙ ap (λ (n : ℕ). at (b ∷ rest) n) {x = p + i - p} {y = i} (omega arith)
-
-  over-behind : (i : ℕ) → p + length (b ∷ rest) ≤ i → at (overwritten bytes p (b ∷ rest)) i ≡ at bytes i
-  over-behind i behind =
-      get_or-append_right (front ++ (b ∷ rest)) tail (p + length (b ∷ rest)) i 0 both-long behind
-      ∙ get_or-drop (p + length (b ∷ rest)) bytes (i - (p + length (b ∷ rest))) 0
-      ∙ ap (λ (n : ℕ). at bytes n) {x = p + length (b ∷ rest) + (i - (p + length (b ∷ rest)))} {y = i} (omega (arith, behind))
+use Rattle.unit_files.proofs.Overwriting.{at, zeros-behind, over-before, over-within, over-behind}
 
 -- a byte of a sector
 sector-byte : (bytes : List ℕ) (sector k : ℕ) → k < sector_bytes → at (sector_of bytes sector) k ≡ at bytes (sector * sector_bytes + k)
@@ -82,7 +32,7 @@ same bytes (b ∷ rest) sector long =
     let new = overwritten bytes (sector * sector_bytes) (b ∷ rest) in
     ext_get_or 0 (sector_of new sector) (b ∷ rest) (sector-long new sector ∙ sym long) (λ k below.
     let within : k < sector_bytes = omega (arith, sector-long new sector, below) in
-    sector-byte new sector k within ∙ over-within bytes (sector * sector_bytes) b rest k (omega (arith, within, long)))
+    sector-byte new sector k within ∙ over-within bytes (sector * sector_bytes) (b ∷ rest) k (omega (arith, within, long)))
 
 -- the bytes of another sector stand in front of this one or behind it
 apart : (size sector other k : ℕ) → k < size → other ≢ sector → (other * size + k < sector * size) ⊎ (sector * size + size ≤ other * size + k)
@@ -104,8 +54,8 @@ others bytes (b ∷ rest) sector other long not_same =
     let within : k < sector_bytes = omega (arith, sector-long new other, below) in
     sector-byte new other k within
     ∙ (elim (apart sector_bytes sector other k within not_same) [
-      | inl before ↦ over-before bytes (sector * sector_bytes) b rest (other * sector_bytes + k) before
-      | inr behind ↦ over-behind bytes (sector * sector_bytes) b rest (other * sector_bytes + k) (omega (arith, behind, long))
+      | inl before ↦ over-before bytes (sector * sector_bytes) (b ∷ rest) (other * sector_bytes + k) before
+      | inr behind ↦ over-behind bytes (sector * sector_bytes) (b ∷ rest) (other * sector_bytes + k) (omega (arith, behind, long))
     ])
     ∙ sym (sector-byte bytes other k within))
 

@@ -1,7 +1,7 @@
 -- The disk's copy of its file: the bytes that were read when the file was attached, with the sectors that were written
 -- since. They are written back where the disk is detached.
-use Rattle.std.specs.Prelude.{ℕ, ◌*◌, ◌^◌, Bool, true, false, List, [], ◌++◌, take, drop, replicate, Option, Some, None}
-use Rattle.std.specs.Prelude.{if◌then◌else◌}
+use Rattle.std.specs.Prelude.{ℕ, ◌+◌, ◌-◌, ◌*◌, ◌/◌, ◌^◌, Bool, true, false, List, [], ◌++◌, length, take, drop, min, replicate}
+use Rattle.std.specs.Prelude.{Option, Some, None, if◌then◌else◌}
 use Rattle.host_files.specs.Lists.{overwritten}
 use Rattle.unit_trait.specs.declared.kind.Kind.TheVariants.{Dsk}
 use Rattle.unit_trait.specs.declared.kind.UnitName.{UnitName}
@@ -9,14 +9,28 @@ use Rattle.unit_files.specs.declared.faults.SectorAnswer.{SectorAnswer}
 use Rattle.unit_files.specs.declared.faults.SectorAnswer.TheVariants.{Done, NoFile, ReadOnly}
 use Rattle.unit_files.specs.Attachments.{Attachment, Held, no_files}
 
+-- how many bytes a page of the copy has
+unfoldable pub page_bytes : ℕ
+page_bytes = 2 ^ 12
+
+-- how many pages the disk has
+unfoldable pub disk_pages : ℕ
+disk_pages = 2 ^ 10
+
 pub record Buffer : Type 0 where
   pub bytes : List ℕ
   -- whether a sector was written since the file was attached, or since the bytes were last written back
   pub written : Bool
+  -- the pages in which something was written since then, a mark each from the front
+  pub marks : List Bool
+
+-- no page is marked
+abbrev pub no_marks : List Bool
+no_marks = replicate disk_pages false
 
 -- no file is attached
 abbrev pub no_buffer : Buffer
-no_buffer = record { bytes = []; written = false }
+no_buffer = record { bytes = []; written = false; marks = no_marks }
 
 -- what is attached to the units, and the disk's copy
 pub record AttachedFiles : Type 0 where
@@ -49,6 +63,20 @@ sector_of bytes sector = take sector_bytes (drop (sector * sector_bytes) bytes +
 unfoldable pub with_sector : List ℕ → ℕ → List ℕ → List ℕ
 with_sector bytes sector piece = overwritten bytes (sector * sector_bytes) piece
 
+-- the page of a byte
+unfoldable pub page_of : ℕ → ℕ
+page_of place = place / page_bytes
+
+-- the marks, with those from a page up to another one set
+unfoldable pub marked : ℕ → ℕ → List Bool → List Bool
+marked first last marks = take first marks ++ replicate (last + 1 - first) true ++ drop (last + 1) marks
+
+-- The marks once a sector was written: that of its page, and of every page in front of it in which its gap lies. The gap
+-- begins where the copy ended.
+abbrev pub with_marks : List ℕ → ℕ → List Bool → List Bool
+with_marks bytes sector marks =
+    marked (page_of (min (length bytes) (sector * sector_bytes))) (page_of (sector * sector_bytes)) marks
+
 -- ---- a sector is read or written
 
 abbrev pub said_of_reading : Option Attachment → SectorAnswer
@@ -68,4 +96,9 @@ said_of_writing (Some a) = if a.read_only then ReadOnly else Done
 abbrev pub sector_written : Option Attachment → Buffer → ℕ → List ℕ → Buffer
 sector_written None disk sector piece = disk
 sector_written (Some a) disk sector piece =
-    if a.read_only then disk else record { bytes = with_sector disk.bytes sector piece; written = true }
+    if a.read_only then disk
+    else record {
+      bytes = with_sector disk.bytes sector piece;
+      written = true;
+      marks = with_marks disk.bytes sector disk.marks;
+    }

@@ -1,34 +1,62 @@
 -- What was proved about the disk's copy of its file, in a reader's words.
-use Rattle.std.specs.Prelude.{◌≡◌, ◌≢◌, ◌≤◌, ℕ, true, false, List, ◌++◌, length, drop, Option, Some, None, IsSome}
+use Rattle.std.specs.Prelude.{◌≡◌, ◌≢◌, ◌<◌, ◌≤◌, ℕ, ◌+◌, ◌*◌, Bool, true, false, List, length, max, get_or, slice_get}
+use Rattle.std.specs.Prelude.{Option, Some, None, IsSome}
 use Rattle.sha2.specs.Sha256.{sha256}
 use Rattle.host_files.specs.declared.files.FileCall.TheVariants.{Write}
 use Rattle.host_files.specs.Lists.{NamedBytes, find_file, bytes_of}
 use Rattle.unit_trait.specs.declared.kind.UnitName.{UnitName}
 use Rattle.unit_files.specs.Attachments.{Attachment}
-use Rattle.unit_files.specs.Buffer.{Buffer, sector_bytes, sector_of, with_sector}
-use Rattle.unit_files.specs.Acts.{Failure, failure_at, is_due_back, piece_of, flush_files}
+use Rattle.unit_files.specs.Buffer.{Buffer, page_bytes, disk_pages, sector_bytes, disk_sectors, sector_of, with_sector}
+use Rattle.unit_files.specs.Buffer.{sector_written}
+use Rattle.unit_files.specs.Acts.{Failure, failure_at, is_due_back, piece_of, written_back, flush_files}
 use Rattle.unit_files.specs.Digests.{Digested, digest_said, buffer_digested}
 
 -- the bytes of a copy that are written back: all of it, or the first ones where the write fails
 abbrev pub part_of_copy : Option Failure → Buffer → List ℕ
 part_of_copy fault disk = piece_of (failure_at Write fault) disk.bytes
 
--- What is written back of the disk's copy stands at the front of its file, and behind it what the file had there. So a file
--- that was no longer than the copy is exactly the copy where the write does not fail. No other file changes, and none does
--- where there is nothing to write back.
+-- Outside the marked pages, a file has the bytes of the copy: each of them, and none that the copy has not.
+pub record IsCopyOutside (disk : Buffer) (old : List ℕ) : Type 0 where
+  pub short : length old ≤ length disk.bytes
+  pub same : (page k : ℕ) → k < page_bytes → get_or disk.marks page false ≡ false
+      → slice_get old (page * page_bytes + k) ≡ slice_get disk.bytes (page * page_bytes + k)
+
+-- Pages were written over a file: within the marked ones it has the bytes that were written, as far as there are any, and
+-- all others are its own. A gap is of zero bytes, and the file has become longer only where a byte was written.
+pub record HasPages (marks : List Bool) (bytes old new : List ℕ) : Type 0 where
+  pub pages : (page k : ℕ) → k < page_bytes → get_or marks page false ≡ true → page * page_bytes + k < length bytes
+      → slice_get new (page * page_bytes + k) ≡ slice_get bytes (page * page_bytes + k)
+  pub others : (page k : ℕ) → k < page_bytes → get_or marks page false ≡ false
+      → get_or new (page * page_bytes + k) 0 ≡ get_or old (page * page_bytes + k) 0
+  pub behind : (place : ℕ) → length bytes ≤ place → get_or new place 0 ≡ get_or old place 0
+  pub no_shorter : length old ≤ length new
+  pub no_longer : length new ≤ max (length old) (length bytes)
+
+-- What is written back of the disk's copy stands in its file in the marked pages, and outside them what the file had there.
+-- So a file that was the copy outside the marked pages is exactly the copy where the write does not fail. No other file
+-- changes, and none does where there is nothing to write back.
 pub record FlushesLeaveTheCopy : Type 0 where
   pub whole : (unit : UnitName) (a : Attachment) (disk : Buffer) (files : List NamedBytes) → is_due_back unit disk ≡ true
-      → IsSome (find_file files a.name) → length (bytes_of files a.name) ≤ length disk.bytes
+      → IsSome (find_file files a.name) → IsCopyOutside disk (bytes_of files a.name)
       → bytes_of (flush_files None unit (Some a) disk files) a.name ≡ disk.bytes
   pub front : (fault : Option Failure) (unit : UnitName) (a : Attachment) (disk : Buffer) (files : List NamedBytes)
       → is_due_back unit disk ≡ true → IsSome (find_file files a.name)
-      → bytes_of (flush_files fault unit (Some a) disk files) a.name
-      ≡ part_of_copy fault disk ++ drop (length (part_of_copy fault disk)) (bytes_of files a.name)
+      → HasPages disk.marks (part_of_copy fault disk) (bytes_of files a.name)
+      (bytes_of (flush_files fault unit (Some a) disk files) a.name)
   pub others : (fault : Option Failure) (unit : UnitName) (a : Attachment) (disk : Buffer) (files : List NamedBytes)
       (name : List ℕ) → a.name ≢ name
       → bytes_of (flush_files fault unit (Some a) disk files) name ≡ bytes_of files name
   pub nothing : (fault : Option Failure) (unit : UnitName) (a : Option Attachment) (disk : Buffer)
       (files : List NamedBytes) → is_due_back unit disk ≡ false → flush_files fault unit a disk files ≡ files
+
+-- Where a writing back would leave the copy in a file, it does so too once a sector was written: a page in which that changes
+-- a byte is marked. It would where the file is the copy.
+pub record SectorsMarkTheirPages : Type 0 where
+  pub same : (disk : Buffer) → written_back None disk disk.bytes ≡ disk.bytes
+  pub sector : (a : Attachment) (disk : Buffer) (old piece : List ℕ) (sector : ℕ) → sector < disk_sectors
+      → length piece ≡ sector_bytes → length disk.marks ≡ disk_pages → written_back None disk old ≡ disk.bytes
+      → written_back None (sector_written (Some a) disk sector piece) old
+      ≡ (sector_written (Some a) disk sector piece).bytes
 
 -- a sector that is written is what is read of it then, and every other one is read as before
 pub record SectorsReadBack : Type 0 where
@@ -38,15 +66,15 @@ pub record SectorsReadBack : Type 0 where
       → sector_of (with_sector bytes sector piece) other ≡ sector_of bytes other
 
 -- Where no call fails, the digest of a unit's file is that of the bytes which the file has behind the writing back: of the
--- disk's copy, where that is written back over a file that was no longer, and of the file's own bytes, where there is
--- nothing to write back. A second digest says the same.
+-- disk's copy, where that is written back over a file that was the copy outside the marked pages, and of the file's own
+-- bytes, where there is nothing to write back. A second digest says the same.
 pub record DigestsAreOfTheFile : Type 0 where
   pub behind : (unit : UnitName) (a : Attachment) (disk : Buffer) (files : List NamedBytes)
       → digest_said None unit (Some a) disk files
       ≡ Digested (length (bytes_of (flush_files None unit (Some a) disk files) a.name))
       (sha256 (bytes_of (flush_files None unit (Some a) disk files) a.name))
   pub copy : (unit : UnitName) (a : Attachment) (disk : Buffer) (files : List NamedBytes) → is_due_back unit disk ≡ true
-      → IsSome (find_file files a.name) → length (bytes_of files a.name) ≤ length disk.bytes
+      → IsSome (find_file files a.name) → IsCopyOutside disk (bytes_of files a.name)
       → digest_said None unit (Some a) disk files ≡ Digested (length disk.bytes) (sha256 disk.bytes)
   pub file : (unit : UnitName) (a : Attachment) (disk : Buffer) (files : List NamedBytes) → is_due_back unit disk ≡ false
       → digest_said None unit (Some a) disk files

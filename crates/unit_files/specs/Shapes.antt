@@ -1,8 +1,10 @@
 -- What the byte calls may answer, whether names are told or not.
-use Rattle.std.specs.Prelude.{◌≡◌, ◌≢◌, ℕ, ◌<◌, ◌≤◌, ◌^◌, length, Option, Some, None, IfSome}
+use Rattle.std.specs.Prelude.{◌≡◌, ◌≢◌, ℕ, ◌+◌, ◌-◌, ◌<◌, ◌≤◌, ◌^◌, Bool, true, List, length, take, Option, Some, None}
+use Rattle.std.specs.Prelude.{IfSome, Result, Ok, Err, if◌then◌else◌}
 use Rattle.fault_counts.specs.Faults.{raised}
 use Rattle.host_files.specs.declared.files.FileId.{FileId}
 use Rattle.host_files.specs.declared.files.FileCall.TheVariants as call
+use Rattle.host_files.specs.Lists.{overwritten}
 use Rattle.host_files.specs.State.{FileState}
 use Rattle.unit_trait.specs.declared.kind.UnitName.{UnitName}
 use Rattle.unit_files.specs.declared.faults.UnitFault.{UnitFault}
@@ -10,6 +12,7 @@ use Rattle.unit_files.specs.declared.faults.ByteAnswer.{ByteAnswer}
 use Rattle.unit_files.specs.declared.faults.ByteAnswer.TheVariants as byte
 use Rattle.unit_files.specs.Attachments.{Attachment}
 use Rattle.unit_files.specs.Acts.{Failure}
+use Rattle.unit_files.specs.Answers.{failure_in}
 use Rattle.unit_files.specs.Buffer.{Buffer}
 use Rattle.unit_files.specs.Causes.{IsQuiet}
 
@@ -48,9 +51,29 @@ OpenCause (byte.Failed f) unit id old new = IsFaultAt f unit id old new
 OpenCause answer unit id old new = IsQuiet old new
 
 -- what a writing back of the disk's copy leaves of them
-abbrev pub WriteCause : Option UnitFault → UnitName → FileId → FileState → FileState → Type 0
-WriteCause None unit id old new = IsQuiet old new
-WriteCause (Some f) unit id old new = (f.call ≡ call.Write) × IsFaultAt f unit id old new
+abbrev pub WriteCause : Result (Unit {0}) UnitFault → UnitName → FileId → FileState → FileState → Type 0
+WriteCause (Ok u) unit id old new = IsQuiet old new
+WriteCause (Err f) unit id old new = (f.call ≡ call.Write) × IsFaultAt f unit id old new
+
+-- the failing write that a writing back claims
+abbrev pub failure_of_writing : Result (Unit {0}) UnitFault → Option Failure
+failure_of_writing (Ok u) = None
+failure_of_writing (Err f) = Some (failure_in f)
+
+-- what a write of a page at a place wrote of it, where `done` counts from the front of the file
+abbrev pub page_done : Result (Unit {0}) UnitFault → ℕ → List ℕ → List ℕ
+page_done (Ok u) place bytes = bytes
+page_done (Err f) place bytes = take (f.done - place) bytes
+
+-- the bytes of the file behind that; a page without a mark is not written
+abbrev pub page_left : Result (Unit {0}) UnitFault → Bool → ℕ → List ℕ → List ℕ → List ℕ
+page_left result mark place bytes old = if mark then overwritten old place (page_done result place bytes) else old
+
+-- where it failed, the page was to be written and has bytes, and it ended within these
+abbrev pub EndsWithin : Result (Unit {0}) UnitFault → Bool → ℕ → List ℕ → Type 0
+EndsWithin (Ok u) mark place bytes = Unit {0}
+EndsWithin (Err f) mark place bytes =
+    (mark ≡ true) × (0 < length bytes) × (place ≤ f.done) × (f.done ≤ place + length bytes)
 
 -- a write that failed wrote no more bytes than there are
 abbrev pub IsPart : Option Failure → Buffer → Type 0

@@ -4,7 +4,7 @@ use Rattle.host_files.specs.declared.files.FileId.{FileId}
 use Rattle.unit_trait.specs.declared.kind.UnitName.{UnitName}
 use Rattle.unit_files.specs.declared.slots.UnitFile.{UnitFile}
 use Rattle.unit_files.specs.declared.slots.DiskCopy.{DiskCopy}
-use Rattle.unit_files.specs.Buffer.{Buffer, disk_bytes}
+use Rattle.unit_files.specs.Buffer.{Buffer, disk_bytes, no_marks}
 use Rattle.unit_files.specs.Attachments.{Held, held_at, attachments_of, attachment_at}
 
 abbrev pub held_of : UnitFile → Held
@@ -14,15 +14,17 @@ abbrev pub slot_of : Option UnitFile → Option Held
 slot_of slot = option_map held_of slot
 
 abbrev pub buffer_of : DiskCopy → Buffer
-buffer_of d = record { bytes = d.bytes.items; written = d.written }
+buffer_of d = record { bytes = d.bytes.items; written = d.written; marks = d.marks }
 
 -- The copy has no more bytes than the disk; that of a file that is attached has room for all of them, and no sector of a
--- file that is only read was written. Where no file is attached to the disk, there is no copy.
+-- file that is only read was written. No page is marked where no sector was written. Where no file is attached to the disk,
+-- there is no copy.
 pub record CanWrite (slots : List (Option Held)) (d : DiskCopy) : Type 0 where
   pub short : length d.bytes.items ≤ disk_bytes
   pub room : (h : Held) → get_or slots 0 None ≡ Some h → disk_bytes ≤ vec_capacity d.bytes
   pub writable : (h : Held) → get_or slots 0 None ≡ Some h → d.written ≡ true → h.attachment.read_only ≡ false
   pub none : get_or slots 0 None ≡ None → (d.bytes.items ≡ []) × (d.written ≡ false)
+  pub unmarked : d.written ≡ false → d.marks ≡ no_marks
 
 -- the number of a unit's file, with all that is attached to it
 pub record HoldsFile (slots : List (Option Held)) (unit : UnitName) (id : FileId) : Type 0 where

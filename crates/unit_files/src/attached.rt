@@ -3,7 +3,7 @@ ghost use Rattle.std.specs.Prelude.{true, false, not, map, if◌then◌else◌, 
 ghost use Rattle.host_files.specs.Lists.{bytes_of};
 ghost use Rattle.host_files.specs.State.{Opened, IsOpen, without};
 ghost use Rattle.unit_files.specs.Attachments.{held_at, with_held, attachments_of, with_attachment, is_disk};
-ghost use Rattle.unit_files.specs.Buffer.{nothing_attached, no_buffer, disk_bytes};
+ghost use Rattle.unit_files.specs.Buffer.{nothing_attached, no_buffer, no_marks, disk_bytes};
 ghost use Rattle.unit_files.specs.Attachments.{attachment_at, takes_attachment, may_write, read_only_at, only_writes};
 ghost use Rattle.unit_files.specs.Attachments.{longest_file, file_place, IsFileName, HaveFileNames, is_any_attached};
 ghost use Rattle.unit_files.specs.Acts.{attach_said, attach_files, attached_by, buffer_by, refused_first};
@@ -20,9 +20,10 @@ ghost use Rattle.host_files.specs.State.{IsWritable, name_at};
 ghost use Rattle.unit_files.specs.View.{held_of, slot_of, buffer_of, Holds};
 
 use crate::faults::{AttachFault, DetachFault, UnitFault};
+use crate::flushing::write_copy;
 use crate::modes::AttachMode;
 use crate::opening::{room_for, take_file};
-use crate::slots::{DiskCopy, FILE_UNITS, UnitFile, is_disk, only_writes, place_of};
+use crate::slots::{DiskCopy, FILE_UNITS, UnitFile, is_disk, only_writes, place_of, unmarked};
 use host_files::{Failed, FileCall, FileId, Files, OutOfMemory};
 use std::alloc::{AllocError, Global};
 use std::marker::Model;
@@ -65,6 +66,7 @@ impl Attached {
         let disk = DiskCopy {
             bytes: Vec::new(alloc),
             written: false,
+            marks: unmarked(),
         };
         Ok(Attached { slots, disk })
     }
@@ -139,11 +141,10 @@ impl Attached {
         }
     }
 
-    /// Writes back what the disk holds of its file, where a sector was written since the file was attached or last
-    /// written back, and then closes a unit's file. Behind that nothing is attached to the unit, also where the closing
-    /// failed, which is answered as a fault. `NotAttached` comes exactly where nothing was attached. `Failed` comes
-    /// where the file could not be written: it is still attached, and holds as many first bytes of the copy as the
-    /// fault says, and behind them its own.
+    /// Writes back what the disk holds of its file, as `flush` does, and then closes a unit's file. Behind that nothing
+    /// is attached to the unit, also where the closing failed, which is answered as a fault. `NotAttached` comes exactly
+    /// where nothing was attached. `Failed` comes where the file could not be written: it is still attached, and holds
+    /// what `flush` leaves in it.
     #[tactic(auto, unfolding(crate::specs::Acts::flush_files))]
     pub fn detach<F: Files>(
         &mut self,
@@ -173,9 +174,11 @@ impl Attached {
         }
     }
 
-    /// Writes back what the disk holds of its file, where a sector was written since the file was attached or last
-    /// written back; for another unit it does nothing. `NotAttached` comes exactly where nothing is attached. After
-    /// `Failed` the file holds as many first bytes of the copy as the fault says, and behind them its own.
+    /// Writes back what the disk holds of its file: each page of 4096 bytes in which a sector was written since the file
+    /// was attached or last written back, or the gap in front of one, by a write of its own, from the front; for another
+    /// unit it does nothing. `NotAttached` comes exactly where nothing is attached. After `Failed` the pages in front of
+    /// the one whose write failed are written, and of that as much as the fault says, which counts from the front of
+    /// the file. All of them are still to be written back.
     #[tactic(auto, unfolding(crate::specs::Acts::flush_files))]
     pub fn flush<F: Files>(&mut self, unit: UnitName, files: &mut F) -> Result<(), DetachFault>
         requires unit { IsTrue (takes_attachment unit) }
@@ -193,13 +196,22 @@ impl Attached {
         match self.held_file(unit) {
             None => Err(DetachFault::NotAttached),
             Some(_) if !self.is_due_back(unit) => Ok(()),
-            Some(file) => match write_copy(unit, file, self.disk.bytes.as_slice(), files) {
-                None => {
-                    self.disk.written = false;
-                    Ok(())
+            Some(file) => {
+                match write_copy(
+                    unit,
+                    file,
+                    &self.disk.marks,
+                    self.disk.bytes.as_slice(),
+                    files,
+                ) {
+                    Ok(()) => {
+                        self.disk.written = false;
+                        self.disk.marks = unmarked();
+                        Ok(())
+                    }
+                    Err(fault) => Err(DetachFault::Failed(fault)),
                 }
-                Some(fault) => Err(DetachFault::Failed(fault)),
-            },
+            }
         }
     }
 
@@ -324,13 +336,14 @@ impl Attached {
         ensures attachments { attachments_of self.new.slots
             ≡ with_attachment (attachments_of self.old.slots) unit (Some (held_of held).attachment) }
         ensures disk { self.new.disk
-            ≡ (if is_disk unit.kind then record { bytes = bytes.items; written = false } else self.old.disk) }
+            ≡ (if is_disk unit.kind then record { bytes = bytes.items; written = false; marks = no_marks } else self.old.disk) }
     {
         self.slots[place_of(unit)] = Some(held);
         if is_disk(unit.kind) {
             self.disk = DiskCopy {
                 bytes,
                 written: false,
+                marks: unmarked(),
             };
         }
     }
@@ -346,6 +359,7 @@ impl Attached {
         if is_disk(unit.kind) {
             self.disk.bytes.clear();
             self.disk.written = false;
+            self.disk.marks = unmarked();
         }
     }
 }
@@ -357,32 +371,6 @@ fn are_free(slots: &[Option<UnitFile>]) -> bool
     match slots.split_first() {
         None => true,
         Some((first, others)) => first.is_none() && are_free(others),
-    }
-}
-
-// Writes all that the disk holds over its file, from the front.
-fn write_copy<F: Files>(
-    unit: UnitName,
-    file: FileId,
-    bytes: &[u8],
-    files: &mut F,
-) -> Option<UnitFault>
-    requires open { IsOpen (F.state files.old) file.0 }
-    requires writable { IsWritable (F.state files.old) file.0 }
-    ensures files { (F.state files.new).files ≡ changed (F.state files.old).files
-        (name_at (F.state files.old).opened file.0) (written_back (option_map failure_in result) bytes.now) }
-    ensures opened { (F.state files.new).opened ≡ (F.state files.old).opened }
-    ensures part { IfSome result (λ f. f.done ≤ length bytes.now) }
-    ensures cause { WriteCause result unit file (F.state files.old) (F.state files.new) }
-{
-    match files.write_at(file, 0, bytes) {
-        Ok(()) => None,
-        Err(fault) => Some(UnitFault {
-            unit,
-            file: Some(file),
-            call: FileCall::Write,
-            done: fault.done as u64,
-        }),
     }
 }
 

@@ -2,9 +2,11 @@ ghost use Rattle.std.specs.Prelude.{◌≡◌, ◌<◌, ◌≤◌, ◌*◌, ◌+
 ghost use Rattle.unit_files.specs.Attachments.{attachments_of, attachment_at};
 ghost use Rattle.unit_files.specs.Buffer.{disk_bytes, disk_unit, disk_sectors, sector_bytes, sector_of, with_sector};
 ghost use Rattle.unit_files.specs.Buffer.{said_of_reading, sector_read, said_of_writing, sector_written};
+ghost use Rattle.unit_files.specs.Buffer.{page_of, marked};
 
 use crate::attached::Attached;
 use crate::faults::SectorAnswer;
+use crate::slots::{DISK_PAGES, PAGE_BYTES};
 use unit_trait::{Kind, UnitName};
 
 /// How many bytes a sector has: 256 words.
@@ -51,6 +53,7 @@ impl Attached {
         if self.is_read_only(DISK) {
             return SectorAnswer::ReadOnly;
         }
+        mark_sector(&mut self.disk.marks, self.disk.bytes.len(), sector);
         write_into(&mut self.disk.bytes, sector, from);
         self.disk.written = true;
         SectorAnswer::Done
@@ -91,6 +94,26 @@ fn clear_from(bytes: &mut [u8], place: usize)
     ensures { bytes.new ≡ take place bytes.old ++ replicate (length bytes.old - place) 0 }
 {
     bytes[place..].fill(0);
+}
+
+// Marks the page of a sector, and those in front of it behind the end of so many bytes.
+#[tactic(auto, unfolding(crate::specs::Buffer::disk_sectors, crate::specs::Buffer::sector_bytes))]
+fn mark_sector(marks: &mut [bool; DISK_PAGES], length: usize, sector: u16)
+    requires { sector < disk_sectors }
+    ensures { marks.new ≡ marked (page_of (min length (sector * sector_bytes))) (page_of (sector * sector_bytes)) marks.old }
+{
+    let place = usize::from(sector) * SECTOR_BYTES;
+    mark_pages(marks, length.min(place) / PAGE_BYTES, place / PAGE_BYTES);
+}
+
+// Marks the pages from one up to another.
+#[tactic(auto, unfolding(crate::specs::Buffer::marked))]
+fn mark_pages(marks: &mut [bool], first: usize, last: usize)
+    requires order { first ≤ last }
+    requires below { last < length marks.old }
+    ensures { marks.new ≡ marked first last marks.old }
+{
+    marks[first..last + 1].fill(true);
 }
 
 // Puts a sector into the bytes of a disk, which have room for it.

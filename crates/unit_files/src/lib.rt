@@ -6,6 +6,7 @@ pub mod bytes;
 pub mod digest;
 pub mod disk;
 pub mod faults;
+mod flushing;
 pub mod laws;
 pub mod modes;
 mod opening;
@@ -15,5 +16,7 @@ pub use attached::Attached;
 pub use digest::FileDigest;
 pub use disk::SECTOR_BYTES;
 pub use faults::{AttachFault, ByteAnswer, DetachFault, SectorAnswer, UnitFault};
-pub use laws::{digests_are_of_the_file, flushes_leave_the_copy, sectors_read_back};
+pub use laws::{
+    digests_are_of_the_file, flushes_leave_the_copy, sectors_mark_their_pages, sectors_read_back,
+};
 pub use modes::AttachMode;

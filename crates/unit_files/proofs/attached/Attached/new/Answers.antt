@@ -1,4 +1,4 @@
-use Rattle.std.proofs.Common.{◌≡◌, List, Option, None, replicate, map, ap, sym, subst, rules}
+use Rattle.std.proofs.Common.{◌≡◌, List, Option, None, replicate, map, get_or, refl, ap, sym, ◌∙◌, subst, rules}
 use Rattle.unit_files.specs.Attachments.{HaveFileNames}
 use Rattle.unit_files.specs.Open.{HaveOwnNumbers}
 use Rattle.unit_files.specs.View.{slot_of}
@@ -11,7 +11,13 @@ invariant_of-result c =
     let all : c.loop-place.slots.items ≡ replicate {A = Option UnitFile} 12 None = search rules in (
       search rules,
       search rules,
-      search rules,
+      record {
+        short = search rules;
+        room = λ h there. absurd (cc (ap (λ (l : List (Option UnitFile)). get_or (map slot_of l) 0 None) (sym all) ∙ there));
+        writable = λ h there written. absurd (cc);
+        none = λ _. (search rules, refl);
+        unmarked = λ _. c.unmarked.ensures;
+      },
       subst HaveOwnNumbers (sym (ap (λ (l : List (Option UnitFile)). map slot_of l) all)) (own-none 12),
       subst HaveFileNames (sym (ap (λ (l : List (Option UnitFile)). map slot_of l) all)) (names-none 12),
     )

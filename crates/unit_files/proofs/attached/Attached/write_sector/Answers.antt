@@ -13,7 +13,7 @@ invariant_of-self c =
     (sector-short c.self.inside.disk.bytes.items c.args.from.now c.args.sector c.requires long can.short) in (
       search rules,
       search rules,
-      record { short = short; room = search rules; writable = search rules; none = search rules },
+      record { short = short; room = search rules; writable = search rules; none = search rules; unmarked = λ is. absurd (cc) },
       c.self.invariant.3,
       c.self.invariant.4,
     )
