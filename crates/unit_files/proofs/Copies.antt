@@ -1,21 +1,22 @@
 -- The disk's copy of its file, where something is attached or detached.
-use Rattle.std.proofs.Common.{◌≡◌, ℕ, ◌+◌, ◌*◌, ◌<◌, ◌≤◌, Bool, true, false, IsTrue, List, [], ◌∷◌, get_or, length, set, vec_capacity, refl, sym, ◌∙◌, subst, arith}
+use Rattle.std.proofs.Common.{◌≡◌, ℕ, ◌<◌, ◌≤◌, Bool, true, false, IsTrue, List, [], ◌∷◌, get_or, length, set, refl, sym, ◌∙◌, arith}
 use Rattle.std.proofs.Common.{Option, Some, None, Err, ap, zero, suc, replicate}
 use Rattle.std.proofs.lemmas.Bool.Decides.{nat_tests}
-use Rattle.std.proofs.lemmas.List.{get_or-set_other, length-append, length-take, length-drop}
-use Rattle.host_files.specs.Lists.{overwritten}
+use Rattle.std.proofs.lemmas.List.{get_or-set_other}
 use Rattle.unit_trait.specs.declared.kind.Kind.{Kind}
 use Rattle.unit_trait.specs.declared.kind.UnitName.{UnitName}
 use Rattle.unit_trait.proofs.EveryKind.{every-kind}
-use Rattle.unit_files.specs.declared.slots.DiskCopy.{DiskCopy}
+use Rattle.unit_files.specs.declared.disk_copy.DiskCopy.{DiskCopy}
 use Rattle.unit_files.specs.declared.faults.DetachFault.{DetachFault}
 use Rattle.unit_files.specs.declared.faults.DetachFault.TheVariants as faults
-use Rattle.unit_files.specs.Attachments.{Attachment, Held, file_place, file_units, no_files, takes_attachment, is_disk, longest_file, is_any_attached, attachments_of}
+use Rattle.unit_files.specs.Attachments.{Attachment, Held, held_at, file_place, file_units, no_files, takes_attachment, is_disk, longest_file, is_any_attached, attachments_of}
 use Rattle.unit_files.specs.Attachments.{read_only_of, read_only_at, attachment_at}
-use Rattle.unit_files.specs.Buffer.{Buffer, AttachedFiles, nothing_attached, no_marks, sector_bytes, disk_sectors, disk_bytes, with_sector}
+use Rattle.unit_files.specs.Buffer.{Buffer, AttachedFiles, nothing_attached, no_marks, disk_bytes}
+use Rattle.unit_files.specs.Pages.{joined, marks_of}
 use Rattle.unit_files.specs.Acts.{Failure, HasNone, flush_said, flush_failure, flushed_as, detached_by}
 use Rattle.unit_files.specs.Answers.{said_of_flush, said_of_detach}
-use Rattle.unit_files.specs.View.{CanWrite, buffer_of}
+use Rattle.unit_files.specs.View.{CanWrite, IsCopy, IsNewCopy, buffer_of}
+use Rattle.unit_files.proofs.CopyPages.{marks-none}
 
 -- the first place is the disk's, and no other unit's
 first-of : (k : Kind) (n : ℕ) → is_disk k ≡ true → IsTrue (takes_attachment (record { kind = k; unit = n }))
@@ -39,8 +40,7 @@ can-other slots unit x d other can =
     let same : get_or (set slots (file_place unit) x) 0 None ≡ get_or slots 0 None =
     get_or-set_other slots (file_place unit) 0 x None (λ first. not-first unit.kind unit.unit other (sym first)) in
     record {
-      short = can.short;
-      room = λ h is. can.room h (sym same ∙ is);
+      copy = λ h is. can.copy h (sym same ∙ is);
       writable = λ h is written. can.writable h (sym same ∙ is) written;
       none = λ is. can.none (sym same ∙ is);
       unmarked = can.unmarked;
@@ -52,15 +52,13 @@ true-false b is not = absurd (cc)
 -- the disk has its file, with a copy of which nothing was written
 pub can-new : (slots after : List (Option Held)) (unit : UnitName) (h : Held) (d : DiskCopy) → is_disk unit.kind ≡ true
     → IsTrue (takes_attachment unit) → after ≡ set slots (file_place unit) (Some h) → 0 < length slots
-    → length d.bytes.items ≤ disk_bytes → disk_bytes ≤ vec_capacity d.bytes → d.written ≡ false → d.marks ≡ no_marks
-    → CanWrite after d
-can-new slots after unit h d is takes set_is some short room unwritten unmarked = record {
-  short = short;
-  room = λ other there. room;
-  writable = λ other there written. absurd (true-false d.written written unwritten);
+    → IsNewCopy d → CanWrite after d
+can-new slots after unit h d is takes set_is some new = record {
+  copy = λ other there. new.copy;
+  writable = λ other there written. absurd (true-false d.written written new.unwritten);
   none = λ none. absurd (some-none h (get_or after 0 None)
       ((λ i. get_or (set_is i) 0 None) ∙ (λ i. get_or (set slots (first i) (Some h)) 0 None) ∙ filled slots some) none);
-  unmarked = λ _. unmarked;
+  unmarked = λ _. new.unmarked;
 }
   where
     first : file_place unit ≡ 0
@@ -74,21 +72,30 @@ emptied : (slots : List (Option Held)) → get_or (set slots 0 None) 0 None ≡ 
 emptied [] = refl
 emptied (x ∷ slots) = refl
 
+-- where there is no copy, no page is marked
+pub no-pages : (d : DiskCopy) → d.pages.items ≡ [] → marks_of d.pages.items ≡ no_marks
+no-pages d none = ap marks_of none ∙ marks-none
+
 -- no file is attached to the disk
 pub can-none : (slots after : List (Option Held)) (unit : UnitName) (d : DiskCopy) → is_disk unit.kind ≡ true
-    → IsTrue (takes_attachment unit) → after ≡ set slots (file_place unit) None → d.bytes.items ≡ [] → d.written ≡ false
-    → d.marks ≡ no_marks → CanWrite after d
-can-none slots after unit d is takes set_is empty unwritten unmarked =
+    → IsTrue (takes_attachment unit) → after ≡ set slots (file_place unit) None → d.pages.items ≡ [] → d.written ≡ false
+    → CanWrite after d
+can-none slots after unit d is takes set_is empty unwritten =
     let first = first-of unit.kind unit.unit is takes in
     let none : get_or after 0 None ≡ None =
     (λ i. get_or (set_is i) 0 None) ∙ (λ i. get_or (set slots (first i) None) 0 None) ∙ emptied slots in
     record {
-      short = subst (λ (l : List ℕ). length l ≤ disk_bytes) (sym empty) (omega arith);
-      room = λ h there. absurd (some-none h _ there none);
+      copy = λ h there. absurd (some-none h _ there none);
       writable = λ h there written. absurd (some-none h _ there none);
       none = λ _. (empty, unwritten);
-      unmarked = λ _. unmarked;
+      unmarked = λ _. no-pages d empty;
     }
+
+-- there is a copy of the disk's file
+pub copy-there : (slots : List (Option Held)) (unit : UnitName) (h : Held) (d : DiskCopy) → CanWrite slots d
+    → IsTrue (takes_attachment unit) → is_disk unit.kind ≡ true → held_at slots unit ≡ Some h → IsCopy d
+copy-there slots unit h d can takes is held =
+    can.copy h (ap (λ (place : ℕ). get_or slots place None) (sym (first-of unit.kind unit.unit is takes)) ∙ held)
 
 not-only-read : (slots : List (Option Held)) (place : ℕ) (d : DiskCopy) → CanWrite slots d → place ≡ 0 → d.written
     ≡ true → read_only_of (get_or slots place None) ≡ false
@@ -106,26 +113,11 @@ due-writable slots unit d can takes is written =
     not-only-read slots (file_place unit) d can (first-of unit.kind unit.unit is takes) written
 
 -- the copy has room for every image that the disk takes
-pub copy-fits : (kind : Kind) (count room : ℕ) → is_disk kind ≡ true → count ≤ longest_file kind → disk_bytes ≤ room
-    → count ≤ room
+pub copy-fits : (kind : Kind) (count : ℕ) → is_disk kind ≡ true → count ≤ longest_file kind → count ≤ disk_bytes
 unfolding longest_file disk_bytes
-copy-fits kind count room =
-    every-kind (λ (k : Kind). is_disk k ≡ true → count ≤ longest_file k → disk_bytes ≤ room → count ≤ room)
-    ((λ is short enough. omega (arith, short, enough)), (λ is short enough. absurd (cc)), (λ is short enough. absurd (cc)), (λ is short enough. absurd (cc)), (λ is short enough. absurd (cc)), (λ is short enough. absurd (cc)), (λ is short enough. absurd (cc)), (λ is short enough. absurd (cc)), (λ is short enough. absurd (cc)), (λ is short enough. absurd (cc)), (λ is short enough. absurd (cc))) kind
-
--- a piece that is written within so many bytes leaves no more
-over-short : (bytes piece : List ℕ) (place most : ℕ) → length bytes ≤ most → place + length piece ≤ most
-    → length (overwritten bytes place piece) ≤ most
-over-short bytes [] place most short fits = short
-over-short bytes (b ∷ rest) place most short fits =
-    simp (length-append, length-take, length-drop) (omega arith)
-
--- the copy has no more bytes than the disk once a sector was written
-pub sector-short : (bytes piece : List ℕ) (sector : ℕ) → sector < disk_sectors → length piece ≡ sector_bytes
-    → length bytes ≤ disk_bytes → length (with_sector bytes sector piece) ≤ disk_bytes
-unfolding with_sector sector_bytes disk_sectors disk_bytes
-sector-short bytes piece sector below long short =
-    over-short bytes piece (sector * sector_bytes) disk_bytes short (omega (arith, below, long))
+copy-fits kind count =
+    every-kind (λ (k : Kind). is_disk k ≡ true → count ≤ longest_file k → count ≤ disk_bytes)
+    ((λ is short. omega (arith, short)), (λ is short. absurd (cc)), (λ is short. absurd (cc)), (λ is short. absurd (cc)), (λ is short. absurd (cc)), (λ is short. absurd (cc)), (λ is short. absurd (cc)), (λ is short. absurd (cc)), (λ is short. absurd (cc)), (λ is short. absurd (cc)), (λ is short. absurd (cc))) kind
 
 -- ---- where nothing was attached, nothing is taken away
 
@@ -167,5 +159,6 @@ pub nothing-there : (slots : List (Option Held)) (d : DiskCopy) → is_any_attac
 nothing-there slots d none all can =
     let free : slots ≡ no_files = free-are slots none ∙ ap (λ (n : ℕ). replicate n None) all in
     let copy = can.none (ap (λ (l : List (Option Held)). get_or l 0 None) free) in
-    let unmarked = can.unmarked copy.1 in
-    λ i. record { slots = free i; disk = record { bytes = copy.0 i; written = copy.1 i; marks = unmarked i } }
+    let bytes = ap joined copy.0 in
+    let unmarked = no-pages d copy.0 in
+    λ i. record { slots = free i; disk = record { bytes = bytes i; written = copy.1 i; marks = unmarked i } }

@@ -13,3 +13,5 @@ pub mod Pages
 pub mod Marks
 pub mod PageLaws
 pub mod WrittenPages
+pub mod CopyPages
+pub mod ReadPages

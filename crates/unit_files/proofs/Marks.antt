@@ -30,6 +30,11 @@ pub sector-some : 0 < sector_bytes
 unfolding sector_bytes
 sector-some = omega arith
 
+-- and ends in it
+pub sector-fits : (sector : ℕ) → (sector * sector_bytes) % page_bytes + sector_bytes ≤ page_bytes
+unfolding page_bytes sector_bytes
+sector-fits sector = omega arith
+
 pub sector-below : (sector : ℕ) → sector < disk_sectors → page_of (sector * sector_bytes) < disk_pages
 unfolding page_of page_bytes sector_bytes disk_sectors disk_pages
 sector-below sector below = omega (arith, below)

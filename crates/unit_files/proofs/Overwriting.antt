@@ -1,5 +1,5 @@
 -- Bytes over which a piece was written at a place.
-use Rattle.std.proofs.Common.{◌≡◌, ◌<◌, ◌≤◌, ◌+◌, ◌-◌, ℕ, List, [], ◌∷◌, ◌++◌, length, get_or, take, drop, replicate, inl, inr, refl, ap, sym, ◌∙◌, arith}
+use Rattle.std.proofs.Common.{◌≡◌, ◌<◌, ◌≤◌, ◌+◌, ◌-◌, ℕ, List, [], ◌∷◌, ◌++◌, length, max, get_or, take, drop, replicate, inl, inr, refl, ap, sym, ◌∙◌, arith}
 use Rattle.std.proofs.lemmas.Bool.{cases_lt}
 use Rattle.std.proofs.lemmas.List.{get_or-drop, get_or-take, get_or_past, get_or_append_left, get_or-append_right, get_or-replicate, length-append, length-drop, length-replicate, length-take-le}
 use Rattle.host_files.specs.Lists.{filled, overwritten}
@@ -82,3 +82,7 @@ over-most bytes p (b ∷ rest) most short fits = omega (arith, some-long bytes p
 pub over-reach : (bytes : List ℕ) (p : ℕ) (piece : List ℕ) (i : ℕ) → i < length piece → p + i < length (overwritten bytes p piece)
 over-reach bytes p [] i within = absurd (omega (arith, within))
 over-reach bytes p (b ∷ rest) i within = omega (arith, some-long bytes p b rest, within)
+
+pub over-long : (bytes : List ℕ) (p : ℕ) (piece : List ℕ) → 0 < length piece → length (overwritten bytes p piece) ≡ max (length bytes) (p + length piece)
+over-long bytes p [] some = absurd (omega (arith, some))
+over-long bytes p (b ∷ rest) some = omega (arith, some-long bytes p b rest)

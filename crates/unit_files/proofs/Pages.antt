@@ -26,7 +26,7 @@ piece-reach place bytes k low within =
 piece-none : (place : ℕ) (bytes : List ℕ) → length bytes ≤ place → piece place bytes ≡ []
 piece-none place bytes past = ap (λ (l : List ℕ). take page_bytes l) (drop_all place bytes past) ∙ take_all page_bytes [] (omega arith)
 
-piece-at : (place : ℕ) (bytes : List ℕ) (k : ℕ) → k < page_bytes → at (piece place bytes) k ≡ at bytes (place + k)
+pub piece-at : (place : ℕ) (bytes : List ℕ) (k : ℕ) → k < page_bytes → at (piece place bytes) k ≡ at bytes (place + k)
 piece-at place bytes k low = get_or-take page_bytes (drop place bytes) k 0 low ∙ get_or-drop place bytes k 0
 
 page-before : (mark : Bool) (place : ℕ) (bytes old : List ℕ) (i : ℕ) → i < place → at (written_page mark place bytes old) i ≡ at old i

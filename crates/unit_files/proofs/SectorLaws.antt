@@ -10,7 +10,7 @@ use Rattle.unit_files.specs.Laws.{SectorsReadBack}
 use Rattle.unit_files.proofs.Overwriting.{at, zeros-behind, over-before, over-within, over-behind}
 
 -- a byte of a sector
-sector-byte : (bytes : List ℕ) (sector k : ℕ) → k < sector_bytes → at (sector_of bytes sector) k ≡ at bytes (sector * sector_bytes + k)
+pub sector-byte : (bytes : List ℕ) (sector k : ℕ) → k < sector_bytes → at (sector_of bytes sector) k ≡ at bytes (sector * sector_bytes + k)
 unfolding sector_of
 sector-byte bytes sector k within =
     get_or-take sector_bytes (drop (sector * sector_bytes) bytes ++ replicate sector_bytes 0) k 0 within

@@ -1,5 +1,6 @@
 pub mod Attachments
 pub mod Buffer
+pub mod Pages
 pub mod Acts
 pub mod Answers
 pub mod Open

@@ -3,7 +3,8 @@ ghost use Rattle.std.specs.Prelude.{true, false, not, map, if◌then◌else◌, 
 ghost use Rattle.host_files.specs.Lists.{bytes_of};
 ghost use Rattle.host_files.specs.State.{Opened, IsOpen, without};
 ghost use Rattle.unit_files.specs.Attachments.{held_at, with_held, attachments_of, with_attachment, is_disk};
-ghost use Rattle.unit_files.specs.Buffer.{nothing_attached, no_buffer, no_marks, disk_bytes};
+ghost use Rattle.unit_files.specs.Buffer.{nothing_attached, no_buffer, no_marks};
+ghost use Rattle.unit_files.specs.Pages.{joined};
 ghost use Rattle.unit_files.specs.Attachments.{attachment_at, takes_attachment, may_write, read_only_at, only_writes};
 ghost use Rattle.unit_files.specs.Attachments.{longest_file, file_place, IsFileName, HaveFileNames, is_any_attached};
 ghost use Rattle.unit_files.specs.Acts.{attach_said, attach_files, attached_by, buffer_by, refused_first};
@@ -17,13 +18,14 @@ ghost use Rattle.unit_files.specs.Acts.{detached, is_due_back, written_back};
 ghost use Rattle.unit_files.specs.Answers.{failure_in};
 ghost use Rattle.host_files.specs.Lists.{changed};
 ghost use Rattle.host_files.specs.State.{IsWritable, name_at};
-ghost use Rattle.unit_files.specs.View.{held_of, slot_of, buffer_of, Holds};
+ghost use Rattle.unit_files.specs.View.{held_of, slot_of, Holds, IsNewCopy};
 
+use crate::disk_copy::DiskCopy;
 use crate::faults::{AttachFault, DetachFault, UnitFault};
 use crate::flushing::write_copy;
 use crate::modes::AttachMode;
 use crate::opening::{room_for, take_file};
-use crate::slots::{DiskCopy, FILE_UNITS, UnitFile, is_disk, only_writes, place_of, unmarked};
+use crate::slots::{FILE_UNITS, UnitFile, is_disk, only_writes, place_of};
 use host_files::{Failed, FileCall, FileId, Files, OutOfMemory};
 use std::alloc::{AllocError, Global};
 use std::marker::Model;
@@ -63,12 +65,10 @@ impl Attached {
         for _place in 0..FILE_UNITS {
             slots.push(None)?;
         }
-        let disk = DiskCopy {
-            bytes: Vec::new(alloc),
-            written: false,
-            marks: unmarked(),
-        };
-        Ok(Attached { slots, disk })
+        Ok(Attached {
+            slots,
+            disk: DiskCopy::none(alloc),
+        })
     }
 
     /// Attaches a file to a unit, and answers its length in bytes. The refusals, in this order: `AlreadyAttached` where
@@ -123,18 +123,18 @@ impl Attached {
             Ok(text) => text,
             Err(AllocError) => return Err(AttachFault::OutOfMemory),
         };
-        let bytes = match room_for(alloc, unit.kind) {
-            Ok(bytes) => bytes,
+        let copy = match room_for(alloc, unit.kind) {
+            Ok(copy) => copy,
             Err(AllocError) => return Err(AttachFault::OutOfMemory),
         };
-        match take_file(alloc, unit, name, mode, bytes, files) {
+        match take_file(alloc, unit, name, mode, copy, files) {
             Ok(taken) => {
                 let held = UnitFile {
                     file: taken.file,
                     name: text,
                     read_only: mode.is_read_only(),
                 };
-                self.put(unit, held, taken.bytes);
+                self.put(unit, held, taken.copy);
                 Ok(taken.length)
             }
             Err(fault) => Err(fault),
@@ -196,22 +196,13 @@ impl Attached {
         match self.held_file(unit) {
             None => Err(DetachFault::NotAttached),
             Some(_) if !self.is_due_back(unit) => Ok(()),
-            Some(file) => {
-                match write_copy(
-                    unit,
-                    file,
-                    &self.disk.marks,
-                    self.disk.bytes.as_slice(),
-                    files,
-                ) {
-                    Ok(()) => {
-                        self.disk.written = false;
-                        self.disk.marks = unmarked();
-                        Ok(())
-                    }
-                    Err(fault) => Err(DetachFault::Failed(fault)),
+            Some(file) => match write_copy(unit, file, self.disk.pages.as_slice(), files) {
+                Ok(()) => {
+                    self.disk.unmark();
+                    Ok(())
                 }
-            }
+                Err(fault) => Err(DetachFault::Failed(fault)),
+            },
         }
     }
 
@@ -323,28 +314,23 @@ impl Attached {
         }
     }
 
-    // Attaches a file that no unit has to a unit, with its bytes where the unit is the disk.
-    fn put(&mut self, unit: UnitName, held: UnitFile, bytes: Vec<u8>)
+    // Attaches a file that no unit has to a unit, with a copy of it where the unit is the disk.
+    fn put(&mut self, unit: UnitName, held: UnitFile, copy: DiskCopy)
         requires unit { IsTrue (takes_attachment unit) }
         requires name { IsFileName (held_of held).attachment.name }
         requires own { IsFree self.old.slots held.file.0 }
         requires writers { only_writes unit.kind ≡ true → held.read_only ≡ false }
-        requires room { IsTrue (is_disk unit.kind) → disk_bytes ≤ vec_capacity bytes }
-        requires short { IsTrue (is_disk unit.kind) → length bytes.items ≤ disk_bytes }
+        requires copy { IsTrue (is_disk unit.kind) → IsNewCopy copy }
         ensures within { file_place unit < length self.old.slots }
         ensures held { self.new.slots ≡ with_held self.old.slots unit (Some (held_of held)) }
         ensures attachments { attachments_of self.new.slots
             ≡ with_attachment (attachments_of self.old.slots) unit (Some (held_of held).attachment) }
-        ensures disk { self.new.disk
-            ≡ (if is_disk unit.kind then record { bytes = bytes.items; written = false; marks = no_marks } else self.old.disk) }
+        ensures disk { self.new.disk ≡ (if is_disk unit.kind
+            then record { bytes = joined copy.pages.items; written = false; marks = no_marks } else self.old.disk) }
     {
         self.slots[place_of(unit)] = Some(held);
         if is_disk(unit.kind) {
-            self.disk = DiskCopy {
-                bytes,
-                written: false,
-                marks: unmarked(),
-            };
+            self.disk = copy;
         }
     }
 
@@ -357,9 +343,7 @@ impl Attached {
     {
         self.slots[place_of(unit)] = None;
         if is_disk(unit.kind) {
-            self.disk.bytes.clear();
-            self.disk.written = false;
-            self.disk.marks = unmarked();
+            self.disk.clear();
         }
     }
 }

@@ -5,11 +5,14 @@ pub mod attached;
 pub mod bytes;
 pub mod digest;
 pub mod disk;
+mod disk_copy;
 pub mod faults;
 mod flushing;
 pub mod laws;
 pub mod modes;
 mod opening;
+mod page;
+mod reading;
 mod slots;
 
 pub use attached::Attached;

@@ -1,4 +1,4 @@
-ghost use Rattle.std.specs.Prelude.{◌≡◌, ◌≤◌, ◌<◌, IsTrue, IfSome, IfOk, OnOk, OnErr, None, [], length, vec_capacity};
+ghost use Rattle.std.specs.Prelude.{◌≡◌, ◌≤◌, IsTrue, IfSome, IfOk, OnOk, OnErr, None, length};
 ghost use Rattle.host_files.specs.declared.files.FileCall.TheVariants.{Opening};
 ghost use Rattle.host_files.specs.Lists.{bytes_of};
 ghost use Rattle.host_files.specs.State.{IsOpen, content, without};
@@ -6,39 +6,41 @@ ghost use Rattle.unit_files.specs.declared.modes.AttachMode.TheVariants.{Any};
 ghost use Rattle.unit_files.specs.Attachments.{longest_file, is_disk};
 ghost use Rattle.unit_files.specs.Acts.{failure_at, measured, opening_said};
 ghost use Rattle.unit_files.specs.Acts.{files_unless_opening};
-ghost use Rattle.unit_files.specs.Buffer.{disk_bytes};
+ghost use Rattle.unit_files.specs.Pages.{joined};
+ghost use Rattle.unit_files.specs.View.{IsEmptyCopy, IsNewCopy};
 ghost use Rattle.unit_files.specs.Answers.{said_of_attach, failure_of_attach, first_refusal, IfNoMemory};
 ghost use Rattle.unit_files.specs.Causes.{AttachCause, OnlyNewCounts};
 ghost use Rattle.unit_files.specs.Opening.{OpensFor, IsNewlyOpen, length_of, fault_of_opening, MeasureCause};
 ghost use Rattle.unit_files.specs.Opening.{ClosedCause};
 ghost use Rattle.unit_files.specs.Opening.{OnlyCountOf, HasLength, LengthCause, failed_at};
 ghost use Rattle.unit_files.specs.declared.faults.AttachFault.TheVariants as attach_faults;
-ghost use Rattle.host_files.specs.FileCalls.{Counted};
 
+use crate::disk_copy::DiskCopy;
 use crate::faults::{AttachFault, UnitFault};
 use crate::modes::AttachMode;
-use crate::slots::{DISK_BYTES, is_disk, longest_file};
+use crate::reading::read_copy;
+use crate::slots::{is_disk, longest_file};
 use host_files::{Failed, FileCall, FileId, Files, OpenFault, OpenMode};
 use std::alloc::{AllocError, Global};
 use unit_trait::{Kind, UnitName};
-use whole_files::fill;
 
-/// A file that was opened for a unit, its length, and its bytes where the unit is the disk.
+/// A file that was opened for a unit, its length, and the copy of it where the unit is the disk.
 #[derive(Drop)]
 pub(crate) struct Taken {
     pub(crate) file: FileId,
     pub(crate) length: u64,
-    pub(crate) bytes: Vec<u8>,
+    pub(crate) copy: DiskCopy,
 }
 
-/// Room for what a unit of that kind holds of its file: the whole disk, and none for the others.
-#[tactic(auto, unfolding(crate::specs::Buffer::disk_bytes))]
-pub(crate) fn room_for(alloc: Global, kind: Kind) -> Result<Vec<u8>, AllocError>
-    ensures empty { IfOk result (λ v. v.items ≡ []) }
-    ensures room { IfOk result (λ v. IsTrue (is_disk kind) → disk_bytes ≤ vec_capacity v) }
+/// Room for what a unit of that kind holds of its file: a copy of the disk, and none for the others.
+pub(crate) fn room_for(alloc: Global, kind: Kind) -> Result<DiskCopy, AllocError>
+    ensures { IfOk result (λ d. IsTrue (is_disk kind) → IsEmptyCopy d) }
 {
-    let bytes = if is_disk(kind) { DISK_BYTES } else { 0 };
-    Vec::with_capacity(alloc, bytes)
+    if is_disk(kind) {
+        DiskCopy::with_pages(alloc)
+    } else {
+        Ok(DiskCopy::none(alloc))
+    }
 }
 
 // Opens a file for a unit.
@@ -115,47 +117,21 @@ fn measure<F: Files>(unit: UnitName, file: FileId, files: &mut F) -> Result<u64,
     }
 }
 
-// The disk reads its file, which has so many bytes.
-#[tactic(auto, unfolding(crate::specs::Buffer::disk_bytes))]
-fn read_copy<F: Files>(
-    file: FileId,
-    count: usize,
-    bytes: &mut Vec<u8>,
-    files: &mut F,
-) -> Result<(), Failed>
-    requires open { IsOpen (F.state files.old) file.0 }
-    requires room { count ≤ vec_capacity bytes.old }
-    requires length { IsTrue F.tells → count ≡ length (content (F.state files.old) file.0) }
-    ensures bytes { IsTrue F.tells → OnOk result (bytes.new.items ≡ content (F.state files.old) file.0) }
-    ensures short { OnOk result (length bytes.new.items ≤ count) }
-    ensures kept { vec_capacity bytes.old ≤ vec_capacity bytes.new }
-    ensures needed { OnErr result (0 < count) }
-    ensures counted { Counted file.0 (F.state files.old) (F.state files.new) result }
-    ensures files { (F.state files.new).files ≡ (F.state files.old).files }
-    ensures opened { (F.state files.new).opened ≡ (F.state files.old).opened }
-{
-    bytes.resize(count, 0).unwrap();
-    let done = fill(file, bytes.as_mut_slice(), files)?;
-    bytes.truncate(done);
-    Ok(())
-}
-
 // The length of an open file, which a unit is to have. The disk reads the file.
 fn measure_and_read<F: Files>(
     unit: UnitName,
     file: FileId,
-    bytes: &mut Vec<u8>,
+    copy: &mut DiskCopy,
     files: &mut F,
 ) -> Result<u64, AttachFault>
     requires open { IsOpen (F.state files.old) file.0 }
-    requires room { IsTrue (is_disk unit.kind) → disk_bytes ≤ vec_capacity bytes.old }
+    requires room { IsTrue (is_disk unit.kind) → IsEmptyCopy copy.old }
     ensures said { IsTrue F.tells → IfSome (said_of_attach result) (λ said. said
         ≡ measured (failure_of_attach result) unit (length (content (F.state files.old) file.0))) }
     ensures bound { IfOk result (λ n. n ≤ longest_file unit.kind) }
     ensures bytes { IsTrue F.tells → IsTrue (is_disk unit.kind)
-        → OnOk result (bytes.new.items ≡ content (F.state files.old) file.0) }
-    ensures short { IsTrue (is_disk unit.kind) → OnOk result (length bytes.new.items ≤ disk_bytes) }
-    ensures kept { vec_capacity bytes.old ≤ vec_capacity bytes.new }
+        → OnOk result (joined copy.new.pages.items ≡ content (F.state files.old) file.0) }
+    ensures copy { IsTrue (is_disk unit.kind) → OnOk result (IsNewCopy copy.new) }
     ensures cause { MeasureCause result unit file (F.state files.old) (F.state files.new) }
     ensures counts { OnlyCountOf file.0 (F.state files.old) (F.state files.new) }
     ensures files { (F.state files.new).files ≡ (F.state files.old).files }
@@ -163,7 +139,7 @@ fn measure_and_read<F: Files>(
 {
     match measure(unit, file, files) {
         Ok(count) if is_disk(unit.kind) => {
-            match read_copy(file, count as usize, bytes, files) {
+            match read_copy(file, count as usize, copy, files) {
                 Ok(()) => Ok(count),
                 Err(Failed) => Err(failed(unit, file, FileCall::Read)),
             }
@@ -176,25 +152,24 @@ fn measure_and_read<F: Files>(
 fn measure_or_close<F: Files>(
     unit: UnitName,
     file: FileId,
-    bytes: &mut Vec<u8>,
+    copy: &mut DiskCopy,
     files: &mut F,
 ) -> Result<u64, AttachFault>
     requires open { IsOpen (F.state files.old) file.0 }
-    requires room { IsTrue (is_disk unit.kind) → disk_bytes ≤ vec_capacity bytes.old }
+    requires room { IsTrue (is_disk unit.kind) → IsEmptyCopy copy.old }
     ensures said { IsTrue F.tells → IfSome (said_of_attach result) (λ said. said
         ≡ measured (failure_of_attach result) unit (length (content (F.state files.old) file.0))) }
     ensures bound { IfOk result (λ n. n ≤ longest_file unit.kind) }
     ensures bytes { IsTrue F.tells → IsTrue (is_disk unit.kind)
-        → OnOk result (bytes.new.items ≡ content (F.state files.old) file.0) }
-    ensures short { IsTrue (is_disk unit.kind) → OnOk result (length bytes.new.items ≤ disk_bytes) }
-    ensures kept { vec_capacity bytes.old ≤ vec_capacity bytes.new }
+        → OnOk result (joined copy.new.pages.items ≡ content (F.state files.old) file.0) }
+    ensures copy { IsTrue (is_disk unit.kind) → OnOk result (IsNewCopy copy.new) }
     ensures cause { ClosedCause result unit file (F.state files.old) (F.state files.new) }
     ensures counts { OnlyCountOf file.0 (F.state files.old) (F.state files.new) }
     ensures files { (F.state files.new).files ≡ (F.state files.old).files }
     ensures opened { OnOk result ((F.state files.new).opened ≡ (F.state files.old).opened) }
     ensures closed { OnErr result ((F.state files.new).opened ≡ without (F.state files.old).opened file.0) }
 {
-    match measure_and_read(unit, file, bytes, files) {
+    match measure_and_read(unit, file, copy, files) {
         Ok(count) => Ok(count),
         Err(fault) => {
             let _ = files.close_file(file);
@@ -204,16 +179,16 @@ fn measure_or_close<F: Files>(
 }
 
 /// Opens a file for a unit, and asks for its length; the disk reads it. One that the unit does not get is closed again.
-/// `bytes` is empty, with room for what the unit holds of its file.
+/// `copy` is that of `room_for`.
 pub(crate) fn take_file<F: Files>(
     alloc: Global,
     unit: UnitName,
     name: &str,
     mode: AttachMode,
-    mut bytes: Vec<u8>,
+    mut copy: DiskCopy,
     files: &mut F,
 ) -> Result<Taken, AttachFault>
-    requires { IsTrue (is_disk unit.kind) → disk_bytes ≤ vec_capacity bytes }
+    requires { IsTrue (is_disk unit.kind) → IsEmptyCopy copy }
     ensures said { IsTrue F.tells → IfSome (said_of_attach (length_of result)) (λ said. said
         ≡ opening_said (failure_at Opening (failure_of_attach (length_of result)))
         (failure_of_attach (length_of result))
@@ -225,9 +200,8 @@ pub(crate) fn take_file<F: Files>(
     ensures late { first_refusal (length_of result) ≡ None }
     ensures bound { IfOk result (λ taken. taken.length ≤ longest_file unit.kind) }
     ensures bytes { IsTrue F.tells → IsTrue (is_disk unit.kind) → IfOk result (λ taken.
-        taken.bytes.items ≡ bytes_of (F.state files.new).files name.now) }
-    ensures room { IfOk result (λ taken. IsTrue (is_disk unit.kind) → disk_bytes ≤ vec_capacity taken.bytes) }
-    ensures short { IfOk result (λ taken. IsTrue (is_disk unit.kind) → length taken.bytes.items ≤ disk_bytes) }
+        joined taken.copy.pages.items ≡ bytes_of (F.state files.new).files name.now) }
+    ensures copy { IfOk result (λ taken. IsTrue (is_disk unit.kind) → IsNewCopy taken.copy) }
     ensures opened { IfOk result (λ taken.
         IsNewlyOpen (F.state files.old) (F.state files.new) name.now mode taken.file.0) }
     ensures closed { OnErr result ((F.state files.new).opened ≡ (F.state files.old).opened) }
@@ -235,12 +209,8 @@ pub(crate) fn take_file<F: Files>(
     ensures cause { AttachCause F.tells (length_of result) unit (F.state files.old) (F.state files.new) }
 {
     match open_for(alloc, name, mode, files) {
-        Ok(file) => match measure_or_close(unit, file, &mut bytes, files) {
-            Ok(length) => Ok(Taken {
-                file,
-                length,
-                bytes,
-            }),
+        Ok(file) => match measure_or_close(unit, file, &mut copy, files) {
+            Ok(length) => Ok(Taken { file, length, copy }),
             Err(fault) => Err(fault),
         },
         Err(fault) => Err(fault_of(unit, fault)),

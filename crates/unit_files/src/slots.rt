@@ -1,5 +1,4 @@
 ghost use Rattle.std.specs.Prelude.{◌≡◌, ◌≤◌};
-ghost use Rattle.unit_files.specs.Buffer.{no_marks};
 ghost use Rattle.unit_files.specs.Attachments.{file_place, is_disk, only_writes, longest_file};
 
 use host_files::FileId;
@@ -17,29 +16,6 @@ pub(crate) struct UnitFile {
     pub(crate) file: FileId,
     pub(crate) name: String,
     pub(crate) read_only: bool,
-}
-
-/// How many bytes a page of the disk's copy has.
-pub(crate) const PAGE_BYTES: usize = 4096;
-
-/// How many pages the disk has.
-pub(crate) const DISK_PAGES: usize = 1024;
-
-/// The disk's copy of its file, whether a sector was written that is not written back yet, and a mark for each page in
-/// which one was. No bytes where it has no file.
-#[derive(Drop)]
-pub(crate) struct DiskCopy {
-    pub(crate) bytes: Vec<u8>,
-    pub(crate) written: bool,
-    pub(crate) marks: [bool; DISK_PAGES],
-}
-
-/// Marks of which none is set.
-#[tactic(auto, unfolding(crate::specs::Buffer::disk_pages))]
-pub(crate) fn unmarked() -> [bool; DISK_PAGES]
-    ensures { result ≡ no_marks }
-{
-    [false; DISK_PAGES]
 }
 
 /// The place of a unit among those that can have a file, in bus order; past them for any other.

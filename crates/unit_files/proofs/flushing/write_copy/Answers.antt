@@ -1,10 +1,12 @@
-use Rattle.std.proofs.Common.{◌≡◌, ◌<◌, ◌*◌, ◌+◌, ℕ, List, take, drop, length, ◌^◌, refl, ap, sym, ◌∙◌, rules, arith}
-use Rattle.std.proofs.lemmas.List.{length-take}
-use Rattle.host_files.specs.Lists.{changed}
+use Rattle.std.proofs.Common.{◌*◌, ◌-◌, List, take, refl, ap, sym, ◌∙◌, rules, arith, if◌then◌else◌}
+use Rattle.std.proofs.lemmas.List.{length-map}
+use Rattle.host_files.specs.Lists.{changed, overwritten}
 use Rattle.host_files.specs.State.{Opened, name_at}
 use Rattle.unit_files.specs.Acts.{piece_of, written_pages}
-use Rattle.unit_files.specs.Buffer.{page_bytes, disk_pages, disk_bytes}
-use Rattle.unit_files.proofs.WrittenPages.{unchanged, page-written, page-failed, end-within, claimed}
+use Rattle.unit_files.specs.Buffer.{page_bytes, disk_pages}
+use Rattle.unit_files.specs.Pages.{PageState, joined, marks_in}
+use Rattle.unit_files.proofs.CopyPages.{bytes-there, mark-there, page-short, has-mark}
+use Rattle.unit_files.proofs.WrittenPages.{unchanged, page-written, page-failed, end-within, all-written, claimed}
 use Rattle.unit_files.proofs.flushing.write_copy.Goals as goal
 
 pub loop-page-init : goal.loop-page-init
@@ -16,23 +18,17 @@ loop-page-init g c =
       quiet = search rules;
     }
 
-pub overflow_mul-place : goal.overflow_mul-place
+pub overflow_mul-page : goal.overflow_mul-page
 unfolding disk_pages
-overflow_mul-place g c = let all = c.requires.pages in let low = c.loop-page-test.true in omega (arith, all, low)
-
-pub page_at-requires : goal.page_at-requires
-unfolding disk_pages disk_bytes
-page_at-requires g c = let all = c.requires.pages in let low = c.loop-page-test.true in omega (arith, all, low)
-
-within : (page pages : ℕ) (bytes piece : List ℕ) → piece ≡ take page_bytes (drop (page * 4096) bytes) → pages ≡ disk_pages → page < pages
-    → page * 4096 + length piece < 2 ^ 64
-unfolding disk_pages page_bytes
-within page pages bytes piece is all low =
-    let long = ap (λ (l : List ℕ). length l) is in omega (arith, all, low, long, length-take 4096 (drop (page * 4096) bytes))
+overflow_mul-page g c = let all = c.requires.pages in let low = c.loop-page-test.true in omega (arith, all, low)
 
 pub write_page-requires-clause-within : goal.write_page-requires-clause-within
+unfolding disk_pages page_bytes
 write_page-requires-clause-within g c =
-    within c.loop-page.page (length c.args.marks.now) c.args.bytes.now c.page_at.result.now c.page_at.ensures c.requires.pages c.loop-page-test.true
+    let all = c.requires.pages in
+    let low = c.loop-page-test.true in
+    let short = page-short c.args.pages.now c.loop-page.page c.index-pages-page.result c.requires.are low c.index-pages-page.is in
+    omega (arith, all, low, short)
 
 pub loop-page-preserved : goal.loop-page-preserved
 unfolding page_bytes
@@ -41,11 +37,17 @@ loop-page-preserved g c =
     let old = g.F.Files.state c.args.files.now in
     let mid = g.F.Files.state c.loop-page.files in
     let new = g.F.Files.state c.write_page.new.files in
+    let pages = c.args.pages.now in
+    let page = c.loop-page.page in
+    let p : PageState = c.index-pages-page.result in
+    let low = c.loop-page-test.true in
+    let name = name_at old.opened c.args.file.0 in
     let same = ap (λ (o : List Opened). name_at o c.args.file.0) inv.«opened» in
+    let mark = mark-there pages page p c.requires.are low c.index-pages-page.is in
     record {
-      files = page-written c.args.marks.now c.args.bytes.now c.loop-page.page c.loop-page-test.true old.files mid.files new.files
-          (name_at old.opened c.args.file.0) (name_at mid.opened c.args.file.0) c.page_at.result.now (c.loop-page.page * 4096)
-          same refl c.page_at.ensures inv.files c.in-Ok.ensures.files;
+      files = page-written (marks_in pages) (joined pages) page (has-mark pages page p c.requires.are low c.index-pages-page.is) old.files mid.files new.files
+          name (name_at mid.opened c.args.file.0) p.bytes (page * 4096) same refl (bytes-there pages page p c.requires.are low c.index-pages-page.is) inv.files
+          (c.in-Ok.ensures.files ∙ (λ i. changed mid.files (name_at mid.opened c.args.file.0) (λ was. if mark i then overwritten was (page * 4096) p.bytes else was)));
       opened = c.in-Ok.ensures.«opened» ∙ inv.«opened»;
       quiet = record {
         counts = c.in-Ok.ensures.cause.counts ∙ inv.quiet.counts;
@@ -61,13 +63,20 @@ returns-in-Err-clause-files g c =
     let old = g.F.Files.state c.args.files.now in
     let mid = g.F.Files.state c.loop-page.files in
     let new = g.F.Files.state c.write_page.new.files in
-    let f = c.in-Err.fault in
+    let pages = c.args.pages.now in
+    let page = c.loop-page.page in
+    let p : PageState = c.index-pages-page.result in
+    let low = c.loop-page-test.true in
+    let name = name_at old.opened c.args.file.0 in
     let same = ap (λ (o : List Opened). name_at o c.args.file.0) inv.«opened» in
+    let mark = mark-there pages page p c.requires.are low c.index-pages-page.is in
+    let f = c.in-Err.fault in
     let done = c.in-Err.ensures.done in
-    page-failed c.args.marks.now c.args.bytes.now c.loop-page.page c.loop-page-test.true old.files mid.files new.files
-    (name_at old.opened c.args.file.0) (name_at mid.opened c.args.file.0) c.page_at.result.now (c.loop-page.page * 4096)
-    same refl c.page_at.ensures inv.files f.done done.0 done.2 done.3 c.in-Err.ensures.files
-    ∙ (λ i. changed old.files (name_at old.opened c.args.file.0) (written_pages c.args.marks.now 0 (piece_of (sym (claimed f c.in-Err.ensures.cause.0) i) c.args.bytes.now)))
+    page-failed (marks_in pages) (joined pages) page (has-mark pages page p c.requires.are low c.index-pages-page.is) old.files mid.files new.files
+    name (name_at mid.opened c.args.file.0) p.bytes (page * 4096) same refl (bytes-there pages page p c.requires.are low c.index-pages-page.is) inv.files
+    f.done (sym mark ∙ done.0) done.2 done.3
+    (c.in-Err.ensures.files ∙ (λ i. changed mid.files (name_at mid.opened c.args.file.0) (λ was. if mark i then overwritten was (page * 4096) (take (f.done - page * 4096) p.bytes) else was)))
+    ∙ (λ i. changed old.files name (written_pages (marks_in pages) 0 (piece_of (sym (claimed f c.in-Err.ensures.cause.0) i) (joined pages))))
 
 pub returns-in-Err-clause-part : goal.returns-in-Err-clause-part
 unfolding page_bytes
@@ -76,8 +85,21 @@ returns-in-Err-clause-part g c =
     let old = g.F.Files.state c.args.files.now in
     let mid = g.F.Files.state c.loop-page.files in
     let new = g.F.Files.state c.write_page.new.files in
+    let pages = c.args.pages.now in
+    let page = c.loop-page.page in
+    let p : PageState = c.index-pages-page.result in
+    let low = c.loop-page-test.true in
     let same = ap (λ (o : List Opened). name_at o c.args.file.0) inv.«opened» in
     let done = c.in-Err.ensures.done in
-    end-within c.args.marks.now c.args.bytes.now c.loop-page.page c.loop-page-test.true old.files mid.files new.files
-    (name_at old.opened c.args.file.0) (name_at mid.opened c.args.file.0) c.page_at.result.now (c.loop-page.page * 4096)
-    same refl c.page_at.ensures inv.files c.in-Err.fault.done done.1 done.3
+    end-within (marks_in pages) (joined pages) page (has-mark pages page p c.requires.are low c.index-pages-page.is) old.files mid.files new.files
+    (name_at old.opened c.args.file.0) (name_at mid.opened c.args.file.0) p.bytes (page * 4096) same refl
+    (bytes-there pages page p c.requires.are low c.index-pages-page.is) inv.files c.in-Err.fault.done done.1 done.3
+
+pub returns-clause-files : goal.returns-clause-files
+returns-clause-files g c =
+    let inv = c.loop-page.invariant in
+    let old = g.F.Files.state c.args.files.now in
+    let new = g.F.Files.state c.loop-page.files in
+    let end = c.loop-page-test.false in
+    all-written (marks_in c.args.pages.now) (joined c.args.pages.now) c.loop-page.page old.files new.files (name_at old.opened c.args.file.0)
+    (omega (arith, end, length-map c.args.pages.now (λ (p : PageState). p.marked))) inv.files

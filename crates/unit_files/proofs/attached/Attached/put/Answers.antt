@@ -20,7 +20,7 @@ invariant_of-self c =
       ap writers_write view
           ∙ writers-set (map slot_of items) c.args.unit (Some (held_of c.args.held)) long c.self.invariant.1
           c.requires.writers,
-      can-new (map slot_of items) _ c.args.unit (held_of c.args.held) _ is c.requires.unit view (omega (arith, long)) (c.requires.short is) (c.requires.room is) refl c.unmarked.ensures,
+      can-new (map slot_of items) _ c.args.unit (held_of c.args.held) _ is c.requires.unit view (omega (arith, long)) (c.requires.copy is),
       own-put items c.args.self.now.slots _ c.args.unit c.args.held view (ap (λ (a : AttachedFiles). a.slots) c.self.view_is) c.self.invariant.3 c.requires.own,
       names-set (map slot_of items) _ (file_place c.args.unit) (slot_of h) view c.self.invariant.4 c.requires.name,
     )
