@@ -14,7 +14,7 @@ use unit_files::{
 };
 use unit_trait::{Kind, UnitName};
 
-const DISK: UnitName = UnitName {
+pub const DISK: UnitName = UnitName {
     kind: Kind::Dsk,
     unit: 0,
 };
@@ -167,13 +167,13 @@ fn sector_answer(text: &str) -> SectorAnswer {
 
 /// Reads the sector of that number, modulo the number of sectors.
 #[tactic(auto, unfolding(unit_files::specs::Buffer::disk_sectors))]
-fn read(attached: &Attached, sector: u16, into: &mut [u8; 512]) -> SectorAnswer {
+pub fn read(attached: &Attached, sector: u16, into: &mut [u8; 512]) -> SectorAnswer {
     attached.read_sector(sector % 8192, into)
 }
 
 /// Writes it.
 #[tactic(auto, unfolding(unit_files::specs::Buffer::disk_sectors))]
-fn write(attached: &mut Attached, sector: u16, from: &[u8; 512]) -> SectorAnswer
+pub fn write(attached: &mut Attached, sector: u16, from: &[u8; 512]) -> SectorAnswer
     ensures { attached.new.slots ≡ attached.old.slots }
 {
     attached.write_sector(sector % 8192, from)
@@ -194,7 +194,7 @@ fn begins(bytes: &[u8], answer: &str) -> bool {
 }
 
 /// How many of the bytes are that one.
-fn count_of(bytes: &[u8], wanted: u8) -> usize {
+pub fn count_of(bytes: &[u8], wanted: u8) -> usize {
     bytes.iter().filter(|byte| **byte == wanted).count()
 }
 
@@ -209,7 +209,7 @@ fn image_left(rt: &impl Abort, files: &MemFiles, counts: &str, line: &str) {
     }
 }
 
-fn are(found: &[usize], counts: &str) -> bool {
+pub fn are(found: &[usize], counts: &str) -> bool {
     for (found, wanted) in found.iter().zip(counts.split_whitespace()) {
         if Some(*found) != size(wanted) {
             return false;
@@ -219,7 +219,7 @@ fn are(found: &[usize], counts: &str) -> bool {
 }
 
 /// Plays the calls of a line on a disk that has no file at first.
-fn plays_new<F: Files>(rt: &impl Abort, alloc: Global, files: &mut F, calls: &str) -> Option<()> {
+pub fn plays_new<F: Files>(rt: &impl Abort, alloc: Global, files: &mut F, calls: &str) -> Option<()> {
     let mut attached = Attached::new(alloc).ok()?;
     plays(rt, alloc, &mut attached, files, calls);
     Some(())

@@ -2,6 +2,10 @@
 #![tactic(auto)]
 
 #[cfg(test)]
+mod chance;
+#[cfg(test)]
+mod counting;
+#[cfg(test)]
 mod digests;
 #[cfg(test)]
 mod disk;
@@ -15,6 +19,8 @@ mod long;
 mod mem_files;
 #[cfg(test)]
 mod notes;
+#[cfg(test)]
+mod pages;
 #[cfg(test)]
 mod piecewise;
 #[cfg(test)]
