@@ -33,11 +33,7 @@ impl Chance {
 }
 
 /// A sector of one byte is written to the disk, and put into the plain buffer.
-fn put(
-    attached: &mut Attached,
-    plain: &mut Vec<u8>,
-    chance: &mut Chance,
-) -> Result<(), AllocError>
+fn put(attached: &mut Attached, plain: &mut Vec<u8>, chance: &mut Chance) -> Result<(), AllocError>
     ensures { attached.new.slots ≡ attached.old.slots }
 {
     let sector = chance.below(SECTORS);

@@ -219,7 +219,12 @@ pub fn are(found: &[usize], counts: &str) -> bool {
 }
 
 /// Plays the calls of a line on a disk that has no file at first.
-pub fn plays_new<F: Files>(rt: &impl Abort, alloc: Global, files: &mut F, calls: &str) -> Option<()> {
+pub fn plays_new<F: Files>(
+    rt: &impl Abort,
+    alloc: Global,
+    files: &mut F,
+    calls: &str,
+) -> Option<()> {
     let mut attached = Attached::new(alloc).ok()?;
     plays(rt, alloc, &mut attached, files, calls);
     Some(())

@@ -81,7 +81,7 @@ const A_FAILED_PAGE_LEAVES_ALL_MARKS: &str =
 8192 | 6:9 | attach=8192 write@0=done write@8=done write@16=done flush=Write:8201 | 3 8704 : 8201 1033 7168
 8192 | 6:9 | attach=8192 write@0=done write@8=done write@16=done detach=Write:8201 file=yes | 3 8704 : 8201 1033 7168
 8192 | 5:7 | attach=8192 write@0=done write@8=done write@16=done flush=Write:4103 flush=ok flush=ok | 5 16896 : 8704 1536 7168
-8192 | 5:7 8:3 | attach=8192 write@0=done write@8=done write@16=done flush=Write:4103 flush=Write:4099 detach=ok file=no | 7 25088 : 8704 1536 7168
+8192 | 5:7 7:3 | attach=8192 write@0=done write@8=done write@16=done flush=Write:4103 flush=Write:4099 detach=ok file=no | 7 25088 : 8704 1536 7168
 12288 | 6:7 | attach=12288 write@16=done write@0=done flush=Write:8199 read@8=512 | 2 8192 : 12288 519 11769";
 
 #[test]

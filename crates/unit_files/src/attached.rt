@@ -142,9 +142,9 @@ impl Attached {
     }
 
     /// Writes back what the disk holds of its file, as `flush` does, and then closes a unit's file. Behind that nothing
-    /// is attached to the unit, also where the closing failed, which is answered as a fault. `NotAttached` comes exactly
-    /// where nothing was attached. `Failed` comes where the file could not be written: it is still attached, and holds
-    /// what `flush` leaves in it.
+    /// is attached to the unit, also where the closing failed, which is answered as a fault. `NotAttached` comes
+    /// exactly where nothing was attached. `Failed` comes where the file could not be written: it is still attached,
+    /// and holds what `flush` leaves in it.
     #[tactic(auto, unfolding(crate::specs::Acts::flush_files))]
     pub fn detach<F: Files>(
         &mut self,
@@ -174,11 +174,11 @@ impl Attached {
         }
     }
 
-    /// Writes back what the disk holds of its file: each page of 4096 bytes in which a sector was written since the file
-    /// was attached or last written back, or the gap in front of one, by a write of its own, from the front; for another
-    /// unit it does nothing. `NotAttached` comes exactly where nothing is attached. After `Failed` the pages in front of
-    /// the one whose write failed are written, and of that as much as the fault says, which counts from the front of
-    /// the file. All of them are still to be written back.
+    /// Writes back what the disk holds of its file: each page of 4096 bytes in which a sector was written since the
+    /// file was attached or last written back, or the gap in front of one, by a write of its own, from the front on.
+    /// For another unit it does nothing. `NotAttached` comes exactly where nothing is attached. After `Failed` the
+    /// pages in front of the one whose write failed are written, and of that one as much as the fault says, which
+    /// counts from the front of the file. All of them are still to be written back.
     #[tactic(auto, unfolding(crate::specs::Acts::flush_files))]
     pub fn flush<F: Files>(&mut self, unit: UnitName, files: &mut F) -> Result<(), DetachFault>
         requires unit { IsTrue (takes_attachment unit) }

@@ -39,8 +39,8 @@ pub(crate) fn write_copy<F: Files>(
     Ok(())
 }
 
-// Writes a page over the open file of a unit, at its place, where it is marked and has any bytes. A fault says how far the
-// file is written.
+// Writes a page over the open file of a unit, at its place, where it is marked and has any bytes. A fault says how far
+// the file is written.
 fn write_page<F: Files>(
     unit: UnitName,
     file: FileId,
