@@ -1,5 +1,5 @@
 -- The attached files are valid as they are saved.
-use Rattle.std.proofs.Common.{◌≡◌, ℕ, zero, suc, ◌+◌, ◌≤◌, ◌^◌, ◌&&◌, Bool, true, false, List, [], ◌∷◌, ◌++◌, length, Option, Some, None, refl, sym, subst, ap, ◌∙◌, arith}
+use Rattle.std.proofs.Common.{◌≡◌, ℕ, zero, suc, ◌+◌, ◌<◌, ◌≤◌, ◌^◌, ◌&&◌, Bool, true, false, List, [], ◌∷◌, ◌++◌, length, Option, Some, None, refl, sym, subst, ap, ◌∙◌, arith}
 use Rattle.std.specs.Prelude.{not, nat_lt, slice_index, IfSome}
 use Rattle.std.specs.Int.{w32, to_be_bytes}
 use Rattle.std.proofs.lemmas.Bool.{and_from, and_parts, le-leb, ltb-true}
@@ -155,13 +155,18 @@ ordered : (all_next (file_place 0 0) file_places && in_order file_places) ≡ tr
 unfolding file_places kind_at is_next all_next in_order place-behind
 ordered = refl
 
+pub few-saved : (files : List NamedBytes) (attached : List (Option Attachment))
+    → length (saved_files files attached file_places) < 2 ^ 8
+few-saved files attached =
+    let most = as-most files attached file_places in
+    let all = twelve in
+    omega (arith, most, all)
+
 pub files-valid : (files : List NamedBytes) (attached : List (Option Attachment))
     → AreTaken files attached file_places → AreFiles (saved_files files attached file_places)
 files-valid files attached taken =
-    let most = as-most files attached file_places in
-    let all = twelve in
     let order = and_parts (all_next (file_place 0 0) file_places) (in_order file_places) ordered in
     record {
-      few = omega (arith, most, all);
+      few = few-saved files attached;
       each = files-follow files attached (file_place 0 0) file_places order.0 order.1 taken;
     }

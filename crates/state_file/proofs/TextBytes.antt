@@ -99,7 +99,7 @@ name-at : (slots : List (Option Held)) (place : ℕ) → AllByRecursion HasByteN
     → IfSome (get_or (attachments_of slots) place None) (λ (a : Attachment). AreBytes a.name)
 name-at [] place all = tt
 name-at (None ∷ slots) zero all = tt
-name-at (Some h ∷ slots) zero all = all.0
+name-at (Some h ∷ slots) zero all = all.0.bytes
 name-at (slot ∷ slots) (suc place) all = name-at slots place all.1
 
 saved-files : (slots : List (Option Held)) (files : List NamedBytes) (ps : List UnitPlace) → AllByRecursion HasByteName slots
@@ -132,11 +132,11 @@ send-bytes s = behind _ _ (long-text s.time) (byte-text s.byte)
 
 breaks-have : (bs : List Break) → AllByRecursion ValidBreak bs → AllByRecursion (λ (b : BreakPart). AreBytes b.actions) (map saved_break bs)
 breaks-have [] all = tt
-breaks-have (b ∷ bs) all = (all.0.actions, breaks-have bs all.1)
+breaks-have (b ∷ bs) all = (all.0.actions.bytes, breaks-have bs all.1)
 
 expects-have : (es : List Expect) → AllByRecursion ValidExpect es → AllByRecursion HasTexts (map saved_expect es)
 expects-have [] all = tt
-expects-have (e ∷ es) all = (record { text = all.0.text; actions = all.0.actions }, expects-have es all.1)
+expects-have (e ∷ es) all = (record { text = all.0.text; actions = all.0.actions.bytes }, expects-have es all.1)
 
 watch-bytes : (w : WatchState) → ValidWatch w → AreBytes (watch_text (saved_watch w))
 unfolding watch_text saved_watch
