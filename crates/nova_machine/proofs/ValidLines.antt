@@ -1,6 +1,7 @@
 -- What comes of a line is of bytes, and within its limits, where the line and what is still to come are so.
 use Rattle.std.proofs.Common.{◌≡◌, refl, ap, ◌∙◌, sym, subst, ℕ, zero, suc, ◌+◌, ◌≤◌, ◌==◌, ◌&&◌, Bool, true, false, List, [], ◌∷◌, ◌++◌, map, length, take, drop, remove, slice_get, slice_set, replicate, position, min, nat_le, Option, Some, None, IfSome, Ok, is_some, option_map, arith, if◌then◌else◌}
 use Rattle.std.specs.List.{AllByRecursion}
+use Rattle.std.proofs.Math.Seq.{drop-nil}
 use Rattle.std.proofs.lemmas.Bool.{cond_both, leb-false}
 use Rattle.std.proofs.lemmas.List.{length-append}
 use Rattle.host_lines.specs.declared.entry.CallerAct.{CallerAct}
@@ -128,10 +129,6 @@ connected-valid c line port = record {
   few_bytes = omega arith;
 }
 
-drop-none : (n : ℕ) → drop n [] ≡ []
-drop-none zero = refl
-drop-none (suc n) = refl
-
 sent-from : (n : ℕ) (line : LineOf Peer) → ValidLine line → ValidLine (record line { output = drop n line.output })
 sent-from n line valid =
     let few = valid.few_bytes in let left = drop-few n line.output in
@@ -139,7 +136,7 @@ sent-from n line valid =
       port = valid.port;
       nothing = λ none.
           ap (λ (l : LineOf Peer). record l { output = drop n l.output }) (valid.nothing none)
-          ∙ ap (λ (bytes : List ℕ). record (unconnected line.port) { output = bytes }) (drop-none n);
+          ∙ ap (λ (bytes : List ℕ). record (unconnected line.port) { output = bytes }) (drop-nil n);
       keys = valid.keys;
       output = bytes-drop n line.output valid.output;
       few_keys = valid.few_keys;
