@@ -7,8 +7,8 @@ ghost use Rattle.event_queue.specs.EventList.{Event, Sound, waits, placed, due, 
 ghost use Rattle.event_queue.specs.Deltas.{events_of, delta, nearer, further, entered};
 
 use crate::delta::Delta;
-use crate::entry::Entry;
 use crate::pairs::{look_behind_one, look_both};
+use crate::waiting::Waiting;
 use std::alloc::{AllocError, Global};
 use std::marker::Model;
 use unit_trait::UnitName;
@@ -181,11 +181,11 @@ impl Deltas {
     }
 
     /// An event by its place from 0: the differences up to its own add up.
-    pub(crate) fn get(&self, k: usize) -> Option<Entry>
+    pub(crate) fn get(&self, k: usize) -> Option<Waiting>
         ensures entry { result ≡ slice_get self.now k }
         ensures low { IfSome result (λ e. e.unit.unit < units_of e.unit.kind) }
     {
-        entry_at(self.list.as_slice(), k)
+        event_at(self.list.as_slice(), k)
     }
 
     /// The unit of an event by its place.
@@ -251,7 +251,7 @@ fn put_off(deltas: &mut [Delta], at: usize, by: u32)
 }
 
 /// An event by its place from 0.
-fn entry_at(deltas: &[Delta], k: usize) -> Option<Entry>
+fn event_at(deltas: &[Delta], k: usize) -> Option<Waiting>
     requires { AllByRecursion (λ (e : Event). e.remaining < 2 ^ 32) (events_of deltas.now) }
     ensures { result ≡ slice_get (events_of deltas.now) k }
 {
@@ -259,7 +259,7 @@ fn entry_at(deltas: &[Delta], k: usize) -> Option<Entry>
     for (at, entry) in deltas.iter().enumerate() {
         remaining += entry.after;
         if at == k {
-            return Some(Entry {
+            return Some(Waiting {
                 unit: entry.unit,
                 remaining,
             });

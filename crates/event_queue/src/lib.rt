@@ -4,10 +4,10 @@
 mod active;
 mod delta;
 mod deltas;
-mod entry;
 pub mod events;
 pub mod laws;
 mod pairs;
+mod waiting;
 
 pub use delta::Delta;
 pub use events::Events;

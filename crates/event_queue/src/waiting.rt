@@ -3,12 +3,12 @@ use unit_trait::UnitName;
 
 /// A unit that waits, and the instructions that remain until its event is due.
 #[derive(Clone, Copy)]
-pub(crate) struct Entry {
+pub(crate) struct Waiting {
     pub(crate) unit: UnitName,
     pub(crate) remaining: u32,
 }
 
-impl Model for Entry {
+impl Model for Waiting {
     ghost use Rattle.event_queue.specs.EventList.{Event};
 
     ghost Value = { Event };
