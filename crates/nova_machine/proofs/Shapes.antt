@@ -1,5 +1,5 @@
 -- A turn and a run keep of which kinds the units are, what is attached, and how many lines there are.
-use Rattle.std.proofs.Common.{◌≡◌, inl, inr, ℕ, Bool, List, [], ◌∷◌, length, slice_get, slice_set, Option, Some, None, option_map, Result, Ok, Err, refl, sym, subst, ap, ◌∙◌}
+use Rattle.std.proofs.Common.{◌≡◌, inl, inr, ℕ, Bool, List, [], length, slice_get, slice_set, Option, Some, None, option_map, Result, Ok, Err, refl, sym, subst, ◌∙◌}
 use Rattle.std.proofs.lemmas.List.{length-set}
 use Rattle.observations.specs.Observations.{Observation, StandsAt}
 use Rattle.observations.proofs.MadeLemmas.{stands-either}
@@ -15,7 +15,6 @@ use Rattle.unit_trait.specs.Calls.{Due, Answered}
 use Rattle.unit_list.proofs.Calls.{after-kinds}
 use Rattle.unit_files.specs.Acts.{Failure}
 use Rattle.nova_machine.specs.declared.machine.Stop.{Stop}
-use Rattle.nova_machine.specs.Machine.{MachineState}
 use Rattle.nova_machine.specs.Notes.{UnitNote, RunNote}
 use Rattle.nova_machine.specs.Tapes.{NoAnswer}
 use Rattle.nova_machine.specs.Seen.{Seen, with_machine}
