@@ -1,6 +1,6 @@
 pub mod Agendas
 pub mod Cancels
-pub mod Differences
+pub mod RemainingTimes
 pub mod Dues
 pub mod SoundLists
 pub mod Looks

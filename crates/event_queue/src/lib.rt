@@ -4,6 +4,7 @@
 mod active;
 mod delta;
 mod deltas;
+mod differences;
 pub mod events;
 pub mod laws;
 mod pairs;

@@ -1,10 +1,10 @@
-ghost use Rattle.std.specs.Prelude.{◌≡◌, ◌<◌, ◌≤◌, true, false, slice_get, IfSome};
+ghost use Rattle.std.specs.Prelude.{◌≡◌, ◌<◌, true, false, slice_get, IfSome};
 ghost use Rattle.event_queue.specs.Idle.{looked};
 ghost use Rattle.event_queue.specs.EventList.{Sound};
 ghost use Rattle.event_queue.specs.Deltas.{events_of};
 
 use crate::delta::Delta;
-use crate::deltas::bring_nearer;
+use crate::differences::bring_nearer;
 
 /// Asks for the events of the first two entries again after so many instructions, where they are due and then stand in
 /// front of the others; answers whether.

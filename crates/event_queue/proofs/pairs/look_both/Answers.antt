@@ -1,6 +1,6 @@
 use Rattle.std.proofs.Common.{◌≡◌, ◌<◌, IfSome, Some, slice_get, ap, ◌∙◌, rules}
 use Rattle.event_queue.specs.Deltas.{events_of}
-use Rattle.event_queue.proofs.Differences.{set-both}
+use Rattle.event_queue.proofs.RemainingTimes.{set-both}
 use Rattle.event_queue.proofs.pairs.look_both.Goals as goal
 
 pub returns-clause-looked : goal.returns-clause-looked

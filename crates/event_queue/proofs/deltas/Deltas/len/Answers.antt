@@ -1,6 +1,6 @@
 use Rattle.std.proofs.Common.{List, length, ap, arith}
 use Rattle.event_queue.specs.EventList.{Event}
-use Rattle.event_queue.proofs.Differences.{behind-length}
+use Rattle.event_queue.proofs.RemainingTimes.{behind-length}
 use Rattle.event_queue.proofs.deltas.Deltas.len.Goals as goal
 
 pub returns : goal.returns

@@ -4,7 +4,7 @@ use Rattle.event_queue.specs.declared.delta.Delta.{Delta}
 use Rattle.event_queue.specs.EventList.{Sound}
 use Rattle.event_queue.specs.Idle.{looked}
 use Rattle.event_queue.specs.Deltas.{events_of}
-use Rattle.event_queue.proofs.Differences.{sound-either}
+use Rattle.event_queue.proofs.RemainingTimes.{sound-either}
 use Rattle.event_queue.proofs.Looks.{sound-looked}
 use Rattle.event_queue.proofs.deltas.Deltas.look_behind_one.Goals as goal
 

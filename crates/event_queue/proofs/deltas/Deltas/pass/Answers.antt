@@ -3,7 +3,7 @@ use Rattle.std.proofs.lemmas.List.{take_at}
 use Rattle.event_queue.specs.declared.delta.Delta.{Delta}
 use Rattle.event_queue.specs.EventList.{Event, Sound, lowered, IsClear}
 use Rattle.event_queue.specs.Deltas.{events_of, nearer}
-use Rattle.event_queue.proofs.Differences.{clear-first, first-nearer, near-length}
+use Rattle.event_queue.proofs.RemainingTimes.{clear-first, first-nearer, near-length}
 use Rattle.event_queue.proofs.SoundLists.{sound-lowered}
 use Rattle.event_queue.proofs.deltas.Deltas.pass.Goals as goal
 

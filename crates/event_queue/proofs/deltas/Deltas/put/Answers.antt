@@ -3,7 +3,7 @@ use Rattle.std.proofs.lemmas.List.{take_at}
 use Rattle.event_queue.specs.declared.delta.Delta.{Delta}
 use Rattle.event_queue.specs.EventList.{Sound, waits, placed}
 use Rattle.event_queue.specs.Deltas.{events_of, delta, nearer, entered}
-use Rattle.event_queue.proofs.Differences.{behind-length, behind-entered, insert-split}
+use Rattle.event_queue.proofs.RemainingTimes.{behind-length, behind-entered, insert-split}
 use Rattle.event_queue.proofs.Numbers.{room}
 use Rattle.event_queue.proofs.SoundLists.{sound-placed}
 use Rattle.event_queue.proofs.deltas.Deltas.put.Goals as goal

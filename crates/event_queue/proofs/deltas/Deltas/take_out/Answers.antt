@@ -3,7 +3,7 @@ use Rattle.std.proofs.lemmas.List.{take_at}
 use Rattle.event_queue.specs.declared.delta.Delta.{Delta}
 use Rattle.event_queue.specs.EventList.{Event, Sound}
 use Rattle.event_queue.specs.Deltas.{events_of, further}
-use Rattle.event_queue.proofs.Differences.{behind-length, behind-taken, next-short, units-stay, there}
+use Rattle.event_queue.proofs.RemainingTimes.{behind-length, behind-taken, next-short, units-stay, there}
 use Rattle.event_queue.proofs.SoundLists.{sound-without, unit-low}
 use Rattle.event_queue.proofs.deltas.Deltas.take_out.Goals as goal
 

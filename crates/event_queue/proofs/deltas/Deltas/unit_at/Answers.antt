@@ -1,7 +1,7 @@
 use Rattle.std.proofs.Common.{◌≡◌, ◌<◌, List, length, slice_get, option_map, Option, Some, ap, sym, ◌∙◌, arith}
 use Rattle.event_queue.specs.declared.delta.Delta.{Delta}
 use Rattle.event_queue.specs.EventList.{Event}
-use Rattle.event_queue.proofs.Differences.{behind-length, units-stay, there}
+use Rattle.event_queue.proofs.RemainingTimes.{behind-length, units-stay, there}
 use Rattle.event_queue.proofs.deltas.Deltas.unit_at.Goals as goal
 
 pub index-requires : goal.index-requires

@@ -3,8 +3,8 @@ use Rattle.unit_trait.specs.declared.kind.Kind.TheVariants.{Dsk}
 use Rattle.event_queue.specs.declared.delta.Delta.{Delta}
 use Rattle.event_queue.specs.EventList.{event}
 use Rattle.event_queue.specs.Deltas.{events_of, delta}
-use Rattle.event_queue.proofs.Differences.{passed, passed-none, passed-more, passed-short, behind-get, behind-length, none-behind, there}
-use Rattle.event_queue.proofs.deltas.event_at.Goals as goal
+use Rattle.event_queue.proofs.RemainingTimes.{passed, passed-none, passed-more, passed-short, behind-get, behind-length, none-behind, there}
+use Rattle.event_queue.proofs.differences.event_at.Goals as goal
 
 no-entry : Delta
 no-entry = delta (record { kind = Dsk; unit = 0 }) 0
