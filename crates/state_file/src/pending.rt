@@ -9,8 +9,8 @@ use sha2::{Digest, Sha256};
 use std::alloc::{AllocError, Global};
 use std::marker::Model;
 
-/// How many bytes there is room for from the first: a piece, and a byte less than the longest record, which is a text that
-/// is waited for with its actions.
+/// How many bytes there is room for from the first: a piece, and a byte less than the longest record, which is a text
+/// that is waited for with its actions.
 const ROOM: usize = 4096 + 582;
 
 /// The bytes that came, of which the first ones were read, the place behind those in all bytes, and what hashed them.

@@ -503,8 +503,8 @@ impl StateReader {
         self.settle()
     }
 
-    /// Takes the next piece. Of the faults of what came so far nothing is said before `finish`. Where memory runs out, the
-    /// reading is over.
+    /// Takes the next piece. Of the faults of what came so far nothing is said before `finish`. Where memory runs out,
+    /// the reading is over.
     pub fn feed(&mut self, piece: &[u8]) -> Result<(), AllocError>
         requires piece { length piece.now ≤ 4096 }
         // These bytes come behind those that were fed before.
