@@ -1,26 +1,26 @@
 -- A state file is read piece by piece.
-use Rattle.std.proofs.Common.{◌≡◌, ◌≢◌, ◌⊎◌, inl, inr, arith, ℕ, ◌+◌, ◌≤◌, Bool, true, false, List, [], ◌∷◌, ◌++◌, length, take, drop, Option, Some, None, is_some, Result, Ok, Err, refl, sym, ap, subst, ◌∙◌}
-use Rattle.std.proofs.Math.Seq.{take-append-add}
-use Rattle.std.proofs.lemmas.List.{take-append-le, take-append-drop, length-take-le}
+use Rattle.std.proofs.Common.{◌≡◌, ◌≢◌, ◌⊎◌, inl, inr, arith, ℕ, ◌≤◌, Bool, true, false, List, [], ◌∷◌, ◌++◌, length, Option, Some, None, is_some, Result, Ok, Err, refl, sym, ap, subst, ◌∙◌}
 use Rattle.host_files.specs.State.{FileState, content, name_at}
 use Rattle.std.proofs.lemmas.Bool.{eq-eqb, le-ltb, lt-ltb}
 use Rattle.host_files.specs.declared.files.FileId.{FileId}
 use Rattle.host_files.specs.Lists.{NamedBytes, find_file, bytes_of}
 use Rattle.whole_files.specs.declared.whole.FailedCall.{FailedCall}
+use Rattle.whole_files.specs.declared.whole.WholeFault.{WholeFault}
 use Rattle.std.specs.Prelude.{unwrap_or, IfOk, IfSome, nat_lt}
 use Rattle.host_files.specs.declared.files.OpenMode.TheVariants.{Read as to_read}
 use Rattle.host_files.specs.FileCalls.{HasOpened}
 use Rattle.host_files.specs.declared.files.FileCall.{FileCall}
 use Rattle.host_files.specs.declared.files.FileCall.TheVariants as call
-use Rattle.whole_files.specs.Claims.{claims_of, call_of}
+use Rattle.whole_files.specs.Claims.{claims_of, call_of, claimed, said_of, said_of_bytes}
 use Rattle.whole_files.specs.Reading.{IsClosing}
 use Rattle.whole_files.specs.Whole.{WholeIs, longest_file, whole_act}
 use Rattle.whole_files.proofs.Counts.{one-here, none-elsewhere}
 use Rattle.state_file.specs.declared.state_reader.StateReader.{StateReader}
+use Rattle.state_file.specs.Pieces.{IsFed}
 use Rattle.scp_commands.specs.declared.state_reading.StateRead.{StateRead}
 use Rattle.scp_commands.specs.declared.state_reading.Unread.{Unread}
 use Rattle.scp_commands.specs.declared.state_reading.Unread.TheVariants as unread
-use Rattle.scp_commands.specs.StateReading.{WasFed, IsReadFor, SaysOfFile, IsFedWith, said_for, answer_of, failure_of, read_failures}
+use Rattle.scp_commands.specs.StateReading.{WasFed, IsReadFor, SaysOfFile, IsFedWith, said_for, answer_of, failure_of, read_failures, bytes_for, whole_of}
 
 pub was_fed : (read : Result StateReader Unread) → IfOk read (λ reader. WasFed reader) → IfOk (answer_of read) (λ reader. WasFed reader)
 was_fed (Ok reader) was = was
