@@ -49,3 +49,4 @@ pub mod OwnTexts
 pub mod AtRest
 pub mod ResumptionLemmas
 pub mod PassedBreaks
+pub mod StateReadingLemmas
