@@ -6,8 +6,6 @@ use Rattle.std.specs.List.{AllByRecursion}
 use Rattle.std.proofs.lemmas.Bool.{cond_both}
 use Rattle.std.proofs.lemmas.List.{length-map}
 use Rattle.std.proofs.lemmas.List.Concat.{flat_map-cons}
-use Rattle.sha2.specs.Sha256.{sha256}
-use Rattle.sha2.proofs.Facts256.{length-sha256}
 use Rattle.host_files.specs.Lists.{NamedBytes, find_file, bytes_of}
 use Rattle.host_lines.specs.Traffic.{Peer}
 use Rattle.telnet_lines.specs.Line.{LineOf, unconnected}
@@ -24,10 +22,10 @@ use Rattle.state_file.specs.Parts.{FilePart, BreakPart, ExpectPart}
 use Rattle.state_file.specs.Laws.{FileHasWidths, BreakHasWidths, ExpectHasWidths, SendHasWidths, HasWidths}
 use Rattle.state_file.specs.Valid.{FilesFit, BreaksFit, ExpectsFit, WatchFits, IsMachine, Fits}
 use Rattle.state_file.specs.PutBack.{IsIdleLine, CanBeSaved}
-use Rattle.state_file.specs.Saving.{unit_at, place_of, file_places, flag_of, saved_file, saved_at, saved_files}
+use Rattle.state_file.specs.Saving.{unit_at, file_places, saved_file, saved_at, saved_files}
 use Rattle.state_file.specs.Session.{saved_break, saved_expect, saved_send, saved_machine, saved_watch, port_number, saved_port, saved}
 use Rattle.state_file.proofs.SavedLemmas.{machine-valid}
-use Rattle.state_file.proofs.SavedFileLemmas.{sha256-bytes, few-saved}
+use Rattle.state_file.proofs.SavedFileLemmas.{file-widths, few-saved}
 use Rattle.state_file.proofs.TakenFits.{machine-fits}
 use Rattle.scp_commands.specs.Live.{Live}
 use Rattle.scp_commands.specs.Valid.{IsProgramMachine, ValidLive}
@@ -53,10 +51,6 @@ all-low = (
   ((omega arith, omega arith), ((omega arith, omega arith), ((omega arith, omega arith), ((omega arith, omega arith), tt))))))))))),
 )
 
-small-mark : (b : Bool) → flag_of b < 2 ^ 8
-small-mark true = omega arith
-small-mark false = omega arith
-
 -- what a field of the file takes
 record FitsPart (f : FilePart) : Type 0 where
   name : length f.name < 2 ^ 16
@@ -67,15 +61,7 @@ part-fits files p a all low named =
     let short = named.short in
     record {
       name = omega (arith, short);
-      widths = record {
-        position = low.0;
-        unit = low.1;
-        read_only = small-mark a.read_only;
-        name = named.bytes;
-        size = measured files a.name all;
-        digest = length-sha256 (bytes_of files a.name);
-        bytes = sha256-bytes (bytes_of files a.name);
-      };
+      widths = file-widths p a (bytes_of files a.name) low.0 low.1 named.bytes (measured files a.name all);
     }
 
 name-at : (slots : List (Option Held)) (place : ℕ) → AllByRecursion HasByteName slots → IfSome (get_or (attachments_of slots) place None) (λ (a : Attachment). IsByteName a.name)
@@ -170,11 +156,28 @@ erased-same : (m : MachineState) → IsProgramMachine m → erased m ≡ m
 erased-same m is =
     ap (λ (slots : List (Option Held)). record m { slots = slots; lines = [] }) is.numbers ∙ ap (λ (lines : List (LineOf ℕ)). record m { lines = lines }) (sym is.lines)
 
+widths : (s : Live) (files : List NamedBytes) → ValidLive s → AllByRecursion FitsPart (saved_files files (attached_in s.machine) file_places) → HasWidths (saved_among files s)
+unfolding saved_machine saved_watch
+widths s files is parts =
+    let valid = is.valid in
+    let m : IsMachine (saved_machine s.machine) = machine-valid s.machine valid.machine is.time valid.taken is.machine.units in
+    record {
+      cpu = cpu-widths _ m.cpu;
+      words = m.words;
+      units = units-widths 0 _ m.units;
+      agenda = events-widths [] _ m.agenda;
+      files = every-gives FitsPart FileHasWidths (saved_files files (attached_in s.machine) file_places) (λ f x. x.widths) parts;
+      port = port-low s.lines valid.lines;
+      breaks = breaks-widths s.watch.breaks.list valid.watch.each;
+      expects = expects-widths s.watch.expects.list valid.watch.texts;
+      tail = valid.watch.printed;
+      sends = sends-widths s.watch.sends valid.watch.in_time valid.watch.bytes;
+    }
+
 pub savable : (s : Live) (files : List NamedBytes) → IsAtRest s → HaveLengths files → IsSavable files s
 savable s files rest all =
     let is = rest.session in
     let valid = is.valid in
-    let m : IsMachine (saved_machine s.machine) = machine-valid s.machine valid.machine is.time valid.taken is.machine.units in
     let parts = parts-fit s.machine.slots files file_places all all-low valid.machine.names in
     record {
       can = record {
@@ -196,21 +199,3 @@ savable s files rest all =
       };
       widths = widths s files is parts;
     }
-  where
-    widths : (s : Live) (files : List NamedBytes) → ValidLive s → AllByRecursion FitsPart (saved_files files (attached_in s.machine) file_places) → HasWidths (saved_among files s)
-    unfolding saved_machine saved_watch
-    widths s files is parts =
-        let valid = is.valid in
-        let m : IsMachine (saved_machine s.machine) = machine-valid s.machine valid.machine is.time valid.taken is.machine.units in
-        record {
-          cpu = cpu-widths _ m.cpu;
-          words = m.words;
-          units = units-widths 0 _ m.units;
-          agenda = events-widths [] _ m.agenda;
-          files = every-gives FitsPart FileHasWidths (saved_files files (attached_in s.machine) file_places) (λ f x. x.widths) parts;
-          port = port-low s.lines valid.lines;
-          breaks = breaks-widths s.watch.breaks.list valid.watch.each;
-          expects = expects-widths s.watch.expects.list valid.watch.texts;
-          tail = valid.watch.printed;
-          sends = sends-widths s.watch.sends valid.watch.in_time valid.watch.bytes;
-        }

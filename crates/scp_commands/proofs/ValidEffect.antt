@@ -1,5 +1,5 @@
 -- Every command keeps what every state is, and what the disk holds of its file.
-use Rattle.std.proofs.Common.{◌≡◌, ◌≢◌, inl, inr, ℕ, zero, suc, ◌+◌, ◌^◌, ◌<◌, ◌≤◌, ◌==◌, ◌&&◌, not, nat_le, nat_lt, min, unwrap_or, Bool, true, false, List, [], ◌∷◌, length, drop, get_or, Option, Some, None, option_map, Result, Ok, Err, if◌then◌else◌, refl, sym, ap, subst, ◌∙◌, arith, is_none, is_some}
+use Rattle.std.proofs.Common.{◌≡◌, ◌≢◌, inl, inr, ℕ, zero, suc, ◌+◌, ◌^◌, ◌<◌, ◌≤◌, ◌==◌, ◌&&◌, not, nat_le, nat_lt, min, unwrap_or, Bool, true, false, List, [], ◌∷◌, length, drop, get_or, map, Option, Some, None, IfSome, option_map, Result, Ok, Err, if◌then◌else◌, refl, sym, ap, subst, ◌∙◌, arith, is_none, is_some}
 use Rattle.std.proofs.lemmas.Bool.{and_parts, leb-true, ltb-true}
 use Rattle.std.proofs.lemmas.List.{length-map}
 use Rattle.observations.specs.Observations.{Prints, map_made}
@@ -16,7 +16,7 @@ use Rattle.whole_files.specs.Whole.{WholeSaid, WholeIs, whole_act}
 use Rattle.whole_files.specs.Whole as whole
 use Rattle.whole_files.specs.Writing.{WriteSaid, AllWritten, WriteFailed, write_act}
 use Rattle.expect_actions.specs.Watch.{WatchState}
-use Rattle.expect_actions.specs.Expects.{most_expects}
+use Rattle.expect_actions.specs.Expects.{expect_of, most_expects, longest_text}
 use Rattle.expect_actions.specs.KeysFile.{most_keys}
 use Rattle.expect_actions.specs.Sends.{most_sends}
 use Rattle.binary_load.specs.declared.faults.LoadFault.{LoadFault}
@@ -24,19 +24,22 @@ use Rattle.binary_load.specs.Tape.{Tape}
 use Rattle.binary_load.proofs.RangeLemmas.{dump-bytes}
 use Rattle.nova_memory.specs.Memory.{fits_size}
 use Rattle.nova_machine.specs.Machine.{MachineState, reset_machine}
-use Rattle.nova_machine.specs.Seen.{attached_in}
+use Rattle.unit_list.specs.Bus.{kinds_of}
+use Rattle.unit_files.specs.Attachments.{no_attachments}
+use Rattle.nova_machine.specs.Seen.{unnumbered, attached_in}
 use Rattle.nova_machine.specs.Run.{run, last_time}
 use Rattle.std.specs.List.{AllByRecursion}
-use Rattle.nova_machine.specs.Valid.{AreBytes, ValidMachine, ValidWatch, ValidLine, ValidAhead, CopyIsFile, DiskIsItsFile}
+use Rattle.nova_machine.specs.Valid.{AreBytes, IsByteName, AreShortActions, ValidExpect, ValidMachine, ValidWatch, IsPort, ValidLine, ValidAhead, Valid, CopyIsFile, DiskIsItsFile}
+use Rattle.nova_machine.specs.ValidLaws.{StaysAs}
 use Rattle.nova_machine.proofs.StayingValid.{runs-stay-valid}
 use Rattle.nova_machine.specs.declared.machine.Stop.{Stop}
 use Rattle.nova_machine.proofs.ValidBytes.{AreFiles, files-found}
 use Rattle.state_file.specs.declared.fault.StateFault.{StateFault}
 use Rattle.state_file.specs.Listening.{wants_port}
 use Rattle.state_file.specs.Parts.{State}
-use Rattle.state_file.specs.PutBack.{put_back}
+use Rattle.state_file.specs.PutBack.{machine_from, lines_from, put_back}
 use Rattle.state_file.specs.Reading.{reading}
-use Rattle.state_file.specs.Restoring.{FileRefusal, at_unit}
+use Rattle.state_file.specs.Restoring.{FileRefusal, with_all, at_unit}
 use Rattle.state_file.specs.Saving.{first_unsaved, files_flushed, copy_flushed}
 use Rattle.state_file.specs.Session.{saved}
 use Rattle.state_file.specs.Text.{text}
@@ -63,7 +66,7 @@ use Rattle.scp_commands.specs.Reply.{Answer, Reply, goes, says, refused}
 use Rattle.scp_commands.specs.RunEffects.{stop_line, run_answer, used_by, run_failure, ran, address_fits, started, run_from, stepped, step_of, reset_reply, last_address}
 use Rattle.scp_commands.specs.WatchEffects.{text_of_quoted, lacks_room_for_break, can_be_expected, largest_count, break_reply, no_break_reply, expect_reply, no_expect_reply, send_reply, no_send_reply}
 use Rattle.scp_commands.specs.ListEffects.{lacks_device, examine_after, examine_reply, handed, deposit_after, deposit_reply}
-use Rattle.scp_commands.specs.FileEffects.{lacks_unit, mode_of, attach_answer, attach_used, attached_machine, attach_with, attach_reply, detach_answer, detach_used, detached_machine, flushed_files, detach_with, detach_reply}
+use Rattle.scp_commands.specs.FileEffects.{first_place, lacks_unit, mode_of, attach_answer, attach_used, attached_machine, attach_with, attach_reply, detach_answer, detach_used, detached_machine, flushed_files, detach_with, detach_reply}
 use Rattle.scp_commands.specs.FileEffects.{filed_in, emptied_all, left_by, unported_by, kept_answer, emptied_reply, detach_all_reply, detach_one_or_all}
 use Rattle.host_lines.specs.Traffic.{Answer as LineAnswer, Peer, Replied, Ahead, Script, Answers, Quiet, Failed, replied, begun, listening}
 use Rattle.telnet_lines.specs.Line.{LineOf, unconnected}
@@ -80,7 +83,8 @@ use Rattle.scp_commands.specs.Effect.{effect}
 use Rattle.scp_commands.specs.Nature.{nature}
 use Rattle.scp_commands.specs.Doing.{Does}
 use Rattle.scp_commands.specs.Remains.{flushed_machine, flushed, MachineRemains, Remains}
-use Rattle.scp_commands.specs.Valid.{ValidLive, GivesBytes, CopyFollows, IsValidReply, CommandsKeepStates}
+use Rattle.scp_commands.specs.Valid.{IsProgramMachine, ValidLive, GivesBytes, CopyFollows, IsValidReply, CommandsKeepStates}
+use Rattle.scp_commands.proofs.KindLemmas.{positioned-kinds}
 use Rattle.scp_commands.proofs.SeenLemmas.{attached-with}
 use Rattle.scp_commands.proofs.CloseLemmas.{none-other}
 use Rattle.scp_commands.proofs.SaveLemmas.{copy-left}

@@ -13,6 +13,7 @@ use Rattle.unit_files.specs.Attachments.{Attachment, attachment_at, longest_file
 use Rattle.unit_files.specs.Attachments as unit_files
 use Rattle.state_file.specs.Parts.{FilePart}
 use Rattle.state_file.specs.Ranges.{kind_at, FilePlace, takes_file_at, is_next_unit, only_writes, is_read_only_of, is_name_length, longest_file_of}
+use Rattle.state_file.specs.Laws.{FileHasWidths}
 use Rattle.state_file.specs.Valid.{AreBytes, Follow, IsFile, AreFiles}
 use Rattle.state_file.specs.Reading.{place_of as file_place, behind_file}
 use Rattle.state_file.specs.declared.saving.UnitPlace.{UnitPlace}
@@ -88,6 +89,23 @@ file-is files least p a next taken =
       digest = length-sha256 (bytes_of files a.name);
       bytes = sha256-bytes (bytes_of files a.name);
     }
+
+small-flag : (b : Bool) → flag_of b < 2 ^ 8
+small-flag true = omega arith
+small-flag false = omega arith
+
+-- each field takes what is saved of a file whose name is of bytes and whose length can be told
+pub file-widths : (p : UnitPlace) (a : Attachment) (bytes : List ℕ) → p.position < 2 ^ 8 → p.unit < 2 ^ 8
+    → AreBytes a.name → length bytes < 2 ^ 64 → FileHasWidths (saved_file p a bytes)
+file-widths p a bytes position unit name size = record {
+  position = position;
+  unit = unit;
+  read_only = small-flag a.read_only;
+  name = name;
+  size = size;
+  digest = length-sha256 bytes;
+  bytes = sha256-bytes bytes;
+}
 
 -- ---- all of them
 
