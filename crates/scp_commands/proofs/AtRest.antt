@@ -1,5 +1,5 @@
 -- A session at rest can be saved, and what is saved of it fits the fields of a state file.
-use Rattle.std.proofs.Common.{◌≡◌, ◌≢◌, ℕ, zero, suc, ◌<◌, ◌≤◌, ◌^◌, Bool, true, false, List, [], ◌∷◌, ◌++◌, length, map, Option, Some, None, IfSome, refl, sym, ap, subst, ◌∙◌, arith}
+use Rattle.std.proofs.Common.{◌≡◌, ◌≢◌, ℕ, zero, suc, ◌<◌, ◌≤◌, ◌^◌, List, [], ◌∷◌, ◌++◌, length, map, Option, Some, None, IfSome, sym, ap, subst, ◌∙◌, arith}
 use Rattle.std.specs.Prelude.{get_or, unwrap_or}
 use Rattle.std.specs.Str.{bytes_eq}
 use Rattle.std.specs.List.{AllByRecursion}
@@ -8,22 +8,22 @@ use Rattle.std.proofs.lemmas.List.{length-map}
 use Rattle.std.proofs.lemmas.List.Concat.{flat_map-cons}
 use Rattle.host_files.specs.Lists.{NamedBytes, find_file, bytes_of}
 use Rattle.host_lines.specs.Traffic.{Peer}
-use Rattle.telnet_lines.specs.Line.{LineOf, unconnected}
+use Rattle.telnet_lines.specs.Line.{LineOf}
 use Rattle.unit_files.specs.Attachments.{Attachment, Held, attachments_of, attachment_at, file_place}
 use Rattle.expect_actions.specs.declared.breaks.Break.{Break}
 use Rattle.expect_actions.specs.declared.expects.Expect.{Expect}
 use Rattle.expect_actions.specs.Sends.{Send, InTime}
 use Rattle.expect_actions.specs.Watch.{WatchState}
 use Rattle.nova_machine.specs.Machine.{MachineState}
-use Rattle.nova_machine.specs.Seen.{Seen, unnumbered, erased, attached_in}
+use Rattle.nova_machine.specs.Seen.{erased, attached_in}
 use Rattle.nova_machine.specs.Valid.{IsByteName, HasByteName, ValidBreak, ValidExpect, ValidWatch, IsPort, ValidLine}
 use Rattle.state_file.specs.declared.saving.UnitPlace.{UnitPlace}
-use Rattle.state_file.specs.Parts.{FilePart, BreakPart, ExpectPart}
+use Rattle.state_file.specs.Parts.{FilePart}
 use Rattle.state_file.specs.Laws.{FileHasWidths, BreakHasWidths, ExpectHasWidths, SendHasWidths, HasWidths}
-use Rattle.state_file.specs.Valid.{FilesFit, BreaksFit, ExpectsFit, WatchFits, IsMachine, Fits}
-use Rattle.state_file.specs.PutBack.{IsIdleLine, CanBeSaved}
+use Rattle.state_file.specs.Valid.{BreaksFit, ExpectsFit, WatchFits, IsMachine}
+use Rattle.state_file.specs.PutBack.{IsIdleLine}
 use Rattle.state_file.specs.Saving.{unit_at, file_places, saved_file, saved_at, saved_files}
-use Rattle.state_file.specs.Session.{saved_break, saved_expect, saved_send, saved_machine, saved_watch, port_number, saved_port, saved}
+use Rattle.state_file.specs.Session.{saved_break, saved_expect, saved_send, saved_machine, saved_watch, port_number, saved_port}
 use Rattle.state_file.proofs.SavedLemmas.{machine-valid}
 use Rattle.state_file.proofs.SavedFileLemmas.{file-widths, few-saved}
 use Rattle.state_file.proofs.TakenFits.{machine-fits}
