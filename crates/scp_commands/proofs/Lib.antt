@@ -48,4 +48,3 @@ pub mod SameCommandLemmas
 pub mod OwnTexts
 pub mod ResumptionLemmas
 pub mod PassedBreaks
-pub mod StateReadingLemmas
