@@ -48,3 +48,4 @@ pub mod SameCommandLemmas
 pub mod OwnTexts
 pub mod ResumptionLemmas
 pub mod PassedBreaks
+pub mod StateReadingLemmas
