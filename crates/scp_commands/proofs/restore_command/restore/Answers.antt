@@ -358,5 +358,3 @@ returns-in-Err-saved_in-clause-keeps g c =
     (ap Err c.of_state.ensures ∙ sym (ap (whole_answer subject.State (λ bytes. Err (state_fault fault))) (ap bytes_for c.in-Ok.ensures.reader))) read.shape
     (record { counts = read.counts; openings = read.openings })
     (c.note_state_reading.ensures.notes ∙ ap (λ (t : Stamp). s.notes.items ++ read_notes subject.State t w) stamped)))
-
--- not checked yet; still to answer: note_restoring-requires (by the clause `few` of note_state_reading) and returns-clause-line
