@@ -24,6 +24,7 @@ pub fn note_reading(notes: &mut Vec<FaultNote>, whose: Subject, whole: &Whole, s
 pub fn note_state_reading(notes: &mut Vec<FaultNote>, read: &StateRead, stamp: Stamp)
     requires { vec_len notes.old + 2 ≤ vec_capacity notes.old }
     ensures notes { notes.new.items ≡ notes.old.items ++ read_notes of_state stamp (whole_of read.now) }
+    ensures few { vec_len notes.new ≤ vec_len notes.old + 2 }
     ensures capacity { vec_capacity notes.old ≤ vec_capacity notes.new }
 {
     note_call(notes, Subject::State, 0, read.failed, stamp);

@@ -25,7 +25,11 @@ use Rattle.scp_commands.specs.declared.fault.CommandFault.TheVariants.{AlreadyAt
 use Rattle.scp_commands.specs.declared.fault.CommandFault.{CommandFault}
 use Rattle.scp_commands.specs.LinesLeft.{Unlistened}
 use Rattle.scp_commands.specs.StateEffects.{restore_notes, restore_reply, restored_by}
-use Rattle.scp_commands.specs.WholeCalls.{read_notes}
+use Rattle.state_file.specs.declared.fault.StateFault.{StateFault}
+use Rattle.state_file.specs.declared.fault.StateFault.TheVariants as state
+use Rattle.host_files.specs.State.{FileState}
+use Rattle.scp_commands.specs.FaultText.{state_fault}
+use Rattle.scp_commands.specs.WholeCalls.{read_notes, whole_answer}
 use Rattle.state_file.specs.declared.state_reader.StateReader.{StateReader}
 use Rattle.scp_commands.specs.StateReading.{WasFed, bytes_for, whole_of}
 use Rattle.scp_commands.proofs.StateReadingLemmas.{says_unread, says_read, fed_with}
@@ -36,7 +40,7 @@ use Rattle.scp_commands.proofs.OwnFileLemmas.{whole-own}
 use Rattle.scp_commands.proofs.RestoreLemmas.{occupied-reply, occupied-seen, unread-by, unfit-by, back-did}
 use Rattle.scp_commands.proofs.RestoreLines.{restore-done, restore-refused, restore-unasked, back-ends, refused-by}
 use Rattle.scp_commands.proofs.RestoreNotes.{restore-keeps, read-shut-notes, refused-restore-keeps, done-restore-keeps, restore-own, whole-fault, want-fault, no-notes}
-use Rattle.scp_commands.proofs.WholeLemmas.{own_both, read-claims, read-keeps, short-read}
+use Rattle.scp_commands.proofs.WholeLemmas.{own_both, read-claims, read-keeps, short-read, TakesClosings}
 use Rattle.scp_commands.proofs.restore_command.restore.Goals as goal
 
 pub returns-then-is_occupied-clause-told : goal.returns-then-is_occupied-clause-told
@@ -329,3 +333,28 @@ returns-clause-whose g c =
 
 pub saved_in-requires : goal.saved_in-requires
 saved_in-requires g c = subst (λ (r : Result StateReader WholeFault). IfOk r (λ reader. WasFed reader)) c.in-Ok.ensures.reader c.read_state_file-read.ensures.was
+
+takes-unfit : (fault : StateFault) (stamp : Stamp) (tells : Bool) (old new : FileState) → TakesClosings stamp tells (Err (state_fault fault)) old new
+takes-unfit state.NotState stamp tells old new = λ kept shut. shut
+takes-unfit (state.Version version) stamp tells old new = λ kept shut. shut
+takes-unfit (state.BadDigest kept found) stamp tells old new = λ kept shut. shut
+takes-unfit (state.BadField place) stamp tells old new = λ kept shut. shut
+takes-unfit state.Truncated stamp tells old new = λ kept shut. shut
+takes-unfit state.OutOfMemory stamp tells old new = λ kept shut. shut
+
+pub returns-in-Err-saved_in-clause-keeps : goal.returns-in-Err-saved_in-clause-keeps
+returns-in-Err-saved_in-clause-keeps g c =
+    let s = c.session.inside in
+    let before = g.F.Files.state c.args.files.now in
+    let mid = g.F.Files.state c.read_state_file-read.new.files in
+    let w = whole_of c.read_state_file-read.result in
+    let read = c.read_state_file-read.ensures in
+    let fault = c.in-Err-saved_in.fault in
+    let stamped = c.stamp_of-stamp.ensures ∙ ap stamp_in (sym c.session.view_is) in
+    rw (← c.session.view_is)
+    (restore-keeps s.command s.machine.time s.machine.time g.F.Files.tells (Err c.of_state.result) s.notes.items c.note_state_reading.new.notes.items before mid
+    (read-keeps subject.State s.command s.machine.time g.F.Files.tells (λ bytes. Err (state_fault fault)) w (Err c.of_state.result) s.notes.items c.note_state_reading.new.notes.items before mid
+    (λ bytes. takes-unfit fault (record { command = s.command; time = s.machine.time }) g.F.Files.tells before mid)
+    (ap Err c.of_state.ensures ∙ sym (ap (whole_answer subject.State (λ bytes. Err (state_fault fault))) (ap bytes_for c.in-Ok.ensures.reader))) read.shape
+    (record { counts = read.counts; openings = read.openings })
+    (c.note_state_reading.ensures.notes ∙ ap (λ (t : Stamp). s.notes.items ++ read_notes subject.State t w) stamped)))
