@@ -27,9 +27,10 @@ use Rattle.nova_machine.specs.Seen.{unnumbered, erased}
 use Rattle.nova_machine.specs.Valid.{AreBytes, HasByteName, ValidMachine, ValidLine, DiskIsItsFile}
 use Rattle.nova_machine.proofs.StayingValid.{runs-stay-valid, kinds-begin}
 use Rattle.nova_machine.proofs.ValidBytes.{AreFiles, every-append, every-take, every-drop}
-use Rattle.scp_commands.specs.Valid.{ValidLive}
+use Rattle.scp_commands.specs.Valid.{IsProgramMachine, ValidLive}
 use Rattle.scp_commands.proofs.ValidWatch.{read-bytes}
 use Rattle.scp_commands.proofs.ValidMachines.{GivesWhole, whole-bytes, memory-valid}
+use Rattle.unit_list.proofs.Resets.{reset-kinds}
 use Rattle.scp_script.specs.Scripts.{Script}
 use Rattle.scp_script.specs.Session.{State, trace}
 use Rattle.scp_script.specs.Valid.{ValidScript}
