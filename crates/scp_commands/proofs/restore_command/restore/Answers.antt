@@ -1,5 +1,4 @@
 use Rattle.std.proofs.Common.{◌≡◌, ◌++◌, ℕ, Bool, true, List, Option, None, Result, Ok, Err, IfOk, length, refl, ap, sym, ◌∙◌, subst, append-nil}
-use Rattle.std.specs.Global.{Vec}
 use Rattle.host_files.specs.Lists.{NamedBytes, bytes_of}
 use Rattle.host_lines.specs.Told.{ahead_of}
 use Rattle.file_commands.specs.declared.note.Subject.TheVariants as subject
@@ -7,15 +6,12 @@ use Rattle.file_commands.specs.declared.note.FaultNote.{FaultNote}
 use Rattle.file_commands.specs.declared.stamp.Stamp.{Stamp}
 use Rattle.file_commands.proofs.OwnFiles.{own-both, unnoted}
 use Rattle.whole_files.specs.declared.whole.WholeFault.{WholeFault}
-use Rattle.whole_files.specs.Claims.{said_of_bytes, claimed}
-use Rattle.whole_files.specs.Whole.{WholeSaid, whole_act}
 use Rattle.nova_machine.specs.Machine.{MachineState}
 use Rattle.nova_machine.specs.Seen.{seen, beside}
 use Rattle.unit_files.specs.Attachments.{no_attachments}
 use Rattle.state_file.specs.Listening.{wants_port, LeavesLines}
 use Rattle.state_file.specs.Parts.{state_in}
 use Rattle.state_file.specs.Putting.{with_machine_of}
-use Rattle.state_file.specs.Reading.{reading}
 use Rattle.telnet_lines.specs.Line.{LineOf}
 use Rattle.state_file.specs.PutBack.{put_back}
 use Rattle.unit_trait.specs.declared.kind.UnitName.{UnitName}
