@@ -326,23 +326,26 @@ SHOW DSK|100 Go|DSK, attached to d$
 E 200|100 Go|00200:\t051101$
 SHOW BREAK|0 Go|";
 
+/// The state file is opened, its length is asked, it is read in 17 pieces and closed: these are the calls 19 to 38.
 const RESTORES: &str = "19 | State Opening - | StateFailed | 512 66043
 20 | State Length 4 | StateFailed | 512 66043
 21 | State Read 4 | StateFailed | 512 66043
-23 | DSK Opening - | DiskFailed | 512 66043
-24 | DSK Length 5 | DiskFailed | 512 66043
-25 | DSK Read 5 | DiskFailed | 512 66043
-26 | DSK Length 5 | DiskFailed | 512 66043
-27 | DSK Read 5 | DiskFailed | 512 66043
-28 | MTA0 Opening - | TapeFailed | 512 66043
-29 | MTA0 Length 6 | TapeFailed | 512 66043
-30 | MTA0 Length 6 | TapeFailed | 512 66043
-31 | MTA0 Read 6 | TapeFailed | 512 66043
-32 | PTP Opening - | PunchFailed | 512 66043
-33 | PTP Length 7 | PunchFailed | 512 66043
-34 | PTP Length 7 | PunchFailed | 512 66043
-35 | PTP Read 7 | PunchFailed | 512 66043
-35 36 37 38 | PTP Read 7 | PunchFailed | 512 66043";
+29 | State Read 4 | StateFailed | 512 66043
+37 | State Read 4 | StateFailed | 512 66043
+39 | DSK Opening - | DiskFailed | 512 66043
+40 | DSK Length 5 | DiskFailed | 512 66043
+41 | DSK Read 5 | DiskFailed | 512 66043
+42 | DSK Length 5 | DiskFailed | 512 66043
+43 | DSK Read 5 | DiskFailed | 512 66043
+44 | MTA0 Opening - | TapeFailed | 512 66043
+45 | MTA0 Length 6 | TapeFailed | 512 66043
+46 | MTA0 Length 6 | TapeFailed | 512 66043
+47 | MTA0 Read 6 | TapeFailed | 512 66043
+48 | PTP Opening - | PunchFailed | 512 66043
+49 | PTP Length 7 | PunchFailed | 512 66043
+50 | PTP Length 7 | PunchFailed | 512 66043
+51 | PTP Read 7 | PunchFailed | 512 66043
+51 52 53 54 | PTP Read 7 | PunchFailed | 512 66043";
 
 #[test]
 fn each_call_of_a_restore_fails_in_turn(rt: HostRuntime) -> Result<(), Fail> {
@@ -358,13 +361,13 @@ fn each_call_of_a_restore_fails_in_turn(rt: HostRuntime) -> Result<(), Fail> {
 
 /// Without the calls that compare.
 const FORCED: &str = "19 | State Opening - | StateFailed | 512 66043
-23 | DSK Opening - | DiskFailed | 512 66043
-24 | DSK Length 5 | DiskFailed | 512 66043
-25 | DSK Read 5 | DiskFailed | 512 66043
-26 | MTA0 Opening - | TapeFailed | 512 66043
-27 | MTA0 Length 6 | TapeFailed | 512 66043
-28 | PTP Opening - | PunchFailed | 512 66043
-29 | PTP Length 7 | PunchFailed | 512 66043";
+39 | DSK Opening - | DiskFailed | 512 66043
+40 | DSK Length 5 | DiskFailed | 512 66043
+41 | DSK Read 5 | DiskFailed | 512 66043
+42 | MTA0 Opening - | TapeFailed | 512 66043
+43 | MTA0 Length 6 | TapeFailed | 512 66043
+44 | PTP Opening - | PunchFailed | 512 66043
+45 | PTP Length 7 | PunchFailed | 512 66043";
 
 #[test]
 fn each_call_of_a_forced_restore_fails_in_turn(rt: HostRuntime) -> Result<(), Fail> {
@@ -387,8 +390,8 @@ E DSK MA|100 Go|MA:\t00600$
 SHOW BREAK|0 Go|
 SHOW TIME|100 Go|Time: 203$";
 
-const CLOSED: &str = "22 | State Closing 4 | Go | 512 66043
-36 | none | Go | 512 66043";
+const CLOSED: &str = "38 | State Closing 4 | Go | 512 66043
+52 | none | Go | 512 66043";
 
 #[test]
 fn a_failed_closing_of_the_state_file_refuses_nothing(rt: HostRuntime) -> Result<(), Fail> {

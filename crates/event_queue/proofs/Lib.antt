@@ -1,7 +1,10 @@
 pub mod Agendas
+pub mod Cancels
+pub mod RemainingTimes
 pub mod Dues
 pub mod SoundLists
 pub mod Looks
+pub mod Marked
 pub mod Ticks
 pub mod Numbers
 pub mod Schedules

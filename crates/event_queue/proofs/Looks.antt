@@ -1,16 +1,16 @@
 -- Looks that pass at once.
-use Rattle.std.proofs.Common.{◌≡◌, ◌⊎◌, inl, inr, subst, ℕ, zero, suc, ◌+◌, ◌-◌, ◌%◌, ◌<◌, ◌≤◌, ◌==◌, ◌||◌, nat_le, eqb, Bool, true, false, List, [], ◌∷◌, length, remove, slice_get, slice_set, ◌^◌, IfSome, Option, Some, None, option_map, if◌then◌else◌, refl, sym, ap, ◌∙◌, arith}
+use Rattle.std.proofs.Common.{◌≡◌, ◌⊎◌, inl, inr, subst, ℕ, zero, suc, ◌+◌, ◌-◌, ◌%◌, ◌<◌, ◌≤◌, ◌==◌, ◌||◌, nat_le, leb, eqb, Bool, true, false, List, [], ◌∷◌, length, remove, slice_get, slice_set, ◌^◌, IfSome, Option, Some, None, option_map, if◌then◌else◌, refl, sym, ap, ◌∙◌, arith}
 use Rattle.std.proofs.Math.Nat.{mod-eq_of_lt, mod-lt, mod_self, suc-mod}
 use Rattle.std.proofs.lemmas.Bool.{cases_lt, cond_both, eqb-true}
 use Rattle.std.proofs.lemmas.Bool.Decides.{nat_tests}
 use Rattle.std.specs.List.{AllByRecursion}
 use Rattle.unit_trait.specs.declared.kind.UnitName.{UnitName}
-use Rattle.unit_trait.specs.Kinds.{same_unit}
-use Rattle.event_queue.specs.EventList.{Event, event, waits, placed, activated, due, dues, served, lowered, ticked, Rising, Sound}
+use Rattle.unit_trait.specs.Kinds.{units_of, same_unit}
+use Rattle.event_queue.specs.EventList.{Event, event, waits, placed, activated, due, dues, served, lowered, ticked, IsClear, Rising, Sound}
 use Rattle.event_queue.specs.Idle.{AreOthersLater, AreTwins, AreLaterThanTwo, AreLooks, asked_again, looked, idled, rest_behind}
 use Rattle.event_queue.proofs.Ticks.{lowered-none, lowered-more}
 use Rattle.event_queue.proofs.Dues.{dues-placed, dues-activated, dues-some, dues-none}
-use Rattle.event_queue.proofs.SoundLists.{all-placed, first-apart, two-apart, same-unit-flips, sound-placed, sound-removed, waits-lowered, waits-placed}
+use Rattle.event_queue.proofs.SoundLists.{all-placed, first-apart, two-apart, same-unit-flips, sound-placed, sound-activated, sound-served, sound-lowered, sound-removed, waits-lowered, waits-placed}
 
 -- how many instructions remain to an event that has so many left, and is asked for again each so many, behind a count
 pub rest_of : ℕ → ℕ → ℕ → ℕ
@@ -404,43 +404,39 @@ no-unit (u ∷ us) none = absurd (omega (arith, none))
 pub looked-last : (period : ℕ) (es : List Event) → length (dues es) ≤ 0 → looked period es ≡ es
 looked-last period es none = looked-none period es (no-unit (dues es) none)
 
-pub later-none : (n count : ℕ) (es : List Event) → slice_get es 1 ≡ None → AreOthersLater count (lowered n es)
-later-none n count [] none = tt
-later-none n count (x ∷ []) none = tt
-later-none n count (x ∷ y ∷ es) none = absurd (cc)
+pub later-none : (count : ℕ) (es : List Event) → slice_get es 1 ≡ None → AreOthersLater count es
+later-none count [] none = tt
+later-none count (x ∷ []) none = tt
+later-none count (x ∷ y ∷ es) none = absurd (cc)
 
-later-all : (n least : ℕ) (es : List Event) → AllByRecursion (λ (e : Event). least ≤ e.remaining) es → AreAtLeast (least - n) (lowered n es)
-later-all n least [] all = tt
-later-all n least (e ∷ es) all = let more = all.0 in (omega (arith, more), later-all n least es all.1)
-
-pub later-some : (n : ℕ) (e : Event) (es : List Event) → Sound es → slice_get es 1 ≡ Some e → AreOthersLater (e.remaining - n) (lowered n es)
-later-some n e [] sound is = absurd (cc)
-later-some n e (x ∷ []) sound is = absurd (cc)
-later-some n e (x ∷ y ∷ es) sound is =
+pub later-some : (e : Event) (es : List Event) → Sound es → slice_get es 1 ≡ Some e → AreOthersLater e.remaining es
+later-some e [] sound is = absurd (cc)
+later-some e (x ∷ []) sound is = absurd (cc)
+later-some e (x ∷ y ∷ es) sound is =
     let same : y ≡ e = grind arith in
-    subst (λ (z : Event). AreOthersLater (z.remaining - n) (lowered n (x ∷ y ∷ es))) same (omega arith, later-all n y.remaining es sound.rising.1.0)
+    subst (λ (z : Event). AreOthersLater z.remaining (x ∷ y ∷ es)) same (omega arith, sound.rising.1.0)
 
-pub third-none : (n count : ℕ) (es : List Event) → slice_get es 2 ≡ None → AreLaterThanTwo count (lowered n es)
-third-none n count [] none = tt
-third-none n count (x ∷ []) none = tt
-third-none n count (x ∷ y ∷ []) none = tt
-third-none n count (x ∷ y ∷ z ∷ es) none = absurd (cc)
+pub third-none : (count : ℕ) (es : List Event) → slice_get es 2 ≡ None → AreLaterThanTwo count es
+third-none count [] none = tt
+third-none count (x ∷ []) none = tt
+third-none count (x ∷ y ∷ []) none = tt
+third-none count (x ∷ y ∷ z ∷ es) none = absurd (cc)
 
-pub third-some : (n : ℕ) (e : Event) (es : List Event) → Sound es → slice_get es 2 ≡ Some e → AreLaterThanTwo (e.remaining - n) (lowered n es)
-third-some n e [] sound is = absurd (cc)
-third-some n e (x ∷ []) sound is = absurd (cc)
-third-some n e (x ∷ y ∷ []) sound is = absurd (cc)
-third-some n e (x ∷ y ∷ z ∷ es) sound is =
+pub third-some : (e : Event) (es : List Event) → Sound es → slice_get es 2 ≡ Some e → AreLaterThanTwo e.remaining es
+third-some e [] sound is = absurd (cc)
+third-some e (x ∷ []) sound is = absurd (cc)
+third-some e (x ∷ y ∷ []) sound is = absurd (cc)
+third-some e (x ∷ y ∷ z ∷ es) sound is =
     let same : z ≡ e = grind arith in
-    subst (λ (w : Event). AreLaterThanTwo (w.remaining - n) (lowered n (x ∷ y ∷ z ∷ es))) same (omega arith, later-all n z.remaining es sound.rising.1.1.0)
+    subst (λ (w : Event). AreLaterThanTwo w.remaining (x ∷ y ∷ z ∷ es)) same (omega arith, sound.rising.1.1.0)
 
-pub twins-lowered : (n : ℕ) (e f : Event) (es : List Event) → slice_get es 0 ≡ Some e → slice_get es 1 ≡ Some f → e.remaining ≡ f.remaining → AreTwins (lowered n es)
-twins-lowered n e f [] first second same = absurd (cc)
-twins-lowered n e f (x ∷ []) first second same = absurd (cc)
-twins-lowered n e f (x ∷ y ∷ es) first second same =
+pub are-twins : (e f : Event) (es : List Event) → slice_get es 0 ≡ Some e → slice_get es 1 ≡ Some f → e.remaining ≡ f.remaining → AreTwins es
+are-twins e f [] first second same = absurd (cc)
+are-twins e f (x ∷ []) first second same = absurd (cc)
+are-twins e f (x ∷ y ∷ es) first second same =
     let one : x ≡ e = grind arith in
     let two : y ≡ f = grind arith in
-    ap (λ (r : ℕ). r - n) (ap (λ (z : Event). z.remaining) two ∙ sym same ∙ sym (ap (λ (z : Event). z.remaining) one))
+    ap (λ (z : Event). z.remaining) two ∙ sym same ∙ sym (ap (λ (z : Event). z.remaining) one)
 
 -- ---- two events that are due, and then stand in front of the others
 
@@ -628,3 +624,77 @@ pub two-fewer : (n m : ℕ) (es : List Event) → n ≤ m → AreLaterThanTwo m 
 two-fewer n m [] less later = tt
 two-fewer n m (e ∷ []) less later = tt
 two-fewer n m (e ∷ f ∷ es) less later = fewer n m es less later
+
+-- ---- before a time at which no event is due
+pub clear-least : (count : ℕ) (es : List Event) → AreAtLeast count es → IsClear count es
+clear-least count [] all = λ n before. refl
+clear-least count (e ∷ es) all = λ n before. let least = all.0 in grind (arith, nat_tests, least, before)
+
+pub clear-behind : (count : ℕ) (es : List Event) → AreOthersLater count es → IsClear count (remove es 0)
+clear-behind count [] later = λ n before. refl
+clear-behind count (e ∷ es) later = clear-least count es later
+
+pub clear-behind-two : (count : ℕ) (es : List Event) → AreLaterThanTwo count es → IsClear count (remove (remove es 0) 0)
+clear-behind-two count [] later = λ n before. refl
+clear-behind-two count (e ∷ []) later = λ n before. refl
+clear-behind-two count (e ∷ f ∷ es) later = clear-least count es later
+
+-- ---- looks leave the list sound
+sound-asked : (period : ℕ) (us : List UnitName) (es : List Event) → period < 2 ^ 32 → AllByRecursion (λ (u : UnitName). u.unit < units_of u.kind) us → Sound es
+    → Sound (asked_again period us es)
+sound-asked period [] es short low sound = sound
+sound-asked period (u ∷ us) es short low sound =
+    sound-asked period us (activated u period (served es)) short low.1 (sound-activated u period (served es) low.0 short (sound-served es sound))
+
+low-dues : (es : List Event) → AllByRecursion (λ (e : Event). e.unit.unit < units_of e.unit.kind) es → AllByRecursion (λ (u : UnitName). u.unit < units_of u.kind) (dues es)
+low-dues [] low = tt
+low-dues (e ∷ es) low =
+    cond_both (eqb e.remaining 0) _ _ (λ (us : List UnitName). AllByRecursion (λ (u : UnitName). u.unit < units_of u.kind) us) (λ _. (low.0, low-dues es low.1)) (λ _. tt)
+
+pub sound-looked : (period : ℕ) (es : List Event) → period < 2 ^ 32 → Sound es → Sound (looked period es)
+sound-looked period es short sound = sound-asked period (dues es) es short (low-dues es sound.units) sound
+
+-- ---- looks leave the units that wait
+pub waits-among : (u v : UnitName) (t : ℕ) (es : List Event) → waits v (placed u t es) ≡ (same_unit u v || waits v es)
+waits-among u v t [] = refl
+waits-among u v t (e ∷ es) =
+    cond_both (leb e.remaining t) _ _ (λ (xs : List Event). waits v xs ≡ (same_unit u v || waits v (e ∷ es)))
+    (λ _. ap (λ (b : Bool). same_unit e.unit v || b) (waits-among u v t es) ∙ turned (same_unit e.unit v) (same_unit u v) (waits v es))
+    (λ _. refl)
+  where
+    turned : (x y z : Bool) → (x || (y || z)) ≡ (y || (x || z))
+    turned true true z = refl
+    turned true false z = refl
+    turned false y z = refl
+
+waits-asked : (v : UnitName) (period : ℕ) (us : List UnitName) (es : List Event) → 1 ≤ period → period < 2 ^ 32 → Sound es → dues es ≡ us
+    → waits v (asked_again period us es) ≡ waits v es
+waits-asked v period [] es some short sound is = refl
+waits-asked v period (u ∷ us) [] some short sound is = absurd (cc)
+waits-asked v period (u ∷ us) (e ∷ es) some short sound is =
+    let first : due (e ∷ es) ≡ Some u = grind (arith, nat_tests) in
+    let taken : served (e ∷ es) ≡ es = grind (arith, nat_tests) in
+    let unit : e.unit ≡ u = grind (arith, nat_tests) in
+    let rest : dues es ≡ us = grind (arith, nat_tests) in
+    let apart : waits u es ≡ false = subst (λ (x : UnitName). waits x es ≡ false) unit (first-apart e es sound) in
+    let low : u.unit < units_of u.kind = subst (λ (x : UnitName). x.unit < units_of x.kind) unit sound.units.0 in
+    let behind : activated u period es ≡ placed u period es = ap (λ (b : Bool). if b then es else placed u period es) apart in
+    ap (λ (xs : List Event). waits v (asked_again period us (activated u period xs))) taken
+    ∙ waits-asked v period us (activated u period es) some short (sound-activated u period es low short (sound-removed (e ∷ es) sound)) (dues-activated u period es some ∙ rest)
+    ∙ ap (λ (xs : List Event). waits v xs) behind ∙ waits-among u v period es
+    ∙ ap (λ (x : UnitName). same_unit x v || waits v es) (sym unit)
+
+pub waits-looked : (v : UnitName) (period : ℕ) (es : List Event) → 1 ≤ period → period < 2 ^ 32 → Sound es → waits v (looked period es) ≡ waits v es
+waits-looked v period es some short sound = waits-asked v period (dues es) es some short sound refl
+
+sound-idled : (period n : ℕ) (es : List Event) → period < 2 ^ 32 → Sound es → Sound (idled period n es)
+unfolding idled
+sound-idled period zero es short sound = sound
+sound-idled period (suc n) es short sound = sound-lowered 1 (looked period (idled period n es)) (sound-looked period (idled period n es) short (sound-idled period n es short sound))
+
+pub waits-idled : (v : UnitName) (period n : ℕ) (es : List Event) → 1 ≤ period → period < 2 ^ 32 → Sound es → waits v (idled period n es) ≡ waits v es
+unfolding idled
+waits-idled v period zero es some short sound = refl
+waits-idled v period (suc n) es some short sound =
+    waits-lowered v 1 (looked period (idled period n es)) ∙ waits-looked v period (idled period n es) some short (sound-idled period n es short sound)
+    ∙ waits-idled v period n es some short sound

@@ -1,5 +1,5 @@
 -- Each unit has a number below 81 of its own, so that a list in which no unit is twice has at most 81 events.
-use Rattle.std.proofs.Common.{◌≡◌, ℕ, ◌+◌, ◌<◌, eqb, nat_lt, List, [], ◌∷◌, map, length, true, false, sym, ap, ◌∙◌, inl, inr, if◌then◌else◌, arith}
+use Rattle.std.proofs.Common.{◌≡◌, ℕ, ◌+◌, ◌<◌, ◌≤◌, eqb, nat_lt, List, [], ◌∷◌, map, length, true, false, sym, ap, ◌∙◌, inl, inr, if◌then◌else◌, arith}
 use Rattle.std.specs.List.{AllByRecursion, IsDistinct, list_any}
 use Rattle.std.proofs.lemmas.Bool.{and_from, eq-eqb, ne_eqb, eqb-true, both_ways, or_cases}
 use Rattle.std.proofs.lemmas.Bool.Decides.{nat_tests}
@@ -11,24 +11,8 @@ use Rattle.unit_trait.specs.declared.kind.UnitName.{UnitName}
 use Rattle.unit_trait.specs.Kinds.{units_of, code_of, same_unit}
 use Rattle.unit_trait.proofs.EveryKind.{every-kind}
 use Rattle.event_queue.specs.EventList.{Event, waits, waiting, Sound, IsApart}
+use Rattle.event_queue.specs.Active.{first_of, number}
 use Rattle.event_queue.proofs.SoundLists.{none-waits}
-
--- the number of the first unit of a kind
-first_of : Kind → ℕ
-first_of Dsk = 0
-first_of Mta = 1
-first_of Lpt = 9
-first_of Ptr = 10
-first_of Ptp = 11
-first_of Clk = 12
-first_of Tti = 13
-first_of Tto = 14
-first_of Tti1 = 15
-first_of Tto1 = 16
-first_of Qty = 17
-
-number : UnitName → ℕ
-number u = first_of u.kind + u.unit
 
 -- the kind of the unit with a number
 kind_of : ℕ → Kind
@@ -37,31 +21,28 @@ kind_of n =
     else if nat_lt n 13 then Clk else if nat_lt n 14 then Tti else if nat_lt n 15 then Tto else if nat_lt n 16 then Tti1 else if nat_lt n 17 then Tto1 else Qty
 
 kind-number : (kind : Kind) (n : ℕ) → n < units_of kind → kind_of (first_of kind + n) ≡ kind
-unfolding kind_of first_of
+unfolding kind_of
 kind-number kind =
     every-kind (λ (k : Kind). (n : ℕ) → n < units_of k → kind_of (first_of k + n) ≡ k)
     ((λ n low. grind (arith, nat_tests)), (λ n low. grind (arith, nat_tests)), (λ n low. grind (arith, nat_tests)), (λ n low. grind (arith, nat_tests)), (λ n low. grind (arith, nat_tests)), (λ n low. grind (arith, nat_tests)), (λ n low. grind (arith, nat_tests)), (λ n low. grind (arith, nat_tests)), (λ n low. grind (arith, nat_tests)), (λ n low. grind (arith, nat_tests)), (λ n low. grind (arith, nat_tests))) kind
 
 number-low : (kind : Kind) (n : ℕ) → n < units_of kind → first_of kind + n < 81
-unfolding first_of
 number-low kind =
     every-kind (λ (k : Kind). (n : ℕ) → n < units_of k → first_of k + n < 81)
     ((λ n low. omega (arith, low)), (λ n low. omega (arith, low)), (λ n low. omega (arith, low)), (λ n low. omega (arith, low)), (λ n low. omega (arith, low)), (λ n low. omega (arith, low)), (λ n low. omega (arith, low)), (λ n low. omega (arith, low)), (λ n low. omega (arith, low)), (λ n low. omega (arith, low)), (λ n low. omega (arith, low))) kind
 
-number-below : (u : UnitName) → u.unit < units_of u.kind → number u < 81
-unfolding number
+pub number-below : (u : UnitName) → u.unit < units_of u.kind → number u < 81
 number-below u low = number-low u.kind u.unit low
 
 -- units with one number are one
 number-tells : (a b : UnitName) → a.unit < units_of a.kind → b.unit < units_of b.kind → number a ≡ number b → same_unit a b ≡ true
-unfolding number
 number-tells a b low_a low_b same =
     let kinds : a.kind ≡ b.kind = sym (kind-number a.kind a.unit low_a) ∙ ap kind_of same ∙ kind-number b.kind b.unit low_b in
     let firsts : first_of a.kind ≡ first_of b.kind = ap first_of kinds in
     let units : a.unit ≡ b.unit = omega arith in
     and_from _ _ (eq-eqb (code_of a.kind) (code_of b.kind) (ap code_of kinds)) (eq-eqb a.unit b.unit units)
 
-numbers-differ : (a b : UnitName) → a.unit < units_of a.kind → b.unit < units_of b.kind → same_unit a b ≡ false → eqb (number a) (number b) ≡ false
+pub numbers-differ : (a b : UnitName) → a.unit < units_of a.kind → b.unit < units_of b.kind → same_unit a b ≡ false → eqb (number a) (number b) ≡ false
 numbers-differ a b low_a low_b other =
     ne_eqb (number a) (number b) (λ same. both_ways (same_unit a b) other (number-tells a b low_a low_b same))
 
@@ -97,4 +78,11 @@ room u es low none sound =
     let units = low-waiting es sound.units in
     let all = length-le_from_distinct_below (map number (u ∷ waiting es)) 81
     (distinct-numbers (u ∷ waiting es) (low, units) (none-waits u es none, sound.distinct)) (low-numbers (u ∷ waiting es) (low, units)) in
+    omega (arith, length-map (waiting es) number, length-map es (λ (e : Event). e.unit), all)
+
+-- a list has no more events than there are units
+pub few : (es : List Event) → Sound es → length es ≤ 81
+few es sound =
+    let all = length-le_from_distinct_below (map number (waiting es)) 81 (distinct-numbers (waiting es) (low-waiting es sound.units) sound.distinct)
+    (low-numbers (waiting es) (low-waiting es sound.units)) in
     omega (arith, length-map (waiting es) number, length-map es (λ (e : Event). e.unit), all)

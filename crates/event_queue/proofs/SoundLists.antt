@@ -1,5 +1,5 @@
 -- Whatever is done to a sound list leaves one.
-use Rattle.std.proofs.Common.{◌≡◌, ℕ, ◌-◌, ◌<◌, ◌≤◌, ◌^◌, ◌||◌, not, leb, eqb, Bool, List, [], ◌∷◌, filter, remove, slice_get, get_or, is_some, Some, None, true, false, refl, sym, ap, subst, ◌∙◌, arith}
+use Rattle.std.proofs.Common.{◌≡◌, ℕ, zero, suc, option_map, ◌-◌, ◌<◌, ◌≤◌, ◌^◌, ◌||◌, not, leb, eqb, Bool, List, [], ◌∷◌, filter, remove, slice_get, get_or, is_some, Some, None, true, false, refl, sym, ap, subst, ◌∙◌, arith}
 use Rattle.std.specs.List.{AllByRecursion, IsDistinct}
 use Rattle.std.proofs.lemmas.Bool.{cond_both, leb-true, leb-false}
 use Rattle.std.proofs.lemmas.Bool.Decides.{nat_tests}
@@ -172,7 +172,7 @@ unfolding IsDistinct
 apart-removed [] e sound is first = absurd (cc)
 apart-removed (x ∷ es) e sound is first = rw first (apart-dues x.unit es sound.distinct.0)
 
-apart-waits : (u : UnitName) (es : List Event) → IsApart u (waiting es) → waits u es ≡ false
+pub apart-waits : (u : UnitName) (es : List Event) → IsApart u (waiting es) → waits u es ≡ false
 apart-waits u [] apart = refl
 apart-waits u (e ∷ es) apart =
     let other : same_unit e.unit u ≡ false = same-unit-flips e.unit u ∙ apart.0 in
@@ -222,3 +222,51 @@ twins-alone (x ∷ y ∷ es) e f sound first second =
     let here : same_unit x.unit y.unit ≡ false = same-unit-flips x.unit y.unit ∙ apart.0 in
     subst (λ (v : Event). (same_unit e.unit v.unit ≡ false) × ((waits e.unit es ≡ false) × (waits v.unit es ≡ false))) two
     (subst (λ (u : Event). (same_unit u.unit y.unit ≡ false) × ((waits u.unit es ≡ false) × (waits y.unit es ≡ false))) one (here, apart.1))
+
+-- ---- an event is taken out by its place
+all-removed : {A : Type 0} (P : A → Type 0) (k : ℕ) (xs : List A) → AllByRecursion P xs → AllByRecursion P (remove xs k)
+all-removed P zero [] all = tt
+all-removed P (suc k) [] all = tt
+all-removed P zero (x ∷ xs) all = all.1
+all-removed P (suc k) (x ∷ xs) all = (all.0, all-removed P k xs all.1)
+
+rising-removed : (k : ℕ) (es : List Event) → Rising es → Rising (remove es k)
+rising-removed zero [] rising = tt
+rising-removed (suc k) [] rising = tt
+rising-removed zero (e ∷ es) rising = rising.1
+rising-removed (suc k) (e ∷ es) rising = (all-removed (λ (x : Event). e.remaining ≤ x.remaining) k es rising.0, rising-removed k es rising.1)
+
+waiting-removed : (k : ℕ) (es : List Event) → waiting (remove es k) ≡ remove (waiting es) k
+waiting-removed zero [] = refl
+waiting-removed (suc k) [] = refl
+waiting-removed zero (e ∷ es) = refl
+waiting-removed (suc k) (e ∷ es) = ap (λ (us : List UnitName). e.unit ∷ us) (waiting-removed k es)
+
+distinct-removed : (k : ℕ) (us : List UnitName) → IsDistinct same_unit us → IsDistinct same_unit (remove us k)
+unfolding IsDistinct
+distinct-removed zero [] distinct = tt
+distinct-removed (suc k) [] distinct = tt
+distinct-removed zero (u ∷ us) distinct = distinct.1
+distinct-removed (suc k) (u ∷ us) distinct = (all-removed (λ (x : UnitName). same_unit u x ≡ false) k us distinct.0, distinct-removed k us distinct.1)
+
+pub sound-without : (k : ℕ) (es : List Event) → Sound es → Sound (remove es k)
+sound-without k es sound =
+    record {
+      rising = rising-removed k es sound.rising;
+      distinct = subst (λ (us : List UnitName). IsDistinct same_unit us) (sym (waiting-removed k es)) (distinct-removed k (waiting es) sound.distinct);
+      units = all-removed (λ (e : Event). e.unit.unit < units_of e.unit.kind) k es sound.units;
+      times = all-removed (λ (e : Event). e.remaining < 2 ^ 32) k es sound.times;
+    }
+
+pub unit-low : (k : ℕ) (es : List Event) (u : UnitName) → AllByRecursion (λ (e : Event). e.unit.unit < units_of e.unit.kind) es
+    → option_map (λ e. e.unit) (slice_get es k) ≡ Some u → u.unit < units_of u.kind
+unit-low k [] u all is = absurd (cc)
+unit-low zero (e ∷ es) u all is = let same : e.unit ≡ u = cc in subst (λ (v : UnitName). v.unit < units_of v.kind) same all.0
+unit-low (suc k) (e ∷ es) u all is = unit-low k es u all.1 is
+
+-- the unit of the first event is none of those of the others that are due
+pub apart-first : (es : List Event) (u : UnitName) → Sound es → option_map (λ e. e.unit) (slice_get es 0) ≡ Some u → IsApart u (dues (remove es 0))
+unfolding IsDistinct
+apart-first [] u sound is = absurd (cc)
+apart-first (e ∷ es) u sound is =
+    let same : e.unit ≡ u = cc in subst (λ (v : UnitName). IsApart v (dues es)) same (apart-dues e.unit es sound.distinct.0)

@@ -10,6 +10,7 @@ use Rattle.nova_machine.proofs.ValidRuns.{turn-valid, run-valid, left-valid, new
 use Rattle.nova_machine.proofs.ValidLines.{new-lines, settled-valid, record-ahead}
 use Rattle.nova_machine.proofs.InTime.{run-in-time}
 use Rattle.nova_machine.proofs.Copies.{turn-copies, run-copies}
+use Rattle.nova_machine.proofs.Shapes.{turn-shape, run-shape}
 
 pub runs-stay-valid : RunsStayValid
 runs-stay-valid = record {
@@ -24,6 +25,8 @@ runs-stay-valid = record {
   run_time = run-in-time;
   turn_copy = turn-copies;
   run_copy = run-copies;
+  turn_shape = turn-shape;
+  run_shape = run-shape;
 }
 
 -- a new machine with a unit of each of these kinds, before anything was asked of it

@@ -1,13 +1,14 @@
 -- What comes of a line is of bytes, and within its limits, where the line and what is still to come are so.
-use Rattle.std.proofs.Common.{◌≡◌, sym, subst, ℕ, zero, suc, ◌+◌, ◌≤◌, ◌==◌, ◌&&◌, Bool, true, false, List, [], ◌∷◌, ◌++◌, map, length, take, drop, remove, slice_get, slice_set, replicate, position, min, nat_le, Option, Some, None, IfSome, Ok, is_some, option_map, arith, if◌then◌else◌}
+use Rattle.std.proofs.Common.{◌≡◌, refl, ap, ◌∙◌, sym, subst, ℕ, zero, suc, ◌+◌, ◌≤◌, ◌==◌, ◌&&◌, Bool, true, false, List, [], ◌∷◌, ◌++◌, map, length, take, drop, remove, slice_get, slice_set, replicate, position, min, nat_le, Option, Some, None, IfSome, Ok, is_some, option_map, arith, if◌then◌else◌}
 use Rattle.std.specs.List.{AllByRecursion}
+use Rattle.std.proofs.Math.Seq.{drop-nil}
 use Rattle.std.proofs.lemmas.Bool.{cond_both, leb-false}
 use Rattle.std.proofs.lemmas.List.{length-append}
 use Rattle.host_lines.specs.declared.entry.CallerAct.{CallerAct}
 use Rattle.host_lines.specs.declared.entry.CallerAct.TheVariants.{Connects, Sends, HangsUp}
 use Rattle.host_lines.specs.Traffic.{Happening, Traffic, Peer, Caller, Gone, Answer, Quiet, Connected, Gave, HungUp, Failed, Took, Ahead, Script, Answers, Replied, replied, begun, reply, connects_to, taken_caller, accepting, comes_from, entries_behind, input_answer, input_left, given_at, taken_input, received_from, receiving, taken_answer, sent_to, sending}
 use Rattle.host_lines.specs.Told.{Records, ahead_of}
-use Rattle.host_lines.specs.State.{LineState}
+use Rattle.host_lines.specs.State.{LineState, parties}
 use Rattle.telnet_lines.specs.declared.decoder.Rest.{Rest}
 use Rattle.telnet_lines.specs.declared.decoder.Place.{Place}
 use Rattle.telnet_lines.specs.declared.decoder.Place.TheVariants as place
@@ -23,7 +24,7 @@ use Rattle.unit_trait.specs.declared.calls.Got.{Got}
 use Rattle.unit_trait.specs.declared.calls.Got.TheVariants as got
 use Rattle.nova_machine.specs.Machine.{line_count, new_machine, reset_machine, reset_devices}
 use Rattle.nova_machine.specs.OnLines.{Lined, got_of_line, lined_by, put_line, put_got, lined}
-use Rattle.nova_machine.specs.Valid.{AreBytes, ValidLine, ValidAnswer, ValidTraffic, ValidAhead}
+use Rattle.nova_machine.specs.Valid.{AreBytes, IsPort, ValidLine, ValidAnswer, ValidTraffic, ValidAhead}
 use Rattle.nova_machine.proofs.ValidBytes.{IsByte, bytes-append, bytes-take, bytes-drop, every-drop, every-remove, every-set}
 use Rattle.nova_machine.proofs.ValidAnswers.{WritesByte, IsGiven}
 
@@ -93,11 +94,12 @@ coded-few byte low =
     cond_both (byte == iac) (iac ∷ iac ∷ []) (byte ∷ []) (FewBytes 2) (λ _. ((omega arith, (omega arith, tt)), omega arith)) (λ _. ((low, tt), omega arith))
 
 pub put-valid : (byte : ℕ) (line : LineOf Peer) → IsByte byte → ValidLine line → ValidLine (put_line byte line)
-put-valid byte line low valid = by (is_some line.connection)
+put-valid byte line low valid = by (is_some line.connection) refl
   where
-    by : (stands : Bool) → ValidLine (if stands && nat_le full_output (length line.output) then line else (if stands then record line { output = line.output ++ coded (byte ∷ []) } else line))
-    by false = valid
-    by true =
+    by : (stands : Bool) → is_some line.connection ≡ stands
+        → ValidLine (if stands && nat_le full_output (length line.output) then line else (if stands then record line { output = line.output ++ coded (byte ∷ []) } else line))
+    by false is = valid
+    by true is =
         let more = coded-few byte low in
         cond_both (nat_le full_output (length line.output)) line (record line { output = line.output ++ coded (byte ∷ []) }) ValidLine (λ _. valid)
         (λ room.
@@ -105,13 +107,22 @@ put-valid byte line low valid = by (is_some line.connection)
         let all = few-append full_output 2 (full_output + 2) line.output (coded (byte ∷ [])) (valid.output, omega (arith, few)) more (omega arith) in
         let both = length-append line.output (coded (byte ∷ [])) in
         let two = more.1 in
-        record { keys = valid.keys; output = all.0; few_keys = valid.few_keys; few_bytes = omega (arith, few, both, two) })
+        record {
+          port = valid.port;
+          nothing = λ none. let nobody : is_some line.connection ≡ false = ap (λ (c : Option Peer). is_some c) none in absurd (cc);
+          keys = valid.keys;
+          output = all.0;
+          few_keys = valid.few_keys;
+          few_bytes = omega (arith, few, both, two);
+        })
 
-pub unconnected-valid : (port : Option ℕ) → ValidLine (unconnected port)
-unconnected-valid port = record { keys = tt; output = tt; few_keys = omega arith; few_bytes = omega arith }
+pub unconnected-valid : (port : Option ℕ) → IfSome port IsPort → ValidLine (unconnected port)
+unconnected-valid port is = record { port = is; nothing = λ _. refl; keys = tt; output = tt; few_keys = omega arith; few_bytes = omega arith }
 
-connected-valid : (c : Peer) (line : LineOf Peer) → ValidLine (connected c line)
-connected-valid c line = record {
+connected-valid : (c : Peer) (line : LineOf Peer) → IfSome line.port IsPort → ValidLine (connected c line)
+connected-valid c line port = record {
+  port = port;
+  nothing = λ none. absurd (cc);
   keys = tt;
   output = (omega arith, (omega arith, (omega arith, (omega arith, (omega arith, (omega arith, (omega arith, (omega arith, (omega arith, (omega arith, (omega arith, (omega arith, tt))))))))))));
   few_keys = omega arith;
@@ -121,12 +132,28 @@ connected-valid c line = record {
 sent-from : (n : ℕ) (line : LineOf Peer) → ValidLine line → ValidLine (record line { output = drop n line.output })
 sent-from n line valid =
     let few = valid.few_bytes in let left = drop-few n line.output in
-    record { keys = valid.keys; output = bytes-drop n line.output valid.output; few_keys = valid.few_keys; few_bytes = omega (arith, few, left) }
+    record {
+      port = valid.port;
+      nothing = λ none.
+          ap (λ (l : LineOf Peer). record l { output = drop n l.output }) (valid.nothing none)
+          ∙ ap (λ (bytes : List ℕ). record (unconnected line.port) { output = bytes }) (drop-nil n);
+      keys = valid.keys;
+      output = bytes-drop n line.output valid.output;
+      few_keys = valid.few_keys;
+      few_bytes = omega (arith, few, left);
+    }
 
 taken-from : (line : LineOf Peer) → ValidLine line → ValidLine (key_taken line)
 taken-from line valid =
     let few = valid.few_keys in let left = drop-few 1 line.keys in
-    record { keys = bytes-drop 1 line.keys valid.keys; output = valid.output; few_keys = omega (arith, few, left); few_bytes = valid.few_bytes }
+    record {
+      port = valid.port;
+      nothing = λ none. ap (λ (l : LineOf Peer). key_taken l) (valid.nothing none);
+      keys = bytes-drop 1 line.keys valid.keys;
+      output = valid.output;
+      few_keys = omega (arith, few, left);
+      few_bytes = valid.few_bytes;
+    }
 
 -- ---- what a call answers, and what is still to come behind it
 
@@ -202,7 +229,7 @@ record ValidMet (m : Met) : Type 0 where
   ahead : ValidAhead m.ahead
 
 accept-valid : (line : LineOf Peer) (a : Answer) → ValidLine line → ValidLine (after_accept line a)
-accept-valid line (Connected c) valid = connected-valid (Caller c) line
+accept-valid line (Connected c) valid = connected-valid (Caller c) line valid.port
 accept-valid line a valid = valid
 
 accepted-valid : (now : ℕ) (m : Met) → ValidMet m → ValidMet (accepted now m)
@@ -216,29 +243,36 @@ accepted-valid now m valid = by m.line.port m.line.connection
     by None peer = valid
     by (Some port) (Some peer) = valid
 
-receive-valid : (line : LineOf Peer) (a : Answer) → ValidAnswer a → ValidLine line → ValidLine (after_receive line a)
-receive-valid line (Gave bytes) given valid =
+receive-valid : (peer : Peer) (line : LineOf Peer) (a : Answer) → line.connection ≡ Some peer → ValidAnswer a → ValidLine line → ValidLine (after_receive line a)
+receive-valid peer line (Gave bytes) there given valid =
     let keys = keys-few line.rest bytes given.0 in
     let few = keys.1 in let within = given.1 in
-    record { keys = keys.0; output = valid.output; few_keys = omega (arith, few, within); few_bytes = valid.few_bytes }
-receive-valid line HungUp given valid = unconnected-valid line.port
-receive-valid line Failed given valid = unconnected-valid line.port
-receive-valid line a given valid = valid
+    record {
+      port = valid.port;
+      nothing = λ none. absurd (cc);
+      keys = keys.0;
+      output = valid.output;
+      few_keys = omega (arith, few, within);
+      few_bytes = valid.few_bytes;
+    }
+receive-valid peer line HungUp there given valid = unconnected-valid line.port valid.port
+receive-valid peer line Failed there given valid = unconnected-valid line.port valid.port
+receive-valid peer line a there given valid = valid
 
 received-valid : (now : ℕ) (m : Met) → ValidMet m → ValidMet (received now m)
 unfolding received
-received-valid now m valid = by m.line.connection m.line.keys
+received-valid now m valid = by m.line.connection m.line.keys refl
   where
-    by : (peer : Option Peer) (keys : List ℕ) → ValidMet (received_on now peer keys m)
-    by (Some peer) [] =
+    by : (peer : Option Peer) (keys : List ℕ) → m.line.connection ≡ peer → ValidMet (received_on now peer keys m)
+    by (Some peer) [] there =
         let r = receiving peer longest_received now m.ahead in
         let given = receiving-valid peer now m.ahead valid.ahead in
-        record { line = receive-valid m.line r.answer given.answer valid.line; ahead = given.ahead }
-    by None keys = valid
-    by (Some peer) (k ∷ keys) = valid
+        record { line = receive-valid peer m.line r.answer there given.answer valid.line; ahead = given.ahead }
+    by None keys there = valid
+    by (Some peer) (k ∷ keys) there = valid
 
 send-valid : (line : LineOf Peer) (a : Answer) → ValidLine line → ValidLine (after_send line a)
-send-valid line Failed valid = unconnected-valid line.port
+send-valid line Failed valid = unconnected-valid line.port valid.port
 send-valid line Quiet valid = sent-from (length (piece_of line.output)) line valid
 send-valid line (Took n) valid = sent-from n line valid
 send-valid line a valid = valid
@@ -310,16 +344,27 @@ lined-valid time w lines ahead l byte all coming there = absurd (cc)
 
 lines-begin : (s : LineState) (count : ℕ) → AllByRecursion ValidLine (map (seen_line s) (replicate count (unconnected None)))
 lines-begin s zero = tt
-lines-begin s (suc count) = (unconnected-valid None, lines-begin s count)
+lines-begin s (suc count) = (unconnected-valid None tt, lines-begin s count)
 
 -- the lines of a new machine
 pub new-lines : (s : LineState) (us : List UnitState) → AllByRecursion ValidLine (map (seen_line s) (new_machine us).lines)
 unfolding new_machine reset_machine reset_devices
 new-lines s us = lines-begin s (line_count us)
 
--- a settled line that holds bytes, whoever is behind its connection
-pub settled-valid : (s : LineState) (line : LineOf ℕ) → IsSettled line → AreBytes line.keys → AreBytes line.output → ValidLine (seen_line s line)
-settled-valid s line settled keys output = record { keys = keys; output = output; few_keys = settled.keys; few_bytes = settled.output }
+-- a settled line with such a port that holds bytes, whoever is behind its connection
+pub settled-valid : (s : LineState) (line : LineOf ℕ) → IsSettled line → IfSome line.port IsPort → AreBytes line.keys → AreBytes line.output → ValidLine (seen_line s line)
+settled-valid s line settled port keys output = record {
+  port = port;
+  nothing = λ none. ap (λ (l : LineOf ℕ). seen_line s l) (settled.nothing (nobody line.connection none));
+  keys = keys;
+  output = output;
+  few_keys = settled.keys;
+  few_bytes = settled.output;
+}
+  where
+    nobody : (c : Option ℕ) → option_map (parties s) c ≡ None → c ≡ None
+    nobody None none = refl
+    nobody (Some c) none = absurd (cc)
 
 -- what is still to come behind answers that were recorded
 pub record-ahead : (answers whole : List Answer) → AllByRecursion ValidAnswer whole → ValidAhead (ahead_of (Records answers) whole)

@@ -25,13 +25,14 @@ use Rattle.nova_machine.proofs.ValidBytes.{IsByte, PrintsByte, every-append, eve
 each-tested : (address : ℕ) (list : List Break) → AllByRecursion ValidBreak list → AllByRecursion ValidBreak (tested address list)
 each-tested address [] all = tt
 each-tested address (b ∷ list) all = (
-  cond_both (is_at address b) (lowered b) b ValidBreak (λ _. record { address = all.0.address; actions = all.0.actions }) (λ _. all.0),
+  cond_both (is_at address b) (lowered b) b ValidBreak
+      (λ _. let count = all.0.count in record { address = all.0.address; count = omega (arith, count); actions = all.0.actions }) (λ _. all.0),
   each-tested address list all.1,
 )
 
 actions-at : (list : List Break) (k : ℕ) (before : List ℕ) → AllByRecursion ValidBreak list → AreBytes before → AreBytes (unwrap_or (option_map (λ b. b.actions) (slice_get list k)) before)
 actions-at [] k before all bytes = bytes
-actions-at (b ∷ list) zero before all bytes = all.0.actions
+actions-at (b ∷ list) zero before all bytes = all.0.actions.bytes
 actions-at (b ∷ list) (suc k) before all bytes = actions-at list k before all.1 bytes
 
 actions-stopped : (place : Option ℕ) (list : List Break) (before : List ℕ) → AllByRecursion ValidBreak list → AreBytes before → AreBytes (stopped_actions place list before)
@@ -87,11 +88,11 @@ expects-chosen k t (Some e) at is =
       texts = every-remove ValidExpect t.list k is.texts;
       tail = omega arith;
       printed = tt;
-      actions = valid.actions;
+      actions = valid.actions.bytes;
     })
-    (λ _. record {
+    (λ _. let count = valid.count in record {
       few = let same = length-set t.list k (counted_down e) in omega (arith, same, is.few);
-      texts = every-set ValidExpect t.list k (counted_down e) (record { text = valid.text; actions = valid.actions }) is.texts;
+      texts = every-set ValidExpect t.list k (counted_down e) (record { count = omega (arith, count); text = valid.text; long = valid.long; actions = valid.actions }) is.texts;
       tail = omega arith;
       printed = tt;
       actions = is.actions;

@@ -3,7 +3,7 @@ use Rattle.std.specs.Prelude.{◌≡◌, ℕ, ◌+◌, ◌^◌, ◌<◌, ◌≤�
 use Rattle.std.specs.List.{AllByRecursion}
 use Rattle.host_files.specs.Lists.{NamedBytes, bytes_of}
 use Rattle.host_lines.specs.Traffic.{Peer, Happening, Traffic, Answer, Gave, Ahead, Script, Answers}
-use Rattle.telnet_lines.specs.Line.{LineOf, full_output}
+use Rattle.telnet_lines.specs.Line.{LineOf, unconnected, full_output}
 use Rattle.telnet_lines.specs.Poll.{longest_received}
 use Rattle.unit_files.specs.Attachments.{Attachment, Held, attachment_at}
 use Rattle.unit_files.specs.Buffer.{Buffer, no_buffer, disk_unit}
@@ -29,9 +29,13 @@ pub record ValidCpu (cpu : Cpu) : Type 0 where
   pub words : AllByRecursion (λ (w : ℕ). w < 2 ^ 16) cpu.accumulators
   pub pc : cpu.pc < 2 ^ 15
 
--- the name of an attached file is of bytes
+-- a name of a file is of bytes, 255 at the most
+pub record IsByteName (name : List ℕ) : Type 0 where
+  pub bytes : AreBytes name
+  pub short : length name ≤ 255
+
 abbrev pub HasByteName : Option Held → Type 0
-HasByteName slot = IfSome slot (λ h. AreBytes h.attachment.name)
+HasByteName slot = IfSome slot (λ h. IsByteName h.attachment.name)
 
 -- a machine: its memory is 0 past its size, its registers are in range, and the names of its files are of bytes
 pub record ValidMachine (m : MachineState) : Type 0 where
@@ -45,13 +49,21 @@ pub record ValidMachine (m : MachineState) : Type 0 where
   pub names : AllByRecursion HasByteName m.slots
   pub disk : AreBytes m.disk.bytes
 
+-- the actions of a break, or of a text that is waited for: they have come in a line
+pub record AreShortActions (actions : List ℕ) : Type 0 where
+  pub bytes : AreBytes actions
+  pub short : length actions ≤ 512
+
 pub record ValidBreak (b : Break) : Type 0 where
   pub address : b.address < 2 ^ 15
-  pub actions : AreBytes b.actions
+  pub count : b.count < 2 ^ 32
+  pub actions : AreShortActions b.actions
 
 pub record ValidExpect (e : Expect) : Type 0 where
+  pub count : e.count < 2 ^ 32
   pub text : AreBytes e.text
-  pub actions : AreBytes e.actions
+  pub long : length e.text ≤ longest_text
+  pub actions : AreShortActions e.actions
 
 -- the watch tables: each list is within its limit, breaks in the order of their addresses, sends in that of their times
 pub record ValidWatch (w : WatchState) : Type 0 where
@@ -68,8 +80,14 @@ pub record ValidWatch (w : WatchState) : Type 0 where
   pub broke : AreBytes w.breaks.actions
   pub matched : AreBytes w.expects.actions
 
--- a line: keys and coded output that wait are bytes, at most 64 keys and 1025 bytes of output
+abbrev pub IsPort : ℕ → Type 0
+IsPort port = (1 ≤ port) × (port < 2 ^ 16)
+
+-- A line: its port is 1 to 65535. Keys and coded output that wait are bytes, at most 64 keys and 1025 bytes of output, and
+-- nothing waits where nobody is connected.
 pub record ValidLine (line : LineOf Peer) : Type 0 where
+  pub port : IfSome line.port IsPort
+  pub nothing : line.connection ≡ None → line ≡ unconnected line.port
   pub keys : AreBytes line.keys
   pub output : AreBytes line.output
   pub few_keys : length line.keys ≤ longest_received

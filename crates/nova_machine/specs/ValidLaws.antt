@@ -1,5 +1,5 @@
 -- Every state of a run is one that a machine can be in, with its files, keys and watch tables.
-use Rattle.std.specs.Prelude.{◌≡◌, ◌≢◌, ◌↔◌, ℕ, ◌≤◌, Bool, false, List, map, Option, Some, None, IfSome}
+use Rattle.std.specs.Prelude.{◌≡◌, ◌≢◌, ◌↔◌, ℕ, ◌≤◌, Bool, false, List, length, map, Option, Some, None, IfSome}
 use Rattle.std.specs.List.{AllByRecursion}
 use Rattle.observations.specs.Observations.{StandsAt}
 use Rattle.host_lines.specs.Traffic.{Answer}
@@ -10,7 +10,7 @@ use Rattle.telnet_lines.specs.Joined.{seen_line}
 use Rattle.unit_trait.specs.declared.kind.Kind.TheVariants.{Dsk}
 use Rattle.unit_trait.specs.declared.kind.UnitName.{UnitName}
 use Rattle.unit_trait.specs.Calls.{UnitState}
-use Rattle.unit_list.specs.Bus.{AllFit}
+use Rattle.unit_list.specs.Bus.{AllFit, kinds_of}
 use Rattle.unit_files.specs.Attachments.{Attachment, attachment_at}
 use Rattle.unit_files.specs.Buffer.{disk_unit}
 use Rattle.expect_actions.specs.Watch.{empty_watch}
@@ -22,7 +22,7 @@ use Rattle.nova_machine.specs.Parts.{Part}
 use Rattle.nova_machine.specs.Turn.{turn}
 use Rattle.nova_machine.specs.Run.{run, last_time}
 use Rattle.nova_machine.specs.Comes.{Output, Comes}
-use Rattle.nova_machine.specs.Valid.{AreBytes, ValidMachine, ValidWatch, ValidLine, ValidAnswer, ValidAhead, Valid, DiskIsItsFile, LeavesDiskFile}
+use Rattle.nova_machine.specs.Valid.{AreBytes, IsPort, ValidMachine, ValidWatch, ValidLine, ValidAnswer, ValidAhead, Valid, DiskIsItsFile, LeavesDiskFile}
 
 -- the state behind a part is valid, and so is each in which something comes: an early end shows one of these
 pub record IsValidPart (p : Part) : Type 0 where
@@ -53,15 +53,28 @@ pub record KeepsCopy (s : Seen) (p : Part) : Type 0 where
   -- and the file has them, where no other unit has it
   pub alone : DiskHasOwnFile s → LeavesDiskFile s p.after
 
+-- one state has the shape of another: units of the same kinds, the same attachments, and as many lines; beside what is seen of
+-- the lines, a machine has none of its own
+pub record StaysAs (s t : Seen) : Type 0 where
+  pub kinds : kinds_of t.machine.units ≡ kinds_of s.machine.units
+  pub slots : t.machine.slots ≡ s.machine.slots
+  pub own : t.machine.lines ≡ s.machine.lines
+  pub count : length t.lines ≡ length s.lines
+
+-- so it is behind a part, and where something comes
+pub record KeepsShape (s : Seen) (p : Part) : Type 0 where
+  pub after : StaysAs s p.after
+  pub made : (t : Seen) → StandsAt t p.made → StaysAs s t
+
 pub record RunsStayValid : Type 0 where
   -- a new machine, with whatever units whose registers are in their ranges, and empty watch tables
   pub begin : (units : List UnitState) → AllFit units → ValidMachine (new_machine units)
   pub nothing_watched : ValidWatch empty_watch
-  -- its lines, and settled lines that hold bytes, whoever is behind their connections
+  -- its lines, and settled lines with such ports that hold bytes, whoever is behind their connections
   pub new_lines : (s : LineState) (units : List UnitState)
       → AllByRecursion ValidLine (map (seen_line s) (new_machine units).lines)
-  pub settled_line : (s : LineState) (line : LineOf ℕ) → IsSettled line → AreBytes line.keys → AreBytes line.output
-      → ValidLine (seen_line s line)
+  pub settled_line : (s : LineState) (line : LineOf ℕ) → IsSettled line → IfSome line.port IsPort
+      → AreBytes line.keys → AreBytes line.output → ValidLine (seen_line s line)
   -- what is still to come behind the answers that were recorded, where all that the record comes to is in its range
   pub record_ahead : (answers whole : List Answer) → AllByRecursion ValidAnswer whole
       → ValidAhead (ahead_of (Records answers) whole)
@@ -77,3 +90,5 @@ pub record RunsStayValid : Type 0 where
   pub turn_copy : (note : Option UnitNote) (first : Bool) (s : Seen) → Valid s → KeepsCopy s (turn note first s)
   pub run_copy : (note : Option RunNote) (step : Bool) (n : ℕ) (s : Seen) → Valid s
       → KeepsCopy s (run note step n s)
+  pub turn_shape : (note : Option UnitNote) (first : Bool) (s : Seen) → KeepsShape s (turn note first s)
+  pub run_shape : (note : Option RunNote) (step : Bool) (n : ℕ) (s : Seen) → KeepsShape s (run note step n s)

@@ -17,14 +17,18 @@ use Rattle.scp_commands.specs.Live.{Beyond}
 use Rattle.scp_script.specs.Session.{State, Session, asking, Course, trace, ComesTo}
 use Rattle.scp_script.specs.Resumption.{resumed, behind_save, SavedAndRestored}
 use Rattle.scp_script.proofs.CoreLemmas.{course-behind}
+use Rattle.scp_script.specs.Valid.{ValidSession}
 use Rattle.scp_script.proofs.LawLemmas.{lines-are-consumed}
+use Rattle.scp_script.proofs.ValidSessions.{sessions-stay-valid}
 use Rattle.scp_script.proofs.ResumptionLemmas.{restored-comes, saves-come, traces-saved, saved-and-restored-go-on-alike}
 use Rattle.nova_top.specs.declared.options.Options.{Options}
 use Rattle.nova_top.specs.Words.{options_of}
 use Rattle.nova_top.specs.Outside.{Outside, Start, Begins, Left, left_by, start_of, opening, trace_from, trace_of, whole_trace, outcome, session_with, sent_by}
 use Rattle.nova_top.specs.Ends.{IsOutcome, handed_in}
 use Rattle.nova_top.specs.Resumption.{Reaches, EndsAsThat, ResumesSaved, Ran, IsRun, EndAlike, RestoredProgramsGoOn}
+use Rattle.nova_top.specs.ValidLaws.{AreHandedBytes}
 use Rattle.nova_top.proofs.OutsideLemmas.{whole-outcome}
+use Rattle.nova_top.proofs.ValidProgram.{program-stays-valid}
 
 -- the trace of a program whose session begins so
 whole-is : (words : List (List ℕ)) (input : List ℕ) (files : List NamedBytes) (ahead : Ahead) (notes : List Note) (start : Start × ℕ) → start_of (options_of words) words files notes ≡ start
@@ -77,12 +81,20 @@ ends-behind words input left before after old new status machine notes options k
       heard = out.heard ∙ ap (heard_with old.lines.sent) sent;
     }
 
+-- the session that it begins
+begins-valid : (words : List (List ℕ)) (input : List ℕ) (old : Beyond) (notes : List Note) (front : List (Observation State)) (at : Session)
+    → AreHandedBytes words input old.files (ahead_of old.lines.told old.whole) → (reaches : Reaches words input old notes front at)
+    → ValidSession (opening words reaches.options reaches.keys reaches.script old.files (ahead_of old.lines.told old.whole) input (drop reaches.used notes))
+begins-valid words input old notes front at handed reaches =
+    (program-stays-valid.begin words input old.files (ahead_of old.lines.told old.whole) notes (drop reaches.used notes) reaches.options reaches.keys reaches.script handed
+    (ap (λ (x : Start × ℕ). x.0) reaches.starts)).valid
+
 pub resumes-saved : (words : List (List ℕ)) (input left before after : List ℕ) (old new : Beyond) (status : ℕ) (machine : Option MachineState) (notes : List Note) → IsOutcome words input left before after old new status machine notes
     → status ≢ 102 → status ≢ 106 → ResumesSaved words input left before after old new status machine notes
-resumes-saved words input left before after old new status machine notes out no_byte no_read front at behind s used reaches back =
+resumes-saved words input left before after old new status machine notes out no_byte no_read front at behind s used handed reaches back =
     let start = opening words reaches.options reaches.keys reaches.script old.files (ahead_of old.lines.told old.whole) input (drop reaches.used notes) in
     ends-behind words input left before after old new status machine notes reaches.options reaches.keys reaches.script reaches.used (suc reaches.count) (front ++ asking at) (resumed s used behind) out no_byte no_read reaches.starts
-    (restored-comes reaches.count start at behind s used front reaches.comes back)
+    (restored-comes reaches.count start at behind s used front (begins-valid words input old notes front at handed reaches) reaches.comes back)
 
 -- ---- the program that has saved it
 
@@ -92,10 +104,13 @@ alike : (one other : Ran) (front begin : List (Observation State)) (saving behin
 alike one other front begin saving behind restoring present name used first second reaches comes both =
     let s = (behind_save name behind).live in
     let start = opening one.words reaches.options reaches.keys reaches.script one.old.files (ahead_of one.old.lines.told one.old.whole) one.input (drop reaches.used one.notes) in
+    let other_start = opening other.words comes.options comes.keys comes.script other.old.files (ahead_of other.old.lines.told other.old.whole) other.input (drop comes.used other.notes) in
+    let valid = sessions-stay-valid.all reaches.count start saving front (begins-valid one.words one.input one.old one.notes front saving first.handed reaches) reaches.comes in
+    let fresh = sessions-stay-valid.all comes.count other_start restoring begin (begins-valid other.words other.input other.old other.notes begin restoring second.handed comes) comes.comes in
     let a = ends-behind one.words one.input one.left one.before one.after one.old one.new one.status one.machine one.notes reaches.options reaches.keys reaches.script reaches.used (suc reaches.count) (front ++ asking saving) (behind_save name behind)
     first.outcome first.no_byte first.no_read reaches.starts (saves-come reaches.count start saving behind name front reaches.comes both.saves) in
-    let b = resumes-saved other.words other.input other.left other.before other.after other.old other.new other.status other.machine other.notes second.outcome second.no_byte second.no_read begin restoring present s used comes
-    (saved-and-restored-go-on-alike.restores saving behind restoring present name used both) in
+    let b = resumes-saved other.words other.input other.left other.before other.after other.old other.new other.status other.machine other.notes second.outcome second.no_byte second.no_read begin restoring present s used second.handed comes
+    (saved-and-restored-go-on-alike.restores saving behind restoring present name used valid fresh both) in
     let same = traces-saved saving behind restoring present name used both in
     record {
       statuses = a.status_is ∙ ap (λ (z : Trace State). z.ended.status) same ∙ sym b.status_is;

@@ -27,9 +27,10 @@ use Rattle.nova_machine.specs.Seen.{unnumbered, erased}
 use Rattle.nova_machine.specs.Valid.{AreBytes, HasByteName, ValidMachine, ValidLine, DiskIsItsFile}
 use Rattle.nova_machine.proofs.StayingValid.{runs-stay-valid, kinds-begin}
 use Rattle.nova_machine.proofs.ValidBytes.{AreFiles, every-append, every-take, every-drop}
-use Rattle.scp_commands.specs.Valid.{ValidLive}
+use Rattle.scp_commands.specs.Valid.{IsProgramMachine, ValidLive}
 use Rattle.scp_commands.proofs.ValidWatch.{read-bytes}
 use Rattle.scp_commands.proofs.ValidMachines.{GivesWhole, whole-bytes, memory-valid}
+use Rattle.unit_list.proofs.Resets.{reset-kinds}
 use Rattle.scp_script.specs.Scripts.{Script}
 use Rattle.scp_script.specs.Session.{State, trace}
 use Rattle.scp_script.specs.Valid.{ValidScript}
@@ -250,7 +251,7 @@ unfolding first_machine
 first-valid workload = workload-valid workload (new_machine standard_units) (kinds-begin standard_kinds)
 
 empty-line : ValidLine (unconnected None)
-empty-line = record { keys = tt; output = tt; few_keys = omega arith; few_bytes = omega arith }
+empty-line = record { port = tt; nothing = λ none. refl; keys = tt; output = tt; few_keys = omega arith; few_bytes = omega arith }
 
 -- no time has passed, no key is taken, and no file is attached
 record IsFresh (m : MachineState) : Type 0 where
@@ -258,11 +259,13 @@ record IsFresh (m : MachineState) : Type 0 where
   taken : m.taken ≡ 0
   disk : (files : List NamedBytes) (keys : List Key) (ahead : Ahead) → DiskIsItsFile (first_live m keys files ahead)
   lines : AllByRecursion ValidLine (map (renamed {Q = Peer} (λ _. Gone)) m.lines)
+  own : IsProgramMachine (erased m)
+  one : length m.lines ≡ 1
 
 first-fresh : (workload : Option ℕ) → IsFresh (first_machine workload)
 unfolding first_machine new_machine reset_machine reset_devices
-first-fresh None = record { time = refl; taken = refl; disk = λ files keys ahead. refl; lines = (empty-line, tt) }
-first-fresh (Some number) = record { time = refl; taken = refl; disk = λ files keys ahead. refl; lines = (empty-line, tt) }
+first-fresh None = record { time = refl; taken = refl; disk = λ files keys ahead. refl; lines = (empty-line, tt); own = record { units = reset-kinds standard_units; numbers = refl; lines = refl }; one = refl }
+first-fresh (Some number) = record { time = refl; taken = refl; disk = λ files keys ahead. refl; lines = (empty-line, tt); own = record { units = reset-kinds standard_units; numbers = refl; lines = refl }; one = refl }
 
 -- ---- the session
 
@@ -311,6 +314,8 @@ opening-good words options keys script files ahead input notes handed good =
             ahead = handed.comes;
           };
           time = omega (arith, time);
+          machine = fresh.own;
+          line = length-map m.lines (renamed {Q = Peer} (λ _. Gone)) ∙ fresh.one;
         };
         texts = record { few = omega arith; actions = tt; open_ = first.few; scripts = first.each };
         input = handed.read;

@@ -14,6 +14,7 @@ use Rattle.nova_top.specs.declared.options.Options.{Options}
 use Rattle.nova_top.specs.Words.{options_of}
 use Rattle.nova_top.specs.Outside.{Begins, start_of, opening, left_by}
 use Rattle.nova_top.specs.Ends.{IsOutcome, left_at}
+use Rattle.nova_top.specs.ValidLaws.{AreHandedBytes}
 
 -- the session that the program begins comes to this one, with these observations
 pub record Reaches (words : List (List ℕ)) (input : List ℕ) (old : Beyond) (notes : List Note) (front : List (Observation State)) (at : Session) : Type 0 where
@@ -38,9 +39,11 @@ pub record EndsAsThat (t : Session) (front : List (Observation State)) (left bef
 -- Wherever the program comes to a RESTORE that is done while no action waits and no script is open, and whose file has the
 -- text of a session that was saved, all from there on is as the definition of a session has it that begins at that one. The
 -- rest of the input, the budget, the limit of a run, the prompt, the keys and what is to come on lines are the present ones.
+-- What was handed in is of bytes, as all is that a program can be handed.
 abbrev pub ResumesSaved : List (List ℕ) → List ℕ → List ℕ → List ℕ → List ℕ → Beyond → Beyond → ℕ → Option MachineState → List Note → Type 0
 ResumesSaved words input left before after old new status machine notes =
-    (front : List (Observation State)) (at behind : Session) (s : Live) (used : ℕ) → Reaches words input old notes front at → RestoresSaved at behind s used
+    (front : List (Observation State)) (at behind : Session) (s : Live) (used : ℕ) → AreHandedBytes words input old.files (ahead_of old.lines.told old.whole)
+    → Reaches words input old notes front at → RestoresSaved at behind s used
     → EndsAsThat (resumed s used behind) (front ++ asking at) left before after old new status machine
 
 -- what was handed to a program, and what it came to
@@ -56,8 +59,9 @@ pub record Ran : Type 0 where
   pub machine : Option MachineState
   pub notes : List Note
 
--- it ended as the definition says, with memory, and neither console nor input failed
+-- it was handed bytes, it ended as the definition says, with memory, and neither console nor input failed
 pub record IsRun (r : Ran) : Type 0 where
+  pub handed : AreHandedBytes r.words r.input r.old.files (ahead_of r.old.lines.told r.old.whole)
   pub outcome : IsOutcome r.words r.input r.left r.before r.after r.old r.new r.status r.machine r.notes
   pub no_byte : r.status ≢ 102
   pub no_read : r.status ≢ 106

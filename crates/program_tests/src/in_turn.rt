@@ -82,8 +82,8 @@ const UNSAVED_DAYS: &str =
     "lines=ATTACH -N DSK pack~ATTACH -N MTA0 tape~D 200 51101~D DSK MA 200~D MTA MA 200~D MTA WC 7776~D AC0 50~D -M 100 NIOP DSK~D -M 101 DOAS 0,MTA~D -M 102 SKPDN MTA~D -M 103 JMP .-1~D -M 104 HALT~RUN 100~SAVE work~EXIT 3~ | prints=~Instruction limit, PC: 00102 (063622)~File error~ | note=14 500 Write 8 State | status=3 | after=pack:AR… & tape: & work:NOVASTAT
 lines=RESTORE work~SHOW TIME~ | prints=State file truncated~Time: 0~ | after=pack:AR… & tape: & work:NOVASTAT";
 
-/// The length of the tape is call 24, the last one that the second session makes to put the first one back.
-const UNREAD: &str = "words=-q -l 500 | space=70000 | fails=24";
+/// The length of the tape is call 40, the last one that the second session makes to put the first one back.
+const UNREAD: &str = "words=-q -l 500 | space=70000 | fails=40";
 
 const UNREAD_DAYS: &str =
     "lines=ATTACH -N DSK pack~ATTACH -N MTA0 tape~D 200 51101~D DSK MA 200~D MTA MA 200~D MTA WC 7776~D AC0 50~D -M 100 NIOP DSK~D -M 101 DOAS 0,MTA~D -M 102 SKPDN MTA~D -M 103 JMP .-1~D -M 104 HALT~RUN 100~SAVE work~EXIT 3~ | prints=~Instruction limit, PC: 00102 (063622)~ | status=3 | after=pack:AR… & tape:

@@ -46,5 +46,7 @@ pub mod ValidCopies
 pub mod ValidEffect
 pub mod SameCommandLemmas
 pub mod OwnTexts
+pub mod AtRest
 pub mod ResumptionLemmas
 pub mod PassedBreaks
+pub mod StateReadingLemmas

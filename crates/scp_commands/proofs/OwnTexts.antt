@@ -79,7 +79,7 @@ small-send least n h = below n (leb-true n last_send (and_parts (nat_le least n)
     below : (n : ℕ) → n ≤ 2 ^ 62 → n < 2 ^ 64
     below n le = omega (arith, le)
 
-cpu-widths : (c : SavedCpu) → IsCpu c → CpuHasWidths c
+pub cpu-widths : (c : SavedCpu) → IsCpu c → CpuHasWidths c
 cpu-widths c is = record {
   size_k = small-size c.size_k is.size_k;
   four = is.few;
@@ -99,14 +99,14 @@ registers-low : (kind : Kind) (i : ℕ) (registers : List ℕ) → Follow (CanHo
 registers-low kind i [] h = tt
 registers-low kind i (r ∷ registers) h = (h.0.0, registers-low kind (next_number i r) registers h.1)
 
-units-widths : (i : ℕ) (units : List UnitPart) → Follow IsUnit next_number i units → AllByRecursion UnitHasWidths units
+pub units-widths : (i : ℕ) (units : List UnitPart) → Follow IsUnit next_number i units → AllByRecursion UnitHasWidths units
 units-widths i [] h = tt
 units-widths i (u ∷ units) h = (
   record { position = h.0.byte; registers = registers-low (kind_at u.position) 0 u.registers h.0.registers },
   units-widths (next_number i u) units h.1,
 )
 
-events-widths : (events agenda : List SavedEvent) → Follow IsEvent with_event events agenda → AllByRecursion EventHasWidths agenda
+pub events-widths : (events agenda : List SavedEvent) → Follow IsEvent with_event events agenda → AllByRecursion EventHasWidths agenda
 events-widths events [] h = tt
 events-widths events (e ∷ agenda) h = (
   record { position = small-position e.position h.0.position; unit = small-event events e.position e.unit h.0.unit; remaining = h.0.remaining },

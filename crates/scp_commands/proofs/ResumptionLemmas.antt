@@ -40,8 +40,9 @@ use Rattle.scp_commands.specs.Reply.{Reply, refused}
 use Rattle.scp_commands.specs.WholeCalls.{whole_calls}
 use Rattle.scp_commands.specs.StateEffects.{unit_claim, flushed_with, save_by, save_reply, is_occupied, heard_live, ported_back, restored_by, restored_as, restored_from, restore_reply}
 use Rattle.scp_commands.specs.Effect.{effect}
+use Rattle.scp_commands.proofs.AtRest.{savable}
 use Rattle.scp_commands.proofs.OwnTexts.{valid-widths, read-own}
-use Rattle.scp_commands.specs.Resumption.{done_with, left_by_save, ahead_behind, continued, saved_among, HoldsSaved, IsRestored, RestorePutsBack}
+use Rattle.scp_commands.specs.Resumption.{done_with, left_by_save, ahead_behind, continued, saved_among, HoldsSaved, IsSavable, IsRestored, RestorePutsBack}
 
 -- ---- a file that is read whole
 
@@ -107,8 +108,11 @@ module _ (live s : Live) (then_files : List NamedBytes) (name : List ℕ) (holds
   abbrev what : State
   what = saved_among then_files s
 
+  can : IsSavable then_files s
+  can = savable s then_files holds.rest holds.lengths
+
   twelve : length (attached_in s.machine) ≡ file_units
-  twelve = length-map s.machine.slots _ ∙ holds.can.places
+  twelve = length-map s.machine.slots _ ∙ can.can.places
 
   -- what is attached does not depend on the bytes of files
   among : put_back what live ≡ put_back (saved s) live
@@ -122,7 +126,7 @@ module _ (live s : Live) (then_files : List NamedBytes) (name : List ℕ) (holds
 
   in-place : record (put_back what live) { ahead = ahead_behind (saved_port s.lines) live.ahead } ≡ continued s live
   in-place =
-      ap (λ (l : Live). record l { ahead = ahead_behind (saved_port s.lines) live.ahead }) (among ∙ saving-puts-back.back s live holds.can same (line ∙ sym holds.can.line))
+      ap (λ (l : Live). record l { ahead = ahead_behind (saved_port s.lines) live.ahead }) (among ∙ saving-puts-back.back s live can.can same (line ∙ sym can.can.line))
       ∙ ap (λ (files : List NamedBytes). record s { keys = live.keys; files = files; ahead = ahead_behind (saved_port s.lines) live.ahead }) (sym same)
 
   by-files : (o : Option (UnitName × FileRefusal)) (used : ℕ) → (restored_by o used what live).answer ≡ Ok Go → restored_by o used what live ≡ done_with used (continued s live)
@@ -135,7 +139,7 @@ module _ (live s : Live) (then_files : List NamedBytes) (name : List ℕ) (holds
   by-state : (bytes : List ℕ) → bytes ≡ bytes_of live.files name → (force : Bool) (used : ℕ) (notes : List CommandNote) (r : Result State StateFault) → reading bytes ≡ r → Puts (restored_as force used notes r live) used
   by-state bytes is force used notes (Err fault) read = λ done. absurd (cc)
   by-state bytes is force used notes (Ok v) read =
-      let same : v ≡ what = read-own what v holds.fits holds.widths (ap reading (sym (is ∙ holds.bytes)) ∙ read) in
+      let same : v ≡ what = read-own what v can.fits can.widths (ap reading (sym (is ∙ holds.bytes)) ∙ read) in
       subst (λ (w : State). Puts (restored_as force used notes (Ok w) live) used) (sym same)
       (by-files (first_refused (unit_claim live.machine.time notes) force what.files no_attachments live.files) used)
 
@@ -220,6 +224,7 @@ is-held live name = made-so (flushed_with None live).files name (text (saved (fl
 
 pub restore-puts-back : RestorePutsBack
 restore-puts-back = record {
+  savable = savable;
   restored = λ limit notes live s force name then_files used is holds same line. is-restored live s then_files name holds same line limit notes force used is;
   unoccupied = is-unoccupied;
   standard = λ s is. (saved-is-valid.fits s is, valid-widths (saved s) (saved-is-valid.valid s is));

@@ -1,5 +1,5 @@
 -- Every command keeps what every state is, and what the disk holds of its file.
-use Rattle.std.proofs.Common.{◌≡◌, ◌≢◌, inl, inr, ℕ, zero, suc, ◌+◌, ◌^◌, ◌<◌, ◌≤◌, ◌==◌, ◌&&◌, not, nat_le, nat_lt, min, unwrap_or, Bool, true, false, List, [], ◌∷◌, length, drop, get_or, Option, Some, None, option_map, Result, Ok, Err, if◌then◌else◌, refl, sym, ap, subst, ◌∙◌, arith, is_none, is_some}
+use Rattle.std.proofs.Common.{◌≡◌, ◌≢◌, inl, inr, ℕ, zero, suc, ◌+◌, ◌^◌, ◌<◌, ◌≤◌, ◌==◌, ◌&&◌, not, nat_le, nat_lt, min, unwrap_or, Bool, true, false, List, [], ◌∷◌, length, drop, get_or, map, Option, Some, None, IfSome, option_map, Result, Ok, Err, if◌then◌else◌, refl, sym, ap, subst, ◌∙◌, arith, is_none, is_some}
 use Rattle.std.proofs.lemmas.Bool.{and_parts, leb-true, ltb-true}
 use Rattle.std.proofs.lemmas.List.{length-map}
 use Rattle.observations.specs.Observations.{Prints, map_made}
@@ -16,7 +16,7 @@ use Rattle.whole_files.specs.Whole.{WholeSaid, WholeIs, whole_act}
 use Rattle.whole_files.specs.Whole as whole
 use Rattle.whole_files.specs.Writing.{WriteSaid, AllWritten, WriteFailed, write_act}
 use Rattle.expect_actions.specs.Watch.{WatchState}
-use Rattle.expect_actions.specs.Expects.{most_expects}
+use Rattle.expect_actions.specs.Expects.{expect_of, most_expects, longest_text}
 use Rattle.expect_actions.specs.KeysFile.{most_keys}
 use Rattle.expect_actions.specs.Sends.{most_sends}
 use Rattle.binary_load.specs.declared.faults.LoadFault.{LoadFault}
@@ -24,19 +24,22 @@ use Rattle.binary_load.specs.Tape.{Tape}
 use Rattle.binary_load.proofs.RangeLemmas.{dump-bytes}
 use Rattle.nova_memory.specs.Memory.{fits_size}
 use Rattle.nova_machine.specs.Machine.{MachineState, reset_machine}
-use Rattle.nova_machine.specs.Seen.{attached_in}
+use Rattle.unit_list.specs.Bus.{kinds_of}
+use Rattle.unit_files.specs.Attachments.{no_attachments}
+use Rattle.nova_machine.specs.Seen.{unnumbered, attached_in}
 use Rattle.nova_machine.specs.Run.{run, last_time}
 use Rattle.std.specs.List.{AllByRecursion}
-use Rattle.nova_machine.specs.Valid.{AreBytes, ValidMachine, ValidWatch, ValidLine, ValidAhead, CopyIsFile, DiskIsItsFile}
+use Rattle.nova_machine.specs.Valid.{AreBytes, IsByteName, AreShortActions, ValidExpect, ValidMachine, ValidWatch, IsPort, ValidLine, ValidAhead, Valid, CopyIsFile, DiskIsItsFile}
+use Rattle.nova_machine.specs.ValidLaws.{StaysAs}
 use Rattle.nova_machine.proofs.StayingValid.{runs-stay-valid}
 use Rattle.nova_machine.specs.declared.machine.Stop.{Stop}
 use Rattle.nova_machine.proofs.ValidBytes.{AreFiles, files-found}
 use Rattle.state_file.specs.declared.fault.StateFault.{StateFault}
 use Rattle.state_file.specs.Listening.{wants_port}
 use Rattle.state_file.specs.Parts.{State}
-use Rattle.state_file.specs.PutBack.{put_back}
+use Rattle.state_file.specs.PutBack.{machine_from, lines_from, put_back}
 use Rattle.state_file.specs.Reading.{reading}
-use Rattle.state_file.specs.Restoring.{FileRefusal, at_unit}
+use Rattle.state_file.specs.Restoring.{FileRefusal, with_all, at_unit}
 use Rattle.state_file.specs.Saving.{first_unsaved, files_flushed, copy_flushed}
 use Rattle.state_file.specs.Session.{saved}
 use Rattle.state_file.specs.Text.{text}
@@ -63,7 +66,7 @@ use Rattle.scp_commands.specs.Reply.{Answer, Reply, goes, says, refused}
 use Rattle.scp_commands.specs.RunEffects.{stop_line, run_answer, used_by, run_failure, ran, address_fits, started, run_from, stepped, step_of, reset_reply, last_address}
 use Rattle.scp_commands.specs.WatchEffects.{text_of_quoted, lacks_room_for_break, can_be_expected, largest_count, break_reply, no_break_reply, expect_reply, no_expect_reply, send_reply, no_send_reply}
 use Rattle.scp_commands.specs.ListEffects.{lacks_device, examine_after, examine_reply, handed, deposit_after, deposit_reply}
-use Rattle.scp_commands.specs.FileEffects.{lacks_unit, mode_of, attach_answer, attach_used, attached_machine, attach_with, attach_reply, detach_answer, detach_used, detached_machine, flushed_files, detach_with, detach_reply}
+use Rattle.scp_commands.specs.FileEffects.{first_place, lacks_unit, mode_of, attach_answer, attach_used, attached_machine, attach_with, attach_reply, detach_answer, detach_used, detached_machine, flushed_files, detach_with, detach_reply}
 use Rattle.scp_commands.specs.FileEffects.{filed_in, emptied_all, left_by, unported_by, kept_answer, emptied_reply, detach_all_reply, detach_one_or_all}
 use Rattle.host_lines.specs.Traffic.{Answer as LineAnswer, Peer, Replied, Ahead, Script, Answers, Quiet, Failed, replied, begun, listening}
 use Rattle.telnet_lines.specs.Line.{LineOf, unconnected}
@@ -80,7 +83,8 @@ use Rattle.scp_commands.specs.Effect.{effect}
 use Rattle.scp_commands.specs.Nature.{nature}
 use Rattle.scp_commands.specs.Doing.{Does}
 use Rattle.scp_commands.specs.Remains.{flushed_machine, flushed, MachineRemains, Remains}
-use Rattle.scp_commands.specs.Valid.{ValidLive, GivesBytes, CopyFollows, IsValidReply, CommandsKeepStates}
+use Rattle.scp_commands.specs.Valid.{IsProgramMachine, ValidLive, GivesBytes, CopyFollows, IsValidReply, CommandsKeepStates}
+use Rattle.scp_commands.proofs.KindLemmas.{positioned-kinds}
 use Rattle.scp_commands.proofs.SeenLemmas.{attached-with}
 use Rattle.scp_commands.proofs.CloseLemmas.{none-other}
 use Rattle.scp_commands.proofs.SaveLemmas.{copy-left}
@@ -106,10 +110,32 @@ Stands live reply = StandsBy false live reply
 
 -- ---- states
 
+-- a machine with the same kinds of units, and one of this program where what is attached to it and its lines are the same
+program-machine : (m m' : MachineState) → IsProgramMachine m → kinds_of m'.units ≡ kinds_of m.units → m'.slots ≡ m.slots → m'.lines ≡ m.lines → IsProgramMachine m'
+program-machine m m' is kinds slots lines = record {
+  units = kinds ∙ is.units;
+  numbers = ap (λ (l : List (Option Held)). map unnumbered l) slots ∙ is.numbers ∙ sym slots;
+  lines = lines ∙ is.lines;
+}
+
+-- where something else is attached
+numberless-numbers : (attached : List (Option Attachment)) → map unnumbered (numberless attached) ≡ numberless attached
+numberless-numbers [] = refl
+numberless-numbers (None ∷ attached) = ap (λ (l : List (Option Held)). None ∷ l) (numberless-numbers attached)
+numberless-numbers (Some a ∷ attached) = ap (λ (l : List (Option Held)). Some (record { file = 0; attachment = a }) ∷ l) (numberless-numbers attached)
+
+program-filed : (m m' : MachineState) (attached : List (Option Attachment)) → IsProgramMachine m → kinds_of m'.units ≡ kinds_of m.units → m'.slots ≡ numberless attached → m'.lines ≡ m.lines
+    → IsProgramMachine m'
+program-filed m m' attached is kinds slots lines = record {
+  units = kinds ∙ is.units;
+  numbers = ap (λ (l : List (Option Held)). map unnumbered l) slots ∙ numberless-numbers attached ∙ sym slots;
+  lines = lines ∙ is.lines;
+}
+
 -- another machine at the same time, with other watch tables and files
-changed-live : (live : Live) (m : MachineState) (w : WatchState) (files : List NamedBytes) → ValidLive live → ValidMachine m → m.taken ≡ live.machine.taken → m.time ≡ live.machine.time → ValidWatch w → AreFiles files
-    → ValidLive (record live { machine = m; watch = w; files = files })
-changed-live live m w files is machine taken time watch all = record {
+changed-live : (live : Live) (m : MachineState) (w : WatchState) (files : List NamedBytes) → ValidLive live → ValidMachine m → m.taken ≡ live.machine.taken → m.time ≡ live.machine.time → IsProgramMachine m
+    → ValidWatch w → AreFiles files → ValidLive (record live { machine = m; watch = w; files = files })
+changed-live live m w files is machine taken time own watch all = record {
   valid = record {
     machine = machine;
     watch = watch;
@@ -121,13 +147,16 @@ changed-live live m w files is machine taken time watch all = record {
     ahead = is.valid.ahead;
   };
   time = subst (λ (n : ℕ). n ≤ last_time) (sym time) is.time;
+  machine = own;
+  line = is.line;
 }
 
 machine-live : (live : Live) (m : MachineState) → ValidLive live → ValidMachine m → LeavesRest live.machine m → ValidLive (with_machine live m)
-machine-live live m is machine rest = changed-live live m live.watch live.files is machine rest.taken rest.time is.valid.watch is.valid.files
+machine-live live m is machine rest =
+    changed-live live m live.watch live.files is machine rest.taken rest.time (program-machine live.machine m is.machine rest.kinds rest.slots rest.lines) is.valid.watch is.valid.files
 
 pub watch-live : (live : Live) (w : WatchState) → ValidLive live → ValidWatch w → ValidLive (record live { watch = w })
-watch-live live w is watch = changed-live live live.machine w live.files is is.valid.machine refl refl watch is.valid.files
+watch-live live w is watch = changed-live live live.machine w live.files is is.valid.machine refl refl is.machine watch is.valid.files
 
 -- the disk's copy was written back
 flushed-machine : (m : MachineState) → ValidMachine m → ValidMachine (flushed_machine m)
@@ -146,8 +175,8 @@ flushed-machine m is = record {
 -- ---- replies
 
 -- with other lines
-lined-live : (live : Live) (lines : List (LineOf Peer)) → ValidLive live → AllByRecursion ValidLine lines → ValidLive (record live { lines = lines })
-lined-live live lines is all = record {
+lined-live : (live : Live) (lines : List (LineOf Peer)) → ValidLive live → AllByRecursion ValidLine lines → length lines ≡ length live.lines → ValidLive (record live { lines = lines })
+lined-live live lines is all count = record {
   valid = record {
     machine = is.valid.machine;
     watch = is.valid.watch;
@@ -159,6 +188,8 @@ lined-live live lines is all = record {
     ahead = is.valid.ahead;
   };
   time = is.time;
+  machine = is.machine;
+  line = count ∙ is.line;
 }
 
 -- and with what is to come on them
@@ -175,23 +206,25 @@ ahead-live live ahead is valid = record {
     ahead = valid;
   };
   time = is.time;
+  machine = is.machine;
+  line = is.line;
 }
 
 -- a line to which nobody is connected
-free-valid : (port : Option ℕ) → ValidLine (unconnected port)
-free-valid port = record { keys = tt; output = tt; few_keys = omega arith; few_bytes = omega arith }
+free-valid : (port : Option ℕ) → IfSome port IsPort → ValidLine (unconnected port)
+free-valid port is = record { port = is; nothing = λ none. refl; keys = tt; output = tt; few_keys = omega arith; few_bytes = omega arith }
 
-valid-ported : (port : Option ℕ) (lines : List (LineOf Peer)) → AllByRecursion ValidLine lines → AllByRecursion ValidLine (ported port lines)
-valid-ported port [] all = tt
-valid-ported port (line ∷ lines) all = (free-valid port, all.1)
+valid-ported : (port : Option ℕ) (lines : List (LineOf Peer)) → IfSome port IsPort → AllByRecursion ValidLine lines → AllByRecursion ValidLine (ported port lines)
+valid-ported port [] is all = tt
+valid-ported port (line ∷ lines) is all = (free-valid port is, all.1)
 
 closed-valid : (port : Option ℕ) (line : LineOf Peer) → ValidLine line → ValidLine (closed_by port line)
 closed-valid None line valid = valid
-closed-valid (Some port) line valid = free-valid None
+closed-valid (Some port) line valid = free-valid None tt
 
-hung-valid : (port : Option ℕ) (line : LineOf Peer) → ValidLine line → ValidLine (hung_by port line)
-hung-valid None line valid = valid
-hung-valid (Some port) line valid = free-valid (Some port)
+hung-valid : (port : Option ℕ) (line : LineOf Peer) → IfSome port IsPort → ValidLine line → ValidLine (hung_by port line)
+hung-valid None line is valid = valid
+hung-valid (Some port) line is valid = free-valid (Some port) is
 
 valid-unported : (lines : List (LineOf Peer)) → AllByRecursion ValidLine lines → AllByRecursion ValidLine (unported lines)
 valid-unported [] all = tt
@@ -199,7 +232,20 @@ valid-unported (line ∷ lines) all = (closed-valid line.port line all.0, all.1)
 
 valid-hung : (lines : List (LineOf Peer)) → AllByRecursion ValidLine lines → AllByRecursion ValidLine (hung_up lines)
 valid-hung [] all = tt
-valid-hung (line ∷ lines) all = (hung-valid line.port line all.0, all.1)
+valid-hung (line ∷ lines) all = (hung-valid line.port line all.0.port all.0, all.1)
+
+-- there are as many lines as before
+many-ported : (port : Option ℕ) (lines : List (LineOf Peer)) → length (ported port lines) ≡ length lines
+many-ported port [] = refl
+many-ported port (line ∷ lines) = refl
+
+many-unported : (lines : List (LineOf Peer)) → length (unported lines) ≡ length lines
+many-unported [] = refl
+many-unported (line ∷ lines) = refl
+
+many-hung : (lines : List (LineOf Peer)) → length (hung_up lines) ≡ length lines
+many-hung [] = refl
+many-hung (line ∷ lines) = refl
 
 valid-listening : (ahead : Ahead) → ValidAhead ahead → ValidAhead (listening ahead).ahead
 valid-listening (Script t) valid = by (t.fails 0)
@@ -238,7 +284,7 @@ stands-answers answer used live is gives = record { valid = record { after = is;
 stands-files : (answer : Answer) (used : ℕ) (live : Live) (files : List NamedBytes) → ValidLive live → AreFiles files → GivesBytes answer
     → Stands live (record { made = []; answer = answer; after = standing used (record live { files = files }) })
 stands-files answer used live files is all gives = record {
-  valid = record { after = changed-live live live.machine live.watch files is is.valid.machine refl refl is.valid.watch all; made = λ at h. absurd h; script = gives };
+  valid = record { after = changed-live live live.machine live.watch files is is.valid.machine refl refl is.machine is.valid.watch all; made = λ at h. absurd h; script = gives };
   copy = copy-same live (record live { files = files }) refl refl;
 }
 
@@ -255,14 +301,15 @@ stands-ran notes step count live is =
     let p = run note step count live in
     let part = runs-stay-valid.run_valid note step count live is.valid in
     let time = runs-stay-valid.run_time note step count live is.time in
+    let shape = runs-stay-valid.run_shape note step count live in
     record {
       valid = record {
-        after = record { valid = part.after; time = time.after };
+        after = shaped live p.after is part.after time.after shape.after;
         made = λ at h. elim (stands-either at (map_made (standing 0) p.made) (Prints (stop_line p.stop p.after.machine) (standing (used_by p.stop) p.after) ∷ []) h) [
           | inl x ↦
               let from = stands-mapped (standing 0) at p.made x in
-              subst (λ (s : Standing). ValidLive s.live) (sym from.2) (record { valid = part.made from.0 from.1; time = time.made from.0 from.1 })
-          | inr (inl same) ↦ subst (λ (s : Standing). ValidLive s.live) (sym same) (record { valid = part.after; time = time.after })
+              subst (λ (s : Standing). ValidLive s.live) (sym from.2) (shaped live from.0 is (part.made from.0 from.1) (time.made from.0 from.1) (shape.made from.0 from.1))
+          | inr (inl same) ↦ subst (λ (s : Standing). ValidLive s.live) (sym same) (shaped live p.after is part.after time.after shape.after)
           | inr (inr none) ↦ absurd none
         ];
         script = run_answer-gives p.stop;
@@ -270,6 +317,14 @@ stands-ran notes step count live is =
       copy = λ copy follows.
           let keeps = runs-stay-valid.run_copy note step count live is.valid in
           (keeps.copy copy).1 (λ none. (follows none).clean (ap (λ (d : Buffer). d.written) (sym (keeps.written none)) ∙ none));
+    }
+  where
+    shaped : (s t : Live) → ValidLive s → Valid t → t.machine.time ≤ last_time → StaysAs s t → ValidLive t
+    shaped s t is valid time shape = record {
+      valid = valid;
+      time = time;
+      machine = program-machine s.machine t.machine is.machine shape.kinds shape.slots shape.own;
+      line = shape.count ∙ is.line;
     }
 
 -- a run from another machine with the same files
@@ -328,7 +383,7 @@ stands-deposit live l value is =
 
 -- ---- files
 
-stands-attach_with : (fault : Option Failure) (option : ℕ) (unit : UnitName) (name : List ℕ) (live : Live) → IsDrive unit → AreBytes name → ValidLive live
+stands-attach_with : (fault : Option Failure) (option : ℕ) (unit : UnitName) (name : List ℕ) (live : Live) → IsDrive unit → IsByteName name → ValidLive live
     → Stands live (attach_with fault (mode_of option) unit name live)
 stands-attach_with fault option unit name live drive named is =
     by-said (attach_said fault (mode_of option) unit name (attached_in live.machine) live.files) (attached-fits fault (mode_of option) unit name (attached_in live.machine) live.files)
@@ -354,7 +409,9 @@ stands-attach_with fault option unit name live drive named is =
         record {
           valid = record {
             after = changed-live live m live.watch files is
-                (attached-valid (Attached count) (mode_of option) unit name (bytes_of files name) live.machine drive fits named (files-found files name all) is.valid.machine) refl refl is.valid.watch all;
+                (attached-valid (Attached count) (mode_of option) unit name (bytes_of files name) live.machine drive fits named (files-found files name all) is.valid.machine) refl refl
+                (program-filed live.machine m (with_attachment (attached_in live.machine) unit (Some a)) is.machine (positioned-kinds unit (first_place unit.kind count) live.machine.units) refl refl)
+                is.valid.watch all;
             made = λ at h. absurd h;
             script = tt;
           };
@@ -368,7 +425,7 @@ stands-attach_with fault option unit name live drive named is =
     by-said TooLong fits = kept _ _ tt
     by-said (CallFailed f) fits = kept _ _ tt
 
-stands-attach : (notes : List CommandNote) (live : Live) (option : ℕ) (unit : UnitName) (name : List ℕ) → IsDrive unit → AreBytes name → ValidLive live
+stands-attach : (notes : List CommandNote) (live : Live) (option : ℕ) (unit : UnitName) (name : List ℕ) → IsDrive unit → IsByteName name → ValidLive live
     → Stands live (attach_reply notes live option unit name)
 unfolding attach_reply
 stands-attach notes live option unit name drive named is =
@@ -396,7 +453,8 @@ stands-detach_with fault unit live drive is = by-said (detach_said fault unit (a
         let some : 0 < length (attached_in live.machine) = omega (arith, attached-count live.machine, is.valid.machine.places) in
         record {
           valid = record {
-            after = changed-live live m live.watch files is (detached-valid (Detached failure) unit live.machine is.valid.machine) refl refl is.valid.watch all;
+            after = changed-live live m live.watch files is (detached-valid (Detached failure) unit live.machine is.valid.machine) refl refl
+                (program-filed live.machine m (detached unit (attached_in live.machine)) is.machine refl refl refl) is.valid.watch all;
             made = λ at h. absurd h;
             script = tt;
           };
@@ -411,9 +469,15 @@ stands-detach notes live unit drive is =
     stands-if (lacks_unit live.machine unit) live _ _ (λ _. stands-refused _ live is)
     (λ _. stands-detach_with (failure_now live.machine.time (subject.Unit unit) notes) unit live drive is)
 
+port-low : (port : ℕ) → is_port port ≡ true → IsPort port
+port-low port is =
+    let both = and_parts (nat_le 1 port) (nat_le port 65535) is in
+    let most = leb-true port 65535 both.1 in
+    (leb-true 1 port both.0, omega (arith, most))
+
 -- a port is listened on, or was not
-stands-listen_with : (said : Replied) (port : ℕ) (live : Live) → ValidAhead said.ahead → ValidLive live → Stands live (listen_with said port live)
-stands-listen_with said port live valid is = by said.answer
+stands-listen_with : (said : Replied) (port : ℕ) (live : Live) → is_port port ≡ true → ValidAhead said.ahead → ValidLive live → Stands live (listen_with said port live)
+stands-listen_with said port live low valid is = by said.answer
   where
     by : (answer : LineAnswer) → Stands live (record {
       made = [];
@@ -426,7 +490,8 @@ stands-listen_with said port live valid is = by said.answer
     }
     by other = record {
       valid = record {
-        after = lined-live (record live { ahead = said.ahead }) (ported (Some port) live.lines) (ahead-live live said.ahead is valid) (valid-ported (Some port) live.lines is.valid.lines);
+        after = lined-live (record live { ahead = said.ahead }) (ported (Some port) live.lines) (ahead-live live said.ahead is valid)
+            (valid-ported (Some port) live.lines (port-low port low) is.valid.lines) (many-ported (Some port) live.lines);
         made = λ at h. absurd h;
         script = tt;
       };
@@ -442,23 +507,23 @@ stands-attach_port live port is = by (terminal_line live.lines)
     by (Some line) =
         stands-if (is_some line.port) live _ _ (λ _. stands-refused _ live is)
         (λ _. stands-if (is_port port) live _ _
-        (λ _. stands-listen_with (listening live.ahead) port live (valid-listening live.ahead is.valid.ahead) is)
+        (λ low. stands-listen_with (listening live.ahead) port live low (valid-listening live.ahead is.valid.ahead) is)
         (λ _. stands-refused _ live is))
 
-stands-with_port : (line : Option (LineOf Peer)) (lines : List (LineOf Peer)) (live : Live) → AllByRecursion ValidLine lines → ValidLive live
+stands-with_port : (line : Option (LineOf Peer)) (lines : List (LineOf Peer)) (live : Live) → AllByRecursion ValidLine lines → length lines ≡ length live.lines → ValidLive live
     → Stands live (with_port line (goes (record live { lines = lines })) live)
-stands-with_port None lines live all is = stands-refused _ live is
-stands-with_port (Some line) lines live all is =
+stands-with_port None lines live all count is = stands-refused _ live is
+stands-with_port (Some line) lines live all count is =
     stands-if (is_none line.port) live _ _ (λ _. stands-refused _ live is)
-    (λ _. stands-goes live (record live { lines = lines }) (lined-live live lines is all) refl refl)
+    (λ _. stands-goes live (record live { lines = lines }) (lined-live live lines is all count) refl refl)
 
 stands-detach_port : (live : Live) → ValidLive live → Stands live (detach_port_reply live)
 unfolding detach_port_reply
-stands-detach_port live is = stands-with_port (terminal_line live.lines) (unported live.lines) live (valid-unported live.lines is.valid.lines) is
+stands-detach_port live is = stands-with_port (terminal_line live.lines) (unported live.lines) live (valid-unported live.lines is.valid.lines) (many-unported live.lines) is
 
 stands-disconnect : (live : Live) → ValidLive live → Stands live (disconnect_reply live)
 unfolding disconnect_reply
-stands-disconnect live is = stands-with_port (terminal_line live.lines) (hung_up live.lines) live (valid-hung live.lines is.valid.lines) is
+stands-disconnect live is = stands-with_port (terminal_line live.lines) (hung_up live.lines) live (valid-hung live.lines is.valid.lines) (many-hung live.lines) is
 
 -- all units lose their files, and then that comes
 filed-live : (live : Live) → ValidLive live → IsFiled (filed_in live)
@@ -482,8 +547,9 @@ stands-emptied next notes live gives is = by-keeper e.kept refl
           valid = record {
             after =
                 lined-live (left_by None e.left live) (unported live.lines)
-                (changed-live live m live.watch e.left.files is (filed-valid live.machine e.left.attached e.left.disk is.valid.machine filed.places filed.names filed.disk) refl refl is.valid.watch filed.files)
-                (valid-unported live.lines is.valid.lines);
+                (changed-live live m live.watch e.left.files is (filed-valid live.machine e.left.attached e.left.disk is.valid.machine filed.places filed.names filed.disk) refl refl
+                (program-filed live.machine m e.left.attached is.machine refl refl refl) is.valid.watch filed.files)
+                (valid-unported live.lines is.valid.lines) (many-unported live.lines);
             made = λ at h. absurd h;
             script = gives;
           };
@@ -512,14 +578,16 @@ not-false : (b : Bool) → not b ≡ false → b ≡ true
 not-false true is = refl
 not-false false is = absurd (cc)
 
-stands-break : (live : Live) (at count : ℕ) (actions : List ℕ) → AreBytes actions → ValidLive live → Stands live (break_reply live at count actions)
+stands-break : (live : Live) (at count : ℕ) (actions : List ℕ) → AreShortActions actions → ValidLive live → Stands live (break_reply live at count actions)
 unfolding break_reply
-stands-break live at count actions bytes is =
+stands-break live at count actions short is =
     stands-if (not (nat_le at last_address && nat_le count largest_count)) live _ _ (λ _. stands-refused _ live is)
     (λ fits. stands-if (lacks_room_for_break at live.watch.breaks.list) live _ _ (λ _. stands-refused _ live is)
     (λ room.
-    let low = leb-true at last_address (and_parts (nat_le at last_address) (nat_le count largest_count) (not-false _ fits)).0 in
-    stands-watch live _ is (break-added live.watch at count actions is.valid.watch (omega (arith, low)) bytes room)))
+    let both = and_parts (nat_le at last_address) (nat_le count largest_count) (not-false _ fits) in
+    let low = leb-true at last_address both.0 in
+    let few = leb-true count largest_count both.1 in
+    stands-watch live _ is (break-added live.watch at count actions is.valid.watch (omega (arith, low)) (omega (arith, few)) short room)))
 
 stands-no_break : (live : Live) (at : Option ℕ) → ValidLive live → Stands live (no_break_reply live at)
 unfolding no_break_reply
@@ -527,13 +595,20 @@ stands-no_break live None is = stands-watch live _ is (breaks-removed live.watch
 stands-no_break live (Some at) is =
     stands-if (nat_le at last_address) live _ _ (λ _. stands-watch live _ is (break-removed live.watch at is.valid.watch)) (λ _. stands-refused _ live is)
 
-stands-expect : (live : Live) (count : ℕ) (quoted actions : List ℕ) → AreBytes actions → ValidLive live → Stands live (expect_reply live count quoted actions)
+expect-valid : (count : ℕ) (text actions : List ℕ) → can_be_expected count text ≡ true → AreBytes text → AreShortActions actions → ValidExpect (expect_of count text actions)
+expect-valid count text actions fits bytes short =
+    let counts = and_parts (nat_le 1 count && nat_le count largest_count && nat_le 1 (length text)) (nat_le (length text) longest_text) fits in
+    let texts = and_parts (nat_le 1 count && nat_le count largest_count) (nat_le 1 (length text)) counts.0 in
+    let few = leb-true count largest_count (and_parts (nat_le 1 count) (nat_le count largest_count) texts.0).1 in
+    record { count = omega (arith, few); text = bytes; long = leb-true (length text) longest_text counts.1; actions = short }
+
+stands-expect : (live : Live) (count : ℕ) (quoted actions : List ℕ) → AreShortActions actions → ValidLive live → Stands live (expect_reply live count quoted actions)
 unfolding expect_reply
-stands-expect live count quoted actions bytes is =
+stands-expect live count quoted actions short is =
     let text = text_of_quoted quoted in
     stands-if (not (can_be_expected count text)) live _ _ (λ _. stands-refused _ live is)
-    (λ _. stands-if (length live.watch.expects.list == most_expects) live _ _ (λ _. stands-refused _ live is)
-    (λ room. stands-watch live _ is (expect-added live.watch count text actions is.valid.watch (record { text = quoted-bytes quoted; actions = bytes }) room)))
+    (λ fits. stands-if (length live.watch.expects.list == most_expects) live _ _ (λ _. stands-refused _ live is)
+    (λ room. stands-watch live _ is (expect-added live.watch count text actions is.valid.watch (expect-valid count text actions (not-false _ fits) (quoted-bytes quoted) short) room)))
 
 stands-no_expect : (live : Live) → ValidLive live → Stands live (no_expect_reply live)
 unfolding no_expect_reply
@@ -557,7 +632,7 @@ stands-set_size : (live : Live) (k : ℕ) → ValidLive live → Stands live (se
 unfolding set_size_reply
 stands-set_size live k is =
     stands-if (fits_size k) live _ _
-    (λ fits. stands-goes live _ (machine-live live (sized live.machine k) is (sized-valid live.machine k is.valid.machine fits) (record { time = refl; taken = refl; slots = refl; disk = refl })) refl refl)
+    (λ fits. stands-goes live _ (machine-live live (sized live.machine k) is (sized-valid live.machine k is.valid.machine fits) (record { time = refl; taken = refl; kinds = refl; slots = refl; disk = refl; lines = refl })) refl refl)
     (λ _. stands-refused _ live is)
 
 stands-show : (live : Live) (subject : Shown) → ValidLive live → Stands live (show_reply live subject)
@@ -669,7 +744,8 @@ flushed-with claim live is =
     let m = live.machine in
     let attached = attached_in m in
     changed-live live (record m { disk = copy_flushed claim attached m.disk }) live.watch (files_flushed claim attached m.disk live.files) is
-    (left-machine true m (record m { disk = copy_flushed claim attached m.disk }) is.valid.machine (copy-left claim m)) refl refl is.valid.watch
+    (left-machine true m (record m { disk = copy_flushed claim attached m.disk }) is.valid.machine (copy-left claim m)) refl refl
+    (program-machine m (record m { disk = copy_flushed claim attached m.disk }) is.machine refl refl refl) is.valid.watch
     (flushed-files (at_unit disk_unit claim) disk_unit (attachment_at attached disk_unit) m.disk live.files is.valid.machine.disk is.valid.files)
 
 -- and then other files came
@@ -680,7 +756,7 @@ stands-flushed claim answer used live files is all gives =
     let there = flushed-with claim live is in
     record {
       valid = record {
-        after = changed-live flushed flushed.machine flushed.watch files there there.valid.machine refl refl there.valid.watch all;
+        after = changed-live flushed flushed.machine flushed.watch files there there.valid.machine refl refl there.machine there.valid.watch all;
         made = λ at h. absurd h;
         script = gives;
       };
@@ -722,10 +798,24 @@ byte-at (b ∷ bytes) zero all = all.0
 byte-at (b ∷ bytes) (suc i) all = byte-at bytes i all.1
 
 -- what is read of bytes is valid, and so is a session into which it is put back
+many-from : (port : ℕ) (lines : List (LineOf Peer)) → length (lines_from port lines) ≡ length lines
+many-from port [] = refl
+many-from port (line ∷ lines) = refl
+
 put-back : (bytes : List ℕ) (s : State) (live : Live) → AreBytes bytes → reading bytes ≡ Ok s → ValidLive live → ValidLive (put_back s live)
+unfolding machine_from
 put-back bytes s live all read is =
     let valid = (texts-are-read.only bytes s (λ i. byte-at bytes i all) read).0 in
-    record { valid = put-back-is-valid.valid s live valid is.valid; time = put-back-is-valid.time s live valid }
+    record {
+      valid = put-back-is-valid.valid s live valid is.valid;
+      time = put-back-is-valid.time s live valid;
+      machine = record {
+        units = put-back-is-valid.units s live valid;
+        numbers = numberless-numbers (with_all no_attachments s.files);
+        lines = refl;
+      };
+      line = many-from s.port live.lines ∙ is.line;
+    }
 
 -- with what is to come on lines
 stands-put_back : (used : ℕ) (s : State) (live : Live) (answer : Answer) (ahead : Ahead) → ValidAhead ahead → GivesBytes answer → ValidLive (put_back s live)
@@ -788,13 +878,13 @@ stands-effect limit notes live (request.Go address) is kept bytes = stands-run_f
 stands-effect limit notes live request.Cont is kept bytes = stands-ran notes false limit live is
 stands-effect limit notes live (request.Step count) is kept bytes = stands-step_of limit notes (unwrap_or count 1) live is
 stands-effect limit notes live request.Reset is kept bytes = stands-reset live is
-stands-effect limit notes live (request.Break at count actions) is kept bytes = stands-break live at count actions bytes.text is
+stands-effect limit notes live (request.Break at count actions) is kept bytes = stands-break live at count actions (record { bytes = bytes.text; short = bytes.short }) is
 stands-effect limit notes live (request.NoBreak at) is kept bytes = stands-no_break live at is
-stands-effect limit notes live (request.Expect count text actions) is kept bytes = stands-expect live count text actions bytes.text is
+stands-effect limit notes live (request.Expect count text actions) is kept bytes = stands-expect live count text actions (record { bytes = bytes.text; short = bytes.short }) is
 stands-effect limit notes live request.NoExpect is kept bytes = stands-no_expect live is
 stands-effect limit notes live (request.Send after delay text) is kept bytes = stands-send live after delay text is
 stands-effect limit notes live request.NoSend is kept bytes = stands-no_send live is
-stands-effect limit notes live (request.Attach option unit name) is kept bytes = stands-attach notes live option unit name kept.1.1 bytes.name is
+stands-effect limit notes live (request.Attach option unit name) is kept bytes = stands-attach notes live option unit name kept.1.1 (record { bytes = bytes.name; short = kept.2.1 }) is
 stands-effect limit notes live (request.AttachPort kind port) is kept bytes = stands-attach_port live port is
 stands-effect limit notes live (request.Detach unit) is kept bytes = stands-detach_where notes live unit kept is
 stands-effect limit notes live (request.SetSize k) is kept bytes = stands-set_size live k is
@@ -885,7 +975,7 @@ left-valid reply answer at tells before after is some does = subst (λ (s : Stan
 flushed-valid : (live : Live) → ValidLive live → ValidLive (flushed live)
 flushed-valid live is =
     changed-live live (flushed_machine live.machine) live.watch (flushed_files None disk_unit live) is (flushed-machine live.machine is.valid.machine)
-    refl refl is.valid.watch (flushed-files None disk_unit (attachment_at (attached_in live.machine) disk_unit) live.machine.disk live.files is.valid.machine.disk is.valid.files)
+    refl refl (program-machine live.machine (flushed_machine live.machine) is.machine refl refl refl) is.valid.watch (flushed-files None disk_unit (attachment_at (attached_in live.machine) disk_unit) live.machine.disk live.files is.valid.machine.disk is.valid.files)
 
 pub remains-valid : (flushes : Bool) (old new : Live) → ValidLive old → Remains flushes old new → ValidLive new
 remains-valid false old new is same = subst ValidLive (sym same) is

@@ -25,7 +25,7 @@ use Rattle.file_commands.specs.AllUnits.{Filed, Emptied, emptied_as, said_in, wi
 use Rattle.nova_machine.specs.Machine.{MachineState}
 use Rattle.nova_machine.specs.Core.{AreListed}
 use Rattle.nova_machine.specs.Seen.{attached_in}
-use Rattle.nova_machine.specs.Valid.{AreBytes, HasByteName, ValidMachine}
+use Rattle.nova_machine.specs.Valid.{AreBytes, IsByteName, HasByteName, ValidMachine}
 use Rattle.nova_machine.proofs.ValidBytes.{AreFiles, every-set, files-with, files-changed, bytes-take, bytes-overwritten}
 use Rattle.scp_parser.specs.Command.{IsDrive}
 use Rattle.scp_commands.specs.Live.{numberless, with_attached}
@@ -172,9 +172,9 @@ positioned-fit unit place us takes all = by-test (has_position unit.kind) refl
 
 -- ---- the names of files
 
--- the name of what a unit has is of bytes
+-- the name of what a unit has is of bytes, and short
 abbrev pub HasName : Option Attachment → Type 0
-HasName a = IfSome a (λ (b : Attachment). AreBytes b.name)
+HasName a = IfSome a (λ (b : Attachment). IsByteName b.name)
 
 pub names-seen : (slots : List (Option Held)) → AllByRecursion HasByteName slots → AllByRecursion HasName (attachments_of slots)
 names-seen [] all = tt
@@ -202,7 +202,7 @@ buffer-bytes : (b : Bool) (bytes : List ℕ) (disk : Buffer) → AreBytes bytes 
 buffer-bytes true bytes disk new old = new
 buffer-bytes false bytes disk new old = old
 
-pub attached-valid : (said : AttachSaid) (mode : AttachMode) (unit : UnitName) (name bytes : List ℕ) (m : MachineState) → IsDrive unit → Fits unit said → AreBytes name → AreBytes bytes → ValidMachine m
+pub attached-valid : (said : AttachSaid) (mode : AttachMode) (unit : UnitName) (name bytes : List ℕ) (m : MachineState) → IsDrive unit → Fits unit said → IsByteName name → AreBytes bytes → ValidMachine m
     → ValidMachine (attached_machine said mode unit name bytes m)
 attached-valid (Attached count) mode unit name bytes m drive low named new is = record {
   memory = is.memory;

@@ -11,6 +11,7 @@ use Rattle.whole_files.specs.Whole.{WholeSaid, WholeIs, NotThere, TooLong, CallF
 use Rattle.whole_files.specs.Writing.{FailingCall, WriteSaid, AllWritten, WriteFailed, closed_act, made_act, write_act}
 use Rattle.binary_load.specs.declared.faults.LoadFault.{LoadFault}
 use Rattle.binary_load.specs.Tape.{Tape, put_all}
+use Rattle.unit_list.proofs.Resets.{reset-kinds}
 use Rattle.binary_load.proofs.StoreLemmas.{put_all-size}
 use Rattle.binary_load.proofs.RangeLemmas.{IsTapeInRange, tape-in_range, stored-memory}
 use Rattle.nova_memory.specs.Memory.{MemoryState, IsMemory, IsSize, fits_size, resized}
@@ -85,15 +86,15 @@ reset-valid m is = (reset-keeps m is).valid
 
 pub reset-leaves : (m : MachineState) → LeavesRest m (reset_machine m)
 unfolding reset_machine reset_devices
-reset-leaves m = record { time = refl; taken = refl; slots = refl; disk = refl }
+reset-leaves m = record { time = refl; taken = refl; kinds = reset-kinds m.units; slots = refl; disk = refl; lines = refl }
 
 pub starting-valid : (address : Option ℕ) (m : MachineState) → IfSome address (λ (a : ℕ). a < 2 ^ 15) → ValidMachine m → ValidMachine (starting_at address m)
 starting-valid None m low is = is
 starting-valid (Some a) m low is = pc-valid m a is low
 
 starting-leaves : (address : Option ℕ) (m : MachineState) → LeavesRest m (starting_at address m)
-starting-leaves None m = record { time = refl; taken = refl; slots = refl; disk = refl }
-starting-leaves (Some a) m = record { time = refl; taken = refl; slots = refl; disk = refl }
+starting-leaves None m = record { time = refl; taken = refl; kinds = refl; slots = refl; disk = refl; lines = refl }
+starting-leaves (Some a) m = record { time = refl; taken = refl; kinds = refl; slots = refl; disk = refl; lines = refl }
 
 address-low : (address : Option ℕ) → address_fits address ≡ true → IfSome address (λ (a : ℕ). a < 2 ^ 15)
 address-low None fits = tt
@@ -105,7 +106,14 @@ started-valid true address m fits is = starting-valid address (reset_machine m) 
 started-valid false address m fits is = starting-valid address m (address-low address fits) is
 
 leaves-both : (first second third : MachineState) → LeavesRest first second → LeavesRest second third → LeavesRest first third
-leaves-both first second third a b = record { time = b.time ∙ a.time; taken = b.taken ∙ a.taken; slots = b.slots ∙ a.slots; disk = b.disk ∙ a.disk }
+leaves-both first second third a b = record {
+  time = b.time ∙ a.time;
+  taken = b.taken ∙ a.taken;
+  kinds = b.kinds ∙ a.kinds;
+  slots = b.slots ∙ a.slots;
+  disk = b.disk ∙ a.disk;
+  lines = b.lines ∙ a.lines;
+}
 
 pub started-leaves : (resets : Bool) (address : Option ℕ) (m : MachineState) → LeavesRest m (starting_at address (reset_where resets m))
 started-leaves true address m = leaves-both m (reset_machine m) (starting_at address (reset_machine m)) (reset-leaves m) (starting-leaves address (reset_machine m))
@@ -137,8 +145,8 @@ tape-valid (Err fault) m range is = is
 tape-leaves : (r : Result Tape LoadFault) (m : MachineState) → LeavesRest m (tape_machine r m)
 tape-leaves (Ok says) m =
     let memory = put_all m.processor.memory says.stores in
-    leaves-both m (with_memory m memory) (starting_at says.start (with_memory m memory)) (record { time = refl; taken = refl; slots = refl; disk = refl }) (starting-leaves says.start (with_memory m memory))
-tape-leaves (Err fault) m = record { time = refl; taken = refl; slots = refl; disk = refl }
+    leaves-both m (with_memory m memory) (starting_at says.start (with_memory m memory)) (record { time = refl; taken = refl; kinds = refl; slots = refl; disk = refl; lines = refl }) (starting-leaves says.start (with_memory m memory))
+tape-leaves (Err fault) m = record { time = refl; taken = refl; kinds = refl; slots = refl; disk = refl; lines = refl }
 
 pub loaded-valid : (said : WholeSaid) (m : MachineState) → GivesWhole said → ValidMachine m → ValidMachine (loaded_machine said m)
 loaded-valid (WholeIs bytes) m gives is = tape-valid (tape_in m bytes) m (tape-in_range m.processor.memory.size bytes gives) is
@@ -148,9 +156,9 @@ loaded-valid CallFailed m gives is = is
 
 pub loaded-leaves : (said : WholeSaid) (m : MachineState) → LeavesRest m (loaded_machine said m)
 loaded-leaves (WholeIs bytes) m = tape-leaves (tape_in m bytes) m
-loaded-leaves NotThere m = record { time = refl; taken = refl; slots = refl; disk = refl }
-loaded-leaves TooLong m = record { time = refl; taken = refl; slots = refl; disk = refl }
-loaded-leaves CallFailed m = record { time = refl; taken = refl; slots = refl; disk = refl }
+loaded-leaves NotThere m = record { time = refl; taken = refl; kinds = refl; slots = refl; disk = refl; lines = refl }
+loaded-leaves TooLong m = record { time = refl; taken = refl; kinds = refl; slots = refl; disk = refl; lines = refl }
+loaded-leaves CallFailed m = record { time = refl; taken = refl; kinds = refl; slots = refl; disk = refl; lines = refl }
 
 -- ---- a file that is written whole
 

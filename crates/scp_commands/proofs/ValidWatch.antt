@@ -14,7 +14,7 @@ use Rattle.expect_actions.specs.Sends.{Send, last_queued, timed, queued, most_se
 use Rattle.expect_actions.specs.Watch.{WatchState, forgotten}
 use Rattle.expect_actions.proofs.BreakLemmas.{below, above, without_is, all_kept, fewer, no_more, rising_filter, rising_with}
 use Rattle.expect_actions.proofs.SendLemmas.{length-timed, sends_stay}
-use Rattle.nova_machine.specs.Valid.{AreBytes, ValidBreak, ValidExpect, ValidWatch}
+use Rattle.nova_machine.specs.Valid.{AreBytes, AreShortActions, ValidBreak, ValidExpect, ValidWatch}
 use Rattle.nova_machine.proofs.ValidBytes.{every-append}
 use Rattle.scp_commands.specs.WatchEffects.{text_of_quoted, lacks_room_for_break}
 
@@ -83,12 +83,12 @@ room-with new list rising most room =
         let short : length list < 256 = grind (arith, nat_tests) in
         omega (arith, same, short)
 
-pub break-added : (w : WatchState) (at count : ℕ) (actions : List ℕ) → ValidWatch w → at < 2 ^ 15 → AreBytes actions → lacks_room_for_break at w.breaks.list ≡ false
+pub break-added : (w : WatchState) (at count : ℕ) (actions : List ℕ) → ValidWatch w → at < 2 ^ 15 → count < 2 ^ 32 → AreShortActions actions → lacks_room_for_break at w.breaks.list ≡ false
     → ValidWatch (record w { breaks = breaks.table (with_break (break_at at count actions) w.breaks.list) w.breaks.actions })
-break-added w at count actions is low bytes room = record {
+break-added w at count actions is low few short room = record {
   breaks = room-with (break_at at count actions) w.breaks.list is.rising is.breaks room;
   rising = rising_with (break_at at count actions) w.breaks.list is.rising;
-  each = with-each ValidBreak (break_at at count actions) w.breaks.list (record { address = low; actions = bytes }) is.each;
+  each = with-each ValidBreak (break_at at count actions) w.breaks.list (record { address = low; count = few; actions = short }) is.each;
   expects = is.expects;
   texts = is.texts;
   tail = is.tail;

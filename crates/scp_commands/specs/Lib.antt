@@ -16,6 +16,7 @@ pub mod TapeEffects
 pub mod SetEffects
 pub mod StateEffects
 pub mod StateAnswers
+pub mod StateReading
 pub mod Effect
 pub mod Nature
 pub mod LinesLeft

@@ -1,9 +1,13 @@
 -- What SAVE leaves of a session, and what RESTORE puts in place of the one that was saved.
-use Rattle.std.specs.Prelude.{◌≡◌, ℕ, zero, suc, Bool, false, List, [], length, None, Ok}
+use Rattle.std.specs.Prelude.{◌≡◌, ℕ, zero, suc, ◌<◌, ◌^◌, Bool, false, List, [], length, None, Ok}
+use Rattle.std.specs.List.{AllByRecursion}
 use Rattle.host_files.specs.Lists.{NamedBytes, bytes_of, with_file}
-use Rattle.host_lines.specs.Traffic.{Ahead, listening}
+use Rattle.host_lines.specs.Traffic.{Peer, Ahead, listening}
+use Rattle.telnet_lines.specs.Line.{LineOf}
+use Rattle.expect_actions.specs.Watch.{forgotten}
 use Rattle.file_commands.specs.Notes.{CommandNote}
 use Rattle.nova_machine.specs.Seen.{attached_in}
+use Rattle.nova_machine.specs.Valid.{DiskIsItsFile}
 use Rattle.state_file.specs.Parts.{State}
 use Rattle.state_file.specs.PutBack.{CanBeSaved}
 use Rattle.state_file.specs.Session.{saved_port, saved}
@@ -17,6 +21,7 @@ use Rattle.scp_commands.specs.Live.{Live, standing}
 use Rattle.scp_commands.specs.Reply.{Reply}
 use Rattle.scp_commands.specs.StateEffects.{flushed_with, is_occupied}
 use Rattle.scp_commands.specs.Effect.{effect}
+use Rattle.scp_commands.specs.Valid.{ValidLive}
 
 -- a command that is done, prints nothing, and has used so many notes
 abbrev pub done_with : ℕ → Live → Reply
@@ -55,13 +60,35 @@ continued s present = record present {
 abbrev pub saved_among : List NamedBytes → Live → State
 saved_among files s = saved (record s { files = files })
 
--- A file has the text of what was saved of the session s when the files were those: s can be saved, and each number and each
--- list of what was saved fits its field. Since then the state file itself may have changed, as by the SAVE.
+-- nobody is connected to a line
+abbrev pub HasNobody : LineOf Peer → Type 0
+HasNobody line = line.connection ≡ None
+
+-- each file is so short that its length can be told
+abbrev pub HaveLengths : List NamedBytes → Type 0
+HaveLengths files = AllByRecursion (λ (f : NamedBytes). length f.1 < 2 ^ 64) files
+
+-- A session is at rest: it is a state that commands work on, nobody is connected, what the disk holds of its file is what is
+-- in it and nothing is to be written back, and the actions of the stop that came last are forgotten.
+pub record IsAtRest (s : Live) : Type 0 where
+  pub session : ValidLive s
+  pub nobody : AllByRecursion HasNobody s.lines
+  pub copy : DiskIsItsFile s
+  pub written : s.machine.disk.written ≡ false
+  pub watch : s.watch ≡ forgotten s.watch
+
+-- A file has the text of what was saved of the session s, which is at rest, when the files were those. Since then the state
+-- file itself may have changed, as by the SAVE.
 pub record HoldsSaved (files then_files : List NamedBytes) (name : List ℕ) (s : Live) : Type 0 where
-  pub can : CanBeSaved s
-  pub fits : Fits (saved_among then_files s)
-  pub widths : HasWidths (saved_among then_files s)
+  pub rest : IsAtRest s
+  pub lengths : HaveLengths then_files
   pub bytes : bytes_of files name ≡ text (saved_among then_files s)
+
+-- it can be saved, and each number and each list of what is saved fits its field
+pub record IsSavable (files : List NamedBytes) (s : Live) : Type 0 where
+  pub can : CanBeSaved s
+  pub fits : Fits (saved_among files s)
+  pub widths : HasWidths (saved_among files s)
 
 -- a RESTORE of that file is done, and has used so many notes
 pub record IsRestored (limit : ℕ) (notes : List CommandNote) (live : Live) (force : Bool) (name : List ℕ) (used : ℕ) : Type 0 where
@@ -69,6 +96,8 @@ pub record IsRestored (limit : ℕ) (notes : List CommandNote) (live : Live) (fo
   pub uses : (effect limit notes live (Restore force name)).after.used ≡ used
 
 pub record RestorePutsBack : Type 0 where
+  -- a session at rest can be saved, and what is saved of it fits
+  pub savable : (s : Live) (files : List NamedBytes) → IsAtRest s → HaveLengths files → IsSavable files s
   -- a RESTORE that is done, of the text of any session that was saved, puts that session in place, where the files are those
   -- of that session and the machine has its one line
   pub restored : (limit : ℕ) (notes : List CommandNote) (live s : Live) (force : Bool) (name : List ℕ) (then_files : List NamedBytes) (used : ℕ)

@@ -1,14 +1,16 @@
 -- What every state is within a session, and what commands make of it.
-use Rattle.std.specs.Prelude.{◌≡◌, ◌≢◌, ◌≤◌, ℕ, Bool, true, false, List, length, Option, Some, None, IsSome, Ok, Err}
+use Rattle.std.specs.Prelude.{◌≡◌, ◌≢◌, ◌≤◌, ℕ, Bool, true, false, List, [], map, length, Option, Some, None, IsSome, Ok, Err}
 use Rattle.host_files.specs.Lists.{NamedBytes, find_file, bytes_of}
 use Rattle.observations.specs.Observations.{StandsAt}
 use Rattle.nova_machine.specs.Comes.{Output}
 use Rattle.nova_machine.specs.Run.{last_time}
-use Rattle.nova_machine.specs.Seen.{attached_in}
+use Rattle.nova_machine.specs.Machine.{MachineState}
+use Rattle.nova_machine.specs.Seen.{unnumbered, attached_in}
 use Rattle.nova_machine.specs.Valid.{AreBytes, Valid, DiskIsItsFile, LeavesDiskFile}
 use Rattle.file_commands.specs.Notes.{CommandNote}
 use Rattle.unit_files.specs.Attachments.{Attachment, attachment_at}
 use Rattle.unit_files.specs.Buffer.{Buffer, disk_unit}
+use Rattle.state_file.specs.SavedValid.{AreStandard}
 use Rattle.scp_parser.specs.Command.{Request, Attach, Detach, IsKept}
 use Rattle.scp_parser.specs.Laws.{IsOfBytes}
 use Rattle.scp_commands.specs.declared.next.Next.TheVariants.{Go, Do}
@@ -20,10 +22,19 @@ use Rattle.scp_commands.specs.Effect.{effect}
 use Rattle.scp_commands.specs.Doing.{Does}
 use Rattle.scp_commands.specs.Remains.{flushed, Remains}
 
--- a state that commands work on: all is in range, and no time comes past the end of time
+-- a machine of this program, as it is seen: it has the standard units, and no numbers of files and no lines of its own
+pub record IsProgramMachine (m : MachineState) : Type 0 where
+  pub units : AreStandard m.units
+  pub numbers : map unnumbered m.slots ≡ m.slots
+  pub lines : m.lines ≡ []
+
+-- A state that commands work on: all is in range, no time comes past the end of time, and it has a machine of this program,
+-- with one line.
 pub record ValidLive (live : Live) : Type 0 where
   pub valid : Valid live
   pub time : live.machine.time ≤ last_time
+  pub machine : IsProgramMachine live.machine
+  pub line : length live.lines ≡ 1
 
 -- the script that a DO has read is of bytes
 abbrev pub GivesBytes : Answer → Type 0

@@ -23,6 +23,7 @@ pub mod session;
 mod set_command;
 mod show_command;
 mod show_watch;
+mod state_reading;
 mod stop_line;
 mod unit_commands;
 mod unit_names;

@@ -14,6 +14,7 @@ ghost use Rattle.nova_machine.specs.Machine.{attached_files};
 ghost use Rattle.nova_machine.specs.Seen.{attached_in};
 ghost use Rattle.state_file.specs.Listening.{AreClosed};
 ghost use Rattle.state_file.specs.Parts.{state_in};
+ghost use Rattle.state_file.specs.Pieces.{IsFed};
 ghost use Rattle.state_file.specs.Readers.{Gives};
 ghost use Rattle.state_file.specs.Reading.{reading};
 ghost use Rattle.state_file.specs.SavedValid.{AreStandard};
@@ -25,28 +26,30 @@ ghost use Rattle.scp_commands.specs.LinesLeft.{LinesLeft, Unlistened, AttachCaus
 ghost use Rattle.scp_commands.specs.LineAnswers.{RestoresLines};
 ghost use Rattle.scp_commands.specs.Refusals.{IsUnrefused};
 ghost use Rattle.scp_commands.specs.StateAnswers.{PutsBack};
+ghost use Rattle.scp_commands.specs.StateReading.{WasFed};
 ghost use Rattle.scp_commands.specs.StateEffects.{has_port, is_occupied, restore_notes, restore_reply};
 ghost use Rattle.scp_commands.specs.Doing.{Did, KeepsBy, IsUndone, IsRestoreAnswer, IsExitAnswer, IsRefused};
 
 use crate::fault::CommandFault;
 use crate::next::Next;
 use crate::session::Session;
+use crate::state_reading::{StateRead, read_state_file};
 use crate::unit_commands::stamp_of;
-use crate::whole_notes::note_reading;
+use crate::whole_notes::note_state_reading;
 use file_commands::{FaultNote, Stamp, Subject, keep, note_of};
 use host_files::Files;
 use host_lines::Lines;
 use nova_machine::Machine;
-use state_file::{RestoreFault, Saved, StateFault, read_state, set_state};
+use state_file::{RestoreFault, Saved, StateFault, StateReader, set_state};
 use std::alloc::Global;
 use telnet_lines::Line;
 use unit_trait::Unit;
-use whole_files::{Whole, WholeFault, read_file};
+use whole_files::WholeFault;
 
-/// RESTORE reads the state file of a name whole and closes it again, attaches the files that it names in bus order,
-/// each only to be read where it was and else to be changed, listens on its port, and puts the machine and the watch
-/// tables back as they were saved. Unless that is forced, each file has to have the length and the digest that it had.
-/// It prints nothing, and resets nothing.
+/// RESTORE reads the state file of a name piece by piece and closes it again, attaches the files that it names in bus
+/// order, each only to be read where it was and else to be changed, listens on its port, and puts the machine and the
+/// watch tables back as they were saved. Unless that is forced, each file has to have the length and the digest that it
+/// had. It prints nothing, and resets nothing.
 ///
 /// The refusals, in this order: `AlreadyAttached` where a unit has a file or a line a port; `NoFile`, `FileFailed` and
 /// `FileTooLong` of the state file, which has at most 1048576 bytes; the faults of its bytes; then of each file
@@ -105,13 +108,13 @@ pub fn restore<U: Unit, F: Files, L: Lines>(
         return Err(CommandFault::AlreadyAttached);
     }
     let stamp = stamp_of(session);
-    let whole = read_file(alloc, name, files);
-    note_reading(&mut session.notes, Subject::State, &whole, stamp);
-    let bytes = match bytes_of(whole) {
-        Ok(bytes) => bytes,
+    let read = read_state_file(alloc, name, files);
+    note_state_reading(&mut session.notes, &read, stamp);
+    let reader = match reader_of(read) {
+        Ok(reader) => reader,
         Err(fault) => return Err(CommandFault::of_whole(Subject::State, fault)),
     };
-    let saved = match saved_in(alloc, bytes) {
+    let saved = match saved_in(reader) {
         Ok(saved) => saved,
         Err(fault) => return Err(CommandFault::of_state(fault)),
     };
@@ -132,19 +135,20 @@ pub fn restore<U: Unit, F: Files, L: Lines>(
     }
 }
 
-// The bytes of a file that was read whole.
-fn bytes_of(whole: Whole) -> Result<Vec<u8>, WholeFault>
-    ensures bytes { whole.bytes ≡ result }
+// What was fed the bytes of a state file.
+fn reader_of(read: StateRead) -> Result<StateReader, WholeFault>
+    ensures reader { read.reader ≡ result }
 {
-    whole.bytes
+    read.reader
 }
 
-// What the bytes of a state file say. The bytes are given back.
-fn saved_in(alloc: Global, bytes: Vec<u8>) -> Result<Saved, StateFault>
+// What the bytes of a state file say.
+fn saved_in(reader: StateReader) -> Result<Saved, StateFault>
+    requires { WasFed reader }
     ensures valid { IfOk result (λ saved. Valid (state_in saved)) }
-    ensures exact { Gives state_in result (reading bytes.items) }
+    ensures exact { (bytes : List ℕ) → IsFed reader bytes → Gives state_in result (reading bytes) }
 {
-    read_state(alloc, bytes.as_slice())
+    reader.finish()
 }
 
 // Whether a unit has a file, or a line a port.

@@ -1,9 +1,12 @@
 // The notes of the calls on a file that a command reads or writes whole.
 ghost use Rattle.std.specs.Prelude.{◌≡◌, ◌≤◌, ◌+◌, ◌++◌, vec_len, vec_capacity};
+ghost use Rattle.file_commands.specs.declared.note.Subject.TheVariants.{State as of_state};
+ghost use Rattle.scp_commands.specs.StateReading.{whole_of};
 ghost use Rattle.scp_commands.specs.WholeCalls.{call_notes, read_notes, write_notes, written_answer};
 
 use crate::fault::CommandFault;
 use crate::next::Next;
+use crate::state_reading::StateRead;
 use file_commands::{FaultNote, Stamp, Subject, keep};
 use whole_files::{FailedCall, Whole, WholeFault, Written};
 
@@ -15,6 +18,17 @@ pub fn note_reading(notes: &mut Vec<FaultNote>, whose: Subject, whole: &Whole, s
 {
     note_call(notes, whose, 0, whole.failed, stamp);
     note_call(notes, whose, 0, whole.closing, stamp);
+}
+
+/// Notes the calls of a state file's reading that failed.
+pub fn note_state_reading(notes: &mut Vec<FaultNote>, read: &StateRead, stamp: Stamp)
+    requires { vec_len notes.old + 2 ≤ vec_capacity notes.old }
+    ensures notes { notes.new.items ≡ notes.old.items ++ read_notes of_state stamp (whole_of read.now) }
+    ensures few { vec_len notes.new ≤ vec_len notes.old + 2 }
+    ensures capacity { vec_capacity notes.old ≤ vec_capacity notes.new }
+{
+    note_call(notes, Subject::State, 0, read.failed, stamp);
+    note_call(notes, Subject::State, 0, read.closing, stamp);
 }
 
 /// Notes the calls of a writing that failed.

@@ -10,6 +10,7 @@ use Rattle.unit_trait.specs.declared.processor.CpuReg.{CpuReg}
 use Rattle.unit_trait.specs.declared.processor.CpuReg.TheVariants.{Ac0, Ac1, Ac2, Ac3, C, Pc, Ion, Hold, Mask, Sr, StopDev, Size}
 use Rattle.unit_trait.specs.Registers.{register_at}
 use Rattle.unit_trait.specs.Row.{takes_value}
+use Rattle.unit_list.specs.Bus.{kinds_of}
 use Rattle.nova_machine.specs.Machine.{MachineState}
 use Rattle.nova_machine.specs.Registers.{with_cpu, with_register}
 use Rattle.nova_machine.specs.Core.{AreListed}
@@ -138,35 +139,44 @@ deposited-valid m l v is none = filled-valid m v (all_places (shape_of m) l.devi
 pub record LeavesRest (before after : MachineState) : Type 0 where
   pub time : after.time ≡ before.time
   pub taken : after.taken ≡ before.taken
+  pub kinds : kinds_of after.units ≡ kinds_of before.units
   pub slots : after.slots ≡ before.slots
   pub disk : after.disk ≡ before.disk
+  pub lines : after.lines ≡ before.lines
 
 value-leaves : (m : MachineState) (place : Place) (v : ℕ) → LeavesRest m (with_value v m place)
-value-leaves m (Cell a) v = record { time = refl; taken = refl; slots = refl; disk = refl }
+value-leaves m (Cell a) v = record { time = refl; taken = refl; kinds = refl; slots = refl; disk = refl; lines = refl }
 value-leaves m (Register r) v = by-register r
   where
     by-register : (r : CpuReg) → LeavesRest m (with_register m r v)
-    by-register Ac0 = record { time = refl; taken = refl; slots = refl; disk = refl }
-    by-register Ac1 = record { time = refl; taken = refl; slots = refl; disk = refl }
-    by-register Ac2 = record { time = refl; taken = refl; slots = refl; disk = refl }
-    by-register Ac3 = record { time = refl; taken = refl; slots = refl; disk = refl }
-    by-register C = record { time = refl; taken = refl; slots = refl; disk = refl }
-    by-register Pc = record { time = refl; taken = refl; slots = refl; disk = refl }
-    by-register Ion = record { time = refl; taken = refl; slots = refl; disk = refl }
-    by-register Hold = record { time = refl; taken = refl; slots = refl; disk = refl }
-    by-register Mask = record { time = refl; taken = refl; slots = refl; disk = refl }
-    by-register Sr = record { time = refl; taken = refl; slots = refl; disk = refl }
-    by-register StopDev = record { time = refl; taken = refl; slots = refl; disk = refl }
-    by-register Size = record { time = refl; taken = refl; slots = refl; disk = refl }
-value-leaves m (UnitRegister kind i) v = record { time = refl; taken = refl; slots = refl; disk = refl }
+    by-register Ac0 = record { time = refl; taken = refl; kinds = refl; slots = refl; disk = refl; lines = refl }
+    by-register Ac1 = record { time = refl; taken = refl; kinds = refl; slots = refl; disk = refl; lines = refl }
+    by-register Ac2 = record { time = refl; taken = refl; kinds = refl; slots = refl; disk = refl; lines = refl }
+    by-register Ac3 = record { time = refl; taken = refl; kinds = refl; slots = refl; disk = refl; lines = refl }
+    by-register C = record { time = refl; taken = refl; kinds = refl; slots = refl; disk = refl; lines = refl }
+    by-register Pc = record { time = refl; taken = refl; kinds = refl; slots = refl; disk = refl; lines = refl }
+    by-register Ion = record { time = refl; taken = refl; kinds = refl; slots = refl; disk = refl; lines = refl }
+    by-register Hold = record { time = refl; taken = refl; kinds = refl; slots = refl; disk = refl; lines = refl }
+    by-register Mask = record { time = refl; taken = refl; kinds = refl; slots = refl; disk = refl; lines = refl }
+    by-register Sr = record { time = refl; taken = refl; kinds = refl; slots = refl; disk = refl; lines = refl }
+    by-register StopDev = record { time = refl; taken = refl; kinds = refl; slots = refl; disk = refl; lines = refl }
+    by-register Size = record { time = refl; taken = refl; kinds = refl; slots = refl; disk = refl; lines = refl }
+value-leaves m (UnitRegister kind i) v = record { time = refl; taken = refl; kinds = kinds-set kind i v m.units; slots = refl; disk = refl; lines = refl }
 
 filled-leaves : (m : MachineState) (v : ℕ) (places : List Place) → LeavesRest m (filled v m places)
 unfolding filled
-filled-leaves m v [] = record { time = refl; taken = refl; slots = refl; disk = refl }
+filled-leaves m v [] = record { time = refl; taken = refl; kinds = refl; slots = refl; disk = refl; lines = refl }
 filled-leaves m v (p ∷ more) =
     let one = value-leaves m p v in
     let rest = filled-leaves (with_value v m p) v more in
-    record { time = rest.time ∙ one.time; taken = rest.taken ∙ one.taken; slots = rest.slots ∙ one.slots; disk = rest.disk ∙ one.disk }
+    record {
+      time = rest.time ∙ one.time;
+      taken = rest.taken ∙ one.taken;
+      kinds = rest.kinds ∙ one.kinds;
+      slots = rest.slots ∙ one.slots;
+      disk = rest.disk ∙ one.disk;
+      lines = rest.lines ∙ one.lines;
+    }
 
 pub deposited-leaves : (m : MachineState) (l : Listing) (v : ℕ) → LeavesRest m (deposited m l v)
 unfolding deposited

@@ -1,6 +1,7 @@
 -- A session in which a saved one was restored goes on as that one, and as the one goes on that was saved.
 use Rattle.std.specs.Prelude.{None, Ok}
-use Rattle.std.proofs.Common.{◌≡◌, ◌≢◌, ℕ, zero, suc, Bool, List, [], ◌++◌, length, drop, refl, ap, sym, ◌∙◌, subst, arith, append_assoc, append-nil}
+use Rattle.std.specs.List.{AllByRecursion}
+use Rattle.std.proofs.Common.{◌≡◌, ◌≢◌, ℕ, zero, suc, Bool, true, false, Option, Some, if◌then◌else◌, List, [], ◌++◌, length, drop, refl, ap, sym, ◌∙◌, subst, arith, append_assoc, append-nil}
 use Rattle.std.proofs.Math.Seq.{drop-nil}
 use Rattle.host_files.specs.Lists.{NamedBytes, bytes_of}
 use Rattle.observations.specs.Observations.{Observation, Trace, after_made, map_made, text_of, reads_of, sent_of}
@@ -12,17 +13,19 @@ use Rattle.nova_machine.specs.Comes.{Output}
 use Rattle.nova_machine.specs.LineChanges.{heard_with}
 use Rattle.expect_actions.specs.Watch.{WatchState, forgotten}
 use Rattle.state_file.specs.Parts.{State as SavedState}
-use Rattle.state_file.specs.PutBack.{CanBeSaved}
-use Rattle.state_file.specs.Session.{saved_watch, saved}
+use Rattle.unit_files.specs.Attachments.{Attachment, attachment_at}
+use Rattle.unit_files.specs.Buffer.{Buffer, disk_unit}
+use Rattle.unit_files.specs.Acts.{flush_said, flushed_as, is_due_back, buffer_flushed}
+use Rattle.nova_machine.specs.Seen.{attached_in}
+use Rattle.nova_machine.specs.Valid.{CopyIsFile, DiskIsItsFile}
+use Rattle.state_file.specs.Session.{saved_watch}
 use Rattle.state_file.specs.Text.{text}
-use Rattle.state_file.specs.Valid.{Fits}
-use Rattle.state_file.specs.Laws.{HasWidths}
 use Rattle.scp_parser.specs.Command.{Save, Restore}
 use Rattle.scp_commands.specs.Live.{Live}
 use Rattle.scp_commands.specs.Reply.{Reply}
 use Rattle.scp_commands.specs.StateEffects.{flushed_with}
 use Rattle.scp_commands.specs.Effect.{Asked, effect, does}
-use Rattle.scp_commands.specs.Resumption.{done_with, left_by_save, continued, saved_among, HoldsSaved}
+use Rattle.scp_commands.specs.Resumption.{done_with, left_by_save, continued, saved_among, HasNobody, HaveLengths, IsAtRest, HoldsSaved}
 use Rattle.scp_commands.proofs.ResumptionLemmas.{restore-puts-back}
 use Rattle.scp_script.specs.declared.progress.Finish.{Finish}
 use Rattle.scp_script.specs.declared.progress.Finish.TheVariants.{Exit, EndOfInput, FlushFailed, Commands, Console, Input, OutOfMemory}
@@ -33,7 +36,9 @@ use Rattle.scp_script.specs.Core.{Core, SameCore, NoneFails}
 use Rattle.scp_script.specs.Loop.{EndsAs, status_of, finish_of}
 use Rattle.scp_script.specs.Perform.{IsSession, IsPerformed}
 use Rattle.scp_script.specs.Resumption.{IsFaultless, SameCoreSameFinish, RestoresSaved, resumed, GoesOnAs, RestoredGoesOn, Saves, behind_save, SavedAndRestored, EndAlike, SavedAndRestoredGoOnAlike}
+use Rattle.scp_script.specs.Valid.{ValidSession}
 use Rattle.scp_script.proofs.SessionLemmas.{step-comes}
+use Rattle.scp_script.proofs.ValidSessions.{comes-valid, sessions-stay-valid}
 use Rattle.scp_script.proofs.CoreLemmas.{same-core-same-future, course-behind}
 
 -- ---- ends that refuse nothing
@@ -164,14 +169,15 @@ said-save limit t notes live now name used is = ap (λ (r : Reply). with_complai
 rested-already : (s : Live) (used : ℕ) (behind : Session) → s.watch ≡ forgotten s.watch → rested (resumed s used behind) ≡ resumed s used behind
 rested-already s used behind clean = ap (λ (w : WatchState). record behind { live = record (continued s behind.live) { watch = w }; notes = drop used behind.notes }) (sym clean)
 
-step-back : (at behind : Session) (s : Live) (used : ℕ) → RestoresSaved at behind s used → step at ≡ record { made = asking at; next = Going (resumed s used behind) }
-step-back at behind s used back =
+step-back : (at behind : Session) (s : Live) (used : ℕ) → ValidSession at → RestoresSaved at behind s used → step at ≡ record { made = asking at; next = Going (resumed s used behind) }
+step-back at behind s used valid back =
     let r = back.restores in
+    let line = (comes-valid at r.line behind valid r.comes).line in
     let what : Asked = Ok (Restore back.force back.name) in
-    let is = restore-puts-back.restored behind.limit (handed behind.spent behind.notes) behind.live s back.force back.name back.then_files used r.done back.holds back.files back.one_line in
+    let is = restore-puts-back.restored behind.limit (handed behind.spent behind.notes) behind.live s back.force back.name back.then_files used r.done back.holds back.files line in
     step-comes at behind r.line what r.comes r.command
     ∙ step-done (asking at) behind what used (continued s behind.live) (said-restore behind.limit behind.texts (handed behind.spent behind.notes) behind.live (continued s behind.live) back.force back.name used is)
-    ∙ ap (λ (t : Session). record { made = asking at; next = Going t }) (rested-already s used behind back.holds.can.watch)
+    ∙ ap (λ (t : Session). record { made = asking at; next = Going t }) (rested-already s used behind back.holds.rest.watch)
 
 comes-more : (count : ℕ) (s t u : Session) (made : List (Observation State)) → ComesTo count s made t → (step t).next ≡ Going u → ComesTo (suc count) s (made ++ (step t).made) u
 comes-more zero s t u made (none, same) goes = (
@@ -210,18 +216,19 @@ end-behind count start t front status gives made before after state comes end no
       state_is = whole.state_is ∙ ap (λ (z : Trace State). z.ended.state) is;
     }
 
-pub restored-comes : (count : ℕ) (start at behind : Session) (s : Live) (used : ℕ) (front : List (Observation State)) → ComesTo count start front at → RestoresSaved at behind s used
+pub restored-comes : (count : ℕ) (start at behind : Session) (s : Live) (used : ℕ) (front : List (Observation State)) → ValidSession start → ComesTo count start front at → RestoresSaved at behind s used
     → ComesTo (suc count) start (front ++ asking at) (resumed s used behind)
-restored-comes count start at behind s used front comes back = comes-on count start at (resumed s used behind) front comes (step-back at behind s used back)
+restored-comes count start at behind s used front valid comes back =
+    comes-on count start at (resumed s used behind) front comes (step-back at behind s used (sessions-stay-valid.all count start at front valid comes) back)
 
 pub restored-goes-on : RestoredGoesOn
 restored-goes-on = record {
   text = step-back;
   comes = restored-comes;
-  all = λ count start at behind s used front comes back.
-      course-behind (suc count) start (resumed s used behind) (front ++ asking at) (restored-comes count start at behind s used front comes back);
-  ended = λ count start at behind s used front status gives made before after state comes back.
-      end-behind (suc count) start (resumed s used behind) (front ++ asking at) status gives made before after state (restored-comes count start at behind s used front comes back);
+  all = λ count start at behind s used front valid comes back.
+      course-behind (suc count) start (resumed s used behind) (front ++ asking at) (restored-comes count start at behind s used front valid comes back);
+  ended = λ count start at behind s used front status gives made before after state valid comes back.
+      end-behind (suc count) start (resumed s used behind) (front ++ asking at) status gives made before after state (restored-comes count start at behind s used front valid comes back);
 }
 
 -- ---- a session that was saved, and goes on
@@ -242,28 +249,47 @@ watch-saved w = refl
 rested-saved : (files : List NamedBytes) (live : Live) → saved_among files (record live { watch = forgotten live.watch }) ≡ saved_among files live
 rested-saved files live = λ i. record (saved_among files live) { watch = watch-saved live.watch i }
 
-holds-saved : (behind : Session) (name : List ℕ) (files : List NamedBytes) (can : CanBeSaved (behind_save name behind).live) → Fits (saved (flushed_with None behind.live)) → HasWidths (saved (flushed_with None behind.live))
+-- behind the writing back of the disk nothing is to be written back
+written-back : (o : Option Attachment) (disk : Buffer) (files : List NamedBytes) → CopyIsFile o (buffer_flushed (flush_said None disk_unit o disk) disk_unit disk) files
+    → (buffer_flushed (flush_said None disk_unit o disk) disk_unit disk).written ≡ false
+written-back None disk files copy = ap (λ (b : Buffer). b.written) copy
+written-back (Some a) disk files copy = by (is_due_back disk_unit disk)
+  where
+    by : (b : Bool) → (buffer_flushed (flushed_as (if b then None else None)) disk_unit disk).written ≡ false
+    by true = refl
+    by false = refl
+
+-- what a SAVE leaves is at rest
+rest-saved : (saving behind : Session) (name : List ℕ) → ValidSession saving → Saves saving behind name → AllByRecursion HasNobody behind.live.lines → DiskIsItsFile (behind_save name behind).live
+    → IsAtRest (behind_save name behind).live
+rest-saved saving behind name valid saves nobody copy = record {
+  session = (sessions-stay-valid.next saving (behind_save name behind) valid (ap (λ (x : Step). x.next) (step-save saving behind name saves))).live;
+  nobody = nobody;
+  copy = copy;
+  written = written-back (attachment_at (attached_in behind.live.machine) disk_unit) behind.live.machine.disk (behind_save name behind).live.files copy;
+  watch = refl;
+}
+
+holds-saved : (behind : Session) (name : List ℕ) (files : List NamedBytes) → IsAtRest (behind_save name behind).live → HaveLengths (flushed_with None behind.live).files
     → files ≡ (behind_save name behind).live.files → HoldsSaved files (flushed_with None behind.live).files name (behind_save name behind).live
-holds-saved behind name files can fits widths same =
+holds-saved behind name files rest lengths same =
     let then_files = (flushed_with None behind.live).files in
     let is : saved_among then_files (behind_save name behind).live ≡ saved_among then_files (left_by_save name behind.live) = rested-saved then_files (left_by_save name behind.live) in
     record {
-      can = can;
-      fits = subst Fits (sym is) fits;
-      widths = subst HasWidths (sym is) widths;
+      rest = rest;
+      lengths = lengths;
       bytes = ap (λ (l : List NamedBytes). bytes_of l name) same ∙ restore-puts-back.holds behind.live name ∙ ap (λ (v : SavedState). text v) (sym is);
     }
 
-restores-saved : (saving behind restoring present : Session) (name : List ℕ) (used : ℕ) → SavedAndRestored saving behind restoring present name used
+restores-saved : (saving behind restoring present : Session) (name : List ℕ) (used : ℕ) → ValidSession saving → SavedAndRestored saving behind restoring present name used
     → RestoresSaved restoring present (behind_save name behind).live used
-restores-saved saving behind restoring present name used both = record {
+restores-saved saving behind restoring present name used valid both = record {
   force = both.force;
   name = name;
   then_files = (flushed_with None behind.live).files;
   restores = both.restores;
-  holds = holds-saved behind name present.live.files both.can both.fits both.widths both.outside.files;
+  holds = holds-saved behind name present.live.files (rest-saved saving behind name valid both.saves both.nobody both.copy) both.lengths both.outside.files;
   files = both.outside.files;
-  one_line = both.one_line;
 }
 
 core-saved : (saving behind restoring present : Session) (name : List ℕ) (used : ℕ) → SavedAndRestored saving behind restoring present name used
@@ -325,15 +351,16 @@ end-alike front begin s t status other before after start end x y same one two =
 pub saved-and-restored-go-on-alike : SavedAndRestoredGoOnAlike
 saved-and-restored-go-on-alike = record {
   saves = step-save;
-  restores = restores-saved;
+  restores = λ saving behind restoring present name used valid fresh both. restores-saved saving behind restoring present name used valid both;
   core = core-saved;
   none = none-saved;
   all = all-saved;
-  ended = λ count many start saving behind other restoring present name used front begin status gives made status' gives' made' before after before' after' x y comes more both end end' no_byte no_read no_byte' no_read'.
+  ended = λ count many start saving behind other restoring present name used front begin status gives made status' gives' made' before after before' after' x y valid fresh comes more both end end' no_byte no_read no_byte' no_read'.
       let s = (behind_save name behind).live in
       end-alike (front ++ asking saving) (begin ++ asking restoring) (behind_save name behind) (resumed s used present) status status' before after before' after' x y
       (traces-saved saving behind restoring present name used both)
       (end-behind (suc count) start (behind_save name behind) (front ++ asking saving) status gives made before after x (saves-come count start saving behind name front comes both.saves) end no_byte no_read)
       (end-behind (suc many) other (resumed s used present) (begin ++ asking restoring) status' gives' made' before' after' y
-      (restored-comes many other restoring present s used begin more (restores-saved saving behind restoring present name used both)) end' no_byte' no_read');
+      (restored-comes many other restoring present s used begin fresh more
+      (restores-saved saving behind restoring present name used (sessions-stay-valid.all count start saving front valid comes) both)) end' no_byte' no_read');
 }

@@ -310,6 +310,12 @@ step-good s is = upcoming-good s (upcoming s) is (good-upcoming s is)
 session-holds : (s : Session) → ValidSession s → Holds s
 session-holds s is = record { live = is.live; texts = is.texts; input = is.input }
 
+-- the state in which the next text is done
+pub comes-valid : (s : Session) (line : List ℕ) (behind : Session) → ValidSession s → upcoming s ≡ Comes line behind → ValidLive behind.live
+comes-valid s line behind is comes =
+    let good = subst (IsGoodUpcoming s) comes (good-upcoming s (session-holds s is)) in
+    good.1.live
+
 next-valid : (s t : Session) → ValidSession s → (step s).next ≡ Going t → ValidSession t
 next-valid s t is h =
     let holds = (step-good s (session-holds s is)).next.going t h in

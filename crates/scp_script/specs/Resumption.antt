@@ -1,23 +1,23 @@
 -- A session in which a saved one was restored goes on as that one, and as the one goes on that was saved.
-use Rattle.std.specs.Prelude.{◌≡◌, ◌≢◌, ℕ, suc, ◌≤◌, Bool, List, [], ◌++◌, length, drop, None, Ok}
+use Rattle.std.specs.Prelude.{◌≡◌, ◌≢◌, ℕ, suc, ◌≤◌, Bool, List, [], ◌++◌, drop, None, Ok}
+use Rattle.std.specs.List.{AllByRecursion}
 use Rattle.host_files.specs.Lists.{NamedBytes}
 use Rattle.observations.specs.Observations.{Observation, text_of, sent_of}
 use Rattle.file_commands.specs.Notes.{handed}
 use Rattle.nova_machine.specs.Comes.{Output}
 use Rattle.nova_machine.specs.LineChanges.{heard_with}
-use Rattle.state_file.specs.PutBack.{CanBeSaved}
-use Rattle.state_file.specs.Session.{saved_port, saved}
-use Rattle.state_file.specs.Valid.{Fits}
-use Rattle.state_file.specs.Laws.{HasWidths}
+use Rattle.nova_machine.specs.Valid.{DiskIsItsFile}
+use Rattle.state_file.specs.Session.{saved_port}
 use Rattle.scp_parser.specs.Command.{Save, Restore}
 use Rattle.scp_commands.specs.Live.{Live}
 use Rattle.scp_commands.specs.StateEffects.{flushed_with}
 use Rattle.scp_commands.specs.Effect.{asked}
-use Rattle.scp_commands.specs.Resumption.{left_by_save, ahead_behind, continued, HoldsSaved, IsRestored}
+use Rattle.scp_commands.specs.Resumption.{left_by_save, ahead_behind, continued, HasNobody, HaveLengths, HoldsSaved, IsRestored}
 use Rattle.scp_script.specs.declared.progress.Finish.{Finish}
 use Rattle.scp_script.specs.declared.progress.Finish.TheVariants.{Exit, Console, Input, OutOfMemory}
 use Rattle.scp_script.specs.Actions.{texts_of}
 use Rattle.scp_script.specs.Session.{State, Session, Going, Comes, upcoming, asking, rested, step, course, trace, ComesTo}
+use Rattle.scp_script.specs.Valid.{ValidSession}
 use Rattle.scp_script.specs.Core.{SameCore, NoneFails, after_all}
 use Rattle.scp_script.specs.Loop.{EndsAs}
 use Rattle.scp_script.specs.Perform.{IsPerformed}
@@ -63,8 +63,7 @@ pub record Restores (at behind : Session) (force : Bool) (name : List ℕ) (used
   pub alone : behind.texts ≡ texts_of [] []
   pub done : IsRestored behind.limit (handed behind.spent behind.notes) behind.live force name used
 
--- Its file has the text of what was saved of the session s, when the files were those; the files are those of s, and the
--- machine has its one line.
+-- Its file has the text of what was saved of the session s, when the files were those; the files are those of s.
 pub record RestoresSaved (at behind : Session) (s : Live) (used : ℕ) : Type 0 where
   pub force : Bool
   pub name : List ℕ
@@ -72,7 +71,6 @@ pub record RestoresSaved (at behind : Session) (s : Live) (used : ℕ) : Type 0 
   pub restores : Restores at behind force name used
   pub holds : HoldsSaved behind.live.files then_files name s
   pub files : behind.live.files ≡ s.files
-  pub one_line : length behind.live.lines ≡ 1
 
 -- The session s goes on: the rest of the input, the budget, the limit of a run, the prompt, the keys and what is still to
 -- come on lines are the present ones, and so are the calls on files that are still to fail.
@@ -88,16 +86,16 @@ pub record GoesOnAs (t : Session) (front : List (Observation State)) (status : �
 
 pub record RestoredGoesOn : Type 0 where
   -- such a RESTORE leaves that session
-  pub text : (at behind : Session) (s : Live) (used : ℕ) → RestoresSaved at behind s used → step at ≡ record { made = asking at; next = Going (resumed s used behind) }
+  pub text : (at behind : Session) (s : Live) (used : ℕ) → ValidSession at → RestoresSaved at behind s used → step at ≡ record { made = asking at; next = Going (resumed s used behind) }
   -- so wherever a session comes to one, it comes to that session
-  pub comes : (count : ℕ) (start at behind : Session) (s : Live) (used : ℕ) (front : List (Observation State)) → ComesTo count start front at → RestoresSaved at behind s used
+  pub comes : (count : ℕ) (start at behind : Session) (s : Live) (used : ℕ) (front : List (Observation State)) → ValidSession start → ComesTo count start front at → RestoresSaved at behind s used
       → ComesTo (suc count) start (front ++ asking at) (resumed s used behind)
   -- and what it does from there on is what that session does
-  pub all : (count : ℕ) (start at behind : Session) (s : Live) (used : ℕ) (front : List (Observation State)) → ComesTo count start front at → RestoresSaved at behind s used
+  pub all : (count : ℕ) (start at behind : Session) (s : Live) (used : ℕ) (front : List (Observation State)) → ValidSession start → ComesTo count start front at → RestoresSaved at behind s used
       → course start ≡ after_all (front ++ asking at) (course (resumed s used behind))
   -- with any console and input that refuse nothing
   pub ended : (count : ℕ) (start at behind : Session) (s : Live) (used : ℕ) (front : List (Observation State)) (status gives made : ℕ) (before after : Output) (state : State)
-      → ComesTo count start front at → RestoresSaved at behind s used → EndsAs (trace start) status gives made before after state → status ≢ 102 → status ≢ 106
+      → ValidSession start → ComesTo count start front at → RestoresSaved at behind s used → EndsAs (trace start) status gives made before after state → status ≢ 102 → status ≢ 106
       → GoesOnAs (resumed s used behind) (front ++ asking at) status before after state
 
 -- ---- a session that was saved, and goes on
@@ -128,17 +126,16 @@ pub record HasSameOutside (saved present : Session) : Type 0 where
   pub input : present.input ≡ saved.input
   pub open_ : present.open_ ≡ saved.open_
 
--- One session does a SAVE, and goes on; another does a RESTORE of that file with the same outside. What the first one left can
--- be saved, and each number and each list that it saved fits its field; no call on a file fails in the second one from there
--- on.
+-- One session does a SAVE while nobody is connected, and goes on, and behind it the disk's file is what the disk holds of it;
+-- another does a RESTORE of that file with the same outside. Each file is so short that its length can be told, and no call on
+-- a file fails in the second one from there on.
 pub record SavedAndRestored (saving behind restoring present : Session) (name : List ℕ) (used : ℕ) : Type 0 where
   pub force : Bool
   pub saves : Saves saving behind name
-  pub can : CanBeSaved (behind_save name behind).live
-  pub fits : Fits (saved (flushed_with None behind.live))
-  pub widths : HasWidths (saved (flushed_with None behind.live))
+  pub nobody : AllByRecursion HasNobody behind.live.lines
+  pub copy : DiskIsItsFile (behind_save name behind).live
+  pub lengths : HaveLengths (flushed_with None behind.live).files
   pub restores : Restores restoring present force name used
-  pub one_line : length present.live.lines ≡ 1
   pub none : NoneFails present
   pub outside : HasSameOutside (behind_save name behind) present
 
@@ -157,7 +154,7 @@ pub record SavedAndRestoredGoOnAlike : Type 0 where
   -- the SAVE is done
   pub saves : (at behind : Session) (name : List ℕ) → Saves at behind name → step at ≡ record { made = asking at; next = Going (behind_save name behind) }
   -- and so the RESTORE restores what was saved
-  pub restores : (saving behind restoring present : Session) (name : List ℕ) (used : ℕ) → SavedAndRestored saving behind restoring present name used
+  pub restores : (saving behind restoring present : Session) (name : List ℕ) (used : ℕ) → ValidSession saving → ValidSession restoring → SavedAndRestored saving behind restoring present name used
       → RestoresSaved restoring present (behind_save name behind).live used
   -- the cores are one, and no call fails on either side
   pub core : (saving behind restoring present : Session) (name : List ℕ) (used : ℕ) → SavedAndRestored saving behind restoring present name used
@@ -170,7 +167,7 @@ pub record SavedAndRestoredGoOnAlike : Type 0 where
   -- with any consoles and inputs that refuse nothing
   pub ended : (count many : ℕ) (start saving behind other restoring present : Session) (name : List ℕ) (used : ℕ) (front begin : List (Observation State))
       (status gives made status' gives' made' : ℕ) (before after before' after' : Output) (x y : State)
-      → ComesTo count start front saving → ComesTo many other begin restoring → SavedAndRestored saving behind restoring present name used
+      → ValidSession start → ValidSession other → ComesTo count start front saving → ComesTo many other begin restoring → SavedAndRestored saving behind restoring present name used
       → EndsAs (trace start) status gives made before after x → EndsAs (trace other) status' gives' made' before' after' y
       → status ≢ 102 → status ≢ 106 → status' ≢ 102 → status' ≢ 106
       → EndAlike (front ++ asking saving) (begin ++ asking restoring) status status' before after before' after' x y

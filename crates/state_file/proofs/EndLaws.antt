@@ -55,7 +55,7 @@ cut_short bytes missing s fits valid e some = by_read (body_at (first_place byte
     by_read (Err Truncated) e = refl
     by_read (Err OutOfMemory) e = absurd (never OutOfMemory e (λ q. absurd cc))
 
-some_left : (s : State) (at : At) → 0 < length at.rest → ended s at ≡ Err (BadField at.place)
+pub some_left : (s : State) (at : At) → 0 < length at.rest → ended s at ≡ Err (BadField at.place)
 some_left s at some = by_test (eqb (length at.rest) 0) refl
   where
     by_test : (b : Bool) → eqb (length at.rest) 0 ≡ b → cond b (Ok s) (Err (BadField at.place)) ≡ Err (BadField at.place)

@@ -12,6 +12,8 @@ pub mod SealLaws
 pub mod LooseLaws
 pub mod FitLaws
 pub mod EndLaws
+pub mod PieceLaws
+pub mod FedLaws
 pub mod Digesting
 pub mod Attaching
 pub mod Together

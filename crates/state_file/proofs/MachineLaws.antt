@@ -162,7 +162,7 @@ is_ten n = n == standard_kinds
 abbrev AreUnits : List UnitPart → Type 0
 AreUnits units = AreListed (Tested (2 ^ 8) is_ten) IsUnit next_number 0 units
 
-units_is : IsReaderOf units_at (listed_text w8 unit_text) AreUnits
+pub units_is : IsReaderOf units_at (listed_text w8 unit_text) AreUnits
 unfolding units_at
 units_is = listed_is w8 (tested is_ten (number w8)) (Tested (2 ^ 8) is_ten) unit_at unit_text IsUnit next_number 0 (test_is w8 (2 ^ 8) is_ten u8_is) unit_is
 
@@ -228,7 +228,7 @@ small_agenda n h = grind arith
 abbrev IsAgenda : List SavedEvent → Type 0
 IsAgenda agenda = AreListed (Passes fits_agenda) IsEvent with_event [] agenda
 
-agenda_is : IsReaderOf agenda_at (listed_text w16 event_text) IsAgenda
+pub agenda_is : IsReaderOf agenda_at (listed_text w16 event_text) IsAgenda
 unfolding agenda_at
 agenda_is = listed_is w16 (tested fits_agenda (number w16)) (Passes fits_agenda) event_at event_text IsEvent with_event [] (range_is w16 (2 ^ 16) fits_agenda u16_is small_agenda) event_is
 

@@ -20,10 +20,10 @@ use Rattle.unit_files.specs.Buffer.{disk_unit}
 use Rattle.nova_memory.specs.Memory.{IsMemory, IsSize}
 use Rattle.nova_machine.specs.BusOrder.{place_of}
 use Rattle.nova_machine.specs.Core.{IsAmong, AreListed}
-use Rattle.nova_machine.specs.Valid.{AreBytes, HasByteName, ValidMachine, CopyIsFile}
+use Rattle.nova_machine.specs.Valid.{AreBytes, IsByteName, HasByteName, ValidMachine, CopyIsFile}
 use Rattle.state_file.specs.declared.saved.SavedEvent.{SavedEvent}
 use Rattle.state_file.specs.Parts.{UnitPart, FilePart, MachinePart}
-use Rattle.state_file.specs.Ranges.{is_size, kind_at, standard_kinds, is_position, register_count, within_limits, holds_value, is_event_of, is_free, is_later, FilePlace}
+use Rattle.state_file.specs.Ranges.{is_size, kind_at, standard_kinds, is_position, register_count, within_limits, holds_value, is_event_of, is_free, is_later, FilePlace, is_name_length}
 use Rattle.state_file.specs.Valid.{AreWords, Follow, CanHold, IsUnit, IsEvent, IsMachine, IsFile}
 use Rattle.state_file.specs.Reading.{next_number, with_event, behind_file}
 use Rattle.state_file.specs.Restoring.{unit_of, attachment_of, with_file, with_all, copy_of}
@@ -292,9 +292,9 @@ not-before now (e ∷ es) = (omega arith, not-before now es)
 
 -- ---- the names of files
 
--- the name of an attached file is of bytes
+-- the name of an attached file is of bytes, and short
 abbrev pub HasName : Option Attachment → Type 0
-HasName a = IfSome a (λ (b : Attachment). AreBytes b.name)
+HasName a = IfSome a (λ (b : Attachment). IsByteName b.name)
 
 names-held : (attached : List (Option Attachment)) → AllByRecursion HasName attached
     → AllByRecursion HasByteName (map held_from attached)
@@ -302,12 +302,16 @@ names-held [] are = tt
 names-held (None ∷ attached) are = (tt, names-held attached are.1)
 names-held (Some a ∷ attached) are = (are.0, names-held attached are.1)
 
+name-short : (n : ℕ) → is_name_length n ≡ true → n ≤ 255
+name-short n is = leb-true n 255 (and_parts (nat_le 1 n) (nat_le n 255) is).1
+
 pub names-put : (base : List (Option Attachment)) (least : FilePlace) (fs : List FilePart) → AllByRecursion HasName base
     → Follow IsFile behind_file least fs → AllByRecursion HasName (with_all base fs)
 names-put base least [] have are = have
 names-put base least (f ∷ fs) have are =
     names-put (with_file base f) (behind_file least f) fs
-    (every-set HasName base (file_place (unit_of f)) (Some (attachment_of f)) are.0.name have) are.1
+    (every-set HasName base (file_place (unit_of f)) (Some (attachment_of f))
+    (record { bytes = are.0.name; short = name-short (length f.name) are.0.long }) have) are.1
 
 -- ---- the machine
 

@@ -1,5 +1,5 @@
 -- A session is in range once a valid state was put back.
-use Rattle.std.proofs.Common.{ℕ, ◌≤◌, List, [], ◌∷◌, Option, None, sym, subst, arith}
+use Rattle.std.proofs.Common.{ℕ, zero, suc, ◌≤◌, ◌<◌, ◌^◌, List, [], ◌∷◌, Option, None, IfSome, refl, sym, subst, arith}
 use Rattle.std.specs.List.{AllByRecursion}
 use Rattle.std.proofs.lemmas.Bool.{leb-true}
 use Rattle.host_lines.specs.Traffic.{Peer}
@@ -9,11 +9,11 @@ use Rattle.unit_files.specs.Buffer.{disk_unit}
 use Rattle.expect_actions.specs.KeysFile.{most_keys}
 use Rattle.nova_machine.specs.Run.{last_time}
 use Rattle.nova_machine.specs.Seen.{Seen}
-use Rattle.nova_machine.specs.Valid.{ValidLine, Valid as ValidSeen, CopyIsFile, DiskIsItsFile}
+use Rattle.nova_machine.specs.Valid.{IsPort, ValidLine, Valid as ValidSeen, CopyIsFile, DiskIsItsFile}
 use Rattle.state_file.specs.Parts.{State}
 use Rattle.state_file.specs.Valid.{Valid}
 use Rattle.state_file.specs.Restoring.{with_all, copy_of}
-use Rattle.state_file.specs.PutBack.{machine_from, lines_from, put_back}
+use Rattle.state_file.specs.PutBack.{machine_from, port_from, lines_from, put_back}
 use Rattle.state_file.specs.SavedValid.{AreStandard}
 use Rattle.state_file.specs.PutBackValid.{PutBackIsValid}
 use Rattle.state_file.proofs.PutBackMachineLemmas.{units-standard, copy-is, as-many-places, slots-back, HasName, names-put, machine-in-range}
@@ -21,11 +21,24 @@ use Rattle.nova_machine.proofs.ValidBytes.{every-replicate}
 use Rattle.state_file.specs.Reading.{place_of}
 use Rattle.state_file.proofs.PutBackWatchLemmas.{watch-in-range}
 
-lines-in-range : (port : ℕ) (lines : List (LineOf Peer)) → AllByRecursion ValidLine lines
+port-in-range : (port : ℕ) → port < 2 ^ 16 → IfSome (port_from port) IsPort
+port-in-range zero low = tt
+port-in-range (suc port) low = (omega arith, low)
+
+lines-in-range : (port : ℕ) (lines : List (LineOf Peer)) → port < 2 ^ 16 → AllByRecursion ValidLine lines
     → AllByRecursion ValidLine (lines_from port lines)
-lines-in-range port [] are = tt
-lines-in-range port (line ∷ lines) are =
-    (record { keys = tt; output = tt; few_keys = omega arith; few_bytes = omega arith }, are.1)
+lines-in-range port [] low are = tt
+lines-in-range port (line ∷ lines) low are = (
+  record {
+    port = port-in-range port low;
+    nothing = λ none. refl;
+    keys = tt;
+    output = tt;
+    few_keys = omega arith;
+    few_bytes = omega arith;
+  },
+  are.1,
+)
 
 valid : (v : State) (present : Seen) → Valid v → ValidSeen present → ValidSeen (put_back v present)
 unfolding machine_from
@@ -38,7 +51,7 @@ valid v present is in_range = record {
   known = in_range.known;
   keys = in_range.keys;
   files = in_range.files;
-  lines = lines-in-range v.port present.lines in_range.lines;
+  lines = lines-in-range v.port present.lines is.port in_range.lines;
   ahead = in_range.ahead;
 }
 

@@ -7,11 +7,11 @@ use Rattle.std.proofs.lemmas.List.{length-map}
 use Rattle.expect_actions.specs.declared.breaks.Break.{Break}
 use Rattle.expect_actions.specs.Breaks.{Rising}
 use Rattle.expect_actions.specs.Sends.{Send, InTime}
-use Rattle.nova_machine.specs.Valid.{ValidBreak, ValidExpect, ValidWatch}
+use Rattle.nova_machine.specs.Valid.{AreShortActions, ValidBreak, ValidExpect, ValidWatch}
 use Rattle.state_file.specs.declared.saved.SavedSend.{SavedSend}
 use Rattle.state_file.specs.Parts.{BreakPart, ExpectPart, WatchPart}
-use Rattle.state_file.specs.Ranges.{is_address, most_breaks, most_expects, longest_text, most_sends, last_send}
-use Rattle.state_file.specs.Valid.{Follow, IsBreak, IsExpect, IsSend, IsWatch}
+use Rattle.state_file.specs.Ranges.{is_address, longest_actions, most_breaks, most_expects, longest_text, most_sends, last_send}
+use Rattle.state_file.specs.Valid.{Follow, AreActions, IsBreak, IsExpect, IsSend, IsWatch}
 use Rattle.state_file.specs.Reading.{behind_break, behind_send}
 use Rattle.state_file.specs.PutBack.{break_from, expect_from, send_from, watch_from}
 use Rattle.state_file.proofs.SavedWatchLemmas.{all-weaker}
@@ -44,18 +44,35 @@ breaks-rise least (b ∷ bs) are = (
   breaks-rise (b.address + 1) bs are.1,
 )
 
+-- no actions are longer than their number can tell
+actions-short : (actions : List ℕ) → AreActions actions → AreShortActions actions
+actions-short actions is = record { bytes = is.bytes; short = leb-true (length actions) longest_actions is.short }
+
 breaks-valid : (least : ℕ) (bs : List BreakPart) → Follow IsBreak behind_break least bs
     → AllByRecursion ValidBreak (map break_from bs)
 breaks-valid least [] are = tt
 breaks-valid least (b ∷ bs) are = (
-  record { address = (address-from least b are.0).1; actions = are.0.actions.bytes },
+  record {
+    address = (address-from least b are.0).1;
+    count = are.0.count;
+    actions = actions-short b.actions are.0.actions;
+  },
   breaks-valid (b.address + 1) bs are.1,
 )
 
 expects-valid : (es : List ExpectPart) → AllByRecursion IsExpect es
     → AllByRecursion ValidExpect (map expect_from es)
 expects-valid [] are = tt
-expects-valid (e ∷ es) are = (record { text = are.0.text; actions = are.0.actions.bytes }, expects-valid es are.1)
+expects-valid (e ∷ es) are = (
+  record {
+    count = are.0.count;
+    text = are.0.text;
+    long = leb-true (length e.text) longest_text
+        (and_parts (nat_le 1 (length e.text)) (nat_le (length e.text) longest_text) are.0.long).1;
+    actions = actions-short e.actions are.0.actions;
+  },
+  expects-valid es are.1,
+)
 
 sends-from : (low least : ℕ) (sends : List SavedSend) → low ≤ least → Follow IsSend behind_send least sends
     → AllByRecursion (λ (send : Send). low ≤ send.0) (map send_from sends)

@@ -80,7 +80,7 @@ counted_again n place rest x size =
     let enough : ltb (length (x ++ rest)) n ≡ false = le-ltb _ _ (omega (arith, size, length-append x rest)) in
     rw (enough, take_at x rest n size, drop_at x rest n size, size) refl
 
-counted_more : (n : ℕ) (at next : At) (x tail : List ℕ) → counted n at ≡ Ok (x, next) → counted n (longer at tail) ≡ Ok (x, longer next tail)
+pub counted_more : (n : ℕ) (at next : At) (x tail : List ℕ) → counted n at ≡ Ok (x, next) → counted n (longer at tail) ≡ Ok (x, longer next tail)
 unfolding counted
 counted_more n at next x tail e =
     let g = second_chosen (ltb (length at.rest) n) (Ok (take n at.rest, behind n at)) Truncated (x, next) e in

@@ -1,5 +1,5 @@
 -- The attached files are valid as they are saved.
-use Rattle.std.proofs.Common.{◌≡◌, ℕ, zero, suc, ◌+◌, ◌≤◌, ◌^◌, ◌&&◌, Bool, true, false, List, [], ◌∷◌, ◌++◌, length, Option, Some, None, refl, sym, subst, ap, ◌∙◌, arith}
+use Rattle.std.proofs.Common.{◌≡◌, ℕ, zero, suc, ◌+◌, ◌<◌, ◌≤◌, ◌^◌, ◌&&◌, Bool, true, false, List, [], ◌∷◌, ◌++◌, length, Option, Some, None, refl, sym, subst, ap, ◌∙◌, arith}
 use Rattle.std.specs.Prelude.{not, nat_lt, slice_index, IfSome}
 use Rattle.std.specs.Int.{w32, to_be_bytes}
 use Rattle.std.proofs.lemmas.Bool.{and_from, and_parts, le-leb, ltb-true}
@@ -13,6 +13,7 @@ use Rattle.unit_files.specs.Attachments.{Attachment, attachment_at, longest_file
 use Rattle.unit_files.specs.Attachments as unit_files
 use Rattle.state_file.specs.Parts.{FilePart}
 use Rattle.state_file.specs.Ranges.{kind_at, FilePlace, takes_file_at, is_next_unit, only_writes, is_read_only_of, is_name_length, longest_file_of}
+use Rattle.state_file.specs.Laws.{FileHasWidths}
 use Rattle.state_file.specs.Valid.{AreBytes, Follow, IsFile, AreFiles}
 use Rattle.state_file.specs.Reading.{place_of as file_place, behind_file}
 use Rattle.state_file.specs.declared.saving.UnitPlace.{UnitPlace}
@@ -89,6 +90,23 @@ file-is files least p a next taken =
       bytes = sha256-bytes (bytes_of files a.name);
     }
 
+small-flag : (b : Bool) → flag_of b < 2 ^ 8
+small-flag true = omega arith
+small-flag false = omega arith
+
+-- each field takes what is saved of a file whose name is of bytes and whose length can be told
+pub file-widths : (p : UnitPlace) (a : Attachment) (bytes : List ℕ) → p.position < 2 ^ 8 → p.unit < 2 ^ 8
+    → AreBytes a.name → length bytes < 2 ^ 64 → FileHasWidths (saved_file p a bytes)
+file-widths p a bytes position unit name size = record {
+  position = position;
+  unit = unit;
+  read_only = small-flag a.read_only;
+  name = name;
+  size = size;
+  digest = length-sha256 bytes;
+  bytes = sha256-bytes bytes;
+}
+
 -- ---- all of them
 
 -- each of these units can have the next file
@@ -155,13 +173,18 @@ ordered : (all_next (file_place 0 0) file_places && in_order file_places) ≡ tr
 unfolding file_places kind_at is_next all_next in_order place-behind
 ordered = refl
 
+pub few-saved : (files : List NamedBytes) (attached : List (Option Attachment))
+    → length (saved_files files attached file_places) < 2 ^ 8
+few-saved files attached =
+    let most = as-most files attached file_places in
+    let all = twelve in
+    omega (arith, most, all)
+
 pub files-valid : (files : List NamedBytes) (attached : List (Option Attachment))
     → AreTaken files attached file_places → AreFiles (saved_files files attached file_places)
 files-valid files attached taken =
-    let most = as-most files attached file_places in
-    let all = twelve in
     let order = and_parts (all_next (file_place 0 0) file_places) (in_order file_places) ordered in
     record {
-      few = omega (arith, most, all);
+      few = few-saved files attached;
       each = files-follow files attached (file_place 0 0) file_places order.0 order.1 taken;
     }

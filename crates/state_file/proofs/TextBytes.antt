@@ -1,21 +1,19 @@
 -- The text of a session in range is of bytes.
-use Rattle.std.proofs.Common.{◌≡◌, ℕ, zero, suc, ◌^◌, ◌<◌, List, [], ◌∷◌, ◌++◌, map, take, Option, Some, None, IfSome, option_map, get_or, sym, subst, arith}
+use Rattle.std.proofs.Common.{ℕ, zero, suc, List, [], ◌∷◌, ◌++◌, map, Option, Some, None, IfSome, get_or, sym, subst, arith}
 use Rattle.std.specs.List.{AllByRecursion, flat_map}
-use Rattle.std.specs.Int.{Width, w8, w16, w32, w64}
+use Rattle.std.specs.Int.{w8, w16, w32, w64}
 use Rattle.std.proofs.lemmas.List.Concat.{flat_map-cons}
-use Rattle.sha2.specs.Sha256.{sha256}
 use Rattle.host_files.specs.Lists.{NamedBytes, bytes_of}
 use Rattle.unit_files.specs.Attachments.{Attachment, Held, attachments_of, attachment_at, file_place}
 use Rattle.expect_actions.specs.declared.breaks.Break.{Break}
 use Rattle.expect_actions.specs.declared.expects.Expect.{Expect}
-use Rattle.nova_machine.specs.Machine.{MachineState}
-use Rattle.nova_machine.specs.Seen.{Seen, attached_in}
+use Rattle.nova_machine.specs.Seen.{Seen}
 use Rattle.nova_machine.specs.Valid.{HasByteName, ValidBreak, ValidExpect, ValidWatch, Valid as ValidSeen}
 use Rattle.expect_actions.specs.Watch.{WatchState}
 use Rattle.state_file.specs.declared.saved.SavedEvent.{SavedEvent}
 use Rattle.state_file.specs.declared.saved.SavedSend.{SavedSend}
 use Rattle.state_file.specs.declared.saving.UnitPlace.{UnitPlace}
-use Rattle.state_file.specs.Parts.{UnitPart, FilePart, BreakPart, ExpectPart, MachinePart, WatchPart}
+use Rattle.state_file.specs.Parts.{UnitPart, FilePart, BreakPart, ExpectPart, MachinePart}
 use Rattle.state_file.specs.Saving.{unit_at, file_places, saved_at, saved_files}
 use Rattle.state_file.specs.Session.{saved_break, saved_expect, saved_machine, saved_watch, saved}
 use Rattle.state_file.specs.Text.{number_text, word_text, register_text, unit_text, event_text, machine_text, file_text, break_text, expect_text, send_text, watch_text, head, body, text}
@@ -99,7 +97,7 @@ name-at : (slots : List (Option Held)) (place : ℕ) → AllByRecursion HasByteN
     → IfSome (get_or (attachments_of slots) place None) (λ (a : Attachment). AreBytes a.name)
 name-at [] place all = tt
 name-at (None ∷ slots) zero all = tt
-name-at (Some h ∷ slots) zero all = all.0
+name-at (Some h ∷ slots) zero all = all.0.bytes
 name-at (slot ∷ slots) (suc place) all = name-at slots place all.1
 
 saved-files : (slots : List (Option Held)) (files : List NamedBytes) (ps : List UnitPlace) → AllByRecursion HasByteName slots
@@ -132,11 +130,11 @@ send-bytes s = behind _ _ (long-text s.time) (byte-text s.byte)
 
 breaks-have : (bs : List Break) → AllByRecursion ValidBreak bs → AllByRecursion (λ (b : BreakPart). AreBytes b.actions) (map saved_break bs)
 breaks-have [] all = tt
-breaks-have (b ∷ bs) all = (all.0.actions, breaks-have bs all.1)
+breaks-have (b ∷ bs) all = (all.0.actions.bytes, breaks-have bs all.1)
 
 expects-have : (es : List Expect) → AllByRecursion ValidExpect es → AllByRecursion HasTexts (map saved_expect es)
 expects-have [] all = tt
-expects-have (e ∷ es) all = (record { text = all.0.text; actions = all.0.actions }, expects-have es all.1)
+expects-have (e ∷ es) all = (record { text = all.0.text; actions = all.0.actions.bytes }, expects-have es all.1)
 
 watch-bytes : (w : WatchState) → ValidWatch w → AreBytes (watch_text (saved_watch w))
 unfolding watch_text saved_watch

@@ -128,7 +128,7 @@ small_tail n h = grind arith
 abbrev IsTail : List ℕ → Type 0
 IsTail tail = AreSized (Passes fits_tail) any_bytes tail
 
-tail_is : IsReaderOf tail_at (sized_text w8) IsTail
+pub tail_is : IsReaderOf tail_at (sized_text w8) IsTail
 unfolding tail_at
 tail_is = sized_is w8 (tested fits_tail (number w8)) (Passes fits_tail) any_bytes (range_is w8 (2 ^ 8) fits_tail u8_is small_tail)
 

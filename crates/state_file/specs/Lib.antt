@@ -5,6 +5,9 @@ pub mod Text
 pub mod Valid
 pub mod Readers
 pub mod Reading
+pub mod Held
+pub mod Pieces
+pub mod Steps
 pub mod Laws
 pub mod Session
 pub mod PutBack

@@ -2,7 +2,8 @@
 ghost use Rattle.std.specs.Prelude.{◌≡◌, ◌+◌, ◌<◌, ◌^◌, ◌==◌, nat_le, length, IfOk};
 ghost use Rattle.std.specs.Int.{w8, w16, w32, w64};
 ghost use Rattle.state_file.specs.Ranges.{is_flag};
-ghost use Rattle.state_file.specs.Readers.{At, Reads, number, counted, tested};
+ghost use Rattle.state_file.specs.Held.{IsBytes};
+ghost use Rattle.state_file.specs.Readers.{At, Reads, at_of, number, counted, tested};
 
 use crate::fault::StateFault;
 use std::marker::Model;
@@ -34,6 +35,15 @@ impl<'a> Cursor<'a> {
             rest: bytes,
             place: 0,
         }
+    }
+
+    /// These bytes are left, behind so many others.
+    pub fn at(bytes: &'a [u8], place: usize) -> Cursor<'a>
+        requires { place + length bytes.now < 2 ^ 64 }
+        ensures at { result ≡ at_of place bytes.now }
+        ensures bytes { IsBytes bytes.now }
+    {
+        Cursor { rest: bytes, place }
     }
 
     /// The bytes that are left.

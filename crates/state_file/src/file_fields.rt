@@ -124,7 +124,7 @@ pub fn digest(cursor: &mut Cursor) -> Result<[u8; 32], StateFault>
 
 // A file from that unit on.
 #[tactic(auto, unfolding(crate::specs::Reading::file_at))]
-fn file(
+pub fn file(
     alloc: Global,
     cursor: &mut Cursor,
     least: u8,

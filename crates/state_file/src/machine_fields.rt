@@ -86,7 +86,7 @@ fn accumulators(cursor: &mut Cursor) -> Result<[u16; 4], StateFault>
 }
 
 #[tactic(auto, unfolding(crate::specs::Reading::cpu_at))]
-fn cpu(cursor: &mut Cursor) -> Result<SavedCpu, StateFault>
+pub fn cpu(cursor: &mut Cursor) -> Result<SavedCpu, StateFault>
     ensures { Reads (λ x. x) result cursor.new (cpu_at cursor.old) }
 {
     Ok(SavedCpu {
@@ -192,7 +192,7 @@ fn units_of_count(
 }
 
 #[tactic(auto, unfolding(crate::specs::Reading::units_at))]
-fn units(alloc: Global, cursor: &mut Cursor) -> Result<Vec<SavedUnit>, StateFault>
+pub fn units(alloc: Global, cursor: &mut Cursor) -> Result<Vec<SavedUnit>, StateFault>
     ensures { Reads (λ v. map unit_in v.items) result cursor.new (units_at cursor.old) }
 {
     let count = exactly(cursor, UNITS)?;
@@ -292,7 +292,7 @@ fn events_of(alloc: Global, cursor: &mut Cursor, count: u16) -> Result<Vec<Saved
 }
 
 #[tactic(auto, unfolding(crate::specs::Reading::agenda_at))]
-fn agenda(alloc: Global, cursor: &mut Cursor) -> Result<Vec<SavedEvent>, StateFault>
+pub fn agenda(alloc: Global, cursor: &mut Cursor) -> Result<Vec<SavedEvent>, StateFault>
     ensures { Reads (λ v. v.items) result cursor.new (agenda_at cursor.old) }
 {
     let count = cursor.count(MOST_EVENTS)?;

@@ -27,8 +27,9 @@ fn begins(bytes: &[u8]) -> bool
 }
 
 #[tactic(auto, unfolding(crate::specs::Reading::head_at))]
-fn head<'a>(cursor: &mut Cursor<'a>) -> Result<&'a [u8], StateFault>
-    ensures { Reads (λ x. x.now) result cursor.new (head_at cursor.old) }
+pub fn head<'a>(cursor: &mut Cursor<'a>) -> Result<&'a [u8], StateFault>
+    ensures read { Reads (λ x. x.now) result cursor.new (head_at cursor.old) }
+    ensures size { IfOk result (λ x. length x.now ≡ 8) }
 {
     if !begins(cursor.rest()) {
         return Err(StateFault::NotState);
@@ -37,7 +38,7 @@ fn head<'a>(cursor: &mut Cursor<'a>) -> Result<&'a [u8], StateFault>
 }
 
 #[tactic(auto, unfolding(crate::specs::Reading::version_at))]
-fn version(cursor: &mut Cursor) -> Result<u16, StateFault>
+pub fn version(cursor: &mut Cursor) -> Result<u16, StateFault>
     ensures { Reads (λ x. x) result cursor.new (version_at cursor.old) }
 {
     let version = cursor.u16()?;

@@ -13,19 +13,19 @@ use crate::saved::{SavedBreak, SavedExpect, SavedSend};
 use std::alloc::Global;
 
 /// How many breaks there are at most.
-const MOST_BREAKS: u16 = 256;
+pub const MOST_BREAKS: u16 = 256;
 
 /// How many bytes one line of actions has at most.
 const LONGEST_ACTIONS: u16 = 512;
 
 /// How many texts are waited for at most.
-const MOST_EXPECTS: u8 = 64;
+pub const MOST_EXPECTS: u8 = 64;
 
 /// How many bytes such a text has at most, and so how many of the printed ones are kept.
 const LONGEST_TEXT: u8 = 64;
 
 /// How many bytes wait to be sent at most.
-const MOST_SENDS: u16 = 4096;
+pub const MOST_SENDS: u16 = 4096;
 
 /// The last time at which a byte is sent.
 const LAST_SEND: u64 = 1 << 62;
@@ -68,7 +68,7 @@ fn address(cursor: &mut Cursor, least: u16) -> Result<u16, StateFault>
 
 // A break from that address on.
 #[tactic(auto, unfolding(crate::specs::Reading::break_at))]
-fn next_break(alloc: Global, cursor: &mut Cursor, least: u16) -> Result<SavedBreak, StateFault>
+pub fn next_break(alloc: Global, cursor: &mut Cursor, least: u16) -> Result<SavedBreak, StateFault>
     ensures read { Reads break_in result cursor.new (break_at least cursor.old) }
     ensures small { IfOk result (λ b. b.address < 2 ^ 15) }
 {
@@ -137,7 +137,7 @@ fn text<'a>(cursor: &mut Cursor<'a>) -> Result<&'a [u8], StateFault>
 }
 
 #[tactic(auto, unfolding(crate::specs::Reading::expect_at))]
-fn expect(alloc: Global, cursor: &mut Cursor) -> Result<SavedExpect, StateFault>
+pub fn expect(alloc: Global, cursor: &mut Cursor) -> Result<SavedExpect, StateFault>
     ensures { Reads expect_in result cursor.new (expect_at cursor.old) }
 {
     let count = expect_count(cursor)?;
@@ -171,7 +171,7 @@ fn expects(alloc: Global, cursor: &mut Cursor) -> Result<Vec<SavedExpect>, State
 
 // The bytes that were printed last.
 #[tactic(auto, unfolding(crate::specs::Reading::tail_at))]
-fn tail<'a>(cursor: &mut Cursor<'a>) -> Result<&'a [u8], StateFault>
+pub fn tail<'a>(cursor: &mut Cursor<'a>) -> Result<&'a [u8], StateFault>
     ensures { Reads (λ x. x.now) result cursor.new (tail_at cursor.old) }
 {
     let length = cursor.short_count(LONGEST_TEXT)?;
@@ -192,7 +192,7 @@ fn send_time(cursor: &mut Cursor, least: u64) -> Result<u64, StateFault>
 
 // A byte that is sent from that time on.
 #[tactic(auto, unfolding(crate::specs::Reading::send_at))]
-fn send(cursor: &mut Cursor, least: u64) -> Result<SavedSend, StateFault>
+pub fn send(cursor: &mut Cursor, least: u64) -> Result<SavedSend, StateFault>
     ensures { Reads (λ x. x) result cursor.new (send_at least cursor.old) }
 {
     let time = send_time(cursor, least)?;

@@ -1,4 +1,5 @@
 // Fields that hold what they cannot hold, each alone, and the one fault of each.
+use crate::pieces::fault_in_pieces;
 use crate::texts::{BUSY, BUSY_DIGEST, both_of, equal, holds, number};
 use state_file::{StateFault, read_state};
 use std::alloc::{AllocError, Global};
@@ -108,6 +109,12 @@ fn has_fault(rt: &impl Abort, alloc: Global, line: &str) -> Result<(), AllocErro
     let new = both_of(alloc, "", digits)?;
     put_at(&mut bytes, number(place), &new);
     equal(rt, &fault_in(alloc, &bytes), &Some(fault_of(wanted)), line);
+    equal(
+        rt,
+        &fault_in_pieces(alloc, &bytes, 7),
+        &Some(fault_of(wanted)),
+        line,
+    );
     Ok(())
 }
 

@@ -8,6 +8,8 @@ mod ends;
 #[cfg(test)]
 mod faults;
 #[cfg(test)]
+mod pieces;
+#[cfg(test)]
 mod same;
 #[cfg(test)]
 mod session;

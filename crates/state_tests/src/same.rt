@@ -1,5 +1,5 @@
 // Saved sessions compared, field by field.
-use state_file::{SavedBreak, SavedCpu, SavedExpect, SavedUnit};
+use state_file::{SavedBreak, SavedCpu, SavedExpect, SavedFile, SavedUnit};
 
 pub fn same_cpu(found: &SavedCpu, wanted: &SavedCpu) -> bool {
     found.size_k == wanted.size_k
@@ -33,4 +33,21 @@ pub fn same_expects(found: &[SavedExpect], wanted: &[SavedExpect]) -> bool {
         && found.iter().zip(wanted.iter()).all(|(a, b)| a.count == b.count
             && a.text == b.text
             && a.actions == b.actions)
+}
+
+pub fn same_files(found: &[SavedFile], wanted: &[SavedFile]) -> bool {
+    found.len() == wanted.len()
+        && found
+            .iter()
+            .zip(wanted.iter())
+            .all(|(a, b)| same_file(a, b))
+}
+
+fn same_file(found: &SavedFile, wanted: &SavedFile) -> bool {
+    found.position == wanted.position
+        && found.unit == wanted.unit
+        && found.read_only == wanted.read_only
+        && found.name == wanted.name
+        && found.length == wanted.length
+        && found.digest == wanted.digest
 }

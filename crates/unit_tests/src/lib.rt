@@ -4,6 +4,10 @@
 #[cfg(test)]
 mod events;
 #[cfg(test)]
+mod mixed_events;
+#[cfg(test)]
+mod plain_events;
+#[cfg(test)]
 mod processor;
 #[cfg(test)]
 mod registers;

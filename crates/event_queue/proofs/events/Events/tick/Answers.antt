@@ -1,9 +1,10 @@
-use Rattle.std.proofs.Common.{ap, ◌∙◌}
-use Rattle.event_queue.specs.EventList.{due, ticked}
-use Rattle.event_queue.proofs.Ticks.{ticked-once}
+use Rattle.std.proofs.Common.{List, sym, subst}
+use Rattle.event_queue.specs.EventList.{Event}
+use Rattle.event_queue.specs.Active.{Marks}
+use Rattle.event_queue.proofs.Marked.{marks-lowered}
 use Rattle.event_queue.proofs.events.Events.tick.Goals as goal
 
-pub returns : goal.returns
-returns c =
-    ticked-once c.self.inside.ticks c.self.inside.first c.self.inside.entries c.self.invariant.0 c.self.invariant.1 (ap due c.self.view_is ∙ c.requires)
-    ∙ ap ticked c.self.view_is
+pub invariant_of-self : goal.invariant_of-self
+invariant_of-self c =
+    subst (λ (es : List Event). Marks c.self.inside.active.bits es) (sym c.pass.ensures)
+    (marks-lowered c.self.inside.active.bits 1 c.self.inside.deltas c.self.invariant)

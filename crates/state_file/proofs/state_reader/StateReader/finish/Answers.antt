@@ -1,0 +1,22 @@
+use Rattle.std.proofs.Common.{ap, subst, ◌∙◌}
+use Rattle.state_file.specs.Parts.{state_in}
+use Rattle.state_file.specs.Readers.{Gives}
+use Rattle.state_file.specs.Reading.{reading}
+use Rattle.state_file.proofs.SealLaws.{reading_again, is_found}
+use Rattle.state_file.proofs.FitLaws.{has_text}
+use Rattle.state_file.proofs.state_reader.StateReader.finish.Goals as goal
+
+pub returns-clause-found : goal.returns-clause-found
+returns-clause-found c = λ fed is.
+    let it = is c.if-self.false in
+    is_found fed c.told.result it.bytes (c.told.ensures fed (c.in_ok-settle.ensures.keeps fed it))
+
+pub returns-clause-only : goal.returns-clause-only
+returns-clause-only c = λ fed is s valid e.
+    let it = is c.if-self.false in
+    subst (λ f. Gives state_in c.told.result f) (ap reading e ∙ reading_again s valid) (c.told.ensures fed (c.in_ok-settle.ensures.keeps fed it))
+
+pub returns-clause-fits : goal.returns-clause-fits
+returns-clause-fits c = λ fed is.
+    let it = is c.if-self.false in
+    has_text fed c.told.result it.bytes (c.told.ensures fed (c.in_ok-settle.ensures.keeps fed it))
