@@ -67,6 +67,7 @@ with-processor m p now valid = record {
   places = valid.places;
   names = valid.names;
   disk = valid.disk;
+  unmarked = valid.unmarked;
 }
 
 on-processor : (f : ProcessorState → ProcessorState) → ((p : ProcessorState) → IsProcessor p → IsProcessor (f p)) → KeepsMachine (on_processor f)
@@ -84,6 +85,7 @@ with-ints m ints low valid = record {
     places = valid.places;
     names = valid.names;
     disk = valid.disk;
+    unmarked = valid.unmarked;
   };
   taken = refl;
 }
@@ -110,6 +112,7 @@ ticked-keeps m valid = record {
     places = valid.places;
     names = valid.names;
     disk = valid.disk;
+    unmarked = valid.unmarked;
   };
   taken = refl;
 }
@@ -178,6 +181,7 @@ asked_unit-keeps code word m valid =
         places = valid.places;
         names = valid.names;
         disk = valid.disk;
+        unmarked = valid.unmarked;
       };
       taken = refl;
     }
@@ -225,6 +229,7 @@ reset_devices-keeps m valid =
         places = valid.places;
         names = valid.names;
         disk = valid.disk;
+        unmarked = valid.unmarked;
       };
       taken = refl;
     }

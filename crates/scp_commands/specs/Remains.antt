@@ -1,7 +1,7 @@
 -- What stands where a command was refused, or where memory ran out in it: all is as it was. Behind a command that
 -- flushes the disk before its own work that may be done, and it stays so.
 use Rattle.std.specs.Prelude.{◌≡◌, ◌⊎◌, Bool, true, false, Option, None, Ok, Err}
-use Rattle.unit_files.specs.Buffer.{disk_unit}
+use Rattle.unit_files.specs.Buffer.{disk_unit, no_marks}
 use Rattle.file_commands.specs.declared.note.Subject.{Subject}
 use Rattle.nova_machine.specs.Machine.{MachineState}
 use Rattle.scp_commands.specs.Live.{Live, CommandState}
@@ -11,7 +11,7 @@ use Rattle.scp_commands.specs.Effect.{Asked}
 
 -- a machine behind a flush: the disk holds nothing that is to be written back
 abbrev pub flushed_machine : MachineState → MachineState
-flushed_machine m = record m { disk = record m.disk { written = false } }
+flushed_machine m = record m { disk = record m.disk { written = false; marks = no_marks } }
 
 -- the same with all files: that of the disk, by its name, has what the disk holds
 abbrev pub flushed : Live → Live

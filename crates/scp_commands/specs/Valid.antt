@@ -9,6 +9,7 @@ use Rattle.nova_machine.specs.Seen.{unnumbered, attached_in}
 use Rattle.nova_machine.specs.Valid.{AreBytes, Valid, DiskIsItsFile, LeavesDiskFile}
 use Rattle.file_commands.specs.Notes.{CommandNote}
 use Rattle.unit_files.specs.Attachments.{Attachment, attachment_at}
+use Rattle.unit_files.specs.Acts.{written_back}
 use Rattle.unit_files.specs.Buffer.{Buffer, disk_unit}
 use Rattle.state_file.specs.SavedValid.{AreStandard}
 use Rattle.scp_parser.specs.Command.{Request, Attach, Detach, IsKept}
@@ -41,10 +42,11 @@ abbrev pub GivesBytes : Answer → Type 0
 GivesBytes (Ok (Do file)) = AreBytes file.text
 GivesBytes answer = Unit {0}
 
--- what the disk holds covers its file: the file is there, and is no longer
+-- what the disk holds covers its file: the file is there, and a writing back of the marked pages leaves the copy in it
 abbrev pub CoversFile : Option Attachment → Buffer → List NamedBytes → Type 0
 CoversFile None disk files = Unit {0}
-CoversFile (Some a) disk files = IsSome (find_file files a.name) × (length (bytes_of files a.name) ≤ length disk.bytes)
+CoversFile (Some a) disk files =
+    IsSome (find_file files a.name) × (written_back None disk (bytes_of files a.name) ≡ disk.bytes)
 
 abbrev pub DiskCoversFile : Live → Type 0
 DiskCoversFile live = CoversFile (attachment_at (attached_in live.machine) disk_unit) live.machine.disk live.files

@@ -10,7 +10,7 @@ use Rattle.unit_trait.specs.declared.kind.UnitName.{UnitName}
 use Rattle.unit_trait.specs.Calls.{UnitState}
 use Rattle.event_queue.specs.EventList.{Event}
 use Rattle.unit_files.specs.Attachments.{Attachment, Held, no_attachments, attachment_at, file_units}
-use Rattle.unit_files.specs.Buffer.{disk_unit}
+use Rattle.unit_files.specs.Buffer.{disk_unit, no_marks}
 use Rattle.nova_memory.specs.Memory.{MemoryState, IsMemory, IsSize}
 use Rattle.nova_processor.specs.declared.cpu.Cpu.{Cpu}
 use Rattle.nova_interrupts.specs.declared.interrupts.Ints.{Ints}
@@ -124,8 +124,9 @@ pub record IsIdleLine (line : LineOf Peer) : Type 0 where
   pub port : line.port ≢ Some 0
 
 -- The memory is one, of a size that a machine may have, and each unit that takes files has its place. The machine is
--- without numbers of files and without its lines, as it is seen. The disk's copy is that of its file, and nothing is to
--- be written back. The actions of the stop that came last are forgotten. There is one line, with nobody on it.
+-- without numbers of files and without its lines, as it is seen. The disk's copy is that of its file, nothing is to be
+-- written back, and no page is marked. The actions of the stop that came last are forgotten. There is one line, with nobody
+-- on it.
 pub record CanBeSaved (s : Seen) : Type 0 where
   pub memory : IsMemory s.machine.processor.memory
   pub size : IsSize s.machine.processor.memory.size
@@ -133,6 +134,7 @@ pub record CanBeSaved (s : Seen) : Type 0 where
   pub seen : erased s.machine ≡ s.machine
   pub copy : DiskIsItsFile s
   pub written : s.machine.disk.written ≡ false
+  pub unmarked : s.machine.disk.marks ≡ no_marks
   pub watch : s.watch ≡ forgotten s.watch
   pub line : length s.lines ≡ 1
   pub idle : AllByRecursion IsIdleLine s.lines
