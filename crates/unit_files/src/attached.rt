@@ -99,6 +99,7 @@ impl Attached {
             ≡ buffer_by said unit (bytes_of (F.state files.new).files name.now) self.old.disk) }
         ensures there { IfOk result (λ n. IsTrue (is_some (attachment_at (attachments_of self.new.slots) unit))) }
         ensures unwritten { IfOk result (λ n. is_disk unit.kind ≡ true → self.new.disk.written ≡ false) }
+        ensures unmarked { IfOk result (λ n. is_disk unit.kind ≡ true → self.new.disk.marks ≡ no_marks) }
         ensures other { is_disk unit.kind ≡ false → self.new.disk ≡ self.old.disk }
         ensures refused { OnErr result (self.new ≡ self.old) }
         ensures files { IsTrue F.tells → IfSome (said_of_attach result) (λ said. (F.state files.new).files

@@ -1,5 +1,6 @@
-use Rattle.std.proofs.Common.{Some, None, ◌∙◌, rules}
-use Rattle.unit_files.specs.Attachments.{attachments_of}
+use Rattle.std.proofs.Common.{Some, None, ap, ◌∙◌, rules}
+use Rattle.unit_trait.specs.declared.kind.UnitName.{UnitName}
+use Rattle.unit_files.specs.Attachments.{attachments_of, is_disk}
 use Rattle.unit_files.specs.Acts.{NotThere, TooLong, CallFailed}
 use Rattle.unit_files.specs.Answers.{failure_in}
 use Rattle.state_file.specs.Parts.{file_in}
@@ -62,3 +63,8 @@ returns-in-Err-Failed-clause-told g c = λ t force.
     said-of (CallFailed (failure_in c.in-Err-Failed.fault)) (Some (failure_in c.in-Err-Failed.fault)) force (file_in c.args.file.now) c.unit_of-unit.result c.mode_of.result c.as_str.result.now
     (attachments_of c.args.attached.now.slots) (g.F.Files.state c.args.files.now).files c.unit_of-unit.ensures
     c.mode_of.ensures (search rules) ((rw c.in-Err-Failed.field-0-is at c.in-Err-Failed.ensures.said) t)
+
+pub returns-in-Ok-clause-unwritten : goal.returns-in-Ok-clause-unwritten
+returns-in-Ok-clause-unwritten g c = λ disk.
+    let is = ap (λ (u : UnitName). is_disk u.kind) c.unit_of-unit.ensures ∙ disk in
+    (c.in-Ok.ensures.unwritten is, c.in-Ok.ensures.unmarked is)
