@@ -241,6 +241,7 @@ erased-valid m is = record {
   places = length-map m.slots unnumbered ∙ is.places;
   names = erased-names m.slots is.names;
   disk = is.disk;
+  unmarked = is.unmarked;
 }
 
 first_machine : Option ℕ → MachineState

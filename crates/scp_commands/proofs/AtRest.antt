@@ -207,6 +207,7 @@ savable s files rest all =
         seen = erased-same s.machine is.machine;
         copy = rest.copy;
         written = rest.written;
+        unmarked = valid.machine.unmarked rest.written;
         watch = rest.watch;
         line = is.line;
         idle = idle-lines s.lines valid.lines rest.nobody;

@@ -213,7 +213,7 @@ unfolding flush_files
 none-flushed fault unit None disk files is = refl
 none-flushed fault unit (Some a) disk files is = by-failure (flush_failure fault unit disk) is
   where
-    by-failure : (f : Option Failure) → HadNone ≡ closing_said f fault → (if is_due_back unit disk then changed files a.name (written_back fault disk.bytes) else files) ≡ files
+    by-failure : (f : Option Failure) → HadNone ≡ closing_said f fault → (if is_due_back unit disk then changed files a.name (written_back fault disk) else files) ≡ files
     by-failure None is = absurd (cc)
     by-failure (Some f) is = absurd (cc)
 

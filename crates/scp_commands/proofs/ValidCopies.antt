@@ -7,9 +7,9 @@ use Rattle.unit_trait.specs.declared.kind.Kind.TheVariants.{Dsk, Mta, Lpt, Ptr, 
 use Rattle.unit_trait.specs.declared.kind.UnitName.{UnitName}
 use Rattle.unit_trait.specs.Kinds.{units_of}
 use Rattle.unit_files.specs.Attachments.{Attachment, Held, attachments_of, attachment_at, with_attachment, file_units, kind_place, file_place, is_disk}
-use Rattle.unit_files.specs.Buffer.{Buffer, no_buffer, disk_unit}
+use Rattle.unit_files.specs.Buffer.{Buffer, no_marks, no_buffer, disk_unit}
 use Rattle.unit_files.specs.Acts.{Failure, closing_said, flush_failure, flushed_as, flush_said, flush_files, buffer_flushed, Attached, DetachSaid, HadNone, StillHeld, Detached, detach_said_of, detached, buffer_by, buffer_left}
-use Rattle.unit_files.proofs.FlushLaws.{flushes-leave}
+use Rattle.unit_files.proofs.FlushLaws.{bytes-left}
 use Rattle.file_commands.specs.Notes.{CommandNote, failure_now}
 use Rattle.file_commands.specs.declared.note.Subject.TheVariants as subject
 use Rattle.file_commands.specs.AllUnits.{Filed, Emptied, emptied_as, said_in, written_in, without_file, emptied}
@@ -62,7 +62,7 @@ copy-written fault (Some a) disk old new is clean back = λ none. bytes (flush_f
     by-written : (b : Bool) → disk.written ≡ b → (buffer_flushed (flush_said fault disk_unit (Some a) disk) disk_unit disk).written ≡ false → disk.bytes ≡ bytes_of new a.name
     by-written true at none =
         let both = back none at in
-        sym (flushes-leave.whole disk_unit a disk old at both.0.0 both.0.1) ∙ sym both.1
+        sym (bytes-left None disk_unit a disk old at both.0.0 ∙ both.0.1) ∙ sym both.1
     by-written false at none = is at ∙ sym (clean none at)
 
 -- ---- the place of the disk
@@ -103,9 +103,9 @@ here unit attached a drive some is =
 
 -- the disk itself gets a file, or loses it
 pub copy-new : (a : Attachment) (attached : List (Option Attachment)) (files : List NamedBytes) → 0 < length attached
-    → CopyIsFile (attachment_at (with_attachment attached disk_unit (Some a)) disk_unit) (record { bytes = bytes_of files a.name; written = false }) files
+    → CopyIsFile (attachment_at (with_attachment attached disk_unit (Some a)) disk_unit) (record { bytes = bytes_of files a.name; written = false; marks = no_marks }) files
 copy-new a attached files some =
-    subst (λ (o : Option Attachment). CopyIsFile o (record { bytes = bytes_of files a.name; written = false }) files) (sym (here disk_unit attached (Some a) (inr refl) some refl)) (λ none. refl)
+    subst (λ (o : Option Attachment). CopyIsFile o (record { bytes = bytes_of files a.name; written = false; marks = no_marks }) files) (sym (here disk_unit attached (Some a) (inr refl) some refl)) (λ none. refl)
 
 pub copy-gone : (attached : List (Option Attachment)) (files : List NamedBytes) → 0 < length attached → CopyIsFile (attachment_at (detached disk_unit attached) disk_unit) no_buffer files
 copy-gone attached files some = subst (λ (o : Option Attachment). CopyIsFile o no_buffer files) (sym (here disk_unit attached None (inr refl) some refl)) refl
@@ -119,10 +119,10 @@ pub copy-attached : (unit : UnitName) (count : ℕ) (a : Attachment) (attached :
 copy-attached unit count a attached disk old files drive some is keeps = by-disk (is_disk unit.kind) refl keeps
   where
     by-disk : (b : Bool) → is_disk unit.kind ≡ b
-        → ((if b then record { bytes = bytes_of files a.name; written = false } else disk).written ≡ false → disk.written ≡ false → KeepsFile (attachment_at attached disk_unit) old files)
-        → CopyIsFile (attachment_at (with_attachment attached unit (Some a)) disk_unit) (if b then record { bytes = bytes_of files a.name; written = false } else disk) files
+        → ((if b then record { bytes = bytes_of files a.name; written = false; marks = no_marks } else disk).written ≡ false → disk.written ≡ false → KeepsFile (attachment_at attached disk_unit) old files)
+        → CopyIsFile (attachment_at (with_attachment attached unit (Some a)) disk_unit) (if b then record { bytes = bytes_of files a.name; written = false; marks = no_marks } else disk) files
     by-disk true at keeps =
-        subst (λ (o : Option Attachment). CopyIsFile o (record { bytes = bytes_of files a.name; written = false }) files) (sym (here unit attached (Some a) drive some at)) (λ none. refl)
+        subst (λ (o : Option Attachment). CopyIsFile o (record { bytes = bytes_of files a.name; written = false; marks = no_marks }) files) (sym (here unit attached (Some a) drive some at)) (λ none. refl)
     by-disk false at keeps =
         subst (λ (o : Option Attachment). CopyIsFile o disk files) (sym (elsewhere unit attached (Some a) at)) (copy-kept (attachment_at attached disk_unit) disk old files is (λ none. keeps none none))
 

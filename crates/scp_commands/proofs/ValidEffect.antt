@@ -7,7 +7,7 @@ use Rattle.observations.proofs.MadeLemmas.{stands-either, stands-mapped}
 use Rattle.host_files.specs.Lists.{NamedBytes, bytes_of}
 use Rattle.unit_trait.specs.declared.kind.UnitName.{UnitName}
 use Rattle.unit_files.specs.Attachments.{Attachment, Held, attachment_at, with_attachment}
-use Rattle.unit_files.specs.Buffer.{Buffer, no_buffer, disk_unit}
+use Rattle.unit_files.specs.Buffer.{Buffer, no_marks, no_buffer, disk_unit}
 use Rattle.unit_files.specs.Acts.{Failure, AttachSaid, Attached, UnitHasFile, OnlyWrites, NotThere, TooLong, CallFailed, attach_said, attach_files, is_read_only, DetachSaid, HadNone, StillHeld, Detached, detach_said, detached}
 use Rattle.file_commands.specs.declared.note.Subject.TheVariants as subject
 use Rattle.file_commands.specs.Notes.{CommandNote, failure_now}
@@ -170,6 +170,7 @@ flushed-machine m is = record {
   places = is.places;
   names = is.names;
   disk = is.disk;
+  unmarked = λ none. refl;
 }
 
 -- ---- replies
@@ -527,7 +528,7 @@ stands-disconnect live is = stands-with_port (terminal_line live.lines) (hung_up
 
 -- all units lose their files, and then that comes
 filed-live : (live : Live) → ValidLive live → IsFiled (filed_in live)
-filed-live live is = record { places = numberless-count live.machine ∙ is.valid.machine.places; names = names-seen live.machine.slots is.valid.machine.names; disk = is.valid.machine.disk; files = is.valid.files }
+filed-live live is = record { places = numberless-count live.machine ∙ is.valid.machine.places; names = names-seen live.machine.slots is.valid.machine.names; disk = is.valid.machine.disk; unmarked = is.valid.machine.unmarked; files = is.valid.files }
 
 pub stands-emptied : (next : Next) (notes : List CommandNote) (live : Live) → GivesBytes (Ok next) → ValidLive live → Stands live (emptied_reply next (emptied_all notes live) live)
 stands-emptied next notes live gives is = by-keeper e.kept refl
@@ -547,7 +548,7 @@ stands-emptied next notes live gives is = by-keeper e.kept refl
           valid = record {
             after =
                 lined-live (left_by None e.left live) (unported live.lines)
-                (changed-live live m live.watch e.left.files is (filed-valid live.machine e.left.attached e.left.disk is.valid.machine filed.places filed.names filed.disk) refl refl
+                (changed-live live m live.watch e.left.files is (filed-valid live.machine e.left.attached e.left.disk is.valid.machine filed.places filed.names filed.disk filed.unmarked) refl refl
                 (program-filed live.machine m e.left.attached is.machine refl refl refl) is.valid.watch filed.files)
                 (valid-unported live.lines is.valid.lines) (many-unported live.lines);
             made = λ at h. absurd h;
@@ -920,7 +921,7 @@ attach-anew notes live option name is done = by-lack (lacks_unit live.machine di
         → DiskIsItsFile (record live { machine = attached_machine said (mode_of option) disk_unit name (bytes_of files name) live.machine; files = files })
     by-said (Attached count) done =
         let a : Attachment = record { name = name; read_only = is_read_only (mode_of option) } in
-        subst (λ (l : List (Option Attachment)). CopyIsFile (attachment_at l disk_unit) (record { bytes = bytes_of files name; written = false }) files)
+        subst (λ (l : List (Option Attachment)). CopyIsFile (attachment_at l disk_unit) (record { bytes = bytes_of files name; written = false; marks = no_marks }) files)
         (sym (attached-with live.machine (with_attachment (attached_in live.machine) disk_unit (Some a)))) (copy-new a (attached_in live.machine) files (some-attached live is))
     by-said UnitHasFile done = absurd (cc)
     by-said OnlyWrites done = absurd (cc)

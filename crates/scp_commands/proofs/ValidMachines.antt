@@ -39,6 +39,7 @@ memory-valid m memory is new size = record {
   places = is.places;
   names = is.names;
   disk = is.disk;
+  unmarked = is.unmarked;
 }
 
 -- ---- SET CPU

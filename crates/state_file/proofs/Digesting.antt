@@ -9,7 +9,7 @@ use Rattle.unit_files.specs.Buffer.{Buffer, no_marks}
 use Rattle.unit_files.specs.Acts.{Failure, failure_at, is_due_back, flushed_as, flush_files, buffer_flushed}
 use Rattle.unit_files.specs.Digests.{digest_said, digest_measured, digest_flushed, behind_flush, buffer_digested}
 use Rattle.unit_files.proofs.FlushLaws.{flushes-leave}
-use Rattle.state_file.specs.RestoringOne.{IsUnwritten}
+use Rattle.state_file.specs.RestoringOne.{IsAsRead}
 
 -- nothing is to be written back where no sector was written, or for a unit that is not the disk
 pub none-due : (unit : UnitName) (disk : Buffer) → (is_disk unit.kind ≡ true → disk.written ≡ false)
@@ -37,7 +37,7 @@ clean-said fails unit o a disk files clean is =
 
 -- and the copy stays as it is
 pub clean-kept : (fails : Option Failure) (unit : UnitName) (a : Option Attachment) (disk : Buffer)
-    → (is_disk unit.kind ≡ true → IsUnwritten disk) → buffer_digested fails unit a disk ≡ disk
+    → (is_disk unit.kind ≡ true → IsAsRead disk) → buffer_digested fails unit a disk ≡ disk
 clean-kept fails unit None disk clean = refl
 clean-kept fails unit (Some a) disk clean =
     ap (λ (b : Bool). buffer_flushed (flushed_as (if b then failure_at Write fails else None)) unit disk)

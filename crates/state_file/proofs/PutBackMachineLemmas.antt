@@ -16,7 +16,7 @@ use Rattle.unit_list.specs.Bus.{AllFit, kinds_of}
 use Rattle.event_queue.specs.EventList.{Event, waiting, Sound}
 use Rattle.event_queue.specs.DueTimes.{scheduled}
 use Rattle.unit_files.specs.Attachments.{Attachment, attachments_of, attachment_at, file_place, file_units}
-use Rattle.unit_files.specs.Buffer.{disk_unit}
+use Rattle.unit_files.specs.Buffer.{disk_unit, no_marks}
 use Rattle.nova_memory.specs.Memory.{IsMemory, IsSize}
 use Rattle.nova_machine.specs.BusOrder.{place_of}
 use Rattle.nova_machine.specs.Core.{IsAmong, AreListed}
@@ -153,6 +153,10 @@ disk-bytes : (a : Option Attachment) (files : List NamedBytes) → AllByRecursio
     → AreBytes (copy_of a files).bytes
 disk-bytes None files are = tt
 disk-bytes (Some a) files are = bytes-found files a.name are
+
+copy-unmarked : (a : Option Attachment) (files : List NamedBytes) → (copy_of a files).marks ≡ no_marks
+copy-unmarked None files = refl
+copy-unmarked (Some a) files = refl
 
 pub as-many-places : (attached : List (Option Attachment)) (files : List FilePart)
     → length (with_all attached files) ≡ length attached
@@ -334,4 +338,5 @@ machine-in-range m attached files is places names bytes = record {
   places = length-map attached held_from ∙ places;
   names = names-held attached names;
   disk = disk-bytes (attachment_at attached disk_unit) files bytes;
+  unmarked = λ none. copy-unmarked (attachment_at attached disk_unit) files;
 }

@@ -28,7 +28,7 @@ use Rattle.state_file.specs.declared.saving.UnitPlace.{UnitPlace}
 use Rattle.state_file.specs.Parts.{FilePart}
 use Rattle.state_file.specs.Ranges.{kind_at}
 use Rattle.state_file.specs.Restoring.{unit_of, attachment_of, at_unit}
-use Rattle.state_file.specs.RestoringOne.{AreOfTwo, AreApart, IsUnwritten}
+use Rattle.state_file.specs.RestoringOne.{AreOfTwo, AreApart, IsAsRead}
 use Rattle.state_file.specs.Saving.{unit_at, file_places, flag_of, saved_at, saved_files, undigested, failing_first}
 use Rattle.state_file.specs.Saving.{first_undigested, unless_unflushed, files_flushed, copy_flushed, first_unsaved}
 use Rattle.state_file.specs.SavingOne.{unread_file, unread_at, unread_files, read_file, CanDigest, first_unread}
@@ -73,7 +73,7 @@ abbrev Takes : UnitPlace → Type 0
 Takes p = IsTrue (takes_attachment (unit_at p))
 
 can-each : (a : AttachedFiles) (ps : List UnitPlace)
-    → (IsTrue (is_some (attachment_at (attachments_of a.slots) disk_unit)) → IsUnwritten a.disk)
+    → (IsTrue (is_some (attachment_at (attachments_of a.slots) disk_unit)) → IsAsRead a.disk)
     → AllByRecursion Takes ps → AllByRecursion (CanDigest a) (unread_files (attachments_of a.slots) ps)
 can-each a [] clean takes = tt
 can-each a (p ∷ ps) clean takes =
@@ -101,12 +101,12 @@ unfolding file_places kind_at
 all-take = (refl, (refl, (refl, (refl, (refl, (refl, (refl, (refl, (refl, (refl, (refl, (refl, tt))))))))))))
 
 pub can-unread : (a : AttachedFiles) (attached : List (Option Attachment)) → attachments_of a.slots ≡ attached
-    → (IsTrue (is_some (attachment_at attached disk_unit)) → IsUnwritten a.disk)
+    → (IsTrue (is_some (attachment_at attached disk_unit)) → IsAsRead a.disk)
     → AllByRecursion (CanDigest a) (unread_files attached file_places)
 can-unread a attached same clean =
     subst (λ (l : List (Option Attachment)). AllByRecursion (CanDigest a) (unread_files l file_places)) same
     (can-each a file_places
-    (subst (λ (l : List (Option Attachment)). IsTrue (is_some (attachment_at l disk_unit)) → IsUnwritten a.disk)
+    (subst (λ (l : List (Option Attachment)). IsTrue (is_some (attachment_at l disk_unit)) → IsAsRead a.disk)
     (sym same) clean) all-take)
 
 -- ---- no unit comes twice

@@ -31,7 +31,7 @@ use Rattle.state_file.specs.Restoring.{refusal_of}
 use Rattle.state_file.specs.Restoring.{attachment_of, with_file, at_unit, first_of, first_refused, claim_in, Says}
 use Rattle.state_file.specs.Restoring.{IsUnitOf}
 use Rattle.state_file.specs.Restoring.{IsOfThese, copy_of}
-use Rattle.state_file.specs.RestoringOne.{CanAttach, IsFree, AreOfTwo, AreApart, IsClean, IsUnwritten, IsOf, failure_of, SaysOne}
+use Rattle.state_file.specs.RestoringOne.{CanAttach, IsFree, AreOfTwo, AreApart, IsClean, IsAsRead, IsOf, failure_of, SaysOne}
 
 -- ---- what is said
 
@@ -240,7 +240,7 @@ other-place Qty unit is takes = absurd cc
 -- it stays the copy of the disk's file where one more file is attached
 pub copy-stays : (f : FilePart) (attached mid : List (Option Attachment)) (old disk : Buffer) (files : List NamedBytes)
     → CanAttach f → mid ≡ with_file attached f → IsTrue (is_some (attachment_at mid (unit_of f)))
-    → (is_disk (kind_at f.position) ≡ true → IsUnwritten disk)
+    → (is_disk (kind_at f.position) ≡ true → IsAsRead disk)
     → (is_disk (kind_at f.position) ≡ true → disk.bytes ≡ bytes_of files f.name)
     → (is_disk (kind_at f.position) ≡ false → disk ≡ old) → old ≡ copy_of (attachment_at attached disk_unit) files
     → disk ≡ copy_of (attachment_at mid disk_unit) files

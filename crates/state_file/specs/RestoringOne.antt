@@ -49,8 +49,8 @@ abbrev pub IsClean : Buffer → FilePart → Type 0
 IsClean disk f = is_disk (kind_at f.position) ≡ true → disk ≡ no_buffer
 
 -- nothing of the copy is to be written back, and no page is marked
-abbrev pub IsUnwritten : Buffer → Type 0
-IsUnwritten disk = (disk.written ≡ false) × (disk.marks ≡ no_marks)
+abbrev pub IsAsRead : Buffer → Type 0
+IsAsRead disk = (disk.written ≡ false) × (disk.marks ≡ no_marks)
 
 -- ---- the digest of a unit's file, of which nothing is to be written back
 

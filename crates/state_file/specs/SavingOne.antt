@@ -18,7 +18,7 @@ use Rattle.state_file.specs.declared.saving.UnitPlace.{UnitPlace}
 use Rattle.state_file.specs.Parts.{FilePart}
 use Rattle.state_file.specs.Ranges.{kind_at}
 use Rattle.state_file.specs.Restoring.{unit_of, attachment_of, at_unit}
-use Rattle.state_file.specs.RestoringOne.{IsUnwritten}
+use Rattle.state_file.specs.RestoringOne.{IsAsRead}
 use Rattle.state_file.specs.Saving.{unit_at, flag_of, undigested, failing_first}
 
 -- a unit's file that is not read yet: it has a name
@@ -54,7 +54,7 @@ read_file files f = record f { size = length (bytes_of files f.name); digest = s
 pub record CanDigest (a : AttachedFiles) (f : FilePart) : Type 0 where
   pub unit : IsTrue (takes_attachment (unit_of f))
   pub there : attachment_at (attachments_of a.slots) (unit_of f) ≡ Some (attachment_of f)
-  pub clean : is_disk (kind_at f.position) ≡ true → IsUnwritten a.disk
+  pub clean : is_disk (kind_at f.position) ≡ true → IsAsRead a.disk
 
 -- the first call that fails where these are digested one behind another, with its unit
 abbrev pub first_unread : Option (UnitName × Failure) → List NamedBytes → List FilePart → Option (UnitName × Failure)
@@ -96,5 +96,5 @@ FlushSays (Err f) a disk =
 
 -- nothing is to be written back behind one that did not fail
 abbrev pub IsFlushed : Result (Unit {0}) UnitFault → Option Attachment → Buffer → Type 0
-IsFlushed (Ok u) a disk = IsTrue (is_some a) → IsUnwritten disk
+IsFlushed (Ok u) a disk = IsTrue (is_some a) → IsAsRead disk
 IsFlushed (Err f) a disk = Unit {0}

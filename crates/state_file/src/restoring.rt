@@ -15,7 +15,7 @@ ghost use Rattle.state_file.specs.Parts.{FilePart, file_in};
 ghost use Rattle.state_file.specs.Ranges.{kind_at};
 ghost use Rattle.state_file.specs.Restoring.{files_in, unit_of, is_only_read, mode_of, refusal_of, with_file, with_all};
 ghost use Rattle.state_file.specs.Restoring.{copy_of, first_refused, claim_in, Says, IsOfThese};
-ghost use Rattle.state_file.specs.RestoringOne.{CanAttach, IsFree, AreApart, IsClean, IsUnwritten, IsOf, failure_of, SaysOne};
+ghost use Rattle.state_file.specs.RestoringOne.{CanAttach, IsFree, AreApart, IsClean, IsAsRead, IsOf, failure_of, SaysOne};
 ghost use Rattle.state_file.specs.RestoringOne.{Attaches, Compares, CompareCalls, CompareCause, OnlyItsCount};
 ghost use Rattle.state_file.specs.RestoreCauses.{RestoreCause};
 ghost use Rattle.state_file.specs.Valid.{AreFiles};
@@ -85,7 +85,7 @@ fn attach_file<F: Files>(
         ≡ with_file (attachments_of attached.old.slots) (file_in file.now)) }
     ensures there { OnOk result
         (IsTrue (is_some (attachment_at (attachments_of attached.new.slots) (unit_of (file_in file.now))))) }
-    ensures unwritten { OnOk result (is_disk (kind_at file.now.position) ≡ true → IsUnwritten attached.new.disk) }
+    ensures unwritten { OnOk result (is_disk (kind_at file.now.position) ≡ true → IsAsRead attached.new.disk) }
     ensures bytes { IsTrue F.tells → OnOk result (is_disk (kind_at file.now.position) ≡ true
         → attached.new.disk.bytes ≡ bytes_of (F.state files.old).files (file_in file.now).name) }
     ensures other { is_disk (kind_at file.now.position) ≡ false → attached.new.disk ≡ attached.old.disk }
@@ -117,7 +117,7 @@ fn compare<F: Files>(
 ) -> Result<(), RestoreFault>
     requires unit { IsTrue (takes_attachment (unit_of (file_in file.now))) }
     requires there { IsTrue (is_some (attachment_at (attachments_of attached.old.slots) (unit_of (file_in file.now)))) }
-    requires clean { is_disk (kind_at file.now.position) ≡ true → IsUnwritten attached.old.disk }
+    requires clean { is_disk (kind_at file.now.position) ≡ true → IsAsRead attached.old.disk }
     requires open { AllOpen attached.old.slots (F.state files.old).opened }
     ensures told { IsTrue F.tells → (a : Attachment)
         → attachment_at (attachments_of attached.old.slots) (unit_of (file_in file.now)) ≡ Some a
@@ -164,7 +164,7 @@ fn attach_one<F: Files>(
         ≡ with_file (attachments_of attached.old.slots) (file_in file.now)) }
     ensures there { OnOk result
         (IsTrue (is_some (attachment_at (attachments_of attached.new.slots) (unit_of (file_in file.now))))) }
-    ensures unwritten { OnOk result (is_disk (kind_at file.now.position) ≡ true → IsUnwritten attached.new.disk) }
+    ensures unwritten { OnOk result (is_disk (kind_at file.now.position) ≡ true → IsAsRead attached.new.disk) }
     ensures bytes { IsTrue F.tells → OnOk result (is_disk (kind_at file.now.position) ≡ true
         → attached.new.disk.bytes ≡ bytes_of (F.state files.old).files (file_in file.now).name) }
     ensures other { is_disk (kind_at file.now.position) ≡ false → attached.new.disk ≡ attached.old.disk }

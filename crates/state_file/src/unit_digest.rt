@@ -4,7 +4,7 @@ ghost use Rattle.host_files.specs.Lists.{bytes_of};
 ghost use Rattle.unit_files.specs.Attachments.{Attachment, attachments_of, attachment_at, takes_attachment, is_disk};
 ghost use Rattle.unit_files.specs.Digests.{digest_measured};
 ghost use Rattle.unit_files.specs.Open.{AllOpen};
-ghost use Rattle.state_file.specs.RestoringOne.{IsUnwritten, said_of_reading, failure_of_reading, ReadingCause};
+ghost use Rattle.state_file.specs.RestoringOne.{IsAsRead, said_of_reading, failure_of_reading, ReadingCause};
 
 use host_files::Files;
 use unit_files::{Attached, DetachFault, FileDigest, UnitFault};
@@ -18,7 +18,7 @@ pub fn digest_unit<F: Files>(
 ) -> Result<FileDigest, UnitFault>
     requires unit { IsTrue (takes_attachment unit) }
     requires there { IsTrue (is_some (attachment_at (attachments_of attached.old.slots) unit)) }
-    requires clean { is_disk unit.kind ≡ true → IsUnwritten attached.old.disk }
+    requires clean { is_disk unit.kind ≡ true → IsAsRead attached.old.disk }
     requires open { AllOpen attached.old.slots (F.state files.old).opened }
     ensures told { IsTrue F.tells → (a : Attachment) → attachment_at (attachments_of attached.old.slots) unit ≡ Some a
         → said_of_reading result
