@@ -9,14 +9,14 @@ use Rattle.state_file.specs.GivingBack.{IsHeldIn, IsNoDisk, without_all, copy_be
 use Rattle.state_file.specs.Parts.{FilePart}
 use Rattle.state_file.specs.Ranges.{kind_at}
 use Rattle.state_file.specs.Restoring.{unit_of, attachment_of, with_file, with_all}
-use Rattle.state_file.specs.RestoringOne.{AreOfTwo, AreApart, IsFree}
+use Rattle.state_file.specs.RestoringOne.{AreOfTwo, AreApart, IsAsRead, IsFree}
 use Rattle.state_file.proofs.Attaching.{set-back}
 use Rattle.state_file.proofs.Together.{still-free, all-free, nothing-held}
 
 -- the disk's copy is not to be written back, where one more file was attached
-pub one-unwritten : (disk : Bool) (old mid : Buffer) → (disk ≡ true → mid.written ≡ false) → (disk ≡ false → mid ≡ old)
+pub one-unwritten : (disk : Bool) (old mid : Buffer) → (disk ≡ true → IsAsRead mid) → (disk ≡ false → mid ≡ old)
     → old.written ≡ false → mid.written ≡ false
-one-unwritten true old mid here other is = here refl
+one-unwritten true old mid here other is = (here refl).0
 one-unwritten false old mid here other is = ap (λ (b : Buffer). b.written) (other refl) ∙ is
 
 -- a unit keeps its file where those of others are given back

@@ -1,7 +1,8 @@
-use Rattle.std.proofs.Common.{Option, Some, None, Ok, Err, refl, ap, subst, ◌∙◌, rules, List}
+use Rattle.std.proofs.Common.{Option, Some, None, Ok, Err, refl, sym, ap, subst, ◌∙◌, rules, List}
 use Rattle.std.proofs.lemmas.Result.{err_from_is_err_and}
 use Rattle.unit_trait.specs.declared.kind.UnitName.{UnitName}
-use Rattle.unit_files.specs.Attachments.{Attachment, attachments_of, file_place}
+use Rattle.unit_files.specs.Attachments.{Attachment, attachments_of, file_place, is_disk}
+use Rattle.unit_files.specs.Buffer.{Buffer}
 use Rattle.unit_files.specs.Acts.{detached}
 use Rattle.state_file.specs.Parts.{file_in}
 use Rattle.state_file.specs.Restoring.{files_in, unit_of, attachment_of}
@@ -64,6 +65,11 @@ returns-in-Err-clause-told g t c = λ told.
     (g.F.Files.state c.args.files.now).files all (Err c.in-Err.fault) (attachments_of c.attach_one.new.attached.slots)
     (g.F.Files.state c.attach_one.new.files).files (not-claimed f fs c.in-Err.fault apart.0 c.in-Err.ensures.these)
     (now.told told) now.attached (now.files told) (c.in-Err.ensures.told told)
+
+pub give_back-requires-clause-clean : goal.give_back-requires-clause-clean
+give_back-requires-clause-clean g t c = λ disk.
+    let is = ap (λ (u : UnitName). is_disk u.kind) (sym c.unit_of.ensures) ∙ disk in
+    ap (λ (b : Buffer). b.written) c.in-Err.ensures.disk ∙ (c.in_ok-attach_one-in-Some.ensures.unwritten is).0
 
 pub returns-in-Err-clause-slots : goal.returns-in-Err-clause-slots
 returns-in-Err-clause-slots g t c =

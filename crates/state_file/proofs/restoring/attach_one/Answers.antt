@@ -1,7 +1,7 @@
-use Rattle.std.proofs.Common.{◌≡◌, Bool, false, Option, Some, None, Result, Ok, Err, ap, subst, ◌∙◌, List, IsTrue}
+use Rattle.std.proofs.Common.{◌≡◌, Bool, false, Option, Some, None, Result, Ok, Err, sym, ap, subst, ◌∙◌, List, IsTrue}
 use Rattle.std.specs.Prelude.{is_some}
 use Rattle.host_files.specs.Lists.{NamedBytes, bytes_of}
-use Rattle.unit_files.specs.Attachments.{Attachment, attachments_of, attachment_at, file_place}
+use Rattle.unit_files.specs.Attachments.{Attachment, attachments_of, attachment_at, file_place, is_disk}
 use Rattle.unit_files.specs.Acts.{detached}
 use Rattle.unit_files.specs.Buffer.{AttachedFiles}
 use Rattle.unit_trait.specs.declared.kind.UnitName.{UnitName}
@@ -55,6 +55,11 @@ returns-in-Err-clause-told g c = λ t.
     (attachments_of c.attach_file.new.attached.slots) (g.F.Files.state c.args.files.now).files
     (g.F.Files.state c.attach_file.new.files).files c.if-force.false c.requires.can c.requires.free (first.told t)
     first.attached first.there (first.files t) c.in-Err.ensures.calls (c.in-Err.ensures.told t)
+
+pub give_back-requires-clause-clean : goal.give_back-requires-clause-clean
+give_back-requires-clause-clean g c = λ disk.
+    let is = ap (λ (u : UnitName). is_disk u.kind) (sym c.unit_of.ensures) ∙ disk in
+    ap (λ (a : AttachedFiles). a.disk.written) c.in-Err.ensures.kept ∙ (c.in_ok-attach_file.ensures.unwritten is).0
 
 pub returns-in-Err-clause-slots : goal.returns-in-Err-clause-slots
 returns-in-Err-clause-slots g c =

@@ -1,13 +1,17 @@
 use Rattle.std.proofs.Common.{sym, ap, ◌∙◌}
 use Rattle.host_files.specs.Lists.{bytes_of}
 use Rattle.unit_trait.specs.declared.kind.UnitName.{UnitName}
-use Rattle.unit_files.specs.Attachments.{attachments_of, attachment_at}
+use Rattle.unit_files.specs.Attachments.{attachments_of, attachment_at, is_disk}
 use Rattle.unit_files.specs.Digests.{DigestSaid}
 use Rattle.state_file.specs.Parts.{file_in}
 use Rattle.state_file.specs.Restoring.{attachment_of}
 use Rattle.state_file.specs.Saving.{undigested}
 use Rattle.state_file.proofs.SavingLaws.{digested-so}
 use Rattle.state_file.proofs.saving.digest_one.Goals as goal
+
+pub digest_unit-requires-clause-clean : goal.digest_unit-requires-clause-clean
+digest_unit-requires-clause-clean g c = λ disk.
+    c.requires.can.clean (ap (λ (u : UnitName). is_disk u.kind) (sym c.unit_of.ensures) ∙ disk)
 
 pub returns-in-Ok-clause-told : goal.returns-in-Ok-clause-told
 returns-in-Ok-clause-told g c = λ t.
