@@ -354,6 +354,10 @@ def state(chance, shared):
 
 # --- lines and scripts
 
+# A spoiled line gets no path, no argument and no end.
+PLAIN = bytes.maketrans(b"/%\n", b"___")
+
+
 class Lines:
     """Lines by chance, of every command, with operands that it takes, that are out of range or that are none."""
 
@@ -433,7 +437,7 @@ class Lines:
             return line.ljust(self.pick(511, 512, 513, 1024, 5000)).encode() + self.pick(b"", b"x")
         # A path stays as it is, so that nothing is written outside the folder of the case, and so do arguments.
         if how < 3 and "/" not in line and "%" not in line:
-            return spoil(self.chance, line.encode()).replace(b"/", b"_").replace(b"\n", b"_")
+            return spoil(self.chance, line.encode()).translate(PLAIN)
         return line.encode()
 
 
