@@ -419,6 +419,7 @@ fn subject_of(word: &str) -> Option<Subject> {
         "MTA0" => Some(unit_of(Kind::Mta, 0)),
         "MTA7" => Some(unit_of(Kind::Mta, 7)),
         "LPT" => Some(unit_of(Kind::Lpt, 0)),
+        "PTR" => Some(unit_of(Kind::Ptr, 0)),
         "State" => Some(Subject::State),
         _ => None,
     }

@@ -18,7 +18,7 @@ use Rattle.state_file.specs.Parts.{State, state_in}
 use Rattle.state_file.specs.Readers.{At, at_of, followed, behind, counted, Fails, Gives}
 use Rattle.state_file.specs.Reading.{body_at, first_place, ended, compared, sealed, reading}
 use Rattle.state_file.specs.Held.{at_in}
-use Rattle.state_file.specs.Pieces.{longer, rest_in, rest_of, Stage, StillOpen, AtSeal, stage, LetsGo, IsReading}
+use Rattle.state_file.specs.Pieces.{longer, rest_in, rest_of, Stage, StillOpen, AtSeal, stage, LetsGo, IsFed}
 use Rattle.state_file.specs.Steps.{IsSettled, IsSettledIn, Settles, Takes}
 use Rattle.state_file.proofs.ReaderLaws.{counted_more}
 use Rattle.state_file.proofs.EndLaws.{some_left}
@@ -32,12 +32,12 @@ fails_with (BadField place) read e = e
 fails_with Truncated read e = e
 
 -- with no more bytes
-body_read : (r : StateReader) (fed : List ℕ) (it : IsReading r fed) → body_at (first_place fed) ≡ rest_of r (longer (at_in r.pending) it.lost)
+body_read : (r : StateReader) (fed : List ℕ) (it : IsFed r fed) → body_at (first_place fed) ≡ rest_of r (longer (at_in r.pending) it.lost)
 body_read r fed it =
     ap (λ (l : List ℕ). body_at (first_place l)) (sym (append-nil fed)) ∙ it.goes []
     ∙ ap (λ (l : List ℕ). rest_of r (longer (at_in r.pending) l)) (append-nil it.lost)
 
-pub tells_fault : (r : StateReader) (fault : StateFault) (fed : List ℕ) → r.part ≡ Faulty fault → IsReading r fed → Fails fault (reading fed)
+pub tells_fault : (r : StateReader) (fault : StateFault) (fed : List ℕ) → r.part ≡ Faulty fault → IsFed r fed → Fails fault (reading fed)
 unfolding reading
 tells_fault r fault fed at it =
     let e : body_at (first_place fed) ≡ Err fault = body_read r fed it ∙ ap (λ (p : Part). rest_in p r (longer (at_in r.pending) it.lost)) at in
@@ -63,7 +63,7 @@ open_part Sends sealed_not faulty_not = refl
 open_part Seal sealed_not faulty_not = absurd (sealed_not refl)
 open_part (Faulty fault) sealed_not faulty_not = absurd (faulty_not fault refl)
 
-pub tells_short : (r : StateReader) (fed : List ℕ) → (r.part ≡ Seal → ⊥) → ((fault : StateFault) → r.part ≡ Faulty fault → ⊥) → IsSettled r → IsReading r fed → reading fed ≡ Err Truncated
+pub tells_short : (r : StateReader) (fed : List ℕ) → (r.part ≡ Seal → ⊥) → ((fault : StateFault) → r.part ≡ Faulty fault → ⊥) → IsSettled r → IsFed r fed → reading fed ≡ Err Truncated
 unfolding reading
 tells_short r fed sealed_not faulty_not settled it =
     let is = open_part r.part sealed_not faulty_not in
@@ -95,7 +95,7 @@ same_seal s found at lost lets = elim lets [
 
 pub tells_sealed : (r : StateReader) (fed : List ℕ) (result : Result Saved StateFault) → r.part ≡ Seal
     → ((m : List ℕ) → Holds256 r.pending.hasher m → Gives state_in result (followed (counted 32 (at_in r.pending)) (compared (state_in r.saved) (sha256 m))))
-    → IsReading r fed → Gives state_in result (reading fed)
+    → IsFed r fed → Gives state_in result (reading fed)
 unfolding reading
 tells_sealed r fed result at told it =
     let s = state_in r.saved in

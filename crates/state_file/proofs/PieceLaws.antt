@@ -8,7 +8,7 @@ use Rattle.state_file.specs.declared.state_reader.Part.{Part}
 use Rattle.state_file.specs.Parts.{ExpectPart, MachinePart, WatchPart, state_in}
 use Rattle.state_file.specs.Readers.{At, at_of, Reader, followed, ◌>>=◌, chain, Fails}
 use Rattle.state_file.specs.Held.{Held, at_in, IsBytes, IsPassed, IsThere}
-use Rattle.state_file.specs.Pieces.{longer, followed_up, still, rest_in, rest_of, Stage, StillOpen, AtSeal, AtFault, stage, LetsGo, IsReading, behind_version, behind_cpu, behind_words, behind_machine, behind_files, behind_breaks, behind_expects, behind_sends, behind_watch}
+use Rattle.state_file.specs.Pieces.{longer, followed_up, still, rest_in, rest_of, Stage, StillOpen, AtSeal, AtFault, stage, LetsGo, IsFed, behind_version, behind_cpu, behind_words, behind_machine, behind_files, behind_breaks, behind_expects, behind_sends, behind_watch}
 use Rattle.state_file.specs.Steps.{IsWanted, IsList, behind_list, Found, Stops, KeepsOn, parts_behind, steps_left, GoesOn}
 use Rattle.std.specs.Prelude.{nat_le, ◌^◌}
 use Rattle.std.proofs.lemmas.Bool.{cases_lt}
@@ -84,9 +84,9 @@ lets_none AtSeal rest lost none = inl none
 lets_none AtFault rest lost none = tt
 
 -- what was found is passed, and the reading goes on from there
-keeps_on : (r s : StateReader) (place : ℕ) → stage r.part ≡ StillOpen → IsThere r.pending place → IsPassed r.pending s.pending place
+keeps_on : (r s : StateReader) (place : ℕ) → stage r.part ≡ StillOpen → IsThere r.pending place → IsPassed r.pending s.pending place → s.failed ≡ r.failed
     → ((tail : List ℕ) → rest_of r (longer (at_in r.pending) tail) ≡ rest_of s (longer (at_of place (drop (place - r.pending.place) r.pending.rest)) tail)) → KeepsOn r s
-keeps_on r s place open_there there passed step fed reading =
+keeps_on r s place open_there there passed works step fed reading =
     let n = place - r.pending.place in
     let rest = r.pending.rest in
     let lost = reading.lost in
@@ -96,6 +96,7 @@ keeps_on r s place open_there there passed step fed reading =
     let before = reading.place in
     let put : s.pending.place ≡ place = ap (λ (a : At). a.place) passed.at in
     record {
+      works = works ∙ reading.works;
       done = reading.done ++ take n rest;
       lost = lost;
       bytes = reading.bytes;
@@ -115,11 +116,11 @@ steps_less r s p q at to one few = rw (at, to, one) (omega (arith, few))
 
 -- from one part to the next
 pub goes_on : (r s : StateReader) (p q : Part) (place : ℕ) → r.part ≡ p → s.part ≡ q → stage p ≡ StillOpen → parts_behind p ≡ parts_behind q + 1 → s.left < 2 ^ 32 + r.left
-    → IsThere r.pending place → IsPassed r.pending s.pending place
+    → IsThere r.pending place → IsPassed r.pending s.pending place → s.failed ≡ r.failed
     → ((tail : List ℕ) → rest_in p r (longer (at_in r.pending) tail) ≡ rest_in q s (longer (at_of place (drop (place - r.pending.place) r.pending.rest)) tail))
     → GoesOn r s
-goes_on r s p q place at to open_there one few there passed step = record {
-  keeps = keeps_on r s place (ap stage at ∙ open_there) there passed (λ tail.
+goes_on r s p q place at to open_there one few there passed works step = record {
+  keeps = keeps_on r s place (ap stage at ∙ open_there) there passed works (λ tail.
       ap (λ (x : Part). rest_in x r (longer (at_in r.pending) tail)) at ∙ step tail
       ∙ ap (λ (x : Part). rest_in x s (longer (at_of place (drop (place - r.pending.place) r.pending.rest)) tail)) (sym to));
   less = steps_less r s p q at to one few;
@@ -127,11 +128,11 @@ goes_on r s p q place at to open_there one few there passed step = record {
 
 -- to the next element of a list
 pub goes_along : (r s : StateReader) (p : Part) (place : ℕ) → r.part ≡ p → s.part ≡ r.part → stage p ≡ StillOpen → 0 < r.left → s.left ≡ r.left - 1
-    → IsThere r.pending place → IsPassed r.pending s.pending place
+    → IsThere r.pending place → IsPassed r.pending s.pending place → s.failed ≡ r.failed
     → ((tail : List ℕ) → rest_in p r (longer (at_in r.pending) tail) ≡ rest_in p s (longer (at_of place (drop (place - r.pending.place) r.pending.rest)) tail))
     → GoesOn r s
-goes_along r s p place at to open_there some left there passed step = record {
-  keeps = keeps_on r s place (ap stage at ∙ open_there) there passed (λ tail.
+goes_along r s p place at to open_there some left there passed works step = record {
+  keeps = keeps_on r s place (ap stage at ∙ open_there) there passed works (λ tail.
       ap (λ (x : Part). rest_in x r (longer (at_in r.pending) tail)) at ∙ step tail
       ∙ ap (λ (x : Part). rest_in x s (longer (at_of place (drop (place - r.pending.place) r.pending.rest)) tail)) (sym (to ∙ at)));
   less = rw (to, left) (omega (arith, some));
@@ -289,6 +290,7 @@ list_ended (Faulty fault) r at list none = absurd list
 to_behind : (r : StateReader) → IsList r.part → r.left ≡ 0 → GoesOn r (record r { part = behind_list r.part })
 to_behind r list none = record {
   keeps = λ fed reading. record {
+    works = reading.works;
     done = reading.done;
     lost = reading.lost;
     bytes = reading.bytes;
@@ -326,26 +328,26 @@ pub record IsTaken (old new : Held) (piece : List ℕ) (count : ℕ) : Type 0 wh
   pub rest : new.rest ≡ old.rest ++ take count piece
 
 -- what is let go beside it
-record GoesBeside (r : StateReader) (fed : List ℕ) (reading : IsReading r fed) (piece : List ℕ) (count : ℕ) : Type 0 where
+record GoesBeside (r : StateReader) (fed : List ℕ) (reading : IsFed r fed) (piece : List ℕ) (count : ℕ) : Type 0 where
   lost : List ℕ
   parts : reading.lost ++ piece ≡ take count piece ++ lost
   lets : LetsGo (stage r.part) (r.pending.rest ++ take count piece) lost
 
-all_beside : (r : StateReader) (fed : List ℕ) (reading : IsReading r fed) (piece : List ℕ) (count : ℕ) → reading.lost ≡ [] → LetsGo (stage r.part) (r.pending.rest ++ take count piece) (drop count piece) → GoesBeside r fed reading piece count
+all_beside : (r : StateReader) (fed : List ℕ) (reading : IsFed r fed) (piece : List ℕ) (count : ℕ) → reading.lost ≡ [] → LetsGo (stage r.part) (r.pending.rest ++ take count piece) (drop count piece) → GoesBeside r fed reading piece count
 all_beside r fed reading piece count none lets = record {
   lost = drop count piece;
   parts = ap (λ (l : List ℕ). l ++ piece) none ∙ sym (take-append-drop count piece);
   lets = lets;
 }
 
-none_beside : (r : StateReader) (fed : List ℕ) (reading : IsReading r fed) (piece : List ℕ) (count : ℕ) → count ≡ 0 → LetsGo (stage r.part) r.pending.rest (reading.lost ++ piece) → GoesBeside r fed reading piece count
+none_beside : (r : StateReader) (fed : List ℕ) (reading : IsFed r fed) (piece : List ℕ) (count : ℕ) → count ≡ 0 → LetsGo (stage r.part) r.pending.rest (reading.lost ++ piece) → GoesBeside r fed reading piece count
 none_beside r fed reading piece count none lets = rw none (record {
   lost = reading.lost ++ piece;
   parts = refl;
   lets = subst (λ (l : List ℕ). LetsGo (stage r.part) l (reading.lost ++ piece)) (sym (append-nil r.pending.rest)) lets;
 })
 
-beside : (x : Stage) (r : StateReader) (fed : List ℕ) (reading : IsReading r fed) (piece : List ℕ) (count : ℕ) → stage r.part ≡ x → count ≤ length piece → IsWanted x r.pending.rest (length piece) count
+beside : (x : Stage) (r : StateReader) (fed : List ℕ) (reading : IsFed r fed) (piece : List ℕ) (count : ℕ) → stage r.part ≡ x → count ≤ length piece → IsWanted x r.pending.rest (length piece) count
     → GoesBeside r fed reading piece count
 beside StillOpen r fed reading piece count is within wanted =
     let none : reading.lost ≡ [] = subst (λ (x : Stage). LetsGo x r.pending.rest reading.lost) is reading.lets in
@@ -365,7 +367,7 @@ beside AtFault r fed reading piece count is within wanted =
     none_beside r fed reading piece count wanted (subst (λ (x : Stage). LetsGo x r.pending.rest (reading.lost ++ piece)) (sym is) tt)
 
 pub takes : (r : StateReader) (h : Held) (fed piece : List ℕ) (count : ℕ) → IsBytes piece → count ≤ length piece → IsWanted (stage r.part) r.pending.rest (length piece) count → IsTaken r.pending h piece count
-    → IsReading r fed → IsReading (record r { pending = h }) (fed ++ piece)
+    → IsFed r fed → IsFed (record r { pending = h }) (fed ++ piece)
 takes r h fed piece count bytes within wanted taken reading =
     let it = beside (stage r.part) r fed reading piece count refl within wanted in
     let rest = r.pending.rest in
@@ -375,6 +377,7 @@ takes r h fed piece count bytes within wanted taken reading =
     ap (λ (l : List ℕ). rest ++ l) (sym (append_assoc reading.lost piece tail)) ∙ sym (append_assoc rest (reading.lost ++ piece) tail)
     ∙ ap (λ (l : List ℕ). l ++ tail) all ∙ append_assoc (rest ++ take count piece) it.lost tail ∙ ap (λ (l : List ℕ). l ++ (it.lost ++ tail)) (sym taken.rest) in
     record {
+      works = reading.works;
       done = reading.done;
       lost = it.lost;
       bytes = bytes_joined fed piece reading.bytes bytes;

@@ -139,8 +139,9 @@ LetsGo StillOpen rest lost = lost ≡ []
 LetsGo AtSeal rest lost = (lost ≡ []) ⊎ (32 < length rest)
 LetsGo AtFault rest lost = Unit {0}
 
--- These bytes were fed: with any more, what they say comes to what is still read of them.
-pub record IsReading (r : StateReader) (fed : List ℕ) : Type 0 where
+-- These bytes were fed, and memory did not run out: with any more, what they say comes to what is still read of them.
+pub record IsFed (r : StateReader) (fed : List ℕ) : Type 0 where
+  pub works : r.failed ≡ false
   pub done : List ℕ
   pub lost : List ℕ
   pub bytes : IsBytes fed
@@ -150,10 +151,6 @@ pub record IsReading (r : StateReader) (fed : List ℕ) : Type 0 where
   pub goes : (tail : List ℕ)
       → body_at (first_place (fed ++ tail)) ≡ rest_of r (longer (at_in r.pending) (lost ++ tail))
   pub lets : LetsGo (stage r.part) r.pending.rest lost
-
--- These bytes were fed, unless memory ran out.
-abbrev pub IsFed : StateReader → List ℕ → Type 0
-IsFed r fed = r.failed ≡ false → IsReading r fed
 
 -- Memory ran out.
 abbrev pub HasFailed : StateReader → Type 0

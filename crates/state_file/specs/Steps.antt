@@ -8,7 +8,7 @@ use Rattle.state_file.specs.declared.state_reader.Part.TheVariants.{Head, Versio
 use Rattle.state_file.specs.declared.state_reader.StateReader.{StateReader}
 use Rattle.state_file.specs.Readers.{At, at_of, Reader, Fails}
 use Rattle.state_file.specs.Held.{Held, at_in, IsBytes, IsThere}
-use Rattle.state_file.specs.Pieces.{longer, rest_of, Stage, StillOpen, AtSeal, AtFault, stage, IsReading}
+use Rattle.state_file.specs.Pieces.{longer, rest_of, Stage, StillOpen, AtSeal, AtFault, stage, IsFed}
 
 -- a reading of what is there: the value, and the place behind it
 pub record Found {Y : Type 0} (h : Held) (y : Y) (place : ℕ) (read : Result (Y × At) StateFault) : Type 0 where
@@ -30,7 +30,7 @@ Stops Truncated rest at = rest at ≡ Err Truncated
 Stops fault rest at = (tail : List ℕ) → rest (longer at tail) ≡ Err fault
 
 abbrev pub KeepsOn : StateReader → StateReader → Type 0
-KeepsOn r s = (fed : List ℕ) → IsReading r fed → IsReading s fed
+KeepsOn r s = (fed : List ℕ) → IsFed r fed → IsFed s fed
 
 -- how many parts come behind one
 abbrev pub parts_behind : Part → ℕ
@@ -111,4 +111,4 @@ IsWanted AtFault rest size count = count ≡ 0
 
 -- with a piece more
 abbrev pub Takes : StateReader → List ℕ → StateReader → Type 0
-Takes r piece s = (fed : List ℕ) → IsReading r fed → IsReading s (fed ++ piece)
+Takes r piece s = (fed : List ℕ) → IsFed r fed → IsFed s (fed ++ piece)

@@ -10,7 +10,7 @@ ghost use Rattle.sha2.specs.Sha256.{sha256};
 ghost use Rattle.state_file.specs.Readers.{Gives, followed, counted};
 ghost use Rattle.state_file.specs.Reading.{compared, reading};
 ghost use Rattle.state_file.specs.Held.{at_in};
-ghost use Rattle.state_file.specs.Pieces.{IsFed, HasFailed, IsReading, Stage, StillOpen, stage, rest_of};
+ghost use Rattle.state_file.specs.Pieces.{IsFed, HasFailed, Stage, StillOpen, stage, rest_of};
 ghost use Rattle.state_file.specs.Steps.{IsList, Stops, StepsTo, Settles, Takes, IsSettled, IsWanted, behind_list};
 
 use crate::fault::StateFault;
@@ -508,7 +508,7 @@ impl StateReader {
     pub fn feed(&mut self, piece: &[u8]) -> Result<(), AllocError>
         requires piece { length piece.now ≤ 4096 }
         // These bytes come behind those that were fed before.
-        ensures fed { (fed : List ℕ) → IsFed self.old fed → IsFed self.new (fed ++ piece.now) }
+        ensures fed { OnOk result ((fed : List ℕ) → IsFed self.old fed → IsFed self.new (fed ++ piece.now)) }
         // From then on nothing is read.
         ensures wanting { OnErr result (HasFailed self.new) }
         ensures ever { HasFailed self.old → HasFailed self.new }
@@ -528,7 +528,7 @@ impl StateReader {
     // What was read says, or its fault.
     fn told(self) -> Result<Saved, StateFault>
         requires { IsSettled self }
-        ensures { (fed : List ℕ) → IsReading self fed → Gives state_in result (reading fed) }
+        ensures { (fed : List ℕ) → IsFed self fed → Gives state_in result (reading fed) }
     {
         match self.part {
             Part::Faulty(fault) => Err(fault),

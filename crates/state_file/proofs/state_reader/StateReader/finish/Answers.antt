@@ -8,15 +8,12 @@ use Rattle.state_file.proofs.state_reader.StateReader.finish.Goals as goal
 
 pub returns-clause-found : goal.returns-clause-found
 returns-clause-found c = λ fed is.
-    let it = is c.if-self.false in
-    is_found fed c.told.result it.bytes (c.told.ensures fed (c.in_ok-settle.ensures.keeps fed it))
+    is_found fed c.told.result is.bytes (c.told.ensures fed (c.in_ok-settle.ensures.keeps fed is))
 
 pub returns-clause-only : goal.returns-clause-only
 returns-clause-only c = λ fed is s valid e.
-    let it = is c.if-self.false in
-    subst (λ f. Gives state_in c.told.result f) (ap reading e ∙ reading_again s valid) (c.told.ensures fed (c.in_ok-settle.ensures.keeps fed it))
+    subst (λ f. Gives state_in c.told.result f) (ap reading e ∙ reading_again s valid) (c.told.ensures fed (c.in_ok-settle.ensures.keeps fed is))
 
 pub returns-clause-fits : goal.returns-clause-fits
 returns-clause-fits c = λ fed is.
-    let it = is c.if-self.false in
-    has_text fed c.told.result it.bytes (c.told.ensures fed (c.in_ok-settle.ensures.keeps fed it))
+    has_text fed c.told.result is.bytes (c.told.ensures fed (c.in_ok-settle.ensures.keeps fed is))

@@ -16,7 +16,7 @@ use Rattle.state_file.proofs.state_reader.StateReader.read_agenda.Goals as goal
 pub returns-in-Ok : goal.returns-in-Ok
 returns-in-Ok c =
     let r = c.args.self.now in
-    goes_on r _ Agenda FileCount c.in-Ok.place c.requires refl refl refl (omega arith) c.in-Ok.ensures.found.there c.pass_to.ensures
+    goes_on r _ Agenda FileCount c.in-Ok.place c.requires refl refl refl (omega arith) c.in-Ok.ensures.found.there c.pass_to.ensures refl
     (λ tail. ap (λ (z : Result (List SavedEvent × At) StateFault). followed (followed z (behind_agenda r.saved.cpu r.saved.words.items (map unit_in r.saved.units.items))) behind_machine) (moved agenda_is r.pending c.in-Ok.agenda.items c.in-Ok.place tail c.in-Ok.ensures.bytes c.in-Ok.ensures.found)
     ∙ ap (λ (z : Result (List FilePart × At) StateFault). followed z (behind_files (record { cpu = r.saved.cpu; words = r.saved.words.items; units = map unit_in r.saved.units.items; agenda = c.in-Ok.agenda.items }))) (opened_files (longer (at_of c.in-Ok.place (drop (c.in-Ok.place - r.pending.place) r.pending.rest)) tail)))
 

@@ -17,7 +17,7 @@ use Rattle.state_file.proofs.state_reader.StateReader.read_break.Goals as goal
 pub returns-in_ok-push-in-Ok : goal.returns-in_ok-push-in-Ok
 returns-in_ok-push-in-Ok c =
     let r = c.args.self.now in
-    goes_along r _ Breaks c.in-Ok.place c.requires.part refl refl c.requires.some refl c.in-Ok.ensures.found.found.there c.pass_to.ensures
+    goes_along r _ Breaks c.in-Ok.place c.requires.part refl refl c.requires.some refl c.in-Ok.ensures.found.found.there c.pass_to.ensures refl
     (λ tail. ap (λ (z : Result (List BreakPart × At) StateFault). followed (followed z behind_breaks) (behind_watch (state_in r.saved).machine (state_in r.saved).files (state_in r.saved).port)) (one_on (map break_in r.saved.breaks.items) break_at behind_break r.left r.address (longer (at_in r.pending) tail) (longer (at_of c.in-Ok.place (drop (c.in-Ok.place - r.pending.place) r.pending.rest)) tail) (break_in c.in-Ok.found) c.requires.some
     (moved (break_is r.address) r.pending (break_in c.in-Ok.found) c.in-Ok.place tail c.in-Ok.ensures.found.bytes c.in-Ok.ensures.found.found)
     ∙ ap (λ (l : List BreakPart). still l break_at behind_break (r.left - 1) (c.in-Ok.found.address + 1) (longer (at_of c.in-Ok.place (drop (c.in-Ok.place - r.pending.place) r.pending.rest)) tail)) (sym (ap (λ l. map break_in l) c.in_ok-push-in-Ok.ensures.items ∙ map_push break_in r.saved.breaks.items c.in-Ok.found))))

@@ -15,7 +15,7 @@ use Rattle.state_file.proofs.state_reader.StateReader.read_break_count.Goals as 
 pub returns-in-Ok : goal.returns-in-Ok
 returns-in-Ok c =
     let r = c.args.self.now in
-    goes_on r _ BreakCount Breaks c.in-Ok.place c.requires refl refl refl (omega (arith, c.from-self.type_inv)) c.in-Ok.ensures.found.there c.pass_to.ensures
+    goes_on r _ BreakCount Breaks c.in-Ok.place c.requires refl refl refl (omega (arith, c.from-self.type_inv)) c.in-Ok.ensures.found.there c.pass_to.ensures refl
     (λ tail. ap (λ (z : Result (ℕ × At) StateFault). followed (followed (followed z (λ count. chain break_at behind_break count 0)) behind_breaks) (behind_watch (state_in r.saved).machine (state_in r.saved).files (state_in r.saved).port)) (moved few_breaks r.pending c.in-Ok.count c.in-Ok.place tail c.in-Ok.ensures.bytes c.in-Ok.ensures.found)
     ∙ ap (λ (z : Result (List BreakPart × At) StateFault). followed (followed z behind_breaks) (behind_watch (state_in r.saved).machine (state_in r.saved).files (state_in r.saved).port)) (fresh (map break_in c.new.result.items) break_at behind_break c.in-Ok.count c.from-self.result 0 (longer (at_of c.in-Ok.place (drop (c.in-Ok.place - r.pending.place) r.pending.rest)) tail) (ap (λ l. map break_in l) c.new.ensures.items) c.from-self.ensures))
 

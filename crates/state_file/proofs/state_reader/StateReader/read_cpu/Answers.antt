@@ -15,7 +15,7 @@ use Rattle.state_file.proofs.state_reader.StateReader.read_cpu.Goals as goal
 pub returns-in-Ok : goal.returns-in-Ok
 returns-in-Ok c =
     let r = c.args.self.now in
-    goes_on r _ Cpu Words c.in-Ok.place c.requires refl refl refl (omega (arith, c.word_count-self.type_inv)) c.in-Ok.ensures.found.there c.pass_to.ensures
+    goes_on r _ Cpu Words c.in-Ok.place c.requires refl refl refl (omega (arith, c.word_count-self.type_inv)) c.in-Ok.ensures.found.there c.pass_to.ensures refl
     (λ tail. ap (λ (z : Result (SavedCpu × At) StateFault). followed (followed z behind_cpu) behind_machine) (moved cpu_is r.pending c.in-Ok.cpu c.in-Ok.place tail c.in-Ok.ensures.bytes c.in-Ok.ensures.found)
     ∙ ap (λ (z : Result (List ℕ × At) StateFault). followed (followed z (behind_words c.in-Ok.cpu)) behind_machine) (fresh c.new.result.items (alike (number w16)) unbound (1024 * c.in-Ok.cpu.size_k) c.word_count-self.result tt (longer (at_of c.in-Ok.place (drop (c.in-Ok.place - r.pending.place) r.pending.rest)) tail) c.new.ensures.items c.word_count-self.ensures))
 

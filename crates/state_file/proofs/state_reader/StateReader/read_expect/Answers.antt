@@ -17,7 +17,7 @@ use Rattle.state_file.proofs.state_reader.StateReader.read_expect.Goals as goal
 pub returns-in_ok-push-in-Ok : goal.returns-in_ok-push-in-Ok
 returns-in_ok-push-in-Ok c =
     let r = c.args.self.now in
-    goes_along r _ Expects c.in-Ok.place c.requires.part refl refl c.requires.some refl c.in-Ok.ensures.found.there c.pass_to.ensures
+    goes_along r _ Expects c.in-Ok.place c.requires.part refl refl c.requires.some refl c.in-Ok.ensures.found.there c.pass_to.ensures refl
     (λ tail. ap (λ (z : Result (List ExpectPart × At) StateFault). followed (followed z (behind_expects (map break_in r.saved.breaks.items))) (behind_watch (state_in r.saved).machine (state_in r.saved).files (state_in r.saved).port)) (one_on (map expect_in r.saved.expects.items) (alike expect_at) unbound r.left tt (longer (at_in r.pending) tail) (longer (at_of c.in-Ok.place (drop (c.in-Ok.place - r.pending.place) r.pending.rest)) tail) (expect_in c.in-Ok.expect) c.requires.some
     (moved expect_is r.pending (expect_in c.in-Ok.expect) c.in-Ok.place tail c.in-Ok.ensures.bytes c.in-Ok.ensures.found)
     ∙ ap (λ (l : List ExpectPart). still l (alike expect_at) unbound (r.left - 1) tt (longer (at_of c.in-Ok.place (drop (c.in-Ok.place - r.pending.place) r.pending.rest)) tail)) (sym (ap (λ l. map expect_in l) c.in_ok-push-in-Ok.ensures.items ∙ map_push expect_in r.saved.expects.items c.in-Ok.expect))))

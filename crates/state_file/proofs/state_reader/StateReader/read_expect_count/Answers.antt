@@ -15,7 +15,7 @@ use Rattle.state_file.proofs.state_reader.StateReader.read_expect_count.Goals as
 pub returns-in-Ok : goal.returns-in-Ok
 returns-in-Ok c =
     let r = c.args.self.now in
-    goes_on r _ ExpectCount Expects c.in-Ok.place c.requires refl refl refl (omega (arith, c.from-self.type_inv)) c.in-Ok.ensures.found.there c.pass_to.ensures
+    goes_on r _ ExpectCount Expects c.in-Ok.place c.requires refl refl refl (omega (arith, c.from-self.type_inv)) c.in-Ok.ensures.found.there c.pass_to.ensures refl
     (λ tail. ap (λ (z : Result (ℕ × At) StateFault). followed (followed (followed z (λ count. chain (alike expect_at) unbound count tt)) (behind_expects (map break_in r.saved.breaks.items))) (behind_watch (state_in r.saved).machine (state_in r.saved).files (state_in r.saved).port)) (moved few_expects r.pending c.in-Ok.count c.in-Ok.place tail c.in-Ok.ensures.bytes c.in-Ok.ensures.found)
     ∙ ap (λ (z : Result (List ExpectPart × At) StateFault). followed (followed z (behind_expects (map break_in r.saved.breaks.items))) (behind_watch (state_in r.saved).machine (state_in r.saved).files (state_in r.saved).port)) (fresh (map expect_in c.new.result.items) (alike expect_at) unbound c.in-Ok.count c.from-self.result tt (longer (at_of c.in-Ok.place (drop (c.in-Ok.place - r.pending.place) r.pending.rest)) tail) (ap (λ l. map expect_in l) c.new.ensures.items) c.from-self.ensures))
 

@@ -17,7 +17,7 @@ use Rattle.state_file.proofs.state_reader.StateReader.read_file.Goals as goal
 pub returns-in_ok-push-in-Ok : goal.returns-in_ok-push-in-Ok
 returns-in_ok-push-in-Ok c =
     let r = c.args.self.now in
-    goes_along r _ Files c.in-Ok.place c.requires.part refl refl c.requires.some refl c.in-Ok.ensures.found.found.there c.pass_to.ensures
+    goes_along r _ Files c.in-Ok.place c.requires.part refl refl c.requires.some refl c.in-Ok.ensures.found.found.there c.pass_to.ensures refl
     (λ tail. ap (λ (z : Result (List FilePart × At) StateFault). followed z (behind_files (state_in r.saved).machine)) (one_on (map file_in r.saved.attachments.items) file_at behind_file r.left (place_of r.file_position r.file_unit) (longer (at_in r.pending) tail) (longer (at_of c.in-Ok.place (drop (c.in-Ok.place - r.pending.place) r.pending.rest)) tail) (file_in c.in-Ok.file) c.requires.some
     (moved (file_is (place_of r.file_position r.file_unit)) r.pending (file_in c.in-Ok.file) c.in-Ok.place tail c.in-Ok.ensures.found.bytes c.in-Ok.ensures.found.found)
     ∙ ap (λ (l : List FilePart). still l file_at behind_file (r.left - 1) (place_of c.in-Ok.file.position (c.in-Ok.file.unit + 1)) (longer (at_of c.in-Ok.place (drop (c.in-Ok.place - r.pending.place) r.pending.rest)) tail)) (sym (ap (λ l. map file_in l) c.in_ok-push-in-Ok.ensures.items ∙ map_push file_in r.saved.attachments.items c.in-Ok.file))))

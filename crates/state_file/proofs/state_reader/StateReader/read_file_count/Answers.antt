@@ -15,7 +15,7 @@ use Rattle.state_file.proofs.state_reader.StateReader.read_file_count.Goals as g
 pub returns-in-Ok : goal.returns-in-Ok
 returns-in-Ok c =
     let r = c.args.self.now in
-    goes_on r _ FileCount Files c.in-Ok.place c.requires refl refl refl (omega (arith, c.from-self.type_inv)) c.in-Ok.ensures.found.there c.pass_to.ensures
+    goes_on r _ FileCount Files c.in-Ok.place c.requires refl refl refl (omega (arith, c.from-self.type_inv)) c.in-Ok.ensures.found.there c.pass_to.ensures refl
     (λ tail. ap (λ (z : Result (ℕ × At) StateFault). followed (followed z (λ count. chain file_at behind_file count (place_of 0 0))) (behind_files (state_in r.saved).machine)) (moved any_files r.pending c.in-Ok.count c.in-Ok.place tail c.in-Ok.ensures.bytes c.in-Ok.ensures.found)
     ∙ ap (λ (z : Result (List FilePart × At) StateFault). followed z (behind_files (state_in r.saved).machine)) (fresh (map file_in c.new.result.items) file_at behind_file c.in-Ok.count c.from-self.result (place_of 0 0) (longer (at_of c.in-Ok.place (drop (c.in-Ok.place - r.pending.place) r.pending.rest)) tail) (ap (λ l. map file_in l) c.new.ensures.items) c.from-self.ensures))
 

@@ -14,7 +14,7 @@ use Rattle.state_file.proofs.state_reader.StateReader.read_head.Goals as goal
 pub returns-in-Ok : goal.returns-in-Ok
 returns-in-Ok c =
     let r = c.args.self.now in
-    goes_on r _ Head Version c.in-Ok.place c.requires refl refl refl (omega arith) c.in-Ok.ensures.found.there c.pass_to.ensures
+    goes_on r _ Head Version c.in-Ok.place c.requires refl refl refl (omega arith) c.in-Ok.ensures.found.there c.pass_to.ensures refl
     (λ tail. opened_body (longer (at_in r.pending) tail) ∙ ap (λ (z : Result (List ℕ × At) StateFault). followed z (λ start. version_at >>= behind_version)) (moved head_is r.pending c.in-Ok.field-0-0 c.in-Ok.place tail c.in-Ok.ensures.bytes c.in-Ok.ensures.found))
 
 pub stopped-requires-clause-stops : goal.stopped-requires-clause-stops

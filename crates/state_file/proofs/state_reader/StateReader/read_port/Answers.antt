@@ -14,7 +14,7 @@ use Rattle.state_file.proofs.state_reader.StateReader.read_port.Goals as goal
 pub returns-in-Ok : goal.returns-in-Ok
 returns-in-Ok c =
     let r = c.args.self.now in
-    goes_on r _ Port BreakCount c.in-Ok.place c.requires refl refl refl (omega arith) c.in-Ok.ensures.found.there c.pass_to.ensures
+    goes_on r _ Port BreakCount c.in-Ok.place c.requires refl refl refl (omega arith) c.in-Ok.ensures.found.there c.pass_to.ensures refl
     (λ tail. ap (λ (z : Result (ℕ × At) StateFault). followed z (behind_port (state_in r.saved).machine (state_in r.saved).files)) (moved u16_is r.pending c.in-Ok.port c.in-Ok.place tail c.in-Ok.ensures.bytes c.in-Ok.ensures.found)
     ∙ ap (λ (z : Result (WatchPart × At) StateFault). followed z (behind_watch (state_in r.saved).machine (state_in r.saved).files c.in-Ok.port)) (opened_watch (longer (at_of c.in-Ok.place (drop (c.in-Ok.place - r.pending.place) r.pending.rest)) tail) ∙ ap (λ (z : Result (List BreakPart × At) StateFault). followed z behind_breaks) (opened_breaks (longer (at_of c.in-Ok.place (drop (c.in-Ok.place - r.pending.place) r.pending.rest)) tail))))
 

@@ -17,7 +17,7 @@ use Rattle.state_file.proofs.state_reader.StateReader.read_send.Goals as goal
 pub returns-in_ok-push-in-Ok : goal.returns-in_ok-push-in-Ok
 returns-in_ok-push-in-Ok c =
     let r = c.args.self.now in
-    goes_along r _ Sends c.in-Ok.place c.requires.part refl refl c.requires.some refl c.in-Ok.ensures.found.there c.pass_to.ensures
+    goes_along r _ Sends c.in-Ok.place c.requires.part refl refl c.requires.some refl c.in-Ok.ensures.found.there c.pass_to.ensures refl
     (λ tail. ap (λ (z : Result (List SavedSend × At) StateFault). followed (followed z (behind_sends (map break_in r.saved.breaks.items) (map expect_in r.saved.expects.items) r.saved.tail.items)) (behind_watch (state_in r.saved).machine (state_in r.saved).files (state_in r.saved).port)) (one_on r.saved.sends.items send_at behind_send r.left r.time (longer (at_in r.pending) tail) (longer (at_of c.in-Ok.place (drop (c.in-Ok.place - r.pending.place) r.pending.rest)) tail) c.in-Ok.send c.requires.some
     (moved (send_is r.time) r.pending c.in-Ok.send c.in-Ok.place tail c.in-Ok.ensures.bytes c.in-Ok.ensures.found)
     ∙ ap (λ (l : List SavedSend). still l send_at behind_send (r.left - 1) c.in-Ok.send.time (longer (at_of c.in-Ok.place (drop (c.in-Ok.place - r.pending.place) r.pending.rest)) tail)) (sym c.in_ok-push-in-Ok.ensures.items)))

@@ -16,7 +16,7 @@ use Rattle.state_file.proofs.state_reader.StateReader.read_send_count.Goals as g
 pub returns-in-Ok : goal.returns-in-Ok
 returns-in-Ok c =
     let r = c.args.self.now in
-    goes_on r _ SendCount Sends c.in-Ok.place c.requires refl refl refl (omega (arith, c.from-self.type_inv)) c.in-Ok.ensures.found.there c.pass_to.ensures
+    goes_on r _ SendCount Sends c.in-Ok.place c.requires refl refl refl (omega (arith, c.from-self.type_inv)) c.in-Ok.ensures.found.there c.pass_to.ensures refl
     (λ tail. ap (λ (z : Result (ℕ × At) StateFault). followed (followed (followed z (λ count. chain send_at behind_send count 0)) (behind_sends (map break_in r.saved.breaks.items) (map expect_in r.saved.expects.items) r.saved.tail.items)) (behind_watch (state_in r.saved).machine (state_in r.saved).files (state_in r.saved).port)) (moved few_sends r.pending c.in-Ok.count c.in-Ok.place tail c.in-Ok.ensures.bytes c.in-Ok.ensures.found)
     ∙ ap (λ (z : Result (List SavedSend × At) StateFault). followed (followed z (behind_sends (map break_in r.saved.breaks.items) (map expect_in r.saved.expects.items) r.saved.tail.items)) (behind_watch (state_in r.saved).machine (state_in r.saved).files (state_in r.saved).port)) (fresh c.new.result.items send_at behind_send c.in-Ok.count c.from-self.result 0 (longer (at_of c.in-Ok.place (drop (c.in-Ok.place - r.pending.place) r.pending.rest)) tail) c.new.ensures.items c.from-self.ensures))
 

@@ -16,7 +16,7 @@ use Rattle.state_file.proofs.state_reader.StateReader.read_tail.Goals as goal
 pub returns-in-Ok : goal.returns-in-Ok
 returns-in-Ok c =
     let r = c.args.self.now in
-    goes_on r _ Tail SendCount c.in-Ok.place c.requires refl refl refl (omega arith) c.in-Ok.ensures.found.there c.pass_to.ensures
+    goes_on r _ Tail SendCount c.in-Ok.place c.requires refl refl refl (omega arith) c.in-Ok.ensures.found.there c.pass_to.ensures refl
     (λ tail. ap (λ (z : Result (List ℕ × At) StateFault). followed (followed z (behind_tail (map break_in r.saved.breaks.items) (map expect_in r.saved.expects.items))) (behind_watch (state_in r.saved).machine (state_in r.saved).files (state_in r.saved).port)) (moved tail_is r.pending c.in-Ok.tail.items c.in-Ok.place tail c.in-Ok.ensures.bytes c.in-Ok.ensures.found)
     ∙ ap (λ (z : Result (List SavedSend × At) StateFault). followed (followed z (behind_sends (map break_in r.saved.breaks.items) (map expect_in r.saved.expects.items) c.in-Ok.tail.items)) (behind_watch (state_in r.saved).machine (state_in r.saved).files (state_in r.saved).port)) (opened_sends (longer (at_of c.in-Ok.place (drop (c.in-Ok.place - r.pending.place) r.pending.rest)) tail)))
 

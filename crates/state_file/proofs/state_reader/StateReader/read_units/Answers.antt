@@ -15,7 +15,7 @@ use Rattle.state_file.proofs.state_reader.StateReader.read_units.Goals as goal
 pub returns-in-Ok : goal.returns-in-Ok
 returns-in-Ok c =
     let r = c.args.self.now in
-    goes_on r _ Units Agenda c.in-Ok.place c.requires refl refl refl (omega arith) c.in-Ok.ensures.found.there c.pass_to.ensures
+    goes_on r _ Units Agenda c.in-Ok.place c.requires refl refl refl (omega arith) c.in-Ok.ensures.found.there c.pass_to.ensures refl
     (λ tail. ap (λ (z : Result (List UnitPart × At) StateFault). followed (followed z (behind_units r.saved.cpu r.saved.words.items)) behind_machine) (moved units_is r.pending (map unit_in c.in-Ok.units.items) c.in-Ok.place tail c.in-Ok.ensures.bytes c.in-Ok.ensures.found))
 
 pub stopped-requires-clause-stops : goal.stopped-requires-clause-stops

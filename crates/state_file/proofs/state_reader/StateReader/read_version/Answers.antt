@@ -14,7 +14,7 @@ use Rattle.state_file.proofs.state_reader.StateReader.read_version.Goals as goal
 pub returns-in-Ok : goal.returns-in-Ok
 returns-in-Ok c =
     let r = c.args.self.now in
-    goes_on r _ Version Cpu c.in-Ok.place c.requires refl refl refl (omega arith) c.in-Ok.ensures.found.there c.pass_to.ensures
+    goes_on r _ Version Cpu c.in-Ok.place c.requires refl refl refl (omega arith) c.in-Ok.ensures.found.there c.pass_to.ensures refl
     (λ tail. ap (λ (z : Result (ℕ × At) StateFault). followed z behind_version) (moved version_is r.pending c.in-Ok.field-0-0 c.in-Ok.place tail c.in-Ok.ensures.bytes c.in-Ok.ensures.found)
     ∙ ap (λ (z : Result (MachinePart × At) StateFault). followed z behind_machine) (opened_machine (longer (at_of c.in-Ok.place (drop (c.in-Ok.place - r.pending.place) r.pending.rest)) tail)))
 

@@ -14,7 +14,7 @@ use Rattle.state_file.proofs.state_reader.StateReader.read_word.Goals as goal
 pub returns-in_ok-push-in-Ok : goal.returns-in_ok-push-in-Ok
 returns-in_ok-push-in-Ok c =
     let r = c.args.self.now in
-    goes_along r _ Words c.in-Ok.place c.requires.part refl refl c.requires.some refl c.in-Ok.ensures.found.there c.pass_to.ensures
+    goes_along r _ Words c.in-Ok.place c.requires.part refl refl c.requires.some refl c.in-Ok.ensures.found.there c.pass_to.ensures refl
     (λ tail. ap (λ (z : Result (List ℕ × At) StateFault). followed (followed z (behind_words r.saved.cpu)) behind_machine) (one_on r.saved.words.items (alike (number w16)) unbound r.left tt (longer (at_in r.pending) tail) (longer (at_of c.in-Ok.place (drop (c.in-Ok.place - r.pending.place) r.pending.rest)) tail) c.in-Ok.word c.requires.some
     (moved u16_is r.pending c.in-Ok.word c.in-Ok.place tail c.in-Ok.ensures.bytes c.in-Ok.ensures.found)
     ∙ ap (λ (l : List ℕ). still l (alike (number w16)) unbound (r.left - 1) tt (longer (at_of c.in-Ok.place (drop (c.in-Ok.place - r.pending.place) r.pending.rest)) tail)) (sym c.in_ok-push-in-Ok.ensures.items)))
