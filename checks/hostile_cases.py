@@ -348,7 +348,8 @@ def state(chance, shared):
              "SHOW QUEUE", "SHOW TTI1", "SHOW TIME", "E STATE", "E MTA STATE", "STEP 200", "SAVE again", "DETACH ALL",
              "RESTORE again", "DETACH ALL", f"RESTORE {form}s"]
     case = Case(lines, ["-q", "-l", "2000", "-m", "500"], {**files, "s": content}, ["s"], [0, 104])
-    case.guest_bytes = 30
+    # Two hundred instructions print no more bytes.
+    case.guest_bytes = 200
     return case
 
 
@@ -461,7 +462,8 @@ def scripts(chance, shared):
     text = b"\n".join([*case.lines, *(it for it in files.values() if isinstance(it, bytes))]).upper()
     if not any(it in text for it in [b"AT", b"SA", b"DU"]):
         case.read = {"job", "inner"}
-    case.echoed = b"\n".join([*case.lines, *(it for it in files.values() if isinstance(it, bytes))])
+    held = [piece for it in files.values() for piece in (it.pieces.values() if isinstance(it, Sparse) else [it])]
+    case.echoed = b"\n".join([*case.lines, *held])
     case.guest_bytes = 4
     return case
 
