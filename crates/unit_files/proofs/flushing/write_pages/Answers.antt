@@ -1,13 +1,11 @@
-use Rattle.std.proofs.Common.{◌*◌, ◌-◌, List, take, refl, ap, sym, ◌∙◌, rules, arith, if◌then◌else◌}
-use Rattle.std.proofs.lemmas.List.{length-map}
+use Rattle.std.proofs.Common.{◌*◌, ◌-◌, length, take, drop, refl, ap, sym, ◌∙◌, rules, arith, if◌then◌else◌, false}
+use Rattle.std.proofs.lemmas.List.{get_or_read, length-take}
 use Rattle.host_files.specs.Lists.{changed, overwritten}
 use Rattle.host_files.specs.State.{Opened, name_at}
 use Rattle.unit_files.specs.Acts.{piece_of, written_pages}
 use Rattle.unit_files.specs.Buffer.{page_bytes, disk_pages}
-use Rattle.unit_files.specs.Pages.{PageState, joined, marks_in}
-use Rattle.unit_files.proofs.CopyPages.{bytes-there, mark-there, page-short, has-mark}
 use Rattle.unit_files.proofs.WrittenPages.{unchanged, page-written, page-failed, end-within, all-written, claimed}
-use Rattle.unit_files.proofs.flushing.write_copy.Goals as goal
+use Rattle.unit_files.proofs.flushing.write_pages.Goals as goal
 
 pub loop-page-init : goal.loop-page-init
 loop-page-init g c =
@@ -27,8 +25,8 @@ unfolding disk_pages page_bytes
 write_page-requires-clause-within g c =
     let all = c.requires.pages in
     let low = c.loop-page-test.true in
-    let short = page-short c.args.pages.now c.loop-page.page c.index-pages-page.result c.requires.are low c.index-pages-page.is in
-    omega (arith, all, low, short)
+    let long = ap length c.page_at.ensures ∙ length-take 4096 (drop (c.loop-page.page * 4096) c.args.bytes.now) in
+    omega (arith, all, low, long)
 
 pub loop-page-preserved : goal.loop-page-preserved
 unfolding page_bytes
@@ -37,17 +35,17 @@ loop-page-preserved g c =
     let old = g.F.Files.state c.args.files.now in
     let mid = g.F.Files.state c.loop-page.files in
     let new = g.F.Files.state c.write_page.new.files in
-    let pages = c.args.pages.now in
+    let marks = c.args.marks.now in
     let page = c.loop-page.page in
-    let p : PageState = c.index-pages-page.result in
+    let piece = c.page_at.result.now in
     let low = c.loop-page-test.true in
     let name = name_at old.opened c.args.file.0 in
     let same = ap (λ (o : List Opened). name_at o c.args.file.0) inv.«opened» in
-    let mark = mark-there pages page p c.requires.are low c.index-pages-page.is in
+    let mark = get_or_read marks page c.index-marks-page.result low c.index-marks-page.is false in
     record {
-      files = page-written (marks_in pages) (joined pages) page (has-mark pages page p c.requires.are low c.index-pages-page.is) old.files mid.files new.files
-          name (name_at mid.opened c.args.file.0) p.bytes (page * 4096) same refl (bytes-there pages page p c.requires.are low c.index-pages-page.is) inv.files
-          (c.in-Ok.ensures.files ∙ (λ i. changed mid.files (name_at mid.opened c.args.file.0) (λ was. if mark i then overwritten was (page * 4096) p.bytes else was)));
+      files = page-written marks c.args.bytes.now page low old.files mid.files new.files
+          name (name_at mid.opened c.args.file.0) piece (page * 4096) same refl c.page_at.ensures inv.files
+          (c.in-Ok.ensures.files ∙ (λ i. changed mid.files (name_at mid.opened c.args.file.0) (λ was. if mark i then overwritten was (page * 4096) piece else was)));
       opened = c.in-Ok.ensures.«opened» ∙ inv.«opened»;
       quiet = record {
         counts = c.in-Ok.ensures.cause.counts ∙ inv.quiet.counts;
@@ -63,20 +61,20 @@ returns-in-Err-clause-files g c =
     let old = g.F.Files.state c.args.files.now in
     let mid = g.F.Files.state c.loop-page.files in
     let new = g.F.Files.state c.write_page.new.files in
-    let pages = c.args.pages.now in
+    let marks = c.args.marks.now in
     let page = c.loop-page.page in
-    let p : PageState = c.index-pages-page.result in
+    let piece = c.page_at.result.now in
     let low = c.loop-page-test.true in
     let name = name_at old.opened c.args.file.0 in
     let same = ap (λ (o : List Opened). name_at o c.args.file.0) inv.«opened» in
-    let mark = mark-there pages page p c.requires.are low c.index-pages-page.is in
+    let mark = get_or_read marks page c.index-marks-page.result low c.index-marks-page.is false in
     let f = c.in-Err.fault in
     let done = c.in-Err.ensures.done in
-    page-failed (marks_in pages) (joined pages) page (has-mark pages page p c.requires.are low c.index-pages-page.is) old.files mid.files new.files
-    name (name_at mid.opened c.args.file.0) p.bytes (page * 4096) same refl (bytes-there pages page p c.requires.are low c.index-pages-page.is) inv.files
+    page-failed marks c.args.bytes.now page low old.files mid.files new.files
+    name (name_at mid.opened c.args.file.0) piece (page * 4096) same refl c.page_at.ensures inv.files
     f.done (sym mark ∙ done.0) done.2 done.3
-    (c.in-Err.ensures.files ∙ (λ i. changed mid.files (name_at mid.opened c.args.file.0) (λ was. if mark i then overwritten was (page * 4096) (take (f.done - page * 4096) p.bytes) else was)))
-    ∙ (λ i. changed old.files name (written_pages (marks_in pages) 0 (piece_of (sym (claimed f c.in-Err.ensures.cause.0) i) (joined pages))))
+    (c.in-Err.ensures.files ∙ (λ i. changed mid.files (name_at mid.opened c.args.file.0) (λ was. if mark i then overwritten was (page * 4096) (take (f.done - page * 4096) piece) else was)))
+    ∙ (λ i. changed old.files name (written_pages marks 0 (piece_of (sym (claimed f c.in-Err.ensures.cause.0) i) c.args.bytes.now)))
 
 pub returns-in-Err-clause-part : goal.returns-in-Err-clause-part
 unfolding page_bytes
@@ -85,15 +83,13 @@ returns-in-Err-clause-part g c =
     let old = g.F.Files.state c.args.files.now in
     let mid = g.F.Files.state c.loop-page.files in
     let new = g.F.Files.state c.write_page.new.files in
-    let pages = c.args.pages.now in
     let page = c.loop-page.page in
-    let p : PageState = c.index-pages-page.result in
     let low = c.loop-page-test.true in
     let same = ap (λ (o : List Opened). name_at o c.args.file.0) inv.«opened» in
     let done = c.in-Err.ensures.done in
-    end-within (marks_in pages) (joined pages) page (has-mark pages page p c.requires.are low c.index-pages-page.is) old.files mid.files new.files
-    (name_at old.opened c.args.file.0) (name_at mid.opened c.args.file.0) p.bytes (page * 4096) same refl
-    (bytes-there pages page p c.requires.are low c.index-pages-page.is) inv.files c.in-Err.fault.done done.1 done.3
+    end-within c.args.marks.now c.args.bytes.now page low old.files mid.files new.files
+    (name_at old.opened c.args.file.0) (name_at mid.opened c.args.file.0) c.page_at.result.now (page * 4096) same refl
+    c.page_at.ensures inv.files c.in-Err.fault.done done.1 done.3
 
 pub returns-clause-files : goal.returns-clause-files
 returns-clause-files g c =
@@ -101,5 +97,5 @@ returns-clause-files g c =
     let old = g.F.Files.state c.args.files.now in
     let new = g.F.Files.state c.loop-page.files in
     let end = c.loop-page-test.false in
-    all-written (marks_in c.args.pages.now) (joined c.args.pages.now) c.loop-page.page old.files new.files (name_at old.opened c.args.file.0)
-    (omega (arith, end, length-map c.args.pages.now (λ (p : PageState). p.marked))) inv.files
+    all-written c.args.marks.now c.args.bytes.now c.loop-page.page old.files new.files (name_at old.opened c.args.file.0)
+    (omega (arith, end)) inv.files
