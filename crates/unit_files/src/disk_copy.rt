@@ -12,7 +12,7 @@ use std::alloc::{AllocError, Global};
 pub(crate) const PAGE_BYTES: usize = 4096;
 
 /// How many pages the disk has.
-pub(crate) const DISK_PAGES: usize = 1024;
+const DISK_PAGES: usize = 1024;
 
 /// The disk's copy of its file: its bytes, with room for all that the disk has, in one piece of memory; a mark for each
 /// page, where something was written in it; and whether a sector was written that is not written back yet. No bytes and

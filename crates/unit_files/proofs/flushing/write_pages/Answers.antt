@@ -1,4 +1,4 @@
-use Rattle.std.proofs.Common.{◌*◌, ◌-◌, length, take, drop, refl, ap, sym, ◌∙◌, rules, arith, if◌then◌else◌, false}
+use Rattle.std.proofs.Common.{◌*◌, ◌-◌, List, length, take, drop, refl, ap, sym, ◌∙◌, rules, arith, if◌then◌else◌, false}
 use Rattle.std.proofs.lemmas.List.{get_or_read, length-take}
 use Rattle.host_files.specs.Lists.{changed, overwritten}
 use Rattle.host_files.specs.State.{Opened, name_at}
@@ -16,16 +16,16 @@ loop-page-init g c =
       quiet = search rules;
     }
 
-pub overflow_mul-page : goal.overflow_mul-page
+pub overflow_mul-place : goal.overflow_mul-place
 unfolding disk_pages
-overflow_mul-page g c = let all = c.requires.pages in let low = c.loop-page-test.true in omega (arith, all, low)
+overflow_mul-place g c = let all = c.requires.pages in let low = c.loop-page-test.true in omega (arith, all, low)
 
 pub write_page-requires-clause-within : goal.write_page-requires-clause-within
 unfolding disk_pages page_bytes
 write_page-requires-clause-within g c =
     let all = c.requires.pages in
     let low = c.loop-page-test.true in
-    let long = ap length c.page_at.ensures ∙ length-take 4096 (drop (c.loop-page.page * 4096) c.args.bytes.now) in
+    let long = ap length c.page_at-piece.ensures ∙ length-take 4096 (drop (c.loop-page.page * 4096) c.args.bytes.now) in
     omega (arith, all, low, long)
 
 pub loop-page-preserved : goal.loop-page-preserved
@@ -37,15 +37,14 @@ loop-page-preserved g c =
     let new = g.F.Files.state c.write_page.new.files in
     let marks = c.args.marks.now in
     let page = c.loop-page.page in
-    let piece = c.page_at.result.now in
+    let piece = c.page_at-piece.result.now in
     let low = c.loop-page-test.true in
     let name = name_at old.opened c.args.file.0 in
     let same = ap (λ (o : List Opened). name_at o c.args.file.0) inv.«opened» in
-    let mark = get_or_read marks page c.index-marks-page.result low c.index-marks-page.is false in
     record {
       files = page-written marks c.args.bytes.now page low old.files mid.files new.files
-          name (name_at mid.opened c.args.file.0) piece (page * 4096) same refl c.page_at.ensures inv.files
-          (c.in-Ok.ensures.files ∙ (λ i. changed mid.files (name_at mid.opened c.args.file.0) (λ was. if mark i then overwritten was (page * 4096) piece else was)));
+          name (name_at mid.opened c.args.file.0) piece (page * 4096) same refl c.page_at-piece.ensures inv.files
+          c.in-Ok.ensures.files;
       opened = c.in-Ok.ensures.«opened» ∙ inv.«opened»;
       quiet = record {
         counts = c.in-Ok.ensures.cause.counts ∙ inv.quiet.counts;
@@ -63,17 +62,15 @@ returns-in-Err-clause-files g c =
     let new = g.F.Files.state c.write_page.new.files in
     let marks = c.args.marks.now in
     let page = c.loop-page.page in
-    let piece = c.page_at.result.now in
+    let piece = c.page_at-piece.result.now in
     let low = c.loop-page-test.true in
     let name = name_at old.opened c.args.file.0 in
     let same = ap (λ (o : List Opened). name_at o c.args.file.0) inv.«opened» in
-    let mark = get_or_read marks page c.index-marks-page.result low c.index-marks-page.is false in
     let f = c.in-Err.fault in
     let done = c.in-Err.ensures.done in
     page-failed marks c.args.bytes.now page low old.files mid.files new.files
-    name (name_at mid.opened c.args.file.0) piece (page * 4096) same refl c.page_at.ensures inv.files
-    f.done (sym mark ∙ done.0) done.2 done.3
-    (c.in-Err.ensures.files ∙ (λ i. changed mid.files (name_at mid.opened c.args.file.0) (λ was. if mark i then overwritten was (page * 4096) (take (f.done - page * 4096) piece) else was)))
+    name (name_at mid.opened c.args.file.0) piece (page * 4096) same refl c.page_at-piece.ensures inv.files
+    f.done done.0 done.2 done.3 c.in-Err.ensures.files
     ∙ (λ i. changed old.files name (written_pages marks 0 (piece_of (sym (claimed f c.in-Err.ensures.cause.0) i) c.args.bytes.now)))
 
 pub returns-in-Err-clause-part : goal.returns-in-Err-clause-part
@@ -88,8 +85,8 @@ returns-in-Err-clause-part g c =
     let same = ap (λ (o : List Opened). name_at o c.args.file.0) inv.«opened» in
     let done = c.in-Err.ensures.done in
     end-within c.args.marks.now c.args.bytes.now page low old.files mid.files new.files
-    (name_at old.opened c.args.file.0) (name_at mid.opened c.args.file.0) c.page_at.result.now (page * 4096) same refl
-    c.page_at.ensures inv.files c.in-Err.fault.done done.1 done.3
+    (name_at old.opened c.args.file.0) (name_at mid.opened c.args.file.0) c.page_at-piece.result.now (page * 4096) same refl
+    c.page_at-piece.ensures inv.files c.in-Err.fault.done done.1 done.3
 
 pub returns-clause-files : goal.returns-clause-files
 returns-clause-files g c =

@@ -1,5 +1,5 @@
-use Rattle.std.proofs.Common.{◌≡◌, List, Bool, ℕ, length, ap, sym, ◌∙◌, arith, rules}
-use Rattle.unit_files.specs.Buffer.{disk_bytes, disk_pages, sector_bytes, with_marks}
+use Rattle.std.proofs.Common.{◌≡◌, ◌*◌, List, Bool, ℕ, length, min, ap, sym, ◌∙◌, arith, rules}
+use Rattle.unit_files.specs.Buffer.{disk_bytes, disk_pages, sector_bytes, page_of, marked, with_marks}
 use Rattle.unit_files.proofs.Copies.{sector-short}
 use Rattle.unit_files.proofs.Marks.{marks-all, sector-marks-long}
 use Rattle.unit_files.proofs.disk_copy.DiskCopy.write.Goals as goal
@@ -23,9 +23,11 @@ pub returns-clause-marks : goal.returns-clause-marks
 unfolding sector_bytes
 returns-clause-marks c =
     let old = c.args.self.now in
+    let all : c.len.result ≡ length old.bytes.items = search rules in
     let long =
     ap length c.mark_pages.ensures
     ∙ sector-marks-long c.len.result c.args.sector old.marks.items c.requires.sector c.requires.copy.pages in
     marks-all c.mark_pages.new.marks.items long
     ∙ c.mark_pages.ensures
+    ∙ ap (λ (n : ℕ). marked (page_of (min n (c.args.sector * sector_bytes))) (page_of (c.args.sector * sector_bytes)) old.marks.items) all
     ∙ ap (λ (l : List Bool). with_marks old.bytes.items c.args.sector l) (sym (marks-all old.marks.items c.requires.copy.pages))
