@@ -1,4 +1,4 @@
-use Rattle.std.proofs.Common.{◌≡◌, ◌-◌, ℕ, List, length, take, drop, min, ap, ◌∙◌, rules}
+use Rattle.std.proofs.Common.{length, drop, min, rules}
 use Rattle.std.proofs.lemmas.List.{take_min}
 use Rattle.unit_files.specs.Buffer.{page_bytes}
 use Rattle.unit_files.proofs.Sectors.{behind-place}

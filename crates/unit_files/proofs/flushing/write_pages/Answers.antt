@@ -1,6 +1,6 @@
-use Rattle.std.proofs.Common.{◌*◌, ◌-◌, List, length, take, drop, refl, ap, sym, ◌∙◌, rules, arith, if◌then◌else◌, false}
-use Rattle.std.proofs.lemmas.List.{get_or_read, length-take}
-use Rattle.host_files.specs.Lists.{changed, overwritten}
+use Rattle.std.proofs.Common.{◌*◌, List, length, drop, refl, ap, sym, ◌∙◌, rules, arith}
+use Rattle.std.proofs.lemmas.List.{length-take}
+use Rattle.host_files.specs.Lists.{changed}
 use Rattle.host_files.specs.State.{Opened, name_at}
 use Rattle.unit_files.specs.Acts.{piece_of, written_pages}
 use Rattle.unit_files.specs.Buffer.{page_bytes, disk_pages}

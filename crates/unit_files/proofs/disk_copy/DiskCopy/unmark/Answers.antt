@@ -1,4 +1,4 @@
-use Rattle.std.proofs.Common.{◌≡◌, false, length, replicate, refl, ap, ◌∙◌}
+use Rattle.std.proofs.Common.{false, length, replicate, refl, ap, ◌∙◌}
 use Rattle.std.proofs.lemmas.List.{length-replicate}
 use Rattle.unit_files.specs.Buffer.{disk_pages}
 use Rattle.unit_files.proofs.Marks.{marks-all}
