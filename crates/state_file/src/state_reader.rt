@@ -1,5 +1,5 @@
 // A state file that is read as it comes.
-ghost use Rattle.std.specs.Prelude.{◌≡◌, ◌≤◌, ◌<◌, ◌*◌, ◌^◌, ◌++◌, ℕ, List, [], Bool, true, false, Ok, Err, IfOk, OnErr, OnOk, length};
+ghost use Rattle.std.specs.Prelude.{◌≡◌, ◌≤◌, ◌<◌, ◌*◌, ◌^◌, ◌++◌, ℕ, List, [], Bool, true, false, Ok, Err, IfOk, IsErr, OnErr, OnOk, length};
 ghost use Rattle.state_file.specs.declared.state_reader.Part.{Part};
 ghost use Rattle.state_file.specs.declared.fault.StateFault.TheVariants.{OutOfMemory};
 ghost use Rattle.state_file.specs.Parts.{State, state_in};
@@ -509,9 +509,10 @@ impl StateReader {
         requires piece { length piece.now ≤ 4096 }
         // These bytes come behind those that were fed before.
         ensures fed { OnOk result ((fed : List ℕ) → IsFed self.old fed → IsFed self.new (fed ++ piece.now)) }
-        // From then on nothing is read.
+        // From then on nothing is read, and each further piece is refused.
         ensures wanting { OnErr result (HasFailed self.new) }
         ensures ever { HasFailed self.old → HasFailed self.new }
+        ensures refused { HasFailed self.old → IsErr result }
     {
         if self.failed {
             return Err(AllocError);

@@ -1,5 +1,5 @@
 -- The disk's copy of its file, where something is attached or detached.
-use Rattle.std.proofs.Common.{◌≡◌, ℕ, ◌<◌, ◌≤◌, Bool, true, false, IsTrue, List, [], ◌∷◌, get_or, length, set, refl, sym, ◌∙◌, arith}
+use Rattle.std.proofs.Common.{◌≡◌, ℕ, ◌*◌, ◌<◌, ◌≤◌, Bool, true, false, IsTrue, List, [], ◌∷◌, get_or, length, set, refl, sym, ◌∙◌, arith}
 use Rattle.std.proofs.Common.{Option, Some, None, Err, ap, zero, suc, replicate}
 use Rattle.std.proofs.lemmas.Bool.Decides.{nat_tests}
 use Rattle.std.proofs.lemmas.List.{get_or-set_other}
@@ -11,12 +11,12 @@ use Rattle.unit_files.specs.declared.faults.DetachFault.{DetachFault}
 use Rattle.unit_files.specs.declared.faults.DetachFault.TheVariants as faults
 use Rattle.unit_files.specs.Attachments.{Attachment, Held, held_at, file_place, file_units, no_files, takes_attachment, is_disk, longest_file, is_any_attached, attachments_of}
 use Rattle.unit_files.specs.Attachments.{read_only_of, read_only_at, attachment_at}
-use Rattle.unit_files.specs.Buffer.{Buffer, AttachedFiles, nothing_attached, no_marks, disk_bytes}
-use Rattle.unit_files.specs.Pages.{joined, marks_of}
+use Rattle.unit_files.specs.Buffer.{Buffer, AttachedFiles, nothing_attached, no_marks, sector_bytes, disk_sectors, disk_bytes, with_sector}
 use Rattle.unit_files.specs.Acts.{Failure, HasNone, flush_said, flush_failure, flushed_as, detached_by}
 use Rattle.unit_files.specs.Answers.{said_of_flush, said_of_detach}
-use Rattle.unit_files.specs.View.{CanWrite, IsCopy, IsNewCopy, buffer_of}
-use Rattle.unit_files.proofs.CopyPages.{marks-none}
+use Rattle.unit_files.specs.View.{CanWrite, IsCopy, IsNewCopy, buffer_of, marks_of}
+use Rattle.unit_files.proofs.Marks.{marks-none}
+use Rattle.unit_files.proofs.Overwriting.{over-long}
 
 -- the first place is the disk's, and no other unit's
 first-of : (k : Kind) (n : ℕ) → is_disk k ≡ true → IsTrue (takes_attachment (record { kind = k; unit = n }))
@@ -73,22 +73,22 @@ emptied [] = refl
 emptied (x ∷ slots) = refl
 
 -- where there is no copy, no page is marked
-pub no-pages : (d : DiskCopy) → d.pages.items ≡ [] → marks_of d.pages.items ≡ no_marks
+pub no-pages : (d : DiskCopy) → d.marks.items ≡ [] → marks_of d.marks.items ≡ no_marks
 no-pages d none = ap marks_of none ∙ marks-none
 
 -- no file is attached to the disk
 pub can-none : (slots after : List (Option Held)) (unit : UnitName) (d : DiskCopy) → is_disk unit.kind ≡ true
-    → IsTrue (takes_attachment unit) → after ≡ set slots (file_place unit) None → d.pages.items ≡ [] → d.written ≡ false
-    → CanWrite after d
-can-none slots after unit d is takes set_is empty unwritten =
+    → IsTrue (takes_attachment unit) → after ≡ set slots (file_place unit) None → d.bytes.items ≡ [] → d.marks.items ≡ []
+    → d.written ≡ false → CanWrite after d
+can-none slots after unit d is takes set_is empty unmarked unwritten =
     let first = first-of unit.kind unit.unit is takes in
     let none : get_or after 0 None ≡ None =
     (λ i. get_or (set_is i) 0 None) ∙ (λ i. get_or (set slots (first i) None) 0 None) ∙ emptied slots in
     record {
       copy = λ h there. absurd (some-none h _ there none);
       writable = λ h there written. absurd (some-none h _ there none);
-      none = λ _. (empty, unwritten);
-      unmarked = λ _. no-pages d empty;
+      none = λ _. (empty, unmarked, unwritten);
+      unmarked = λ _. no-pages d unmarked;
     }
 
 -- there is a copy of the disk's file
@@ -118,6 +118,14 @@ unfolding longest_file disk_bytes
 copy-fits kind count =
     every-kind (λ (k : Kind). is_disk k ≡ true → count ≤ longest_file k → count ≤ disk_bytes)
     ((λ is short. omega (arith, short)), (λ is short. absurd (cc)), (λ is short. absurd (cc)), (λ is short. absurd (cc)), (λ is short. absurd (cc)), (λ is short. absurd (cc)), (λ is short. absurd (cc)), (λ is short. absurd (cc)), (λ is short. absurd (cc)), (λ is short. absurd (cc)), (λ is short. absurd (cc))) kind
+
+-- the copy has no more bytes than the disk once a sector was written
+pub sector-short : (bytes piece : List ℕ) (sector : ℕ) → sector < disk_sectors → length piece ≡ sector_bytes
+    → length bytes ≤ disk_bytes → length (with_sector bytes sector piece) ≤ disk_bytes
+unfolding with_sector sector_bytes disk_sectors disk_bytes
+sector-short bytes piece sector below long short =
+    let all = over-long bytes (sector * sector_bytes) piece (omega (arith, long)) in
+    omega (arith, all, below, long, short)
 
 -- ---- where nothing was attached, nothing is taken away
 
@@ -159,6 +167,5 @@ pub nothing-there : (slots : List (Option Held)) (d : DiskCopy) → is_any_attac
 nothing-there slots d none all can =
     let free : slots ≡ no_files = free-are slots none ∙ ap (λ (n : ℕ). replicate n None) all in
     let copy = can.none (ap (λ (l : List (Option Held)). get_or l 0 None) free) in
-    let bytes = ap joined copy.0 in
-    let unmarked = no-pages d copy.0 in
-    λ i. record { slots = free i; disk = record { bytes = bytes i; written = copy.1 i; marks = unmarked i } }
+    let unmarked = no-pages d copy.1 in
+    λ i. record { slots = free i; disk = record { bytes = copy.0 i; written = copy.2 i; marks = unmarked i } }

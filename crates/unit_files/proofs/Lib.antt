@@ -13,5 +13,3 @@ pub mod Pages
 pub mod Marks
 pub mod PageLaws
 pub mod WrittenPages
-pub mod CopyPages
-pub mod ReadPages

@@ -1,9 +1,10 @@
 -- Pages are marked where a sector is written.
-use Rattle.std.proofs.Common.{◌≡◌, ◌<◌, ◌≤◌, ◌+◌, ◌-◌, ◌*◌, ◌%◌, ◌⊎◌, ℕ, Bool, true, false, List, ◌++◌, length, get_or, take, drop, replicate, inl, inr, ap, sym, ◌∙◌, arith}
+use Rattle.std.proofs.Common.{◌≡◌, ◌<◌, ◌≤◌, ◌+◌, ◌-◌, ◌*◌, ◌%◌, ◌⊎◌, ℕ, Bool, true, false, List, [], ◌++◌, length, get_or, take, drop, min, replicate, inl, inr, ap, sym, ◌∙◌, arith, append-nil}
 use Rattle.std.proofs.lemmas.Bool.{cases_lt}
 use Rattle.std.proofs.lemmas.List.{get_or-drop, get_or-take, get_or_append_left, get_or-append_right, get_or-replicate, length-append, length-drop, length-replicate, length-take-le}
 use Rattle.std.proofs.lemmas.Nat.{div-add-mod', mod_below, div-mul-add}
-use Rattle.unit_files.specs.Buffer.{page_bytes, disk_pages, sector_bytes, disk_sectors, page_of, marked}
+use Rattle.unit_files.specs.Buffer.{page_bytes, disk_pages, no_marks, sector_bytes, disk_sectors, page_of, marked}
+use Rattle.unit_files.specs.View.{marks_of}
 
 pub page-some : 0 < page_bytes
 unfolding page_bytes
@@ -30,11 +31,6 @@ pub sector-some : 0 < sector_bytes
 unfolding sector_bytes
 sector-some = omega arith
 
--- and ends in it
-pub sector-fits : (sector : ℕ) → (sector * sector_bytes) % page_bytes + sector_bytes ≤ page_bytes
-unfolding page_bytes sector_bytes
-sector-fits sector = omega arith
-
 pub sector-below : (sector : ℕ) → sector < disk_sectors → page_of (sector * sector_bytes) < disk_pages
 unfolding page_of page_bytes sector_bytes disk_sectors disk_pages
 sector-below sector below = omega (arith, below)
@@ -42,6 +38,15 @@ sector-below sector below = omega (arith, below)
 pub page-order : (i j : ℕ) → i ≤ j → page_of i ≤ page_of j
 unfolding page_of page_bytes
 page-order i j order = omega (arith, order)
+
+-- a copy with a mark for each page has these marks, and one without marks has none of its pages marked
+pub marks-all : (marks : List Bool) → length marks ≡ disk_pages → marks_of marks ≡ marks
+marks-all marks all =
+    let none : disk_pages - length marks ≡ 0 = omega (arith, all) in
+    ap (λ (n : ℕ). marks ++ replicate n false) none ∙ append-nil marks
+
+pub marks-none : marks_of [] ≡ no_marks
+marks-none = ap (λ (n : ℕ). replicate n false) {x = disk_pages - 0} {y = disk_pages} (omega arith)
 
 module _ (first last : ℕ) (marks : List Bool) (order : first ≤ last) (below : last < length marks) where
   front-long : length (take first marks) ≡ first
@@ -90,3 +95,11 @@ module _ (first last : ℕ) (marks : List Bool) (order : first ≤ last) (below 
       | inr to ↦ let is = marked-in page from to in absurd (cc)
     ]
   ]
+
+-- there is still a mark for each page once a sector was written
+pub sector-marks-long : (count sector : ℕ) (marks : List Bool) → sector < disk_sectors → length marks ≡ disk_pages
+    → length (marked (page_of (min count (sector * sector_bytes))) (page_of (sector * sector_bytes)) marks) ≡ disk_pages
+sector-marks-long count sector marks below all =
+    let low = sector-below sector below in
+    marked-long (page_of (min count (sector * sector_bytes))) (page_of (sector * sector_bytes)) marks
+    (page-order (min count (sector * sector_bytes)) (sector * sector_bytes) (omega arith)) (omega (arith, low, all)) ∙ all

@@ -1,6 +1,5 @@
 pub mod Attachments
 pub mod Buffer
-pub mod Pages
 pub mod Acts
 pub mod Answers
 pub mod Open

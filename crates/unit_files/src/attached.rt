@@ -4,7 +4,6 @@ ghost use Rattle.host_files.specs.Lists.{bytes_of};
 ghost use Rattle.host_files.specs.State.{Opened, IsOpen, without};
 ghost use Rattle.unit_files.specs.Attachments.{held_at, with_held, attachments_of, with_attachment, is_disk};
 ghost use Rattle.unit_files.specs.Buffer.{nothing_attached, no_buffer, no_marks};
-ghost use Rattle.unit_files.specs.Pages.{joined};
 ghost use Rattle.unit_files.specs.Attachments.{attachment_at, takes_attachment, may_write, read_only_at, only_writes};
 ghost use Rattle.unit_files.specs.Attachments.{longest_file, file_place, IsFileName, HaveFileNames, is_any_attached};
 ghost use Rattle.unit_files.specs.Acts.{attach_said, attach_files, attached_by, buffer_by, refused_first};
@@ -197,7 +196,7 @@ impl Attached {
         match self.held_file(unit) {
             None => Err(DetachFault::NotAttached),
             Some(_) if !self.is_due_back(unit) => Ok(()),
-            Some(file) => match write_copy(unit, file, self.disk.pages.as_slice(), files) {
+            Some(file) => match write_copy(unit, file, &self.disk, files) {
                 Ok(()) => {
                     self.disk.unmark();
                     Ok(())
@@ -327,7 +326,7 @@ impl Attached {
         ensures attachments { attachments_of self.new.slots
             ≡ with_attachment (attachments_of self.old.slots) unit (Some (held_of held).attachment) }
         ensures disk { self.new.disk ≡ (if is_disk unit.kind
-            then record { bytes = joined copy.pages.items; written = false; marks = no_marks } else self.old.disk) }
+            then record { bytes = copy.bytes.items; written = false; marks = no_marks } else self.old.disk) }
     {
         self.slots[place_of(unit)] = Some(held);
         if is_disk(unit.kind) {

@@ -11,7 +11,6 @@ mod flushing;
 pub mod laws;
 pub mod modes;
 mod opening;
-mod page;
 mod reading;
 mod slots;
 

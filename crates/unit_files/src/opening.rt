@@ -6,7 +6,6 @@ ghost use Rattle.unit_files.specs.declared.modes.AttachMode.TheVariants.{Any};
 ghost use Rattle.unit_files.specs.Attachments.{longest_file, is_disk};
 ghost use Rattle.unit_files.specs.Acts.{failure_at, measured, opening_said};
 ghost use Rattle.unit_files.specs.Acts.{files_unless_opening};
-ghost use Rattle.unit_files.specs.Pages.{joined};
 ghost use Rattle.unit_files.specs.View.{IsEmptyCopy, IsNewCopy};
 ghost use Rattle.unit_files.specs.Answers.{said_of_attach, failure_of_attach, first_refusal, IfNoMemory};
 ghost use Rattle.unit_files.specs.Causes.{AttachCause, OnlyNewCounts};
@@ -130,7 +129,7 @@ fn measure_and_read<F: Files>(
         ≡ measured (failure_of_attach result) unit (length (content (F.state files.old) file.0))) }
     ensures bound { IfOk result (λ n. n ≤ longest_file unit.kind) }
     ensures bytes { IsTrue F.tells → IsTrue (is_disk unit.kind)
-        → OnOk result (joined copy.new.pages.items ≡ content (F.state files.old) file.0) }
+        → OnOk result (copy.new.bytes.items ≡ content (F.state files.old) file.0) }
     ensures copy { IsTrue (is_disk unit.kind) → OnOk result (IsNewCopy copy.new) }
     ensures cause { MeasureCause result unit file (F.state files.old) (F.state files.new) }
     ensures counts { OnlyCountOf file.0 (F.state files.old) (F.state files.new) }
@@ -161,7 +160,7 @@ fn measure_or_close<F: Files>(
         ≡ measured (failure_of_attach result) unit (length (content (F.state files.old) file.0))) }
     ensures bound { IfOk result (λ n. n ≤ longest_file unit.kind) }
     ensures bytes { IsTrue F.tells → IsTrue (is_disk unit.kind)
-        → OnOk result (joined copy.new.pages.items ≡ content (F.state files.old) file.0) }
+        → OnOk result (copy.new.bytes.items ≡ content (F.state files.old) file.0) }
     ensures copy { IsTrue (is_disk unit.kind) → OnOk result (IsNewCopy copy.new) }
     ensures cause { ClosedCause result unit file (F.state files.old) (F.state files.new) }
     ensures counts { OnlyCountOf file.0 (F.state files.old) (F.state files.new) }
@@ -200,7 +199,7 @@ pub(crate) fn take_file<F: Files>(
     ensures late { first_refusal (length_of result) ≡ None }
     ensures bound { IfOk result (λ taken. taken.length ≤ longest_file unit.kind) }
     ensures bytes { IsTrue F.tells → IsTrue (is_disk unit.kind) → IfOk result (λ taken.
-        joined taken.copy.pages.items ≡ bytes_of (F.state files.new).files name.now) }
+        taken.copy.bytes.items ≡ bytes_of (F.state files.new).files name.now) }
     ensures copy { IfOk result (λ taken. IsTrue (is_disk unit.kind) → IsNewCopy taken.copy) }
     ensures opened { IfOk result (λ taken.
         IsNewlyOpen (F.state files.old) (F.state files.new) name.now mode taken.file.0) }

@@ -1,15 +1,14 @@
-ghost use Rattle.std.specs.Prelude.{◌≡◌, ◌≤◌, ◌<◌, ◌+◌, ◌^◌, IsTrue, IfOk, OnOk, OnErr, length, replicate};
-ghost use Rattle.host_files.specs.FileCalls.{Counted};
+ghost use Rattle.std.specs.Prelude.{◌≡◌, ◌≤◌, ◌<◌, IsTrue, IfOk, OnOk, OnErr, length, vec_capacity};
+ghost use Rattle.host_files.specs.FileCalls.{Counted, Reads};
 ghost use Rattle.host_files.specs.State.{IsOpen, content};
-ghost use Rattle.unit_files.specs.Buffer.{disk_bytes, disk_pages, no_marks, page_bytes};
-ghost use Rattle.unit_files.specs.Pages.{ArePages, IsReadInto, empty_page, joined, marks_of, page_at};
+ghost use Rattle.unit_files.specs.Buffer.{disk_bytes};
 ghost use Rattle.unit_files.specs.View.{IsEmptyCopy, IsNewCopy};
 
-use crate::disk_copy::DiskCopy;
-use crate::page::{PAGE_BYTES, Page};
+use crate::disk_copy::{DiskCopy, PAGE_BYTES};
 use host_files::{Failed, FileId, Files};
 
-/// Reads an open file, which has so many bytes, into a copy in which nothing is yet.
+/// Reads an open file, which has so many bytes, into a copy in which nothing is yet. It has fewer only where the file
+/// has become shorter.
 pub(crate) fn read_copy<F: Files>(
     file: FileId,
     count: usize,
@@ -20,75 +19,64 @@ pub(crate) fn read_copy<F: Files>(
     requires empty { IsEmptyCopy copy.old }
     requires fits { count ≤ disk_bytes }
     requires length { IsTrue F.tells → count ≡ length (content (F.state files.old) file.0) }
-    ensures bytes { IsTrue F.tells → OnOk result (joined copy.new.pages.items ≡ content (F.state files.old) file.0) }
+    ensures bytes { IsTrue F.tells → OnOk result (copy.new.bytes.items ≡ content (F.state files.old) file.0) }
     ensures copy { OnOk result (IsNewCopy copy.new) }
     ensures needed { OnErr result (0 < count) }
     ensures counted { Counted file.0 (F.state files.old) (F.state files.new) result }
     ensures files { (F.state files.new).files ≡ (F.state files.old).files }
     ensures opened { (F.state files.new).opened ≡ (F.state files.old).opened }
 {
-    match read_pages(file, count, copy.pages.as_mut_slice(), files) {
-        Ok(length) => {
-            copy.length = length;
-            Ok(())
-        }
-        Err(Failed) => Err(Failed),
-    }
+    read_bytes(file, count, &mut copy.bytes, files)
 }
 
-// Reads them page by page, and answers how many there were: fewer only where the file has become shorter.
-fn read_pages<F: Files>(
+// Reads so many bytes of an open file into a list that has room for them, or as many as there are.
+#[tactic(auto, unfolding(crate::specs::Buffer::disk_bytes))]
+fn read_bytes<F: Files>(
     file: FileId,
     count: usize,
-    pages: &mut [Page],
+    bytes: &mut Vec<u8>,
     files: &mut F,
-) -> Result<usize, Failed>
+) -> Result<(), Failed>
     requires open { IsOpen (F.state files.old) file.0 }
-    requires empty { pages.old ≡ replicate disk_pages empty_page }
     requires fits { count ≤ disk_bytes }
+    requires room { disk_bytes ≤ vec_capacity bytes.old }
     requires length { IsTrue F.tells → count ≡ length (content (F.state files.old) file.0) }
-    ensures bytes { IsTrue F.tells → OnOk result (joined pages.new ≡ content (F.state files.old) file.0) }
-    ensures pages { length pages.new ≡ disk_pages }
-    ensures are { OnOk result (ArePages pages.new (joined pages.new)) }
-    ensures long { IfOk result (λ n. n ≡ length (joined pages.new)) }
-    ensures unmarked { OnOk result (marks_of pages.new ≡ no_marks) }
+    ensures bytes { IsTrue F.tells → OnOk result (bytes.new.items ≡ content (F.state files.old) file.0) }
+    ensures short { OnOk result (length bytes.new.items ≤ disk_bytes) }
+    ensures kept { vec_capacity bytes.old ≤ vec_capacity bytes.new }
     ensures needed { OnErr result (0 < count) }
     ensures counted { Counted file.0 (F.state files.old) (F.state files.new) result }
     ensures files { (F.state files.new).files ≡ (F.state files.old).files }
     ensures opened { (F.state files.new).opened ≡ (F.state files.old).opened }
 {
-    for page in 0..pages.len() {
-        let place = page * PAGE_BYTES;
-        let want = count.saturating_sub(place).min(PAGE_BYTES);
-        match read_page(file, place, want, pages, page, files) {
-            Ok(read) if read < PAGE_BYTES => return Ok(place + read),
-            Ok(_) => {}
-            Err(Failed) => return Err(Failed),
-        }
-    }
-    Ok(pages.len() * PAGE_BYTES)
+    bytes.resize(count, 0).unwrap();
+    let done = fill_pages(file, bytes.as_mut_slice(), files)?;
+    bytes.truncate(done);
+    Ok(())
 }
 
-// Reads so many bytes of an open file from a place on into the page with that number, or as many as there are.
-fn read_page<F: Files>(
-    file: FileId,
-    place: usize,
-    count: usize,
-    pages: &mut [Page],
-    number: usize,
-    files: &mut F,
-) -> Result<usize, Failed>
+// Fills a buffer from the front of an open file, no read going past the end of a page, and answers how many bytes it
+// got: fewer than it takes only where the file ends before. Where a read fails, what the buffer holds is free.
+#[tactic(auto, unfolding(crate::specs::Buffer::disk_bytes))]
+fn fill_pages<F: Files>(file: FileId, buf: &mut [u8], files: &mut F) -> Result<usize, Failed>
     requires open { IsOpen (F.state files.old) file.0 }
-    requires number { number < length pages.old }
-    requires empty { page_at pages.old number ≡ empty_page }
-    requires fits { count ≤ page_bytes }
-    requires place { place + count < 2 ^ 64 }
-    ensures read { IfOk result (λ n. IsReadInto F.tells (content (F.state files.old) file.0) place count n number pages.old pages.new) }
-    ensures needed { OnErr result (0 < count) }
+    requires fits { length buf.old ≤ disk_bytes }
+    ensures bound { IfOk result (λ n. n ≤ length buf.new) }
+    ensures reads { IsTrue F.tells → Reads (content (F.state files.old) file.0) 0 result buf.new }
+    ensures length { length buf.new ≡ length buf.old }
+    ensures needed { OnErr result (0 < length buf.old) }
     ensures counted { Counted file.0 (F.state files.old) (F.state files.new) result }
     ensures files { (F.state files.new).files ≡ (F.state files.old).files }
     ensures opened { (F.state files.new).opened ≡ (F.state files.old).opened }
 {
-    let page = &mut pages[number];
-    page.take(file, place, count, files)
+    let mut done = 0;
+    while done < buf.len() {
+        let end = ((done / PAGE_BYTES + 1) * PAGE_BYTES).min(buf.len());
+        let count = files.read_at(file, done as u64, &mut buf[done..end])?;
+        if count == 0 {
+            return Ok(done);
+        }
+        done += count;
+    }
+    Ok(done)
 }

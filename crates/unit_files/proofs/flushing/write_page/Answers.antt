@@ -4,22 +4,22 @@ use Rattle.host_files.specs.Lists.{changed, overwritten}
 use Rattle.host_files.specs.State.{name_at}
 use Rattle.unit_files.proofs.WrittenPages.{unchanged}
 use Rattle.unit_files.proofs.flushing.write_page.Goals as goal
-use Rattle.unit_files.proofs.flushing.write_page.Goals.{then-not-is_marked-via-then-not-is_marked, then-not-is_marked-via-else-not-is_marked+then-is_empty}
+use Rattle.unit_files.proofs.flushing.write_page.Goals.{then-not-marked-via-then-not-marked, then-not-marked-via-else-not-marked+then-is_empty}
 
-pub returns-then-not-is_marked-clause-files : goal.returns-then-not-is_marked-clause-files
-returns-then-not-is_marked-clause-files g c =
+pub returns-then-not-marked-clause-files : goal.returns-then-not-marked-clause-files
+returns-then-not-marked-clause-files g c =
     let old = g.F.Files.state c.args.files.now in
     let name = name_at old.opened c.args.file.0 in
-    let page = c.args.page.now in
-    elim c.then-not-is_marked.branch [
-      | then-not-is_marked-via-then-not-is_marked w ↦
-          let off : page.marked ≡ false = search rules in
+    let bytes = c.args.bytes.now in
+    elim c.then-not-marked.branch [
+      | then-not-marked-via-then-not-marked w ↦
+          let off : c.args.marked ≡ false = search rules in
           unchanged old.files name
-          ∙ ap (λ (m : Bool). changed old.files name (λ was. if m then overwritten was c.args.place page.bytes else was)) (sym off)
-      | then-not-is_marked-via-else-not-is_marked+then-is_empty w ↦
-          let on : page.marked ≡ true = search rules in
-          let none : page.bytes ≡ [] = nil_from_length page.bytes (search rules) in
+          ∙ ap (λ (m : Bool). changed old.files name (λ was. if m then overwritten was c.args.place bytes else was)) (sym off)
+      | then-not-marked-via-else-not-marked+then-is_empty w ↦
+          let on : c.args.marked ≡ true = search rules in
+          let none : bytes ≡ [] = nil_from_length bytes (search rules) in
           unchanged old.files name
           ∙ ap (λ (l : List ℕ). changed old.files name (λ was. overwritten was c.args.place l)) (sym none)
-          ∙ ap (λ (m : Bool). changed old.files name (λ was. if m then overwritten was c.args.place page.bytes else was)) (sym on)
+          ∙ ap (λ (m : Bool). changed old.files name (λ was. if m then overwritten was c.args.place bytes else was)) (sym on)
     ]

@@ -19,7 +19,7 @@ invariant_of-self c =
     let is : is_disk c.args.unit.kind ≡ true = search rules in (
       length-set items c.place_of.result h ∙ c.self.invariant.0,
       ap writers_write view ∙ writers-set (map slot_of items) c.args.unit None long c.self.invariant.1 (λ is. refl),
-      can-none (map slot_of items) _ c.args.unit _ is c.requires view c.clear.ensures.pages c.clear.ensures.written,
+      can-none (map slot_of items) _ c.args.unit _ is c.requires view c.clear.ensures.bytes c.clear.ensures.marks c.clear.ensures.written,
       subst HaveOwnNumbers (sym view) (own-detached (map slot_of items) (file_place c.args.unit) c.self.invariant.3),
       names-set (map slot_of items) _ (file_place c.args.unit) None view c.self.invariant.4 tt,
     )

@@ -1,30 +1,15 @@
-use Rattle.std.proofs.Common.{◌≡◌, List, length, map, refl, ap, sym, ◌∙◌, subst}
-use Rattle.std.proofs.lemmas.List.{length-map, with_items_is}
-use Rattle.unit_files.specs.Pages.{PageState, joined, marks_of, unmarked_page, ArePages}
-use Rattle.unit_files.proofs.CopyPages.{bytes-kept, are-kept, are-own, marks-away}
+use Rattle.std.proofs.Common.{false, length, replicate, refl, ap, ◌∙◌}
+use Rattle.std.proofs.lemmas.List.{length-replicate}
+use Rattle.unit_files.specs.Buffer.{disk_pages}
+use Rattle.unit_files.proofs.Marks.{marks-all}
 use Rattle.unit_files.proofs.disk_copy.DiskCopy.unmark.Goals as goal
-
-pub returns-clause-bytes : goal.returns-clause-bytes
-returns-clause-bytes c =
-    let old = c.args.self.now.pages in
-    let new = c.unmark_all.ensures ∙ ap (map unmarked_page) c.as_mut_slice.ensures.value in
-    let long : length c.unmark_all.new.pages ≡ old.len = ap length new ∙ length-map old.items unmarked_page ∙ sym old.ok.0 in
-    ap joined (with_items_is old c.unmark_all.new.pages long ∙ new) ∙ bytes-kept old.items
 
 pub returns-clause-copy : goal.returns-clause-copy
 returns-clause-copy c =
-    let old = c.args.self.now.pages in
-    let new = c.unmark_all.ensures ∙ ap (map unmarked_page) c.as_mut_slice.ensures.value in
-    let long : length c.unmark_all.new.pages ≡ old.len = ap length new ∙ length-map old.items unmarked_page ∙ sym old.ok.0 in
-    let items = with_items_is old c.unmark_all.new.pages long ∙ new in
-    let copy = c.requires in
+    let is = c.unmark_all.ensures ∙ ap (λ n. replicate n false) c.requires.pages in
+    let pages = ap length is ∙ length-replicate disk_pages false in
     record {
-      copy = record {
-        pages = ap length items ∙ length-map old.items unmarked_page ∙ copy.pages;
-        are = subst (λ (l : List PageState). ArePages l (joined l)) (sym items)
-            (are-own (map unmarked_page old.items) (joined old.items) (are-kept old.items (joined old.items) copy.are));
-        long = copy.long ∙ sym (ap (λ (l : List PageState). length (joined l)) items ∙ ap length (bytes-kept old.items));
-      };
+      copy = record { room = c.requires.room; short = c.requires.short; pages = pages };
       unwritten = refl;
-      unmarked = ap marks_of items ∙ marks-away old.items copy.pages;
+      unmarked = marks-all c.unmark_all.new.marks.items pages ∙ is;
     }

@@ -1,6 +1,6 @@
 use Rattle.std.proofs.Common.{rules}
 use Rattle.unit_files.proofs.Sectors.{front-copied}
-use Rattle.unit_files.proofs.page.copy_front.Goals as goal
+use Rattle.unit_files.proofs.disk_copy.copy_front.Goals as goal
 
 pub returns : goal.returns
 returns c =

@@ -1,14 +1,13 @@
-use Rattle.std.proofs.Common.{◌≡◌, ◌≤◌, ◌-◌, ℕ, IsTrue, length, take, drop}
+use Rattle.std.proofs.Common.{◌≡◌, ◌≤◌, ◌-◌, ℕ, IsTrue, length, take}
 use Rattle.host_files.specs.State.{content}
-use Rattle.unit_files.proofs.page.fill_from.Given as goal
+use Rattle.unit_files.proofs.reading.fill_pages.Given as goal
 
 abbrev pub invariant-loop-done : goal.invariant-loop-done
 invariant-loop-done g l = record {
   within : l.done ≤ length l.buf;
   room : length l.buf ≡ length l.fn.buf;
-  read : IsTrue g.F.Files.tells → l.done ≤ length (content (g.F.Files.state l.fn.files) l.file.0) - l.place;
-  bytes : IsTrue g.F.Files.tells
-      → take l.done l.buf ≡ take l.done (drop l.place (content (g.F.Files.state l.fn.files) l.file.0));
+  read : IsTrue g.F.Files.tells → l.done ≤ length (content (g.F.Files.state l.fn.files) l.file.0);
+  bytes : IsTrue g.F.Files.tells → take l.done l.buf ≡ take l.done (content (g.F.Files.state l.fn.files) l.file.0);
   files : (g.F.Files.state l.files).files ≡ (g.F.Files.state l.fn.files).files;
   opened : (g.F.Files.state l.files).opened ≡ (g.F.Files.state l.fn.files).opened;
   counts : (file : ℕ) → (g.F.Files.state l.files).faults file ≡ (g.F.Files.state l.fn.files).faults file;

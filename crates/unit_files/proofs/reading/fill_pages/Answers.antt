@@ -1,10 +1,9 @@
-use Rattle.std.proofs.Common.{◌≡◌, ◌+◌, ◌-◌, ℕ, List, length, min, take, drop, rules, arith, ap, sym, subst, ◌∙◌}
-use Rattle.std.proofs.lemmas.List.{drop-drop}
+use Rattle.std.proofs.Common.{◌≡◌, ◌-◌, ℕ, List, length, min, take, drop, rules, subst, ◌∙◌}
 use Rattle.host_files.specs.Lists.{bytes_of}
 use Rattle.host_files.specs.State.{content, name_at}
 use Rattle.whole_files.proofs.Counts.{all-same}
 use Rattle.whole_files.proofs.Filled.{filled-more, more-within}
-use Rattle.unit_files.proofs.page.fill_from.Goals as goal
+use Rattle.unit_files.proofs.reading.fill_pages.Goals as goal
 
 pub loop-done-preserved : goal.loop-done-preserved
 loop-done-preserved g c =
@@ -13,25 +12,22 @@ loop-done-preserved g c =
     let new = g.F.Files.state c.read_at.new.self in
     let before = c.loop-done.invariant in
     let call = c.in_ok-count.ensures in
-    let all = content old c.args.file.0 in
-    let same : content mid c.args.file.0 ≡ all =
+    let same : content mid c.args.file.0 ≡ content old c.args.file.0 =
     λ i. bytes_of (before.files i) (name_at (before.«opened» i) c.args.file.0) in
     record {
       within = search rules;
       room = search rules;
       read = λ told.
           more-within c.loop-done.done c.in_ok-count.count (length c.read_at.new.buf)
-          (length all - c.args.place) (before.read told)
+          (length (content old c.args.file.0)) (before.read told)
           (subst (λ (b : List ℕ). c.in_ok-count.count
-          ≡ min (length c.read_at.new.buf) (length b - (c.args.place + c.loop-done.done))) same (call.reads told).0
-          ∙ ap (λ (n : ℕ). min (length c.read_at.new.buf) n)
-          {x = length all - (c.args.place + c.loop-done.done)} {y = length all - c.args.place - c.loop-done.done} (omega arith));
+          ≡ min (length c.read_at.new.buf) (length b - c.loop-done.done)) same
+          (call.reads told).0);
       bytes = λ told.
-          filled-more c.loop-done.buf c.read_at.new.buf (drop c.args.place all) c.loop-done.done
-          (length c.loop-done.buf - c.loop-done.done) c.in_ok-count.count before.within call.bound (before.bytes told)
+          filled-more c.loop-done.buf c.read_at.new.buf (content old c.args.file.0) c.loop-done.done
+          (c.min-end.result - c.loop-done.done) c.in_ok-count.count before.within call.bound (before.bytes told)
           (subst (λ (b : List ℕ). take c.in_ok-count.count c.read_at.new.buf
-          ≡ take c.in_ok-count.count (drop (c.args.place + c.loop-done.done) b)) same (call.reads told).1
-          ∙ ap (λ (l : List ℕ). take c.in_ok-count.count l) (sym (drop-drop c.loop-done.done c.args.place all)));
+          ≡ take c.in_ok-count.count (drop c.loop-done.done b)) same (call.reads told).1);
       files = call.files ∙ before.files;
       opened = call.«opened» ∙ before.«opened»;
       counts = λ file.
