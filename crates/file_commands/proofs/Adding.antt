@@ -1,8 +1,10 @@
 -- Counts over two spans.
-use Rattle.std.proofs.Common.{◌≡◌, inl, inr, ℕ, ◌+◌, List, [], ◌∷◌, ◌++◌, sym, subst, arith}
+use Rattle.std.proofs.Common.{◌≡◌, inl, inr, ℕ, zero, suc, ◌+◌, List, [], ◌∷◌, ◌++◌, refl, ap, sym, ◌∙◌, subst, arith}
+use Rattle.fault_counts.specs.Faults.{raised}
 use Rattle.host_files.specs.State.{FileState}
 use Rattle.file_commands.specs.declared.note.FaultNote.{FaultNote}
-use Rattle.file_commands.specs.Counts.{noted, openings_noted, RoseBy, AreCounted}
+use Rattle.whole_files.specs.Claims.{raised_by}
+use Rattle.file_commands.specs.Counts.{noted, openings_noted, RoseBy, AreCounted, AreAll}
 use Rattle.file_commands.specs.Laws.{CountsAddUp}
 use Rattle.file_commands.proofs.Possible.{possible-both}
 
@@ -42,3 +44,26 @@ counted-none s = record { files = λ file. rose-none (s.faults file); openings =
 
 pub counts-add : CountsAddUp
 counts-add = record { both = counted-both; none = counted-none }
+
+raised-behind : (more faults count : ℕ) → raised_by (more + faults) count ≡ raised_by more (raised_by faults count)
+raised-behind zero faults count =
+    let none : zero + faults ≡ faults = omega arith in
+    ap (λ (n : ℕ). raised_by n count) none
+raised-behind (suc more) faults count =
+    let next : suc more + faults ≡ suc (more + faults) = omega arith in
+    ap (λ (n : ℕ). raised_by n count) next ∙ ap raised (raised-behind more faults count)
+
+raised-both : (faults more count : ℕ) → raised_by (faults + more) count ≡ raised_by more (raised_by faults count)
+raised-both faults more count =
+    let turned : faults + more ≡ more + faults = omega arith in
+    ap (λ (n : ℕ). raised_by n count) turned ∙ raised-behind more faults count
+
+pub all-both : (first second : List FaultNote) (old mid new : FileState) → AreAll first old mid → AreAll second mid new → AreAll (first ++ second) old new
+all-both first second old mid new a b = record {
+  files = λ file. b.files file ∙ ap (raised_by (noted file second)) (a.files file) ∙ sym (raised-both (noted file first) (noted file second) (old.faults file))
+      ∙ sym (ap (λ (n : ℕ). raised_by n (old.faults file)) (noted-append file first second));
+  openings = b.openings ∙ a.openings;
+}
+
+pub all-none : (s : FileState) → AreAll [] s s
+all-none s = record { files = λ file. refl; openings = refl }

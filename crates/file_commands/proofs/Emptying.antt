@@ -9,7 +9,7 @@ use Rattle.unit_trait.specs.Kinds.{same_unit}
 use Rattle.unit_files.specs.declared.faults.UnitFault.{UnitFault}
 use Rattle.unit_files.specs.declared.faults.DetachFault.{DetachFault}
 use Rattle.unit_files.specs.declared.faults.DetachFault.TheVariants as detach
-use Rattle.unit_files.specs.Attachments.{Held, attachment_at, held_at}
+use Rattle.unit_files.specs.Attachments.{Held, attachment_at, held_at, is_disk}
 use Rattle.unit_files.specs.Causes.{DetachCause}
 use Rattle.unit_files.specs.Buffer.{AttachedFiles}
 use Rattle.unit_files.specs.Acts.{Failure, DetachSaid, HadNone, StillHeld, Detached, detached_by, buffer_left, flush_files}
@@ -18,11 +18,11 @@ use Rattle.file_commands.specs.declared.note.Subject.{Subject}
 use Rattle.file_commands.specs.declared.note.Subject.TheVariants as subject
 use Rattle.file_commands.specs.declared.note.FaultNote.{FaultNote}
 use Rattle.file_commands.specs.Notes.{CommandNote, Note, same_subject, failure_now, notes_said, said_of}
-use Rattle.file_commands.specs.Counts.{AreCounted}
-use Rattle.file_commands.proofs.Adding.{counted-both, counted-none}
+use Rattle.file_commands.specs.Counts.{AreCounted, AreAll}
+use Rattle.file_commands.proofs.Adding.{counted-both, counted-none, all-both, all-none}
 use Rattle.file_commands.specs.declared.stamp.Stamp.{Stamp}
 use Rattle.file_commands.specs.Kept.{fault_note, fault_of_detach, kept_of, own_of, own_note}
-use Rattle.file_commands.specs.AllUnits.{AreApart, Filed, Emptied, more_used, emptied_as, said_in, written_in, without_file, emptied, flush_fault, is_one_of, Empties, IsUnwritten}
+use Rattle.file_commands.specs.AllUnits.{AreApart, AreNoDisk, IsDiskFirst, Filed, Emptied, more_used, emptied_as, said_in, written_in, without_file, emptied, flush_fault, is_one_of, Empties, IsUnwritten}
 use Rattle.unit_trait.proofs.Codes.{same-self}
 
 said-append : (first second : List FaultNote) → notes_said (first ++ second) ≡ notes_said first ++ notes_said second
@@ -86,7 +86,7 @@ emptied-more time u us s own fault said met is =
 pub empties-none : (number time : ℕ) (us : List UnitName) (s : Filed) (before : List FaultNote) (now : FileState) → us ≡ [] → Empties number time us s s None before before now now
 empties-none number time us s before now none =
     let P : List UnitName → Type 0 = λ x. Empties number time x s s None before before now now in
-    subst P (sym none) (record { own = []; kept = []; added = sym (append-nil before); said = refl; among = tt; is = emptied-nothing time s []; counted = counted-none now })
+    subst P (sym none) (record { own = []; kept = []; added = sym (append-nil before); said = refl; among = tt; is = emptied-nothing time s []; counted = counted-none now; all = all-none now })
 
 -- what the calls of one unit say
 pub record Calls (stamp : Stamp) (u : UnitName) (from mid : Filed) (r : Result (Option UnitFault) DetachFault) (before after : List FaultNote) (old new : FileState) : Type 0 where
@@ -97,6 +97,7 @@ pub record Calls (stamp : Stamp) (u : UnitName) (from mid : Filed) (r : Result (
   pub of_unit : IfSome (fault_of_detach r) (λ (f : UnitFault). f.unit ≡ u)
   pub noted : after ≡ before ++ kept_of stamp (fault_of_detach r)
   pub counted : AreCounted (kept_of stamp (fault_of_detach r)) old new
+  pub all : AreAll (kept_of stamp (fault_of_detach r)) old new
 
 by-fault : (r : Result (Option UnitFault) DetachFault) (f : UnitFault) → flush_fault r ≡ Some f → r ≡ Err (detach.Failed f)
 by-fault (Ok closing) f is = absurd (cc)
@@ -124,6 +125,7 @@ empties-kept stamp u us all from mid r f before after old new are kept calls =
           among = (front (same_unit f.unit u) _ here, tt);
           is = emptied-more stamp.time u us from own _ (StillHeld (failure_in f)) refl (sym c.said) ∙ (λ i. record { left = left i; used = 1; kept = Some (sym c.of_unit i) });
           counted = c.counted;
+          all = c.all;
         }
 
 -- it has none behind that, and the others follow
@@ -170,6 +172,7 @@ empties-more stamp u us all from mid to r kept_by before between after s1 s2 s3 
           is = emptied-more time u us from rest.own None (said_of_detach r) quiet (sym says) ∙ follows (λ more. emptied time us (without_file None u from) more)
               ∙ ap (λ (x : Filed). emptied time us x rest.own) same ∙ rest.is;
           counted = subst (λ (l : List FaultNote). AreCounted (l ++ rest.kept) s1 s3) kept_is (counted-both (kept_of stamp (fault_of_detach r)) rest.kept s1 s2 s3 c.counted rest.counted);
+          all = subst (λ (l : List FaultNote). AreAll (l ++ rest.kept) s1 s3) kept_is (all-both (kept_of stamp (fault_of_detach r)) rest.kept s1 s2 s3 c.all rest.all);
         }
 
     of-noted : (f : UnitFault) → Calls stamp u from mid (Ok (Some f)) before between s1 s2 → Empties stamp.command time (u ∷ us) from to kept_by before after s1 s3
@@ -187,6 +190,7 @@ empties-more stamp u us all from mid to r kept_by before between after s1 s2 s3 
           is = emptied-more time u us from own fault (Detached (Some (failure_in f))) refl (sym c.said)
               ∙ ap (λ (x : Filed). more_used 1 (emptied time us x rest.own)) same ∙ ap (more_used 1) rest.is ∙ (λ i. record { left = to; used = one-more (length rest.own) i; kept = kept_by });
           counted = counted-both (kept_of stamp (Some f)) rest.kept s1 s2 s3 c.counted rest.counted;
+          all = all-both (kept_of stamp (Some f)) rest.kept s1 s2 s3 c.all rest.all;
         }
       where
         one-more : (n : ℕ) → 1 + n ≡ suc n
@@ -210,6 +214,16 @@ all-tail P u us all are each =
 
 pub apart-tail : (u : UnitName) (us all : List UnitName) → all ≡ u ∷ us → AreApart all → AreApart us
 apart-tail u us all are apart = (subst (λ (l : List UnitName). AreApart l) are apart).1
+
+pub later-first : (u : UnitName) (us all : List UnitName) → all ≡ u ∷ us → IsDiskFirst all → AreNoDisk us
+later-first u us all are first = subst (λ (l : List UnitName). IsDiskFirst l) are first
+
+pub no-disk-first : (us : List UnitName) → AreNoDisk us → IsDiskFirst us
+no-disk-first [] none = tt
+no-disk-first (u ∷ us) none = none.1
+
+pub no-disk-tail : (u : UnitName) (us all : List UnitName) → all ≡ u ∷ us → AreNoDisk all → (is_disk u.kind ≡ false) × AreNoDisk us
+no-disk-tail u us all are none = subst (λ (l : List UnitName). AreNoDisk l) are none
 
 pub apart-head : (u : UnitName) (us all : List UnitName) → all ≡ u ∷ us → AreApart all → AllByRecursion (λ (v : UnitName). same_unit u v ≡ false) us
 apart-head u us all are apart = (subst (λ (l : List UnitName). AreApart l) are apart).0

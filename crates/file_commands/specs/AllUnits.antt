@@ -20,7 +20,7 @@ use Rattle.unit_files.specs.Acts.{Failure, DetachSaid, HadNone, StillHeld, Detac
 use Rattle.file_commands.specs.declared.note.Subject.TheVariants as subject
 use Rattle.file_commands.specs.declared.note.FaultNote.{FaultNote}
 use Rattle.file_commands.specs.Notes.{CommandNote, same_subject, numbered, failure_now, notes_said}
-use Rattle.file_commands.specs.Counts.{AreCounted}
+use Rattle.file_commands.specs.Counts.{AreCounted, AreAll}
 
 -- the units whose files are attached, in bus order
 abbrev pub attachable : List UnitName
@@ -34,6 +34,15 @@ attachable =
 abbrev pub AreApart : List UnitName → Type 0
 AreApart [] = Unit {0}
 AreApart (u ∷ us) = AllByRecursion (λ (v : UnitName). same_unit u v ≡ false) us × AreApart us
+
+-- these units are no disk
+abbrev pub AreNoDisk : List UnitName → Type 0
+AreNoDisk us = AllByRecursion (λ (u : UnitName). is_disk u.kind ≡ false) us
+
+-- only the first of these units may be the disk
+abbrev pub IsDiskFirst : List UnitName → Type 0
+IsDiskFirst [] = Unit {0}
+IsDiskFirst (u ∷ us) = AreNoDisk us
 
 -- the files of units with all files
 pub record Filed : Type 0 where
@@ -101,6 +110,7 @@ pub record Empties (number time : ℕ) (us : List UnitName) (from to : Filed) (k
   pub among : AllByRecursion (λ (n : CommandNote). IsTrue (is_one_of us n)) own
   pub is : emptied time us from own ≡ record { left = to; used = length own; kept = kept_by }
   pub counted : AreCounted kept old new
+  pub all : AreAll kept old new
 
 -- The last note is that of a write of the disk's file, which the disk has kept, and the count of that file has risen.
 pub record IsUnwritten (slots : List (Option Held)) (notes : List FaultNote) (old new : FileState) : Type 0 where

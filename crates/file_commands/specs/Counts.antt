@@ -1,8 +1,9 @@
 -- Notes are at most as many as the counts of faults have risen, and each is one that its call can leave.
-use Rattle.std.specs.Prelude.{◌⊎◌, ℕ, ◌+◌, ◌-◌, ◌^◌, ◌≤◌, ◌==◌, Bool, true, false, List, [], ◌∷◌, Option, Some, None}
+use Rattle.std.specs.Prelude.{◌≡◌, ◌⊎◌, ℕ, ◌+◌, ◌-◌, ◌^◌, ◌≤◌, ◌==◌, Bool, true, false, List, [], ◌∷◌, Option, Some, None}
 use Rattle.std.specs.List.{AllByRecursion}
 use Rattle.host_files.specs.declared.files.FileId.{FileId}
 use Rattle.host_files.specs.State.{FileState}
+use Rattle.whole_files.specs.Claims.{raised_by}
 use Rattle.file_commands.specs.declared.note.FaultNote.{FaultNote}
 use Rattle.file_commands.specs.Possible.{IsPossible}
 
@@ -38,3 +39,9 @@ pub record AreCounted (notes : List FaultNote) (old new : FileState) : Type 0 wh
   pub files : (file : ℕ) → RoseBy (noted file notes) (old.faults file) (new.faults file)
   pub openings : RoseBy (openings_noted notes) old.open_faults new.open_faults
   pub possible : AllByRecursion IsPossible notes
+
+-- Each count of a file has risen by just as many as the notes of that file are, and no opening has failed: a note stands for
+-- each call that failed.
+pub record AreAll (notes : List FaultNote) (old new : FileState) : Type 0 where
+  pub files : (file : ℕ) → new.faults file ≡ raised_by (noted file notes) (old.faults file)
+  pub openings : new.open_faults ≡ old.open_faults

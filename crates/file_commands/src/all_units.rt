@@ -1,9 +1,9 @@
-ghost use Rattle.std.specs.Prelude.{◌≡◌, ◌+◌, ◌≤◌, List, All, IsTrue, OnErr, length, vec_len, vec_capacity};
+ghost use Rattle.std.specs.Prelude.{◌≡◌, ◌+◌, ◌≤◌, List, All, IsTrue, IsOk, OnErr, length, vec_len, vec_capacity};
 ghost use Rattle.host_files.specs.State.{Opened};
 ghost use Rattle.unit_files.specs.Attachments.{takes_attachment};
 ghost use Rattle.unit_files.specs.Open.{AllOpen, Around};
 ghost use Rattle.file_commands.specs.OwnFiles.{AreOwn};
-ghost use Rattle.file_commands.specs.AllUnits.{AreApart, attachable, Empties, IsUnwritten, keeper, filed_of, flush_fault};
+ghost use Rattle.file_commands.specs.AllUnits.{AreApart, AreNoDisk, IsDiskFirst, attachable, Empties, IsUnwritten, keeper, filed_of, flush_fault};
 
 use crate::FaultNote;
 use crate::one_unit::detach_unit;
@@ -78,6 +78,7 @@ pub fn detach_all<F: Files>(
     ensures empties { Empties stamp.command stamp.time attachable (filed_of attached.old (F.state files.old).files)
         (filed_of attached.new (F.state files.new).files) (keeper result) notes.old.items notes.new.items
         (F.state files.old) (F.state files.new) }
+    ensures refused { OnErr result (attached.new ≡ attached.old) }
     ensures cause { OnErr result (IsUnwritten attached.new.slots notes.new.items (F.state files.old) (F.state files.new)) }
     ensures whose { AreOwn attached.old.slots attached.new.slots notes.old.items notes.new.items (F.state files.old)
         (F.state files.new) }
@@ -100,11 +101,14 @@ fn detach_each<F: Files>(
 ) -> Result<(), UnitFault>
     requires units { All (λ (u : UnitName). IsTrue (takes_attachment u)) units.now }
     requires apart { AreApart units.now }
+    requires first { IsDiskFirst units.now }
     requires open { AllOpen attached.old.slots (F.state files.old).opened }
     requires room { vec_len notes.old + length units.now ≤ vec_capacity notes.old }
     ensures empties { Empties stamp.command stamp.time units.now (filed_of attached.old (F.state files.old).files)
         (filed_of attached.new (F.state files.new).files) (keeper result) notes.old.items notes.new.items
         (F.state files.old) (F.state files.new) }
+    ensures never { AreNoDisk units.now → IsOk result }
+    ensures refused { OnErr result (attached.new ≡ attached.old) }
     ensures cause { OnErr result (IsUnwritten attached.new.slots notes.new.items (F.state files.old) (F.state files.new)) }
     ensures whose { AreOwn attached.old.slots attached.new.slots notes.old.items notes.new.items (F.state files.old)
         (F.state files.new) }

@@ -9,7 +9,7 @@ ghost use Rattle.unit_files.specs.Answers.{said_of_attach, said_of_detach, first
 ghost use Rattle.unit_files.specs.Open.{AllOpen, Around};
 ghost use Rattle.file_commands.specs.declared.note.Subject.TheVariants as subjects;
 ghost use Rattle.file_commands.specs.Notes.{failure_now};
-ghost use Rattle.file_commands.specs.Counts.{AreCounted};
+ghost use Rattle.file_commands.specs.Counts.{AreCounted, AreAll};
 ghost use Rattle.file_commands.specs.OwnFiles.{AreOwn};
 ghost use Rattle.file_commands.specs.Kept.{IsAttachFault, MissingCause, HoldsNothing, fault_of_attach, fault_of_detach, kept_of, own_of};
 
@@ -102,6 +102,7 @@ pub fn detach_unit<F: Files>(
     ensures few { vec_len notes.new ≤ vec_len notes.old + 1 }
     ensures capacity { vec_capacity notes.old ≤ vec_capacity notes.new }
     ensures counted { AreCounted (kept_of stamp (fault_of_detach result)) (F.state files.old) (F.state files.new) }
+    ensures all { AreAll (kept_of stamp (fault_of_detach result)) (F.state files.old) (F.state files.new) }
     ensures own { IfSome (fault_of_detach result) (λ f. f.unit ≡ unit) }
     ensures nothing { is_disk unit.kind ≡ false → HoldsNothing result }
     ensures cause { DetachCause result unit attached.old.slots (F.state files.old) (F.state files.new) }

@@ -3,7 +3,7 @@ use Rattle.unit_trait.specs.declared.kind.UnitName.{UnitName}
 use Rattle.unit_files.specs.Attachments.{takes_attachment}
 use Rattle.unit_files.specs.Buffer.{AttachedFiles}
 use Rattle.file_commands.specs.AllUnits.{filed_of}
-use Rattle.file_commands.proofs.Emptying.{Calls, empties-none, empties-kept, empties-more, kept-whole, unwritten-here, still-unwritten, nothing-left, all-tail, apart-tail, apart-head}
+use Rattle.file_commands.proofs.Emptying.{Calls, empties-none, empties-kept, empties-more, kept-whole, unwritten-here, still-unwritten, nothing-left, all-tail, apart-tail, apart-head, later-first, no-disk-first}
 use Rattle.file_commands.proofs.OwnFiles.{own-both}
 use Rattle.file_commands.proofs.all_units.+detach_each.Goals as goal
 
@@ -15,7 +15,8 @@ detach_each-requires g t c κs within =
     let capacity = c.detach_unit-result.ensures.capacity in
     let units = all-tail (λ (u : UnitName). IsTrue (takes_attachment u)) c.in-Some.unit.now c.in-Some.others.now c.args.units.now are.0 c.requires.units in
     let distinct = apart-tail c.in-Some.unit.now c.in-Some.others.now c.args.units.now are.0 c.requires.apart in
-    (search rules, (search rules, (units, (distinct, (c.detach_unit-result.ensures.open, omega (arith, are.1, room, few, capacity))))))
+    let first = no-disk-first c.in-Some.others.now (later-first c.in-Some.unit.now c.in-Some.others.now c.args.units.now are.0 c.requires.first) in
+    (search rules, (search rules, (units, (distinct, (first, (c.detach_unit-result.ensures.open, omega (arith, are.1, room, few, capacity)))))))
 
 pub returns-in-None-clause-empties : goal.returns-in-None-clause-empties
 returns-in-None-clause-empties g t c =
@@ -37,6 +38,7 @@ returns-in-Some-flush_fault-clause-empties g t c =
       of_unit = first.ensures.own;
       noted = first.ensures.notes;
       counted = first.ensures.counted;
+      all = first.ensures.all;
     } in
     empties-kept c.args.stamp u c.in-Some.others.now c.args.units.now _ _ first.result c.in-Some-flush_fault.fault c.args.notes.now.items first.new.notes.items old mid
     are (sym c.in-Some-flush_fault.ensures) calls
@@ -69,6 +71,7 @@ returns-in-None-flush_fault-clause-empties g t c =
       of_unit = first.ensures.own;
       noted = first.ensures.notes;
       counted = first.ensures.counted;
+      all = first.ensures.all;
     } in
     let new = g.F.Files.state c.detach_each.new.files in
     empties-more c.args.stamp u c.in-Some.others.now c.args.units.now _ (filed_of first.new.attached mid.files) _ first.result _ c.args.notes.now.items first.new.notes.items c.detach_each.new.notes.items
