@@ -1,6 +1,6 @@
-ghost use Rattle.std.specs.Prelude.{◌≡◌, ◌+◌, ◌≤◌, List, All, IsTrue, IsOk, OnErr, length, vec_len, vec_capacity};
+ghost use Rattle.std.specs.Prelude.{◌≡◌, ◌+◌, ◌≤◌, List, All, IsTrue, IfErr, IsOk, OnErr, length, vec_len, vec_capacity};
 ghost use Rattle.host_files.specs.State.{Opened};
-ghost use Rattle.unit_files.specs.Attachments.{takes_attachment};
+ghost use Rattle.unit_files.specs.Attachments.{takes_attachment, is_disk};
 ghost use Rattle.unit_files.specs.Open.{AllOpen, Around};
 ghost use Rattle.file_commands.specs.OwnFiles.{AreOwn};
 ghost use Rattle.file_commands.specs.AllUnits.{AreApart, AreNoDisk, IsDiskFirst, attachable, Empties, IsUnwritten, keeper, filed_of, flush_fault};
@@ -79,6 +79,7 @@ pub fn detach_all<F: Files>(
         (filed_of attached.new (F.state files.new).files) (keeper result) notes.old.items notes.new.items
         (F.state files.old) (F.state files.new) }
     ensures refused { OnErr result (attached.new ≡ attached.old) }
+    ensures disk { IfErr result (λ f. IsTrue (is_disk f.unit.kind)) }
     ensures cause { OnErr result (IsUnwritten attached.new.slots notes.new.items (F.state files.old) (F.state files.new)) }
     ensures whose { AreOwn attached.old.slots attached.new.slots notes.old.items notes.new.items (F.state files.old)
         (F.state files.new) }
@@ -109,6 +110,7 @@ fn detach_each<F: Files>(
         (F.state files.old) (F.state files.new) }
     ensures never { AreNoDisk units.now → IsOk result }
     ensures refused { OnErr result (attached.new ≡ attached.old) }
+    ensures disk { IfErr result (λ f. IsTrue (is_disk f.unit.kind)) }
     ensures cause { OnErr result (IsUnwritten attached.new.slots notes.new.items (F.state files.old) (F.state files.new)) }
     ensures whose { AreOwn attached.old.slots attached.new.slots notes.old.items notes.new.items (F.state files.old)
         (F.state files.new) }
