@@ -19,6 +19,7 @@ pub mod BehindLemmas
 pub mod DetachLemmas
 pub mod AttachLemmas
 pub mod ObeyLemmas
+pub mod CanLemmas
 pub mod WholeLemmas
 pub mod WholeSays
 pub mod BackLemmas

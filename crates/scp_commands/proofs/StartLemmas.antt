@@ -77,6 +77,10 @@ pub step-refused : (limit count : ℕ) (live : Live) → (nat_le 1 count && nat_
 unfolding step_of
 step-refused limit count live fits given = ap (λ (b : Bool). if b then stepped limit given count live else refused OutOfRange live) fits
 
+pub step-begun : (limit count : ℕ) (live : Live) → (nat_le 1 count && nat_le count (2 ^ 48)) ≡ true → (given : List CommandNote) → step_of limit given count live ≡ stepped limit given count live
+unfolding step_of
+step-begun limit count live fits given = ap (λ (b : Bool). if b then stepped limit given count live else refused OutOfRange live) fits
+
 -- ---- a run from an address
 
 run_from-runs : (limit : ℕ) (resets : Bool) (address : Option ℕ) (watch : WatchState) (keys : List (ℕ × ℕ)) (files : Beyond) (m : MachineState) → address_fits address ≡ true → (given : List CommandNote)

@@ -34,7 +34,7 @@ use Rattle.nova_machine.specs.Comes.{Output, output, AreTold, FileCause as StopC
 use Rattle.nova_machine.specs.LineChanges.{heard_with, AreLinesTold, LinesGoOn}
 use Rattle.nova_machine.specs.Wants.{HasUnit}
 use Rattle.nova_machine.specs.Seen.{attached_in}
-use Rattle.scp_parser.specs.Command.{Request, Attach, Detach, Restore, Exit as ExitRequest}
+use Rattle.scp_parser.specs.Command.{Request, Attach, Restore}
 use Rattle.scp_commands.specs.declared.next.Next.{Next}
 use Rattle.scp_commands.specs.declared.next.Next.TheVariants.{Exit, Ran}
 use Rattle.scp_commands.specs.declared.fault.CommandFault.TheVariants.{Console, OutOfMemory, NoFile, FileTooLong, FileFailed, PortFailed}
@@ -271,16 +271,6 @@ abbrev pub IsRefused : Answer → Type 0
 IsRefused (Err Console) = ⊥
 IsRefused (Err fault) = Unit {0}
 IsRefused (Ok next) = ⊥
-
--- the same, but for a DETACH ALL and an EXIT of which a write failed: units before the disk may have lost their files
-abbrev pub IsKept : Answer → Type 0
-IsKept (Err (FileFailed who)) = ⊥
-IsKept answer = IsRefused answer
-
-abbrev pub IsRefusal : Request → Answer → Type 0
-IsRefusal (Detach None) answer = IsKept answer
-IsRefusal (ExitRequest status) answer = IsKept answer
-IsRefusal request answer = IsRefused answer
 
 -- A run that stopped for a failing call names the unit, the file that is attached to it, and a call that a run makes there,
 -- with what a write had written; and the count of that very file rose by one, and no other.

@@ -23,6 +23,7 @@ pub mod LinesLeft
 pub mod LineAnswers
 pub mod Remains
 pub mod Refusals
+pub mod Answers
 pub mod RunStops
 pub mod Doing
 pub mod Laws

@@ -1,5 +1,5 @@
 -- What a command is refused for before it wants any memory.
-use Rattle.std.specs.Prelude.{◌≡◌, ◌==◌, ◌&&◌, ℕ, nat_le, Bool, true, false, List, Some, None, option_map, Err, length}
+use Rattle.std.specs.Prelude.{◌≡◌, ◌<◌, ◌==◌, ◌&&◌, ℕ, nat_le, Bool, true, false, List, Some, None, option_map, Err, length}
 use Rattle.host_files.specs.State.{FileState}
 use Rattle.unit_files.specs.Attachments.{attachment_at}
 use Rattle.unit_files.specs.Acts.{refused_first}
@@ -45,9 +45,15 @@ UnreadCause tells name (Err FileTooLong) old new = WholeCause tells name (Err wh
 UnreadCause tells name (Err OutOfMemory) old new = WholeCause tells name (Err whole.OutOfMemory) old new
 UnreadCause tells name answer old new = Unit {0}
 
+-- A file of a unit is too long only where it was opened.
+abbrev pub WasOpened : Answer → FileState → FileState → Type 0
+WasOpened (Err FileTooLong) old new = old.given < new.given
+WasOpened answer old new = Unit {0}
+
 -- The length of a script of DO and of a tape of LOAD is asked before memory is taken for its bytes: where it was opened and
--- is too long, that is the answer, and no want of memory.
+-- is too long, that is the answer, and no want of memory. Of ATTACH it is asked behind the opening too.
 abbrev pub IsMeasured : Bool → Request → Answer → FileState → FileState → Type 0
 IsMeasured tells (Do echo strict name arguments) answer old new = UnreadCause tells name answer old new
 IsMeasured tells (Load name) answer old new = UnreadCause tells name answer old new
+IsMeasured tells (Attach option unit name) answer old new = WasOpened answer old new
 IsMeasured tells request answer old new = Unit {0}

@@ -14,6 +14,7 @@ ghost use Rattle.scp_commands.specs.Live.{live_in, beyond};
 ghost use Rattle.scp_commands.specs.ScriptEffects.{script_of, do_reply};
 ghost use Rattle.scp_commands.specs.WholeCalls.{whole_answer};
 ghost use Rattle.scp_commands.specs.Refusals.{UnreadCause};
+ghost use Rattle.scp_commands.specs.Answers.{OfDo};
 ghost use Rattle.scp_commands.specs.Doing.{Did, Keeps, IsUndone, IsOwn, IsExitAnswer, IsRefused};
 
 use crate::do_file::{DoFile, ScriptText};
@@ -59,6 +60,7 @@ pub fn do_script<U: Unit, F: Files>(
     ensures whose { AreOwn session.old.machine.slots session.new.machine.slots session.old.notes session.new.notes
         (F.state files.old) (F.state files.new) }
     ensures whole { UnreadCause F.tells name.now result (F.state files.old) (F.state files.new) }
+    ensures answers { OfDo echo strict result }
     ensures own { IsOwn result }
     ensures exit { IsExitAnswer result }
     ensures watch { session.new.watch ≡ session.old.watch }

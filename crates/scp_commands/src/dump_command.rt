@@ -1,5 +1,5 @@
 // DUMP.
-ghost use Rattle.std.specs.Prelude.{length, ◌≡◌, ◌≤◌, ◌<◌, ◌^◌, ℕ, Bool, true, List, false, None, IsTrue, Err};
+ghost use Rattle.std.specs.Prelude.{length, ◌≡◌, ◌≢◌, ◌≤◌, ◌<◌, ◌^◌, ℕ, Bool, true, List, false, None, IsTrue, Err};
 ghost use Rattle.host_files.specs.State.{Opened};
 ghost use Rattle.unit_list.specs.Bus.{kinds_of};
 ghost use Rattle.unit_files.specs.Open.{AllOpen, Around};
@@ -16,6 +16,7 @@ ghost use Rattle.scp_commands.specs.WholeCalls.{write_calls};
 ghost use Rattle.scp_commands.specs.TapeEffects.{can_dump, dump_after, dump_reply};
 ghost use Rattle.scp_parser.specs.Command.{Dump};
 ghost use Rattle.scp_commands.specs.Refusals.{IsUnrefused};
+ghost use Rattle.scp_commands.specs.Answers.{IsByTables, OfDump, out_of_range};
 ghost use Rattle.scp_commands.specs.Doing.{Did, Keeps, IsUndone, IsOwn, IsExitAnswer, IsRefused};
 
 use crate::fault::CommandFault;
@@ -65,6 +66,8 @@ pub fn dump_file<U: Unit, F: Files>(
         session.new.notes (F.state files.old) (F.state files.new) }
     ensures whose { AreOwn session.old.machine.slots session.new.machine.slots session.old.notes session.new.notes
         (F.state files.old) (F.state files.new) }
+    ensures tables { result ≢ Err OutOfMemory → IsByTables (out_of_range (can_dump session.old.machine from to)) result }
+    ensures answers { OfDump result }
     ensures own { IsOwn result }
     ensures exit { IsExitAnswer result }
     ensures watch { session.new.watch ≡ session.old.watch }
@@ -131,6 +134,8 @@ fn write_tape<U: Unit, F: Files>(
         session.new.notes (F.state files.old) (F.state files.new) }
     ensures whose { AreOwn session.old.machine.slots session.new.machine.slots session.old.notes session.new.notes
         (F.state files.old) (F.state files.new) }
+    ensures tables { IsByTables None result }
+    ensures answers { OfDump result }
     ensures own { IsOwn result }
     ensures exit { IsExitAnswer result }
     ensures watch { session.new.watch ≡ session.old.watch }

@@ -20,8 +20,9 @@ ghost use Rattle.scp_commands.specs.LineAnswers.{LinesAnswer};
 ghost use Rattle.scp_commands.specs.StateAnswers.{PutsSessionBack};
 ghost use Rattle.scp_commands.specs.Remains.{AreLeft};
 ghost use Rattle.scp_commands.specs.Refusals.{IsUnrefused, IsMeasured};
+ghost use Rattle.scp_commands.specs.Answers.{AnswersByTables, CanAnswer};
 ghost use Rattle.scp_commands.specs.RunStops.{RunStops, IsNoStop, run_count, is_step};
-ghost use Rattle.scp_commands.specs.Doing.{Did, IsTold, IsRefused, Keeps, ConsoleCounts, MayWant, IsUndone, says_files, IsExitAnswer, RunCause, IsRefusal, AttachNote, KeepsBy, is_restore};
+ghost use Rattle.scp_commands.specs.Doing.{Did, IsTold, IsRefused, Keeps, ConsoleCounts, MayWant, IsUndone, says_files, IsExitAnswer, RunCause, AttachNote, KeepsBy, is_restore};
 
 use crate::do_command::do_script;
 use crate::dump_command::dump_file;
@@ -72,7 +73,7 @@ pub fn execute<U: Unit, F: Files, L: Lines, S: Sink>(
 ) -> Result<Next, CommandFault>
     requires standard { AreStandard session.old.machine.units }
     requires open { AllOpen session.old.machine.slots (F.state files.old).opened }
-    ensures refused { IsRefusal command.now result
+    ensures refused { IsRefused result
         → AreLeft (nature command.now).flushes session.old session.new }
     ensures told { IsTold F.tells session.old.machine.slots L.tells (L.state lines.old) session.old.machine.lines
         command.now → (whole : List LineAnswer) → IsFirst (record_in (L.state lines.new).told) whole
@@ -95,6 +96,8 @@ pub fn execute<U: Unit, F: Files, L: Lines, S: Sink>(
     ensures unrefused { result ≡ Err OutOfMemory → 16 ≤ session.old.spare
         → IsUnrefused command.now session.old.machine session.old.watch }
     ensures measured { IsMeasured F.tells command.now result (F.state files.old) (F.state files.new) }
+    ensures answers { result ≢ Err OutOfMemory
+        → AnswersByTables session.old.machine command.now result × CanAnswer command.now result }
     ensures keeps { KeepsBy (is_restore command.now) session.old.command session.old.machine.time
         session.new.machine.time F.tells result session.old.notes session.new.notes (F.state files.old)
         (F.state files.new) }
@@ -136,7 +139,7 @@ fn obey<U: Unit, F: Files, L: Lines, S: Sink>(
     requires room { 16 ≤ session.old.spare }
     requires standard { AreStandard session.old.machine.units }
     requires open { AllOpen session.old.machine.slots (F.state files.old).opened }
-    ensures refused { IsRefusal command.now result
+    ensures refused { IsRefused result
         → AreLeft (nature command.now).flushes session.old session.new }
     ensures told { IsTold F.tells session.old.machine.slots L.tells (L.state lines.old) session.old.machine.lines
         command.now → (whole : List LineAnswer) → IsFirst (record_in (L.state lines.new).told) whole
@@ -159,6 +162,8 @@ fn obey<U: Unit, F: Files, L: Lines, S: Sink>(
     ensures unrefused { result ≡ Err OutOfMemory
         → IsUnrefused command.now session.old.machine session.old.watch }
     ensures measured { IsMeasured F.tells command.now result (F.state files.old) (F.state files.new) }
+    ensures tables { result ≢ Err OutOfMemory → AnswersByTables session.old.machine command.now result }
+    ensures answers { CanAnswer command.now result }
     ensures keeps { KeepsBy (is_restore command.now) session.old.command session.old.machine.time
         session.new.machine.time F.tells result session.old.notes session.new.notes (F.state files.old)
         (F.state files.new) }
@@ -221,7 +226,7 @@ fn obey_untold<U: Unit, F: Files, S: Sink>(
     requires standard { AreStandard session.old.machine.units }
     requires open { AllOpen session.old.machine.slots (F.state files.old).opened }
     requires part { IsUntold command.now }
-    ensures refused { IsRefusal command.now result
+    ensures refused { IsRefused result
         → AreLeft (nature command.now).flushes session.old session.new }
     ensures told { (lines : LineState) (whole : List LineAnswer) (heard : Heard)
         → Did (λ notes. effect session.old.limit notes
@@ -279,7 +284,7 @@ fn obey_plain<U: Unit, F: Files, S: Sink>(
     requires standard { AreStandard session.old.machine.units }
     requires open { AllOpen session.old.machine.slots (F.state files.now).opened }
     requires part { nature command.now ≡ plain }
-    ensures refused { IsRefusal command.now result
+    ensures refused { IsRefused result
         → AreLeft (nature command.now).flushes session.old session.new }
     ensures told { (lines : LineState) (whole : List LineAnswer) (heard : Heard)
         → Did (λ notes. effect session.old.limit notes

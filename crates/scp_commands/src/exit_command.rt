@@ -12,7 +12,8 @@ ghost use Rattle.scp_commands.specs.Live.{live_in, beyond};
 ghost use Rattle.scp_commands.specs.ExitEffects.{exit_reply};
 ghost use Rattle.scp_commands.specs.LinesLeft.{LinesLeft};
 ghost use Rattle.scp_commands.specs.LineAnswers.{ClosesAll};
-ghost use Rattle.scp_commands.specs.Doing.{Did, Keeps, IsPlain, IsExitAnswer, IsRefused, IsKept};
+ghost use Rattle.scp_commands.specs.Answers.{IsByTables, OfExit, out_of_range, status_fits};
+ghost use Rattle.scp_commands.specs.Doing.{Did, Keeps, IsPlain, IsExitAnswer, IsRefused};
 
 use crate::fault::CommandFault;
 use crate::next::Next;
@@ -33,7 +34,7 @@ pub fn exit<U: Unit, F: Files, L: Lines>(
 ) -> Result<Next, CommandFault>
     requires room { 16 ≤ session.old.spare }
     requires open { AllOpen session.old.machine.slots (F.state files.old).opened }
-    ensures refused { IsKept result
+    ensures refused { IsRefused result
         → (session.new.machine ≡ session.old.machine) × (session.new.watch ≡ session.old.watch) }
     ensures told { AreLinesTold L.tells (L.state lines.old) session.old.machine.lines
         → (whole : List LineAnswer) (tells : Bool) (text : Output)
@@ -46,6 +47,8 @@ pub fn exit<U: Unit, F: Files, L: Lines>(
         session.new.notes (F.state files.old) (F.state files.new) }
     ensures whose { AreOwn session.old.machine.slots session.new.machine.slots session.old.notes session.new.notes
         (F.state files.old) (F.state files.new) }
+    ensures tables { IsByTables (out_of_range (status_fits status)) result }
+    ensures answers { OfExit status result }
     ensures own { IsPlain result }
     ensures exit { IsExitAnswer result }
     ensures watch { session.new.watch ≡ session.old.watch }

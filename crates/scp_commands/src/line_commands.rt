@@ -17,6 +17,7 @@ ghost use Rattle.scp_commands.specs.LineEffects.{closed, hung, unported, attach_
 ghost use Rattle.scp_commands.specs.LinesLeft.{LinesLeft, SeenAs, GivesUp, Unlistened, AttachCause, attaches_by, needs_port};
 ghost use Rattle.scp_commands.specs.LineAnswers.{AttachesPort, DetachesPort, Disconnects, ClosesPort};
 ghost use Rattle.scp_commands.specs.Refusals.{IsUnrefused};
+ghost use Rattle.scp_commands.specs.Answers.{OfLine, OfPort};
 ghost use Rattle.scp_commands.specs.Doing.{Does, IsOfPort, IsPlain, IsExitAnswer, IsRefused};
 
 use crate::fault::CommandFault;
@@ -55,6 +56,7 @@ pub fn attach_port<U: Unit, L: Lines>(
         session.new.machine.lines }
     ensures unrefused { result ≡ Err OutOfMemory
         → IsUnrefused (AttachPort Tti1 port) session.old.machine session.old.watch }
+    ensures answers { OfPort result }
     ensures own { IsOfPort result }
     ensures exit { IsExitAnswer result }
     ensures rest { session.new ≡ record session.old { machine = session.new.machine } }
@@ -85,6 +87,7 @@ pub fn detach_port<U: Unit, L: Lines>(
     ensures unasked { IsRefused result → lines.new ≡ lines.old }
     ensures line { DetachesPort result (L.state lines.old) session.old.machine.lines (L.state lines.new)
         session.new.machine.lines }
+    ensures answers { OfLine result }
     ensures own { IsPlain result }
     ensures port { IsOfPort result }
     ensures exit { IsExitAnswer result }
@@ -117,6 +120,7 @@ pub fn disconnect<U: Unit, L: Lines>(
     ensures unasked { IsRefused result → lines.new ≡ lines.old }
     ensures line { Disconnects result (L.state lines.old) session.old.machine.lines (L.state lines.new)
         session.new.machine.lines }
+    ensures answers { OfLine result }
     ensures own { IsPlain result }
     ensures port { IsOfPort result }
     ensures exit { IsExitAnswer result }
@@ -157,6 +161,7 @@ fn attach_line<L: Lines>(
         line.new }
     ensures settled { OnOk result (IsSettled line.old) }
     ensures unasked { IsRefused result → (Unlistened result → ⊥) → lines.new ≡ lines.old }
+    ensures answers { OfPort result }
     ensures own { IsOfPort result }
     ensures exit { IsExitAnswer result }
 {

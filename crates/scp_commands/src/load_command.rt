@@ -15,6 +15,7 @@ ghost use Rattle.scp_commands.specs.RunEffects.{starting_at};
 ghost use Rattle.scp_commands.specs.WholeCalls.{whole_answer};
 ghost use Rattle.scp_commands.specs.Refusals.{UnreadCause};
 ghost use Rattle.scp_commands.specs.TapeEffects.{tape_in, tape_answer, tape_machine, read_machine, load_reply};
+ghost use Rattle.scp_commands.specs.Answers.{OfLoad};
 ghost use Rattle.scp_commands.specs.Doing.{Did, Keeps, IsUndone, IsOwn, IsExitAnswer, IsRefused};
 
 use crate::fault::CommandFault;
@@ -60,6 +61,7 @@ pub fn load_file<U: Unit, F: Files>(
     ensures whose { AreOwn session.old.machine.slots session.new.machine.slots session.old.notes session.new.notes
         (F.state files.old) (F.state files.new) }
     ensures whole { UnreadCause F.tells name.now result (F.state files.old) (F.state files.new) }
+    ensures answers { OfLoad result }
     ensures own { IsOwn result }
     ensures exit { IsExitAnswer result }
     ensures watch { session.new.watch ≡ session.old.watch }

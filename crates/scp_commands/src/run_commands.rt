@@ -1,5 +1,5 @@
 // RUN, GO, CONT, STEP and RESET.
-ghost use Rattle.std.specs.Prelude.{◌≡◌, ◌≢◌, ◌≤◌, ◌++◌, ℕ, Bool, List, true, false, IsTrue, min, nat_le};
+ghost use Rattle.std.specs.Prelude.{◌≡◌, ◌≢◌, ◌≤◌, ◌++◌, ℕ, Bool, List, true, false, None, IsTrue, min, nat_le};
 ghost use Rattle.unit_list.specs.Bus.{kinds_of};
 ghost use Rattle.unit_files.specs.Open.{AllOpen};
 ghost use Rattle.file_commands.specs.Notes.{notes_said};
@@ -11,6 +11,7 @@ ghost use Rattle.nova_machine.specs.Comes.{Output};
 ghost use Rattle.scp_commands.specs.Live.{live_in, standing, Beyond, beyond};
 ghost use Rattle.scp_commands.specs.RunEffects.{address_fits, starting_at, reset_where, running, run_from};
 ghost use Rattle.scp_commands.specs.RunEffects.{stepped, step_of, run_failure, ran, reset_reply};
+ghost use Rattle.scp_commands.specs.Answers.{IsByTables, OfRun, out_of_range, count_fits};
 ghost use Rattle.scp_commands.specs.Doing.{Does, IsRefused};
 ghost use Rattle.scp_commands.specs.RunStops.{RunStops};
 ghost use Rattle.scp_commands.specs.Doing.{IsPlain, IsExitAnswer, stop_notes, RunDone};
@@ -52,6 +53,8 @@ pub fn run_from<U: Unit, F: Files, L: Lines, S: Sink>(
         (S.written out.new) (S.fault_count out.old) (S.fault_count out.new) }
     ensures stopped { RunStops false session.old.limit result session.old session.new S.tells (S.written out.old)
         (S.written out.new) }
+    ensures tables { IsByTables (out_of_range (address_fits address)) result }
+    ensures answers { OfRun result }
     ensures kinds { kinds_of session.new.machine.units ≡ kinds_of session.old.machine.units }
 {
     if !address_fits(address) {
@@ -118,6 +121,8 @@ pub fn run<U: Unit, F: Files, L: Lines, S: Sink>(
         (S.written out.new) (S.fault_count out.old) (S.fault_count out.new) }
     ensures stopped { RunStops false session.old.limit result session.old session.new S.tells (S.written out.old)
         (S.written out.new) }
+    ensures tables { IsByTables None result }
+    ensures answers { OfRun result }
     ensures kinds { kinds_of session.new.machine.units ≡ kinds_of session.old.machine.units }
 {
     let limit = RunLimit {
@@ -148,6 +153,8 @@ pub fn step<U: Unit, F: Files, L: Lines, S: Sink>(
         (S.written out.new) (S.fault_count out.old) (S.fault_count out.new) }
     ensures stopped { RunStops (nat_le count session.old.limit) (min count session.old.limit) result session.old
         session.new S.tells (S.written out.old) (S.written out.new) }
+    ensures tables { IsByTables (out_of_range (count_fits count)) result }
+    ensures answers { OfRun result }
     ensures kinds { kinds_of session.new.machine.units ≡ kinds_of session.old.machine.units }
 {
     if is_count(count) {
@@ -175,6 +182,8 @@ fn step_by<U: Unit, F: Files, L: Lines, S: Sink>(
         (S.written out.new) (S.fault_count out.old) (S.fault_count out.new) }
     ensures stopped { RunStops (nat_le count session.old.limit) (min count session.old.limit) result session.old
         session.new S.tells (S.written out.old) (S.written out.new) }
+    ensures tables { IsByTables None result }
+    ensures answers { OfRun result }
     ensures kinds { kinds_of session.new.machine.units ≡ kinds_of session.old.machine.units }
 {
     let limit = RunLimit {
@@ -204,6 +213,8 @@ fn run_up_to<U: Unit, F: Files, L: Lines, S: Sink>(
         (S.written out.new) (S.fault_count out.old) (S.fault_count out.new) }
     ensures stopped { RunStops limit.step limit.count result session.old session.new S.tells (S.written out.old)
         (S.written out.new) }
+    ensures tables { IsByTables None result }
+    ensures answers { OfRun result }
     ensures kinds { kinds_of session.new.machine.units ≡ kinds_of session.old.machine.units }
 {
     let stop = session.machine.run(limit, &mut session.watch, &session.keys, files, lines, out);

@@ -21,6 +21,7 @@ ghost use Rattle.scp_commands.specs.Live.{live_in, beyond};
 ghost use Rattle.scp_commands.specs.FaultText.{save_fault};
 ghost use Rattle.scp_commands.specs.Remains.{AreLeft};
 ghost use Rattle.scp_commands.specs.StateEffects.{save_notes, save_reply};
+ghost use Rattle.scp_commands.specs.Answers.{OfSave};
 ghost use Rattle.scp_commands.specs.Doing.{Did, Keeps, IsUndone, IsOwn, IsExitAnswer, IsRefused};
 
 use crate::fault::CommandFault;
@@ -64,6 +65,7 @@ pub fn save<U: Unit, F: Files>(
         session.new.notes (F.state files.old) (F.state files.new) }
     ensures whose { AreOwn session.old.machine.slots session.new.machine.slots session.old.notes session.new.notes
         (F.state files.old) (F.state files.new) }
+    ensures answers { OfSave result }
     ensures own { IsOwn result }
     ensures exit { IsExitAnswer result }
     ensures watch { session.new.watch ≡ session.old.watch }

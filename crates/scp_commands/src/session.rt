@@ -1,4 +1,4 @@
-ghost use Rattle.std.specs.Prelude.{◌≡◌, ◌≤◌, ◌<◌, ◌+◌, List, [], map, IfOk, OnOk, OnErr};
+ghost use Rattle.std.specs.Prelude.{◌≡◌, ◌≤◌, ◌<◌, ◌+◌, List, [], map, IsTrue, IfOk, IfErr, OnOk, OnErr};
 ghost use Rattle.host_files.specs.State.{Opened};
 ghost use Rattle.unit_list.specs.Bus.{kinds_of};
 ghost use Rattle.unit_files.specs.Open.{AllOpen, Around};
@@ -56,6 +56,7 @@ impl<U: Unit> Session<U> {
     ghost use Rattle.host_lines.specs.State.{LineState};
     ghost use Rattle.scp_commands.specs.Live.{CommandState, live_in, beyond};
     ghost use Rattle.scp_commands.specs.FileEffects.{kept_answer};
+    ghost use Rattle.unit_files.specs.Attachments.{is_disk};
     ghost use Rattle.file_commands.specs.AllUnits.{keeper, IsUnwritten};
     ghost use Rattle.file_commands.specs.OwnFiles.{AreOwn};
     ghost use Rattle.scp_commands.specs.LineAnswers.{ClosesPort};
@@ -123,6 +124,8 @@ impl<U: Unit> Session<U> {
             self.new.machine.lines }
         ensures unasked { OnErr result (lines.new ≡ lines.old) }
         ensures sent { (L.state lines.new).sent ≡ (L.state lines.old).sent }
+        ensures refused { OnErr result (self.new.machine ≡ self.old.machine) }
+        ensures disk { IfErr result (λ f. IsTrue (is_disk f.unit.kind)) }
         ensures kept { OnErr result (self.new.machine.lines ≡ self.old.machine.lines) }
         ensures line { OnOk result
             (ClosesPort (L.state lines.old) self.old.machine.lines (L.state lines.new) self.new.machine.lines) }
@@ -160,6 +163,8 @@ impl<U: Unit> Session<U> {
             (IsUnwritten self.new.machine.slots self.new.notes (F.state files.old) (F.state files.new)) }
         ensures whose { AreOwn self.old.machine.slots self.new.machine.slots self.old.notes self.new.notes
             (F.state files.old) (F.state files.new) }
+        ensures refused { OnErr result (self.new.machine ≡ self.old.machine) }
+        ensures disk { IfErr result (λ f. IsTrue (is_disk f.unit.kind)) }
         ensures watch { self.new.watch ≡ self.old.watch }
         ensures terminals { self.new.machine.lines ≡ self.old.machine.lines }
         ensures keys { self.new.keys ≡ self.old.keys }

@@ -1,5 +1,5 @@
 // ATTACH and DETACH.
-ghost use Rattle.std.specs.Prelude.{◌≡◌, ◌≤◌, ◌<◌, ◌^◌, ℕ, Bool, true, List, false, None, IsTrue, IfSome, is_some, Err};
+ghost use Rattle.std.specs.Prelude.{◌≡◌, ◌≢◌, ◌≤◌, ◌<◌, ◌^◌, ℕ, Bool, true, List, false, None, IsTrue, IfSome, is_some, Err};
 ghost use Rattle.host_files.specs.State.{Opened};
 ghost use Rattle.unit_trait.specs.Kinds.{units_of, code_of};
 ghost use Rattle.unit_list.specs.Bus.{unit_at, kinds_of};
@@ -17,10 +17,11 @@ ghost use Rattle.scp_commands.specs.LineEffects.{is_terminal};
 ghost use Rattle.scp_commands.specs.FileEffects.{lacks_unit, mode_of, first_place, positioned};
 ghost use Rattle.scp_commands.specs.FileEffects.{attach_reply, detach_reply, detach_all_reply, detach_one_or_all};
 ghost use Rattle.scp_parser.specs.Command.{Attach, Detach};
-ghost use Rattle.scp_commands.specs.Refusals.{IsUnrefused};
+ghost use Rattle.scp_commands.specs.Refusals.{IsUnrefused, WasOpened};
+ghost use Rattle.scp_commands.specs.Answers.{IsByTables, AnswersByTables, OfAttach, OfDetach, OfDetachAll, attach_refusal};
 ghost use Rattle.scp_commands.specs.LinesLeft.{LinesLeft};
 ghost use Rattle.scp_commands.specs.LineAnswers.{DetachesUnit, ClosesAll};
-ghost use Rattle.scp_commands.specs.Doing.{Did, IsTold, Keeps, IsUndone, IsOwn, IsPlain, IsExitAnswer, IsRefused, IsKept, IsRefusal, AttachNote};
+ghost use Rattle.scp_commands.specs.Doing.{Did, IsTold, Keeps, IsUndone, IsOwn, IsPlain, IsExitAnswer, IsRefused, AttachNote};
 
 use crate::fault::CommandFault;
 use crate::line_commands::detach_port;
@@ -66,6 +67,9 @@ pub fn attach<U: Unit, F: Files>(
     ensures note { AttachNote (Attach option unit name.now) result
         (record { command = session.old.command; time = session.old.machine.time }) session.old.notes session.new.notes
         (F.state files.old) (F.state files.new) }
+    ensures tables { result ≢ Err OutOfMemory → IsByTables (attach_refusal session.old.machine option unit) result }
+    ensures answers { OfAttach unit result }
+    ensures opened { WasOpened result (F.state files.old) (F.state files.new) }
     ensures own { IsOwn result }
     ensures exit { IsExitAnswer result }
     ensures watch { session.new.watch ≡ session.old.watch }
@@ -112,7 +116,7 @@ pub fn detach_one_or_every<U: Unit, F: Files, L: Lines>(
     requires room { 16 ≤ session.old.spare }
     requires unit { IfSome unit (λ u. u.unit < units_of u.kind) }
     requires open { AllOpen session.old.machine.slots (F.state files.old).opened }
-    ensures refused { IsRefusal (Detach unit) result
+    ensures refused { IsRefused result
         → (session.new.machine ≡ session.old.machine) × (session.new.watch ≡ session.old.watch) }
     ensures told { IsTold F.tells session.old.machine.slots L.tells (L.state lines.old) session.old.machine.lines
         (Detach unit) → (whole : List LineAnswer) (tells : Bool) (text : Output)
@@ -124,6 +128,8 @@ pub fn detach_one_or_every<U: Unit, F: Files, L: Lines>(
         session.new.notes (F.state files.old) (F.state files.new) }
     ensures whose { AreOwn session.old.machine.slots session.new.machine.slots session.old.notes session.new.notes
         (F.state files.old) (F.state files.new) }
+    ensures tables { AnswersByTables session.old.machine (Detach unit) result }
+    ensures answers { OfDetach unit result }
     ensures own { IsPlain result }
     ensures exit { IsExitAnswer result }
     ensures watch { session.new.watch ≡ session.old.watch }
@@ -205,7 +211,7 @@ fn detach_every<U: Unit, F: Files, L: Lines>(
 ) -> Result<Next, CommandFault>
     requires room { 16 ≤ session.old.spare }
     requires open { AllOpen session.old.machine.slots (F.state files.old).opened }
-    ensures refused { IsKept result
+    ensures refused { IsRefused result
         → (session.new.machine ≡ session.old.machine) × (session.new.watch ≡ session.old.watch) }
     ensures told { AreLinesTold L.tells (L.state lines.old) session.old.machine.lines
         → (whole : List LineAnswer) (tells : Bool) (text : Output)
@@ -217,6 +223,8 @@ fn detach_every<U: Unit, F: Files, L: Lines>(
         session.new.notes (F.state files.old) (F.state files.new) }
     ensures whose { AreOwn session.old.machine.slots session.new.machine.slots session.old.notes session.new.notes
         (F.state files.old) (F.state files.new) }
+    ensures tables { IsByTables None result }
+    ensures answers { OfDetachAll result }
     ensures own { IsPlain result }
     ensures exit { IsExitAnswer result }
     ensures watch { session.new.watch ≡ session.old.watch }

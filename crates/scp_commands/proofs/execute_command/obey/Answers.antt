@@ -7,7 +7,7 @@ use Rattle.scp_commands.specs.Effect.{effect}
 use Rattle.scp_commands.proofs.ObeyLemmas.{lines-kept, plain-did, keeps-none, port-no-file, IsNoListener, unlistening, unlistened, own-no-port, plain-no-port, run-no-port, noted-did, do-named, load-named, dump-named, save-named, restore-named, as-kept, untold-restore, IsNoRunOrFile, is-untold}
 use Rattle.scp_commands.specs.ScriptEffects.{do_reply}
 use Rattle.scp_commands.specs.Nature.{nature, IsUntold}
-use Rattle.scp_commands.specs.Doing.{says_files, IsTold, IsRefused, IsRefusal, IsUndone, KeepsBy, is_restore, Did}
+use Rattle.scp_commands.specs.Doing.{says_files, IsTold, IsRefused, IsUndone, KeepsBy, is_restore, Did}
 use Rattle.scp_commands.specs.Remains.{AreLeft}
 use Rattle.scp_commands.specs.StateEffects.{save_reply, restore_reply}
 use Rattle.scp_commands.specs.StateAnswers.{PutsSessionBack}
@@ -24,6 +24,8 @@ use Rattle.scp_commands.specs.RunEffects.{run_from, running, step_of}
 use Rattle.nova_machine.specs.Comes.{output}
 use Rattle.scp_commands.specs.TapeEffects.{load_reply, dump_reply}
 use Rattle.scp_commands.specs.LineAnswers.{LinesAnswer}
+use Rattle.scp_commands.specs.Answers.{IsByTables, out_of_range, count_fits}
+use Rattle.scp_commands.proofs.CanLemmas.{by-asks, can-by, untold-tables, untold-can, do-tables, load-tables, save-tables}
 use Rattle.scp_commands.proofs.AnswerLemmas.{stays, untold-stays}
 use Rattle.scp_commands.proofs.execute_command.obey.Goals as goal
 
@@ -666,7 +668,7 @@ pub returns-in-Save-clause-refused : goal.returns-in-Save-clause-refused
 returns-in-Save-clause-refused g c = λ refused.
     let asks = sym c.command.view_is ∙ ap (request_of _) c.in-Save.is in
     subst (λ (r : Request). AreLeft (nature r).flushes c.args.session.now c.save.new.session) (sym asks)
-    (c.save.ensures.refused (subst (λ (r : Request). IsRefusal r c.save.result) asks refused))
+    (c.save.ensures.refused refused)
 
 pub returns-in-Save-clause-keeps : goal.returns-in-Save-clause-keeps
 returns-in-Save-clause-keeps g c =
@@ -826,3 +828,163 @@ returns-in-Restore-clause-back g c =
     let asks = restore-named _ c.command.inside.verb c.in-Restore.force _ c.args.command.now name (sym c.command.view_is) c.in-Restore.is c.file_name-in-Restore.ensures.name in
     subst (λ (r : Request). PutsSessionBack g.F.Files.tells (g.F.Files.state c.args.files.now).files r c.restore.result c.args.session.now c.restore.new.session) (sym asks)
     (done-back g.F.Files.tells (g.F.Files.state c.args.files.now).files c.in-Restore.force name c.restore.result c.args.session.now c.restore.new.session c.restore.ensures.back)
+
+-- what each can answer
+
+pub returns-in-Run-clause-tables : goal.returns-in-Run-clause-tables
+returns-in-Run-clause-tables g c = λ some.
+    by-asks c.args.session.now.machine c.run_from.result c.args.command.now _ (sym c.command.view_is ∙ ap (request_of _) c.in-Run.is) c.run_from.ensures.tables
+
+pub returns-in-Run-clause-answers : goal.returns-in-Run-clause-answers
+returns-in-Run-clause-answers g c =
+    can-by c.run_from.result c.args.command.now _ (sym c.command.view_is ∙ ap (request_of _) c.in-Run.is) c.run_from.ensures.answers
+
+pub returns-in-Go-clause-tables : goal.returns-in-Go-clause-tables
+returns-in-Go-clause-tables g c = λ some.
+    by-asks c.args.session.now.machine c.run_from-in-Go.result c.args.command.now _ (sym c.command.view_is ∙ ap (request_of _) c.in-Go.is) c.run_from-in-Go.ensures.tables
+
+pub returns-in-Go-clause-answers : goal.returns-in-Go-clause-answers
+returns-in-Go-clause-answers g c =
+    can-by c.run_from-in-Go.result c.args.command.now _ (sym c.command.view_is ∙ ap (request_of _) c.in-Go.is) c.run_from-in-Go.ensures.answers
+
+pub returns-in-Cont-clause-tables : goal.returns-in-Cont-clause-tables
+returns-in-Cont-clause-tables g c = λ some.
+    by-asks c.args.session.now.machine c.run.result c.args.command.now _ (sym c.command.view_is ∙ ap (request_of _) c.in-Cont.is) c.run.ensures.tables
+
+pub returns-in-Cont-clause-answers : goal.returns-in-Cont-clause-answers
+returns-in-Cont-clause-answers g c =
+    can-by c.run.result c.args.command.now _ (sym c.command.view_is ∙ ap (request_of _) c.in-Cont.is) c.run.ensures.answers
+
+pub returns-in-Attach-clause-tables : goal.returns-in-Attach-clause-tables
+returns-in-Attach-clause-tables g c = λ some.
+    by-asks c.args.session.now.machine c.attach.result c.args.command.now _ (sym c.command.view_is ∙ ap (request_of _) c.in-Attach.is) (c.attach.ensures.tables some)
+
+pub returns-in-Attach-clause-answers : goal.returns-in-Attach-clause-answers
+returns-in-Attach-clause-answers g c =
+    can-by c.attach.result c.args.command.now _ (sym c.command.view_is ∙ ap (request_of _) c.in-Attach.is) c.attach.ensures.answers
+
+pub returns-in-AttachPort-clause-tables : goal.returns-in-AttachPort-clause-tables
+returns-in-AttachPort-clause-tables g c = λ some.
+    by-asks c.args.session.now.machine c.attach_port.result c.args.command.now _ (sym c.command.view_is ∙ ap (request_of _) c.in-AttachPort.is) tt
+
+pub returns-in-AttachPort-clause-answers : goal.returns-in-AttachPort-clause-answers
+returns-in-AttachPort-clause-answers g c =
+    can-by c.attach_port.result c.args.command.now _ (sym c.command.view_is ∙ ap (request_of _) c.in-AttachPort.is) c.attach_port.ensures.answers
+
+pub returns-in-Detach-clause-tables : goal.returns-in-Detach-clause-tables
+returns-in-Detach-clause-tables g c = λ some.
+    by-asks c.args.session.now.machine c.detach_one_or_every.result c.args.command.now _ (sym c.command.view_is ∙ ap (request_of _) c.in-Detach.is) c.detach_one_or_every.ensures.tables
+
+pub returns-in-Detach-clause-answers : goal.returns-in-Detach-clause-answers
+returns-in-Detach-clause-answers g c =
+    can-by c.detach_one_or_every.result c.args.command.now _ (sym c.command.view_is ∙ ap (request_of _) c.in-Detach.is) c.detach_one_or_every.ensures.answers
+
+pub returns-in-Disconnect-clause-tables : goal.returns-in-Disconnect-clause-tables
+returns-in-Disconnect-clause-tables g c = λ some.
+    by-asks c.args.session.now.machine c.disconnect.result c.args.command.now _ (sym c.command.view_is ∙ ap (request_of _) c.in-Disconnect.is) tt
+
+pub returns-in-Disconnect-clause-answers : goal.returns-in-Disconnect-clause-answers
+returns-in-Disconnect-clause-answers g c =
+    can-by c.disconnect.result c.args.command.now _ (sym c.command.view_is ∙ ap (request_of _) c.in-Disconnect.is) c.disconnect.ensures.answers
+
+pub returns-in-Exit-clause-tables : goal.returns-in-Exit-clause-tables
+returns-in-Exit-clause-tables g c = λ some.
+    by-asks c.args.session.now.machine c.exit.result c.args.command.now _ (sym c.command.view_is ∙ ap (request_of _) c.in-Exit.is) c.exit.ensures.tables
+
+pub returns-in-Exit-clause-answers : goal.returns-in-Exit-clause-answers
+returns-in-Exit-clause-answers g c =
+    can-by c.exit.result c.args.command.now _ (sym c.command.view_is ∙ ap (request_of _) c.in-Exit.is) c.exit.ensures.answers
+
+pub returns-in-Do-clause-tables : goal.returns-in-Do-clause-tables
+returns-in-Do-clause-tables g c = λ some.
+    by-asks c.args.session.now.machine c.do_script.result c.args.command.now _ (sym c.command.view_is ∙ ap (request_of _) c.in-Do.is) (do-tables c.in-Do.echo c.in-Do.strict c.do_script.result c.do_script.ensures.answers)
+
+pub returns-in-Do-clause-answers : goal.returns-in-Do-clause-answers
+returns-in-Do-clause-answers g c =
+    can-by c.do_script.result c.args.command.now _ (sym c.command.view_is ∙ ap (request_of _) c.in-Do.is) c.do_script.ensures.answers
+
+pub returns-in-Load-clause-tables : goal.returns-in-Load-clause-tables
+returns-in-Load-clause-tables g c = λ some.
+    by-asks c.args.session.now.machine c.load_file.result c.args.command.now _ (sym c.command.view_is ∙ ap (request_of _) c.in-Load.is) (load-tables c.load_file.result c.load_file.ensures.answers)
+
+pub returns-in-Load-clause-answers : goal.returns-in-Load-clause-answers
+returns-in-Load-clause-answers g c =
+    can-by c.load_file.result c.args.command.now _ (sym c.command.view_is ∙ ap (request_of _) c.in-Load.is) c.load_file.ensures.answers
+
+pub returns-in-Dump-clause-tables : goal.returns-in-Dump-clause-tables
+returns-in-Dump-clause-tables g c = λ some.
+    by-asks c.args.session.now.machine c.dump_file.result c.args.command.now _ (sym c.command.view_is ∙ ap (request_of _) c.in-Dump.is) (c.dump_file.ensures.tables some)
+
+pub returns-in-Dump-clause-answers : goal.returns-in-Dump-clause-answers
+returns-in-Dump-clause-answers g c =
+    can-by c.dump_file.result c.args.command.now _ (sym c.command.view_is ∙ ap (request_of _) c.in-Dump.is) c.dump_file.ensures.answers
+
+pub returns-in-Save-clause-tables : goal.returns-in-Save-clause-tables
+returns-in-Save-clause-tables g c = λ some.
+    by-asks c.args.session.now.machine c.save.result c.args.command.now _ (sym c.command.view_is ∙ ap (request_of _) c.in-Save.is) (save-tables c.save.result c.save.ensures.answers)
+
+pub returns-in-Save-clause-answers : goal.returns-in-Save-clause-answers
+returns-in-Save-clause-answers g c =
+    can-by c.save.result c.args.command.now _ (sym c.command.view_is ∙ ap (request_of _) c.in-Save.is) c.save.ensures.answers
+
+pub returns-in-Restore-clause-tables : goal.returns-in-Restore-clause-tables
+returns-in-Restore-clause-tables g c = λ some.
+    by-asks c.args.session.now.machine c.restore.result c.args.command.now _ (sym c.command.view_is ∙ ap (request_of _) c.in-Restore.is) c.restore.ensures.tables
+
+pub returns-in-Restore-clause-answers : goal.returns-in-Restore-clause-answers
+returns-in-Restore-clause-answers g c =
+    can-by c.restore.result c.args.command.now _ (sym c.command.view_is ∙ ap (request_of _) c.in-Restore.is) c.restore.ensures.answers
+
+pub returns-in-Step-clause-tables : goal.returns-in-Step-clause-tables
+returns-in-Step-clause-tables g c = λ some.
+    by-asks c.args.session.now.machine c.step.result c.args.command.now _ (sym c.command.view_is ∙ ap (request_of _) c.in-Step.is)
+    (subst (λ (n : ℕ). IsByTables (out_of_range (count_fits n)) c.step.result) c.unwrap_or.ensures c.step.ensures.tables)
+
+pub returns-in-Step-clause-answers : goal.returns-in-Step-clause-answers
+returns-in-Step-clause-answers g c =
+    can-by c.step.result c.args.command.now _ (sym c.command.view_is ∙ ap (request_of _) c.in-Step.is) c.step.ensures.answers
+
+pub returns-in_default-clause-tables : goal.returns-in_default-clause-tables
+returns-in_default-clause-tables g c = λ some.
+    let others : IsNoRunOrFile c.command.inside.verb = record {
+      run = c.in_default.not-Run;
+      go = c.in_default.not-Go;
+      cont = c.in_default.not-Cont;
+      step = c.in_default.not-Step;
+      attach = c.in_default.not-Attach;
+      attach_port = c.in_default.not-AttachPort;
+      detach = c.in_default.not-Detach;
+      disconnect = c.in_default.not-Disconnect;
+      exit = c.in_default.not-Exit;
+      do_ = c.in_default.not-Do;
+      load = c.in_default.not-Load;
+      dump = c.in_default.not-Dump;
+      save = c.in_default.not-Save;
+      restore = c.in_default.not-Restore;
+    } in
+    untold-tables c.args.session.now.machine c.args.command.now c.obey_untold.result (subst (λ (r : Request). IsUntold r) c.command.view_is (is-untold _ c.command.inside.verb others))
+
+pub returns-in_default-clause-answers : goal.returns-in_default-clause-answers
+returns-in_default-clause-answers g c =
+    let others : IsNoRunOrFile c.command.inside.verb = record {
+      run = c.in_default.not-Run;
+      go = c.in_default.not-Go;
+      cont = c.in_default.not-Cont;
+      step = c.in_default.not-Step;
+      attach = c.in_default.not-Attach;
+      attach_port = c.in_default.not-AttachPort;
+      detach = c.in_default.not-Detach;
+      disconnect = c.in_default.not-Disconnect;
+      exit = c.in_default.not-Exit;
+      do_ = c.in_default.not-Do;
+      load = c.in_default.not-Load;
+      dump = c.in_default.not-Dump;
+      save = c.in_default.not-Save;
+      restore = c.in_default.not-Restore;
+    } in
+    untold-can c.args.command.now c.obey_untold.result (subst (λ (r : Request). IsUntold r) c.command.view_is (is-untold _ c.command.inside.verb others))
+
+pub returns-in-Attach-clause-measured : goal.returns-in-Attach-clause-measured
+returns-in-Attach-clause-measured g c =
+    subst (λ (r : Request). IsMeasured g.F.Files.tells r c.attach.result (g.F.Files.state c.args.files.now) (g.F.Files.state c.attach.new.files)) (sym (sym c.command.view_is ∙ ap (request_of _) c.in-Attach.is))
+    c.attach.ensures.«opened»

@@ -1,14 +1,16 @@
-use Rattle.std.proofs.Common.{rules, ◌∙◌, Err, refl, sym}
-use Rattle.file_commands.specs.Notes.{notes_said}
+use Rattle.std.proofs.Common.{rules, ◌∙◌, List, Err, refl, sym, subst}
+use Rattle.file_commands.specs.Notes.{CommandNote, notes_said}
+use Rattle.host_lines.specs.Traffic.{Answer as LineAnswer}
 use Rattle.file_commands.proofs.OwnFiles.{unused}
 use Rattle.nova_machine.proofs.LineSteps.{lines-stay}
 use Rattle.nova_machine.specs.Comes.{output}
 use Rattle.scp_commands.specs.declared.fault.CommandFault.TheVariants.{OutOfRange}
 use Rattle.scp_commands.specs.Live.{live_in, beyond}
-use Rattle.scp_commands.specs.Reply.{refused}
+use Rattle.scp_commands.specs.Reply.{Reply, refused}
+use Rattle.scp_commands.specs.Doing.{RunDone}
 use Rattle.scp_commands.specs.RunEffects.{step_of}
 use Rattle.scp_commands.proofs.ReplyLemmas.{did-without, refused-said}
-use Rattle.scp_commands.proofs.StartLemmas.{step-refused}
+use Rattle.scp_commands.proofs.StartLemmas.{step-refused, step-begun}
 use Rattle.scp_commands.proofs.run_commands.step.Goals as goal
 
 pub returns-else-is_count-clause-done : goal.returns-else-is_count-clause-done
@@ -33,3 +35,14 @@ returns-else-is_count-clause-done g c = record {
   own = search rules;
   exit = search rules;
 }
+
+pub returns-then-is_count-clause-done : goal.returns-then-is_count-clause-done
+returns-then-is_count-clause-done g c =
+    let s = c.args.session.now in
+    let new = c.step_by.new in
+    let old = g.F.Files.state c.args.files.now in
+    let ports = g.L.Lines.state c.args.lines.now in
+    let fits = sym c.is_count.ensures ∙ c.if-is_count.true in
+    subst (λ (reply : List LineAnswer → List CommandNote → Reply). RunDone reply c.step_by.result s new.session old (g.F.Files.state new.files) ports (g.L.Lines.state new.lines)
+    g.F.Files.tells g.L.Lines.tells g.S.Sink.tells (g.S.Sink.written c.args.out.now) (g.S.Sink.written new.out) (g.S.Sink.fault_count c.args.out.now) (g.S.Sink.fault_count new.out))
+    (λ i whole notes. sym (step-begun s.limit c.args.count (live_in s (beyond old.files ports whole)) fits notes) i) c.step_by.ensures.done

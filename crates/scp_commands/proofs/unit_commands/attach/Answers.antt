@@ -11,6 +11,7 @@ use Rattle.scp_commands.proofs.BehindLemmas.{stamp_in}
 use Rattle.scp_commands.proofs.AttachLemmas.{begins-within, attach-lacking, attach-done, becomes-attached, becomes-refused, attach-keeps}
 use Rattle.unit_list.specs.Bus.{kinds_of}
 use Rattle.scp_commands.proofs.KindLemmas.{positioned-kinds}
+use Rattle.scp_commands.proofs.CanLemmas.{lacking-by-tables, attach-tables, opened-by-cause}
 use Rattle.scp_commands.proofs.unit_commands.attach.Goals as goal
 
 pub returns-then-lacks_unit-clause-told : goal.returns-then-lacks_unit-clause-told
@@ -93,3 +94,26 @@ pub returns-in-Ok-clause-kinds : goal.returns-in-Ok-clause-kinds
 returns-in-Ok-clause-kinds g c =
     rw (← c.session.view_is)
     (ap (λ (m : MachineState). kinds_of m.units) c.set_position.ensures ∙ positioned-kinds c.args.unit c.first_place.result c.session.inside.machine.units)
+
+pub returns-then-lacks_unit-clause-tables : goal.returns-then-lacks_unit-clause-tables
+returns-then-lacks_unit-clause-tables g c = λ some.
+    rw (← c.session.view_is)
+    (lacking-by-tables c.session.inside.machine c.args.option c.args.unit (sym c.lacks_unit.ensures ∙ c.if-lacks_unit.true))
+
+pub returns-in-Ok-clause-tables : goal.returns-in-Ok-clause-tables
+returns-in-Ok-clause-tables g c = λ some.
+    let s = c.session.inside in
+    rw (← c.session.view_is)
+    (attach-tables s.machine c.args.option c.args.unit c.mode_of-mode.result (attachments_of c.attached_mut.result.now.slots) (Ok c.in-Ok.count) (Ok Go)
+    (ap (λ (a : AttachedFiles). attachments_of a.slots) c.attached_mut.ensures.value) c.mode_of-mode.ensures (sym c.lacks_unit.ensures ∙ c.if-lacks_unit.false) c.in-Ok.ensures.first refl some)
+
+pub returns-in-Err-clause-tables : goal.returns-in-Err-clause-tables
+returns-in-Err-clause-tables g c = λ some.
+    let s = c.session.inside in
+    rw (← c.session.view_is)
+    (attach-tables s.machine c.args.option c.args.unit c.mode_of-mode.result (attachments_of c.attached_mut.result.now.slots) (Err c.in-Err.fault) (Err c.of_attach.result)
+    (ap (λ (a : AttachedFiles). attachments_of a.slots) c.attached_mut.ensures.value) c.mode_of-mode.ensures (sym c.lacks_unit.ensures ∙ c.if-lacks_unit.false) c.in-Err.ensures.first (ap Err c.of_attach.ensures) some)
+
+pub returns-in-Err-clause-opened : goal.returns-in-Err-clause-opened
+returns-in-Err-clause-opened g c =
+    opened-by-cause g.F.Files.tells (Err c.in-Err.fault) c.args.unit (Err c.of_attach.result) (g.F.Files.state c.args.files.now) (g.F.Files.state c.attach_unit.new.files) c.in-Err.ensures.cause (ap Err c.of_attach.ensures)
