@@ -1,17 +1,18 @@
 -- The counts of failing calls where files are attached one behind another, and given back.
-use Rattle.std.proofs.Common.{◌≡◌, ◌⊎◌, inl, inr, ⊎_elim, ℕ, ◌<◌, ◌≤◌, zero, suc, Bool, get_or, List, [], ◌∷◌, Option}
-use Rattle.std.proofs.Common.{Some, None, Ok, Err}
+use Rattle.std.proofs.Common.{◌≡◌, ◌⊎◌, inl, inr, ⊎_elim, ℕ, ◌<◌, ◌≤◌, zero, suc, Bool, false, get_or, List, [], ◌∷◌}
+use Rattle.std.proofs.Common.{Option, Some, None, is_some, IsTrue, Ok, Err}
 use Rattle.std.proofs.Common.{refl, sym, ap, subst, ◌∙◌, arith}
 use Rattle.std.specs.List.{AllByRecursion}
 use Rattle.std.specs.Prelude.{option_map}
 use Rattle.fault_counts.specs.Faults.{raised, Rose}
+use Rattle.host_files.specs.declared.files.FileId.{FileId}
 use Rattle.host_files.specs.declared.files.FileCall.{FileCall}
 use Rattle.host_files.specs.declared.files.FileCall.TheVariants.{Opening, Length, Read}
 use Rattle.host_files.specs.State.{FileState}
 use Rattle.unit_trait.specs.declared.kind.UnitName.{UnitName}
 use Rattle.unit_files.specs.declared.faults.UnitFault.{UnitFault}
-use Rattle.unit_files.specs.Attachments.{Held, held_at, attachments_of, attachment_at, file_place}
-use Rattle.unit_files.specs.Causes.{OnlyNewCounts, AreFrom, OnlyKept, IsNewId}
+use Rattle.unit_files.specs.Attachments.{Attachment, Held, held_at, attachments_of, attachment_at, file_place}
+use Rattle.unit_files.specs.Causes.{OnlyNewCounts, AreFrom, OnlyKept, IsNewId, IsRefusedFile}
 use Rattle.state_file.specs.declared.file_faults.RestoreFault.{RestoreFault}
 use Rattle.state_file.specs.declared.file_faults.RestoreFault.TheVariants as fault
 use Rattle.state_file.specs.GivingBack.{IsNotItsFile, OnlyTheirCounts}
@@ -20,6 +21,7 @@ use Rattle.state_file.specs.Parts.{FilePart}
 use Rattle.state_file.specs.Restoring.{unit_of}
 use Rattle.state_file.specs.RestoringOne.{IsFree, OnlyItsCount, CompareCalls, CompareCause, IsReadingFault}
 use Rattle.state_file.specs.RestoreCauses.{RestoreCause, SessionCause, IsRestoreFault, IsNewFileFault, OpeningsStand}
+use Rattle.state_file.specs.RestoreCauses.{IsCompared, WasOpened}
 
 -- ---- whose files are attached
 
@@ -28,6 +30,18 @@ get-attached : (slots : List (Option Held)) (place : ℕ)
 get-attached [] place = refl
 get-attached (slot ∷ slots) zero = refl
 get-attached (slot ∷ slots) (suc place) = get-attached slots place
+
+-- what is attached to a unit
+held-there : (slots : List (Option Held)) (unit : UnitName) → IsTrue (is_some (attachment_at (attachments_of slots) unit))
+    → (h : Held) × (held_at slots unit ≡ Some h)
+held-there slots unit there = by (held_at slots unit) refl
+  where
+    by : (o : Option Held) → held_at slots unit ≡ o → (h : Held) × (held_at slots unit ≡ Some h)
+    by None is =
+        let none : attachment_at (attachments_of slots) unit ≡ None =
+        get-attached slots (file_place unit) ∙ ap (λ (o : Option Held). option_map (λ (x : Held). x.attachment) o) is in
+        let e = subst (λ (a : Option Attachment). IsTrue (is_some a)) none there in absurd cc
+    by (Some h) is = (h, is)
 
 none-held : (slots : List (Option Held)) (unit : UnitName) (h : Held) → attachment_at (attachments_of slots) unit ≡ None
     → held_at slots unit ≡ Some h → ⊥
@@ -43,6 +57,19 @@ pub opened-since : (slots slots' : List (Option Held)) (unit : UnitName) (h : He
     → IsNewId old new h.file
 opened-since slots slots' unit h old new none from there =
     ⊎_elim (λ before. absurd (none-held slots unit h none before)) (λ fresh. fresh) (from unit h there)
+
+-- a unit has a file that had none: one was opened in between
+unit-opened : (slots slots' : List (Option Held)) (unit : UnitName) (old new : FileState)
+    → attachment_at (attachments_of slots) unit ≡ None → AreFrom slots slots' old new
+    → IsTrue (is_some (attachment_at (attachments_of slots') unit)) → WasOpened old new
+unit-opened slots slots' unit old new none from there =
+    let held = held-there slots' unit there in
+    let fresh = opened-since slots slots' unit held.0 old new none from held.1 in
+    let low = fresh.0 in let high = fresh.1 in omega (arith, low, high)
+
+-- a file that was refused was opened in between
+pub refused-opened : (id : FileId) (failed : ℕ) (old new : FileState) → IsRefusedFile id failed old new → WasOpened old new
+refused-opened id failed old new is = let low = is.rising in let high = is.given in omega (arith, low, high)
 
 pub from-both : (a b c : List (Option Held)) (old mid new : FileState) → AreFrom a b old mid → AreFrom b c mid new
     → old.given ≤ mid.given → mid.given ≤ new.given → AreFrom a c old new
@@ -178,6 +205,9 @@ module _ (tells : Bool) (a b c d : FileState) (first : RestoreCause tells (Ok tt
   wider-stand : OpeningsStand tells b c → OpeningsStand tells a d
   wider-stand stand = λ t. openings ∙ stand t ∙ first.1 t
 
+  wider-opened : WasOpened b c → WasOpened a d
+  wider-opened more = let early = news.ids in omega (arith, more, early, ids)
+
   wider-file : (f : UnitFault) → IsNewFileFault f b c → IsNewFileFault f a d
   wider-file f h = record {
     id = h.id;
@@ -199,8 +229,8 @@ module _ (tells : Bool) (a b c d : FileState) (first : RestoreCause tells (Ok tt
     other = λ is. wider-file f (h.other is);
   }
   cause-behind (fault.NoFile unit) h = (λ untold. wider-rose (h.0 untold), wider-stand h.1)
-  cause-behind (fault.TooLong unit) h = wider-stand h
-  cause-behind (fault.Changed unit) h = wider-stand h
+  cause-behind (fault.TooLong unit) h = (wider-opened h.0, wider-stand h.1)
+  cause-behind (fault.Changed unit) h = (wider-opened h.0, wider-stand h.1)
   cause-behind fault.Port h = h
   cause-behind fault.OutOfMemory h = tt
 
@@ -211,8 +241,9 @@ not-opening call (inr is) other = let e : Read ≡ Opening = sym is ∙ other in
 -- a file was attached, and is given back behind a comparing that refused it
 module _ (tells : Bool) (slots slots' : List (Option Held)) (unit : UnitName) (a b c d : FileState)
     (none : attachment_at (attachments_of slots) unit ≡ None) (from : AreFrom slots slots' a b)
-    (first : RestoreCause tells (Ok tt) a b) (later : (file : ℕ) → c.faults file ≤ d.faults file)
-    (openings : d.open_faults ≡ c.open_faults) (ids : d.given ≡ c.given) where
+    (there : IsTrue (is_some (attachment_at (attachments_of slots') unit))) (first : RestoreCause tells (Ok tt) a b)
+    (later : (file : ℕ) → c.faults file ≤ d.faults file) (openings : d.open_faults ≡ c.open_faults)
+    (ids : d.given ≡ c.given) where
   reading-fault : (f : UnitFault) → IsReadingFault f unit slots' b c → IsRestoreFault f a d
   reading-fault f h =
       let its = h.fault in
@@ -237,14 +268,38 @@ module _ (tells : Bool) (slots slots' : List (Option Held)) (unit : UnitName) (a
       wider : {n : ℕ} → IsNewId a b n → c.given ≡ b.given → IsNewId a d n
       wider fresh same = let low = fresh.0 in let high = fresh.1 in (low, omega (arith, high, same, ids))
 
+  still-opened : c.given ≡ b.given → WasOpened a d
+  still-opened same =
+      let more = unit-opened slots slots' unit a b none from there in omega (arith, more, same, ids)
+
   pub cause-compared : (e : RestoreFault) → CompareCalls (Err e) → CompareCause (Err e) unit slots' b c
       → RestoreCause tells (Err e) a d
   cause-compared (fault.Failed f) calls h = reading-fault f h
   cause-compared (fault.NoFile u) calls h = absurd calls
   cause-compared (fault.TooLong u) calls h = absurd calls
-  cause-compared (fault.Changed u) calls h = λ t. openings ∙ h.openings ∙ first.1 t
+  cause-compared (fault.Changed u) calls h = (still-opened h.ids, λ t. openings ∙ h.openings ∙ first.1 t)
   cause-compared fault.Port calls h = absurd calls
   cause-compared fault.OutOfMemory calls h = absurd calls
+
+-- ---- where files are compared
+
+-- a refusal where the comparing is not left out
+pub compared-plainly : (force : Bool) (e : RestoreFault) → force ≡ false → IsCompared force (Err e)
+compared-plainly force (fault.Failed f) is = tt
+compared-plainly force (fault.NoFile unit) is = tt
+compared-plainly force (fault.TooLong unit) is = tt
+compared-plainly force (fault.Changed unit) is = is
+compared-plainly force fault.Port is = tt
+compared-plainly force fault.OutOfMemory is = tt
+
+-- that of a port
+pub port-compared : (force : Bool) (e : RestoreFault) → IsPortFault e → IsCompared force (Err e)
+port-compared force (fault.Failed f) is = tt
+port-compared force (fault.NoFile unit) is = tt
+port-compared force (fault.TooLong unit) is = tt
+port-compared force (fault.Changed unit) is = absurd is
+port-compared force fault.Port is = tt
+port-compared force fault.OutOfMemory is = tt
 
 -- ---- all of a session
 

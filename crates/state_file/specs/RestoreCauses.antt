@@ -1,7 +1,7 @@
 -- A failed call that is answered where the files of a saved session are attached has raised a count in this very call:
 -- that of its file, which was opened in it, or of openings. The closing of a file that is given back is told by its count
 -- alone.
-use Rattle.std.specs.Prelude.{◌≡◌, ◌⊎◌, Bool, IsTrue, Some, None, Result, Ok, Err}
+use Rattle.std.specs.Prelude.{◌≡◌, ◌⊎◌, ◌<◌, Bool, false, IsTrue, Some, None, Result, Ok, Err}
 use Rattle.fault_counts.specs.Faults.{Rose}
 use Rattle.host_files.specs.declared.files.FileId.{FileId}
 use Rattle.host_files.specs.declared.files.FileCall.TheVariants.{Opening, Length, Read}
@@ -29,14 +29,18 @@ pub record IsRestoreFault (f : UnitFault) (old new : FileState) : Type 0 where
 abbrev pub OpeningsStand : Bool → FileState → FileState → Type 0
 OpeningsStand tells old new = IsTrue tells → new.open_faults ≡ old.open_faults
 
--- what it leaves of the counts, by its answer
+-- a file was opened in between: more ids are given than were
+abbrev pub WasOpened : FileState → FileState → Type 0
+WasOpened old new = old.given < new.given
+
+-- What it leaves of the counts, by its answer. A file is too long or has changed only where one was opened.
 abbrev pub RestoreCause : Bool → Result (Unit {0}) RestoreFault → FileState → FileState → Type 0
 RestoreCause tells (Ok u) old new = (new.faults ≡ old.faults) × OpeningsStand tells old new
 RestoreCause tells (Err (fault.Failed f)) old new = IsRestoreFault f old new
 RestoreCause tells (Err (fault.NoFile unit)) old new =
     ((IsTrue tells → ⊥) → Rose old.open_faults new.open_faults) × OpeningsStand tells old new
-RestoreCause tells (Err (fault.TooLong unit)) old new = OpeningsStand tells old new
-RestoreCause tells (Err (fault.Changed unit)) old new = OpeningsStand tells old new
+RestoreCause tells (Err (fault.TooLong unit)) old new = WasOpened old new × OpeningsStand tells old new
+RestoreCause tells (Err (fault.Changed unit)) old new = WasOpened old new × OpeningsStand tells old new
 RestoreCause tells (Err fault.Port) old new = ⊥
 RestoreCause tells (Err fault.OutOfMemory) old new = Unit {0}
 
@@ -46,3 +50,8 @@ abbrev pub SessionCause : Bool → Result (Unit {0}) RestoreFault → FileState 
 SessionCause tells (Err fault.Port) old new = OpeningsStand tells old new
 SessionCause tells (Ok u) old new = RestoreCause tells (Ok u) old new
 SessionCause tells (Err f) old new = RestoreCause tells (Err f) old new
+
+-- a changed file is found only where files are compared
+abbrev pub IsCompared : Bool → Result (Unit {0}) RestoreFault → Type 0
+IsCompared force (Err (fault.Changed unit)) = force ≡ false
+IsCompared force answer = Unit {0}

@@ -1,6 +1,6 @@
 // The files that a saved session names: each is attached and compared, all of them or none.
 ghost use Rattle.std.specs.Prelude.{◌≡◌, ◌≢◌, List, IsTrue, OnOk, OnErr, IfErr, false, true, Some, None, is_some};
-ghost use Rattle.std.specs.Prelude.{if◌then◌else◌};
+ghost use Rattle.std.specs.Prelude.{Bool, if◌then◌else◌};
 ghost use Rattle.std.specs.List.{AllByRecursion};
 ghost use Rattle.host_files.specs.Lists.{bytes_of};
 ghost use Rattle.host_files.specs.State.{Opened};
@@ -17,7 +17,7 @@ ghost use Rattle.state_file.specs.Restoring.{files_in, unit_of, is_only_read, mo
 ghost use Rattle.state_file.specs.Restoring.{copy_of, first_refused, claim_in, Says, IsOfThese};
 ghost use Rattle.state_file.specs.RestoringOne.{CanAttach, IsFree, AreApart, IsClean, IsAsRead, IsOf, failure_of, SaysOne};
 ghost use Rattle.state_file.specs.RestoringOne.{Attaches, Compares, CompareCalls, CompareCause, OnlyItsCount};
-ghost use Rattle.state_file.specs.RestoreCauses.{RestoreCause};
+ghost use Rattle.state_file.specs.RestoreCauses.{IsCompared, RestoreCause};
 ghost use Rattle.state_file.specs.Valid.{AreFiles};
 
 use crate::file_faults::RestoreFault;
@@ -97,6 +97,7 @@ fn attach_file<F: Files>(
     ensures from { AreFrom attached.old.slots attached.new.slots (F.state files.old) (F.state files.new) }
     ensures counts { OnlyNewCounts (F.state files.old) (F.state files.new) }
     ensures cause { RestoreCause F.tells result (F.state files.old) (F.state files.new) }
+    ensures compared { (force : Bool) → IsCompared force result }
 {
     let unit = unit_of(file);
     match attached.attach(alloc, unit, file.name.as_str(), mode_of(file), files) {
@@ -177,6 +178,7 @@ fn attach_one<F: Files>(
     ensures from { AreFrom attached.old.slots attached.new.slots (F.state files.old) (F.state files.new) }
     ensures counts { OnlyNewCounts (F.state files.old) (F.state files.new) }
     ensures cause { RestoreCause F.tells result (F.state files.old) (F.state files.new) }
+    ensures compared { IsCompared force result }
 {
     attach_file(alloc, file, attached, files)?;
     if force {
@@ -226,6 +228,7 @@ fn attach_each<F: Files>(
     ensures from { AreFrom attached.old.slots attached.new.slots (F.state files.old) (F.state files.new) }
     ensures counts { OnlyNewCounts (F.state files.old) (F.state files.new) }
     ensures cause { RestoreCause F.tells result (F.state files.old) (F.state files.new) }
+    ensures compared { IsCompared force result }
 {
     match saved.split_first() {
         None => Ok(()),
@@ -274,6 +277,7 @@ pub fn attach_all<F: Files>(
     ensures from { AreFrom attached.old.slots attached.new.slots (F.state files.old) (F.state files.new) }
     ensures counts { OnlyNewCounts (F.state files.old) (F.state files.new) }
     ensures cause { RestoreCause F.tells result (F.state files.old) (F.state files.new) }
+    ensures compared { IsCompared force result }
 {
     attach_each(alloc, saved, force, attached, files)
 }

@@ -12,7 +12,7 @@ ghost use Rattle.state_file.specs.Listening.{port_fault, wants_port, with_port};
 ghost use Rattle.state_file.specs.Parts.{state_in};
 ghost use Rattle.state_file.specs.PutBack.{machine_from, watch_from};
 ghost use Rattle.state_file.specs.Putting.{IsPutBack, with_machine_of};
-ghost use Rattle.state_file.specs.RestoreCauses.{SessionCause};
+ghost use Rattle.state_file.specs.RestoreCauses.{IsCompared, SessionCause};
 ghost use Rattle.state_file.specs.Restoring.{claim_in, copy_of, first_refused, with_all, IsOfSession, SaysFirst};
 ghost use Rattle.state_file.specs.SavedValid.{AreStandard};
 ghost use Rattle.state_file.specs.Valid.{AreFiles, Valid};
@@ -113,6 +113,7 @@ pub fn put_outside<U: Unit, F: Files, L: Lines>(
     ensures from { AreFrom machine.old.slots machine.new.slots (F.state files.old) (F.state files.new) }
     ensures counts { OnlyNewCounts (F.state files.old) (F.state files.new) }
     ensures cause { SessionCause F.tells result (F.state files.old) (F.state files.new) }
+    ensures compared { IsCompared force result }
     ensures unasked { IfErr result (λ fault. (IsPortFault fault → ⊥) → lines.new ≡ lines.old) }
     ensures lines { LeavesLines L.tells saved.now.port machine.old.lines result (L.state lines.old) (L.state lines.new) }
 {
@@ -175,6 +176,7 @@ pub fn set_state<U: Unit, F: Files, L: Lines>(
     ensures from { AreFrom machine.old.slots machine.new.slots (F.state files.old) (F.state files.new) }
     ensures counts { OnlyNewCounts (F.state files.old) (F.state files.new) }
     ensures cause { SessionCause F.tells result (F.state files.old) (F.state files.new) }
+    ensures compared { IsCompared force result }
     ensures unasked { IfErr result (λ fault. (IsPortFault fault → ⊥) → lines.new ≡ lines.old) }
     ensures lines { LeavesLines L.tells saved.now.port machine.old.lines result (L.state lines.old) (L.state lines.new) }
 {

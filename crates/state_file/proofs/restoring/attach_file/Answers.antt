@@ -6,6 +6,7 @@ use Rattle.unit_files.specs.Answers.{failure_in}
 use Rattle.state_file.specs.Parts.{file_in}
 use Rattle.state_file.specs.Restoring.{is_only_read}
 use Rattle.state_file.proofs.Attaching.{same-files, said-of, bytes-taken}
+use Rattle.state_file.proofs.RestoreCounts.{refused-opened}
 use Rattle.state_file.proofs.restoring.attach_file.Goals as goal
 
 pub returns-in-Ok-clause-bytes : goal.returns-in-Ok-clause-bytes
@@ -68,3 +69,9 @@ pub returns-in-Ok-clause-unwritten : goal.returns-in-Ok-clause-unwritten
 returns-in-Ok-clause-unwritten g c = λ disk.
     let is = ap (λ (u : UnitName). is_disk u.kind) c.unit_of-unit.ensures ∙ disk in
     (c.in-Ok.ensures.unwritten is, c.in-Ok.ensures.unmarked is)
+
+pub returns-in-Err-TooLong-clause-cause : goal.returns-in-Err-TooLong-clause-cause
+returns-in-Err-TooLong-clause-cause g c =
+    let cause = rw c.in-Err-TooLong.field-0-is at c.in-Err-TooLong.ensures.cause in
+    let state = g.F.Files.state in
+    (refused-opened cause.0.0 0 (state c.args.files.now) (state c.attach.new.files) cause.0.1, cause.1)

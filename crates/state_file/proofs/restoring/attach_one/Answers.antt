@@ -1,4 +1,5 @@
 use Rattle.std.proofs.Common.{◌≡◌, Bool, false, Option, Some, None, Result, Ok, Err, sym, ap, subst, ◌∙◌, List, IsTrue}
+use Rattle.std.proofs.lemmas.Result.{err_from_is_err_and}
 use Rattle.std.specs.Prelude.{is_some}
 use Rattle.host_files.specs.Lists.{NamedBytes, bytes_of}
 use Rattle.unit_files.specs.Attachments.{Attachment, attachments_of, attachment_at, file_place, is_disk}
@@ -11,7 +12,7 @@ use Rattle.state_file.specs.Restoring.{unit_of, with_file, attachment_of, refusa
 use Rattle.state_file.specs.RestoringOne.{CanAttach, CompareCalls, Compares, SaysOne, failure_of, Attaches}
 use Rattle.state_file.proofs.Attaching.{forced, free-first, one-compared, set-back}
 use Rattle.state_file.proofs.Together.{set-in}
-use Rattle.state_file.proofs.RestoreCounts.{counts-given-back, cause-compared}
+use Rattle.state_file.proofs.RestoreCounts.{counts-given-back, cause-compared, compared-plainly}
 use Rattle.state_file.proofs.restoring.attach_one.Goals as goal
 
 pub returns-then-force-clause-told : goal.returns-then-force-clause-told
@@ -86,5 +87,13 @@ returns-in-Err-clause-cause g c =
     cause-compared g.F.Files.tells c.args.attached.now.slots c.attach_file.new.attached.slots
     (unit_of (file_in c.args.file.now)) (state c.args.files.now) (state c.attach_file.new.files)
     (state c.compare.new.files) (state c.give_back.new.files) c.requires.free c.in_ok-attach_file.ensures.from
-    c.in_ok-attach_file.ensures.cause c.give_back.ensures.count.later c.give_back.ensures.count.openings
-    c.give_back.ensures.count.ids c.in-Err.fault c.in-Err.ensures.calls c.in-Err.ensures.cause
+    c.in_ok-attach_file.ensures.there c.in_ok-attach_file.ensures.cause c.give_back.ensures.count.later
+    c.give_back.ensures.count.openings c.give_back.ensures.count.ids c.in-Err.fault c.in-Err.ensures.calls c.in-Err.ensures.cause
+
+pub returns-in_err-attach_file-clause-compared : goal.returns-in_err-attach_file-clause-compared
+returns-in_err-attach_file-clause-compared g c =
+    let p = err_from_is_err_and c.from_residual.result c.from_residual.ensures.1 in
+    rw (p.1, p.2) (c.in_err-attach_file.ensures.compared c.args.force)
+
+pub returns-in-Err-clause-compared : goal.returns-in-Err-clause-compared
+returns-in-Err-clause-compared g c = compared-plainly c.args.force c.in-Err.fault c.if-force.false

@@ -13,7 +13,7 @@ use Rattle.state_file.specs.Restoring.{files_in, IsOfThese}
 use Rattle.state_file.specs.RestoringOne.{CanAttach, AreApart}
 use Rattle.state_file.proofs.GivingBackLemmas.{given-back}
 use Rattle.state_file.proofs.PortLemmas.{these-of-session, no-listening, port-of-session, no-port}
-use Rattle.state_file.proofs.RestoreCounts.{new-counts-behind-all, session-cause, port-cause}
+use Rattle.state_file.proofs.RestoreCounts.{new-counts-behind-all, session-cause, port-cause, port-compared}
 use Rattle.state_file.proofs.Together.{all-free, only-base}
 use Rattle.state_file.proofs.ValidFiles.{each-can, all-apart}
 use Rattle.state_file.proofs.setting.put_outside.Goals as goal
@@ -118,3 +118,6 @@ returns-in-Err-clause-lines g c =
     no-port g.L.Lines.tells c.args.saved.now.port c.args.machine.now.lines c.in-Err.fault
     (g.L.Lines.state c.args.lines.now) (g.L.Lines.state c.put_port.new.lines) c.in-Err.ensures.fault
     c.in-Err.ensures.wanted c.in-Err.ensures.outside
+
+pub returns-in-Err-clause-compared : goal.returns-in-Err-clause-compared
+returns-in-Err-clause-compared g c = port-compared c.args.force c.in-Err.fault c.in-Err.ensures.fault
