@@ -16,12 +16,15 @@ use Rattle.scp_commands.specs.declared.next.Next.TheVariants.{Go}
 use Rattle.scp_commands.specs.declared.fault.CommandFault.{CommandFault}
 use Rattle.scp_commands.specs.declared.fault.CommandFault.TheVariants.{NoSuchName, OutOfMemory}
 use Rattle.scp_commands.specs.declared.fault.CommandFault.TheVariants as fault
-use Rattle.scp_commands.specs.FaultText.{attach_fault}
+use Rattle.state_file.specs.declared.file_faults.RestoreFault.{RestoreFault}
+use Rattle.state_file.specs.declared.file_faults.RestoreFault.TheVariants as restore
+use Rattle.state_file.specs.RestoreCauses.{IsCompared}
+use Rattle.scp_commands.specs.FaultText.{attach_fault, restore_fault}
 use Rattle.scp_commands.specs.FileEffects.{lacks_unit, mode_of}
 use Rattle.scp_commands.specs.Nature.{IsUntold}
 use Rattle.scp_commands.specs.Reply.{Answer}
 use Rattle.scp_commands.specs.Refusals.{WasOpened}
-use Rattle.scp_commands.specs.Answers.{IsByTables, AnswersByTables, CanAnswer, OfDo, OfLoad, OfSave, first_fault, attach_refusal}
+use Rattle.scp_commands.specs.Answers.{IsByTables, AnswersByTables, CanAnswer, OfDo, OfLoad, OfSave, OfRestore, first_fault, attach_refusal}
 
 pub by-asks : (m : MachineState) (a : Answer) (r r' : Request) → r ≡ r' → AnswersByTables m r' a → AnswersByTables m r a
 by-asks m a r r' is h = subst (λ (x : Request). AnswersByTables m x a) (sym is) h
@@ -146,3 +149,16 @@ pub attach-tables : (m : MachineState) (option : ℕ) (unit : UnitName) (mode : 
 attach-tables m option unit mode attached r a are by built first is some =
     built-by-tables m option unit a built
     (attached-by-tables r (refused_first (attachment_at (attached_in m) unit) unit (mode_of option)) a (first ∙ (λ i. refused_first (attachment_at (are i) unit) unit (by i))) is some)
+
+-- ---- RESTORE
+
+pub restored-can : (force : Bool) (f : RestoreFault) (fault : CommandFault) → IsCompared force (Err f) → fault ≡ restore_fault f → OfRestore force (Err fault)
+restored-can force f fault compared is = subst (λ (x : CommandFault). OfRestore force (Err x)) (sym is) (by-fault f compared)
+  where
+    by-fault : (f : RestoreFault) → IsCompared force (Err f) → OfRestore force (Err (restore_fault f))
+    by-fault (restore.NoFile unit) h = tt
+    by-fault (restore.TooLong unit) h = tt
+    by-fault (restore.Changed unit) h = h
+    by-fault (restore.Failed f) h = tt
+    by-fault restore.Port h = tt
+    by-fault restore.OutOfMemory h = tt

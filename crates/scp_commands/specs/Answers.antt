@@ -188,22 +188,22 @@ OfSave (Err (FileFailed who)) = IsStateOrUnit who
 OfSave (Err OutOfMemory) = Unit {0}
 OfSave (Err fault) = ⊥
 
--- a session is put back
-abbrev pub OfRestore : Answer → Type 0
-OfRestore (Ok Go) = Unit {0}
-OfRestore (Ok next) = ⊥
-OfRestore (Err NoFile) = Unit {0}
-OfRestore (Err FileTooLong) = Unit {0}
-OfRestore (Err (FileFailed who)) = IsStateOrUnit who
-OfRestore (Err PortFailed) = Unit {0}
-OfRestore (Err NotState) = Unit {0}
-OfRestore (Err (Version version)) = Unit {0}
-OfRestore (Err (BadDigest given found)) = Unit {0}
-OfRestore (Err (BadField place)) = Unit {0}
-OfRestore (Err Truncated) = Unit {0}
-OfRestore (Err (Changed unit)) = Unit {0}
-OfRestore (Err OutOfMemory) = Unit {0}
-OfRestore (Err fault) = IsTrue (is_by_tables fault)
+-- a session is put back: a file that has changed is let in where that is forced
+abbrev pub OfRestore : Bool → Answer → Type 0
+OfRestore force (Ok Go) = Unit {0}
+OfRestore force (Ok next) = ⊥
+OfRestore force (Err NoFile) = Unit {0}
+OfRestore force (Err FileTooLong) = Unit {0}
+OfRestore force (Err (FileFailed who)) = IsStateOrUnit who
+OfRestore force (Err PortFailed) = Unit {0}
+OfRestore force (Err NotState) = Unit {0}
+OfRestore force (Err (Version version)) = Unit {0}
+OfRestore force (Err (BadDigest given found)) = Unit {0}
+OfRestore force (Err (BadField place)) = Unit {0}
+OfRestore force (Err Truncated) = Unit {0}
+OfRestore force (Err (Changed unit)) = force ≡ false
+OfRestore force (Err OutOfMemory) = Unit {0}
+OfRestore force (Err fault) = IsTrue (is_by_tables fault)
 
 abbrev pub of_unit : Bool → Answer → Type 0
 of_unit true answer = OfLine answer
@@ -228,5 +228,5 @@ CanAnswer (DoRequest echo strict name arguments) answer = OfDo echo strict answe
 CanAnswer (Load name) answer = OfLoad answer
 CanAnswer (Dump from to name) answer = OfDump answer
 CanAnswer (Save name) answer = OfSave answer
-CanAnswer (Restore force name) answer = OfRestore answer
+CanAnswer (Restore force name) answer = OfRestore force answer
 CanAnswer request answer = Unit {0}

@@ -96,7 +96,7 @@ pub fn restore<U: Unit, F: Files, L: Lines>(
     ensures whose { AreOwn session.old.machine.slots session.new.machine.slots session.old.notes session.new.notes
         (F.state files.old) (F.state files.new) }
     ensures tables { IsByTables (occupied_fault (is_occupied (attached_in session.old.machine) session.old.machine.lines)) result }
-    ensures answers { OfRestore result }
+    ensures answers { OfRestore force result }
     ensures own { IsRestoreAnswer result }
     ensures exit { IsExitAnswer result }
     ensures standard { AreStandard session.new.machine.units }

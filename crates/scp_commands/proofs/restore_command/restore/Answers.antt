@@ -37,6 +37,7 @@ use Rattle.scp_commands.proofs.RestoreLemmas.{occupied-reply, occupied-seen, unr
 use Rattle.scp_commands.proofs.RestoreLines.{restore-done, restore-refused, restore-unasked, back-ends, refused-by}
 use Rattle.scp_commands.proofs.RestoreNotes.{restore-keeps, read-shut-notes, refused-restore-keeps, done-restore-keeps, restore-own, whole-fault, want-fault, no-notes}
 use Rattle.scp_commands.proofs.WholeLemmas.{own_both, read-claims, read-keeps, short-read, TakesClosings}
+use Rattle.scp_commands.proofs.CanLemmas.{restored-can}
 use Rattle.scp_commands.proofs.restore_command.restore.Goals as goal
 
 pub returns-then-is_occupied-clause-told : goal.returns-then-is_occupied-clause-told
@@ -354,3 +355,6 @@ returns-in-Err-saved_in-clause-keeps g c =
     (ap Err c.of_state.ensures ∙ sym (ap (whole_answer subject.State (λ bytes. Err (state_fault fault))) (ap bytes_for c.in-Ok.ensures.reader))) read.shape
     (record { counts = read.counts; openings = read.openings })
     (c.note_state_reading.ensures.notes ∙ ap (λ (t : Stamp). s.notes.items ++ read_notes subject.State t w) stamped)))
+
+pub returns-clause-answers : goal.returns-clause-answers
+returns-clause-answers g c = restored-can c.args.force c.in-Err-set_state.fault c.of_restore.result c.in-Err-set_state.ensures.compared c.of_restore.ensures
