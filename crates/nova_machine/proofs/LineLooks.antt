@@ -228,7 +228,7 @@ both-served period watch keys before after m h last got looking keyless done is 
     (comes-then (service (at_unit second_keyboard note) second_keyboard mid) (λ n. services note [] n) next None next tells b a a second over)
 
 -- no key came
-silent-answer : (period : ℕ) (m : MachineState) (ls : List (LineOf ℕ)) → AreLooking period m
+pub silent-answer : (period : ℕ) (m : MachineState) (ls : List (LineOf ℕ)) → AreLooking period m
     → answered second_keyboard NoKey (record (first_looked period m) { lines = ls }) ≡ goes_on (record (looked_at period m) { lines = ls })
 unfolding looked_at
 silent-answer period m ls looking =

@@ -131,7 +131,7 @@ first-none : (sent typed : Option ℕ) → first_key sent typed ≡ None → (se
 first-none None typed none = (refl, none)
 first-none (Some b) typed none = absurd (cc)
 
-none-sent : (now : ℕ) (sends : List Send) → due_send now sends ≡ None → sends_left now sends ≡ sends
+pub none-sent : (now : ℕ) (sends : List Send) → due_send now sends ≡ None → sends_left now sends ≡ sends
 none-sent now [] none = refl
 none-sent now (s ∷ sends) none = by (nat_le s.0 now) none
   where

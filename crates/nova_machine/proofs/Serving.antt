@@ -67,15 +67,9 @@ serving-some note s u first =
 abbrev pub without_due : MachineState → MachineState
 without_due m = record m { events = served m.events }
 
--- nothing is due
-pub none-at : (note : Option UnitNote) (watch : WatchState) (keys : List (ℕ × ℕ)) (files : List NamedBytes) (lines : LineState) (whole : List Answer) (m at : MachineState) (tells : Bool) (b : Output) → due m.events ≡ None
-    → at ≡ without_due m → Comes (serving note (seen (beside watch keys files lines) whole m)) None (seen (beside watch keys files lines) whole at) tells b b
-none-at note watch keys files lines whole m at tells b none is =
-    let s = seen (beside watch keys files lines) whole m in
-    let P : Part → Type 0 = λ x. Comes x None (seen (beside watch keys files lines) whole at) tells b b in
-    let stays : without_due m ≡ m = ap (λ (es : List Event). record m { events = es }) (served-none m.events none) in
-    subst P (sym (serving-none note s none))
-    (silent-comes None None s (seen (beside watch keys files lines) whole at) tells b tt refl (ap (λ (x : MachineState). seen (beside watch keys files lines) whole x) (is ∙ stays)))
+-- nothing is taken where nothing is due
+pub nothing-taken : (m : MachineState) → due m.events ≡ None → without_due m ≡ m
+nothing-taken m none = ap (λ (es : List Event). record m { events = es }) (served-none m.events none)
   where
     served-none : (es : List Event) → due es ≡ None → served es ≡ es
     served-none [] h = refl
@@ -84,6 +78,16 @@ none-at note watch keys files lines whole m at tells b none is =
         by-test : (b : Bool) → (if b then Some e.unit else None) ≡ None → (if b then es else e ∷ es) ≡ e ∷ es
         by-test true h = absurd (cc)
         by-test false h = refl
+
+-- nothing is due
+pub none-at : (note : Option UnitNote) (watch : WatchState) (keys : List (ℕ × ℕ)) (files : List NamedBytes) (lines : LineState) (whole : List Answer) (m at : MachineState) (tells : Bool) (b : Output) → due m.events ≡ None
+    → at ≡ without_due m → Comes (serving note (seen (beside watch keys files lines) whole m)) None (seen (beside watch keys files lines) whole at) tells b b
+none-at note watch keys files lines whole m at tells b none is =
+    let s = seen (beside watch keys files lines) whole m in
+    let P : Part → Type 0 = λ x. Comes x None (seen (beside watch keys files lines) whole at) tells b b in
+    let stays : without_due m ≡ m = nothing-taken m none in
+    subst P (sym (serving-none note s none))
+    (silent-comes None None s (seen (beside watch keys files lines) whole at) tells b tt refl (ap (λ (x : MachineState). seen (beside watch keys files lines) whole x) (is ∙ stays)))
 
 -- the first service goes on, and so do the others
 pub more-at : (note : Option UnitNote) (watch : WatchState) (keys : List (ℕ × ℕ)) (files : List NamedBytes) (lines : LineState) (whole : List Answer) (m at : MachineState) (next : Seen) (u : UnitName) (ended r : Option Stop) (last : Seen)

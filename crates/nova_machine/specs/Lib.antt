@@ -26,6 +26,7 @@ pub mod Quiet
 pub mod Laws
 pub mod StopLaws
 pub mod StopCauses
+pub mod Steps
 pub mod ServiceLaws
 pub mod Core
 pub mod SameRun

@@ -14,6 +14,7 @@ ghost use Rattle.expect_actions.specs.Expects.{ExpectTable};
 ghost use Rattle.nova_machine.specs.Notes.{unit_note, failure_of_stop};
 ghost use Rattle.nova_machine.specs.Hosting.{IsHosted, IsImageOf, HasRoom, IsTapeOrder, stop_in};
 ghost use Rattle.nova_machine.specs.StopCauses.{IsMadeOf, IsOfTape};
+ghost use Rattle.nova_machine.specs.Steps.{IsTapeAnswer};
 ghost use Rattle.nova_machine.specs.Wants.{HasUnit};
 
 use crate::machine::{Machine, Stop};
@@ -45,6 +46,9 @@ impl<U: Unit> Machine<U> {
           };
         } }
         ensures rest { (record self.new { processor = self.old.processor }) ≡ self.old }
+        ensures moved { self.new ≡ record self.old {
+          processor = record self.old.processor { memory = self.new.processor.memory };
+        } }
         ensures said { AreTold F.tells self.old.slots → (key : Option ℕ) (expects : ExpectTable) → IsHosted (wants.Tape order)
             (attachment_at (attached_in self.old) unit) (F.state files.old).files key expects result }
         ensures files { AreTold F.tells self.old.slots → (F.state files.new).files
@@ -59,6 +63,7 @@ impl<U: Unit> Machine<U> {
         ensures file_cause { FileCause (stop_in result) self.old.slots (F.state files.old) (F.state files.new) }
         ensures made { (key : Option ℕ) (expects : ExpectTable) → IsMadeOf (wants.Tape order) unit.kind
             (attachment_at (attached_in self.old) unit) key expects result }
+        ensures answer { IsTapeAnswer order (attachment_at (attached_in self.old) unit) result }
     {
         operate_drive(
             &self.attached,
@@ -100,6 +105,7 @@ fn operate_drive<F: Files>(
     ensures file_cause { FileCause (stop_in result) attached.now.slots (F.state files.old) (F.state files.new) }
     ensures made { (key : Option ℕ) (expects : ExpectTable) → IsMadeOf (wants.Tape order) unit.kind
         (attachment_at (attachments_of attached.now.slots) unit) key expects result }
+    ensures answer { IsTapeAnswer order (attachment_at (attachments_of attached.now.slots) unit) result }
 {
     match attached.file_of(unit) {
         None => Hosted::Gets(Got::NoFile),

@@ -36,6 +36,7 @@ const SECOND_KEYBOARD: UnitName = UnitName {
 
 impl<U: Unit> Machine<U> {
     ghost use Rattle.nova_machine.specs.StopCauses.{BurstCause};
+    ghost use Rattle.nova_machine.specs.Steps.{Services, GoAlong};
 
     /// Makes turns, as many at the most, in bursts. Looks of both keyboards that are due between two of them pass, with
     /// a poll of the line of the second teletype.
@@ -56,6 +57,7 @@ impl<U: Unit> Machine<U> {
         ensures taken { self.new.taken ≡ self.old.taken }
         ensures cause { BurstCause result.end most result.done self.new }
         ensures kinds { kinds_of self.new.units ≡ kinds_of self.old.units }
+        ensures steps { GoAlong keys.now watch.now most result.done result.end self.old self.new }
     {
         let mut done = 0;
         let mut period = None;
@@ -97,6 +99,7 @@ impl<U: Unit> Machine<U> {
         ensures time { self.new.time ≡ self.old.time }
         ensures taken { self.new.taken ≡ self.old.taken }
         ensures kinds { kinds_of self.new.units ≡ kinds_of self.old.units }
+        ensures steps { Services keys.now watch.now self.old watch.now self.new }
     {
         if !self.may_look(watch, keys) {
             return None;
@@ -166,6 +169,8 @@ impl<U: Unit> Machine<U> {
         ensures time { self.new.time ≡ self.old.time }
         ensures taken { self.new.taken ≡ self.old.taken }
         ensures kinds { kinds_of self.new.units ≡ kinds_of self.old.units }
+        ensures steps { (watch : WatchState) (keys : List (ℕ × ℕ)) → IsKeylessNow watch keys self.old
+            → Services keys watch self.old watch self.new }
     {
         match self.key_of_line(0, lines) {
             None => None,

@@ -9,6 +9,7 @@ ghost use Rattle.unit_list.specs.Bus.{IsBelowEnd};
 ghost use Rattle.unit_trait.specs.declared.calls.Want.TheVariants as wants;
 ghost use Rattle.nova_machine.specs.OnLines.{lined, got_of_line, put_line, put_got, IsOfLine, IsOfPoll};
 ghost use Rattle.nova_machine.specs.LineChanges.{AreLinesTold, LinesGoOn, DoneOnLine};
+ghost use Rattle.nova_machine.specs.Steps.{IsLineWant};
 
 use crate::machine::Machine;
 use host_lines::Lines;
@@ -28,6 +29,7 @@ impl<U: Unit> Machine<U> {
         ensures none { result ≡ None → (self.new ≡ self.old) × (lines.new ≡ lines.old) }
         ensures below { IfSome result (λ got. IsBelowEnd want got) }
         ensures of { IfSome result IsOfLine }
+        ensures wants { IfSome result (λ got. IsLineWant want) }
     {
         match want {
             Want::LineKey(number) => self.key_of_line(number, lines),

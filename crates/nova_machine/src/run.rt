@@ -38,6 +38,7 @@ impl<U: Unit> Machine<U> {
     ghost use Rattle.unit_list.specs.Bus.{kinds_of};
     ghost use Rattle.nova_machine.specs.Run.{run};
     ghost use Rattle.nova_machine.specs.StopCauses.{moment_of, Watches, RunCause};
+    ghost use Rattle.nova_machine.specs.Steps.{IsRun};
 
     /// Makes turns until one stops, the count of the limit is reached, or time ends, and answers which. The instruction
     /// of a HALT counts; one that stopped as `ChainLimit` or `UnknownDevice` does not, and PC stays there. `lines` are
@@ -67,6 +68,7 @@ impl<U: Unit> Machine<U> {
             (S.written out.old) (S.written out.new) }
         ensures cause { RunCause limit.step limit.count result keys.now (moment_of watch.old self.old) watch.new
             self.new }
+        ensures steps { IsRun keys.now limit.step limit.count watch.old self.old result watch.new self.new }
     {
         let mut first = true;
         let mut left = limit.count;

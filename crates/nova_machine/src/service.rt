@@ -33,6 +33,7 @@ impl<U: Unit> Machine<U> {
     ghost use Rattle.nova_machine.specs.Comes.{Does, AreTold, FileCause};
     ghost use Rattle.nova_machine.specs.Service.{serving, service, asked, answered, want_at};
     ghost use Rattle.nova_machine.specs.StopCauses.{moment_of, Watches, ServiceCause};
+    ghost use Rattle.nova_machine.specs.Steps.{IsService, AreServedTo};
     ghost use Rattle.nova_machine.specs.LineChanges.{AreLinesTold, LinesGoOn};
     ghost use Rattle.unit_files.specs.Open.{AllOpen};
     ghost use Rattle.event_queue.specs.EventList.{served};
@@ -64,6 +65,7 @@ impl<U: Unit> Machine<U> {
             (S.written out.old) (S.written out.new) }
         ensures cause { ServiceCause result keys.now (moment_of watch.old self.old) watch.new self.new }
         ensures breaks { watch.new.breaks ≡ watch.old.breaks }
+        ensures steps { AreServedTo keys.now result watch.old watch.new self.old self.new }
     {
         'events: while let Some(unit) = self.take_due() {
             if let Some(stop) = self.serve_unit(unit, watch, keys, files, lines, out) {
@@ -120,6 +122,7 @@ impl<U: Unit> Machine<U> {
             (S.written out.old) (S.written out.new) }
         ensures cause { ServiceCause result keys.now (moment_of watch.old self.old) watch.new self.new }
         ensures breaks { watch.new.breaks ≡ watch.old.breaks }
+        ensures steps { IsService keys.now unit result watch.old watch.new self.old self.new }
     {
         let want = self.ask(unit);
         match self.on_line(want, lines) {
@@ -232,6 +235,7 @@ impl<U: Unit> Machine<U> {
     ghost use Rattle.nova_machine.specs.Hosting.{IsHosted, HasRoom};
     ghost use Rattle.nova_machine.specs.StopCauses.{IsMadeOf, IsPastRoom};
     ghost use Rattle.nova_machine.specs.Service.{done_for};
+    ghost use Rattle.nova_machine.specs.Steps.{IsAnswer, worked};
 
     /// Does what a unit wants of the machine.
     fn host<S: Sink, F: Files>(
@@ -277,6 +281,12 @@ impl<U: Unit> Machine<U> {
             (first_key (due_send self.old.time watch.old.sends) (due_key keys.now self.old.taken self.old.time))
             watch.old.expects result }
         ensures room_left { IsPastRoom want result }
+        ensures answer { IsAnswer want (attachment_at (attached_in self.old) unit)
+            (first_key (due_send self.old.time watch.old.sends) (due_key keys.now self.old.taken self.old.time))
+            watch.old.expects result }
+        ensures work { self.new ≡ worked self.new.processor.memory
+            (typed_key (due_send self.old.time watch.old.sends) (due_key keys.now self.old.taken self.old.time))
+            (attachment_at (attached_in self.old) unit) want self.old }
     {
         match want {
             Want::Nothing | Want::LinePut { line: _, byte: _ } => Hosted::Gets(Got::Done),

@@ -1,4 +1,4 @@
-ghost use Rattle.std.specs.Prelude.{◌≡◌, ◌<◌, ◌+◌, ℕ, List, true, None, IfSome};
+ghost use Rattle.std.specs.Prelude.{◌≡◌, ◌<◌, ◌+◌, ℕ, List, true, false, None, IfSome};
 ghost use Rattle.host_files.specs.Lists.{NamedBytes};
 ghost use Rattle.host_lines.specs.Traffic.{Answer};
 ghost use Rattle.host_lines.specs.State.{LineState};
@@ -27,6 +27,7 @@ impl<U: Unit> Machine<U> {
     ghost use Rattle.nova_machine.specs.Comes.{Does, AreTold, StopCounts, FileCause};
     ghost use Rattle.nova_machine.specs.StopCauses.{moment_of, Watches, AreCountedDown, TestCause, EntryCause};
     ghost use Rattle.nova_machine.specs.StopCauses.{InstructionCause, AttendedCause, EarlyCause, TurnCause};
+    ghost use Rattle.nova_machine.specs.Steps.{ComesTo, IsTurn, entered, break_tested, made_ready};
     ghost use Rattle.nova_machine.specs.LineChanges.{AreLinesTold, LinesGoOn};
     ghost use Rattle.unit_files.specs.Open.{AllOpen};
     ghost use Rattle.unit_list.specs.Bus.{kinds_of};
@@ -76,6 +77,7 @@ impl<U: Unit> Machine<U> {
         ensures watches { Watches (stop_of result) (moment_of watch.old self.old) (moment_of watch.new self.new) S.tells
             (S.written out.old) (S.written out.new) }
         ensures cause { TurnCause first (stop_of result) keys.now (moment_of watch.old self.old) watch.new self.new }
+        ensures steps { IsTurn first keys.now (stop_of result) watch.old watch.new self.old self.new }
     {
         match self.prepare(first, watch, keys, files, lines, out) {
             Some(stop) => Turn::Stopped(stop),
@@ -112,6 +114,7 @@ impl<U: Unit> Machine<U> {
         ensures watches { Watches result (moment_of watch.old self.old) (moment_of watch.new self.new) S.tells
             (S.written out.old) (S.written out.new) }
         ensures cause { EarlyCause first result keys.now (moment_of watch.old self.old) watch.new self.new }
+        ensures steps { ComesTo (made_ready first) keys.now result watch.old watch.new self.old self.new }
     {
         match self.come_to(watch, keys, files, lines, out) {
             Some(stop) => Some(stop),
@@ -132,6 +135,8 @@ impl<U: Unit> Machine<U> {
         ensures rest { watch.new ≡ record watch.old { breaks = watch.new.breaks } }
         ensures lowered { AreCountedDown watch.old.breaks.list watch.new.breaks.list }
         ensures cause { TestCause result self.now.processor.cpu.pc watch.old.breaks watch.new.breaks }
+        ensures tested { break_tested false watch.old self.now
+            ≡ record { watch = watch.new; machine = self.now; stop = result } }
     {
         watch.breaks.test(self.processor.cpu.pc).map(Stop::Break)
     }
@@ -164,6 +169,7 @@ impl<U: Unit> Machine<U> {
             (S.written out.old) (S.written out.new) }
         ensures breaks { watch.new.breaks ≡ watch.old.breaks }
         ensures cause { AttendedCause result keys.now (moment_of watch.old self.old) watch.new self.new }
+        ensures steps { ComesTo entered keys.now result watch.old watch.new self.old self.new }
     {
         if self.is_plain() {
             None
@@ -209,6 +215,7 @@ impl<U: Unit> Machine<U> {
             (S.written out.old) (S.written out.new) }
         ensures breaks { watch.new.breaks ≡ watch.old.breaks }
         ensures cause { AttendedCause result keys.now (moment_of watch.old self.old) watch.new self.new }
+        ensures steps { ComesTo entered keys.now result watch.old watch.new self.old self.new }
     {
         match self.serve(watch, keys, files, lines, out) {
             Some(stop) => Some(stop),

@@ -6,6 +6,7 @@ use Rattle.nova_machine.specs.declared.tape.TapeStop.{TapeStop}
 use Rattle.nova_machine.specs.declared.tape.TapeStop.TheVariants.{Image, Call}
 use Rattle.nova_machine.proofs.Operating.{Done, may-write, on-file}
 use Rattle.nova_machine.proofs.ServiceCauses.{tape-made}
+use Rattle.nova_machine.proofs.Steps.{done-tape, stopped-tape}
 use Rattle.nova_machine.proofs.drive.operate_drive.Goals as goal
 
 pub operate_file-requires-clause-open : goal.operate_file-requires-clause-open
@@ -98,3 +99,15 @@ pub returns-in-Ok-clause-made : goal.returns-in-Ok-clause-made
 returns-in-Ok-clause-made g c = λ key expects.
     let holds = c.in-Some.ensures.holds in
     (tape-made c.in-Ok.got (attachment_at (attachments_of c.args.attached.now.slots) c.args.unit) (holds.held.attachment, holds.attachment) c.in-Ok.ensures.moved, refl)
+
+pub returns-in-Ok-clause-answer : goal.returns-in-Ok-clause-answer
+returns-in-Ok-clause-answer g c =
+    done-tape c.args.order c.args.attached.now.slots c.args.unit c.in-Some.field-0 c.in-Ok.got c.in-Some.ensures.holds (sym c.is_refused.ensures ∙ c.if-is_refused.false) c.in-Ok.ensures.moved
+
+pub returns-in-Err-Image-clause-answer : goal.returns-in-Err-Image-clause-answer
+returns-in-Err-Image-clause-answer g c =
+    stopped-tape c.args.order c.args.attached.now.slots c.args.unit c.in-Some.field-0 _ c.in-Some.ensures.holds (sym c.is_refused.ensures ∙ c.if-is_refused.false) tt
+
+pub returns-in-Err-Call-clause-answer : goal.returns-in-Err-Call-clause-answer
+returns-in-Err-Call-clause-answer g c =
+    stopped-tape c.args.order c.args.attached.now.slots c.args.unit c.in-Some.field-0 _ c.in-Some.ensures.holds (sym c.is_refused.ensures ∙ c.if-is_refused.false) tt

@@ -2,7 +2,8 @@ use Rattle.nova_machine.specs.Comes.{output}
 use Rattle.nova_machine.specs.Seen.{seen, beside}
 use Rattle.nova_machine.proofs.Turning.{attended-comes, served-stops}
 use Rattle.nova_machine.specs.Notes.{unit_note}
-use Rattle.std.proofs.Common.{Some}
+use Rattle.std.proofs.Common.{Some, inl, refl}
+use Rattle.nova_machine.proofs.Steps.{entered-behind}
 use Rattle.nova_machine.proofs.machine.Machine.attend.Goals as goal
 
 pub returns-in-None-clause-told : goal.returns-in-None-clause-told
@@ -17,3 +18,11 @@ returns-in-Some-clause-told g c = λ told lt whole first.
     (seen (beside c.serve.new.watch c.args.keys.now (g.F.Files.state c.serve.new.files).files (g.L.Lines.state c.serve.new.lines)) whole c.serve.new.self) c.in-Some.stop g.S.Sink.tells
     (output (g.S.Sink.written c.args.out.now) (g.L.Lines.state c.args.lines.now).sent) (output (g.S.Sink.written c.serve.new.out) (g.L.Lines.state c.serve.new.lines).sent)
     (c.in-Some.ensures.told told lt whole first)
+
+pub returns-in-None-clause-steps : goal.returns-in-None-clause-steps
+returns-in-None-clause-steps g c =
+    entered-behind c.args.keys.now c.interrupt.result c.args.watch.now c.serve.new.watch c.args.self.now c.serve.new.self c.interrupt.new.self c.in-None.ensures.steps (c.in-None.ensures.rest refl)
+    c.interrupt.ensures.machine c.interrupt.ensures.stop
+
+pub returns-in-Some-clause-steps : goal.returns-in-Some-clause-steps
+returns-in-Some-clause-steps g c = inl c.in-Some.ensures.steps

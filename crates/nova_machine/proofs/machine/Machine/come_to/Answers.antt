@@ -3,6 +3,7 @@ use Rattle.nova_machine.specs.Comes.{output}
 use Rattle.nova_machine.proofs.LineSteps.{lines-stay}
 use Rattle.nova_machine.proofs.Plain.{plain-whole}
 use Rattle.nova_machine.proofs.Causes.{watches-still}
+use Rattle.nova_machine.proofs.Steps.{plain-comes}
 use Rattle.nova_machine.proofs.machine.Machine.come_to.Goals as goal
 
 pub returns-then-is_plain-clause-told : goal.returns-then-is_plain-clause-told
@@ -14,3 +15,6 @@ returns-then-is_plain-clause-watches g c = watches-still None _ _ g.S.Sink.tells
 
 pub returns-then-is_plain-clause-lines : goal.returns-then-is_plain-clause-lines
 returns-then-is_plain-clause-lines g c = lines-stay g.L.Lines.tells (g.L.Lines.state c.args.lines.now) c.args.self.now.lines
+
+pub returns-then-is_plain-clause-steps : goal.returns-then-is_plain-clause-steps
+returns-then-is_plain-clause-steps g c = plain-comes c.args.keys.now c.args.watch.now c.args.self.now (c.is_plain.ensures c.if-is_plain.true)

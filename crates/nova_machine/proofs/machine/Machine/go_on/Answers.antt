@@ -7,6 +7,8 @@ use Rattle.nova_machine.specs.LineChanges.{AreLinesTold, LinesGoOn}
 use Rattle.nova_machine.specs.LineLooks.{GoesOn}
 use Rattle.nova_machine.proofs.LineSteps.{first-same, lines-stay, lines-then}
 use Rattle.nova_machine.proofs.LineLooks.{burst-on, none-on, on-then, spent-any, ahead-then}
+use Rattle.nova_machine.specs.Steps.{Turns, some_services}
+use Rattle.nova_machine.proofs.Steps.{burst-along, along-on, on-along, along-then}
 use Rattle.nova_machine.proofs.machine.Machine.go_on.Goals as goal
 
 pub bursts-init : goal.bursts-init
@@ -19,6 +21,9 @@ bursts-init g c = record {
   known = tt;
   few = omega arith;
   time = omega arith;
+  steps = λ count start first before.
+      let all : c.args.most ≡ c.args.most - 0 = omega arith in
+      subst (λ (n : ℕ). Turns c.args.keys.now count start first false n c.args.watch.now c.args.self.now) all before;
 }
 
 pub returns-then-not-may_be_due-clause-told : goal.returns-then-not-may_be_due-clause-told
@@ -105,4 +110,40 @@ bursts-preserved g c =
       known = c.look_on_line-period.ensures.again;
       few = omega (arith, few, within);
       time = omega (arith, begun, grown, still);
+      steps = λ count start first before.
+          some_services (most - (done + more)) watch watch worked new
+          (along-on keys watch most (done + more) end old worked other
+          (along-then keys watch most done more end old at worked c.bursts.invariant.steps (burst-along keys watch (most - done) more end at worked within c.burst-burst.ensures.told)) count start first before)
+          c.look_on_line-period.ensures.steps;
     }
+
+pub returns-then-not-may_be_due-clause-steps : goal.returns-then-not-may_be_due-clause-steps
+returns-then-not-may_be_due-clause-steps g c =
+    let keys = c.args.keys.now in
+    let watch = c.args.watch.now in
+    let done = c.bursts.done in
+    let more = c.burst-burst.result.done in
+    let end = c.burst-burst.result.end in
+    along-then keys watch c.args.most done more end c.args.self.now c.bursts.self c.burst-burst.new.self c.bursts.invariant.steps
+    (burst-along keys watch (c.args.most - done) more end c.bursts.self c.burst-burst.new.self c.burst-burst.ensures.few c.burst-burst.ensures.told)
+
+pub returns-then-is_none-clause-steps : goal.returns-then-is_none-clause-steps
+returns-then-is_none-clause-steps g c =
+    let old = c.args.self.now in
+    let at = c.bursts.self in
+    let worked = c.burst-burst.new.self in
+    let new = c.look_on_line-period.new.self in
+    let done = c.bursts.done in
+    let more = c.burst-burst.result.done in
+    let end = c.burst-burst.result.end in
+    let watch = c.args.watch.now in
+    let keys = c.args.keys.now in
+    let most = c.args.most in
+    let goes : c.is_last.result ≡ false = search rules in
+    let other = (c.is_last.ensures goes).1 in
+    on-along keys watch most (done + more) end old new other (λ count start first before.
+    some_services (most - (done + more)) watch watch worked new
+    (along-on keys watch most (done + more) end old worked other
+    (along-then keys watch most done more end old at worked c.bursts.invariant.steps
+    (burst-along keys watch (most - done) more end at worked c.burst-burst.ensures.few c.burst-burst.ensures.told)) count start first before)
+    c.look_on_line-period.ensures.steps)

@@ -3,6 +3,7 @@ use Rattle.nova_processor.specs.declared.burst.BurstEnd.TheVariants as burst_end
 use Rattle.unit_list.specs.Bus.{kinds_of}
 use Rattle.nova_machine.specs.LineChanges.{AreLinesTold, LinesGoOn}
 use Rattle.nova_machine.specs.LineLooks.{LookAgain, GoesOn}
+use Rattle.nova_machine.proofs.Steps.{WentOn}
 use Rattle.nova_machine.proofs.machine.Machine.go_on.Given as goal
 
 -- what the turns that are left come to, they all come to
@@ -17,6 +18,7 @@ invariant-bursts g l = record {
   known : IfSome l.period (λ period. LookAgain period l.self.units);
   few : l.done ≤ l.most;
   time : l.self.time ≡ l.fn.self.time + l.done;
+  steps : WentOn l.keys l.watch l.most l.done l.fn.self l.self;
 }
 
 abbrev pub decreases-bursts : goal.decreases-bursts

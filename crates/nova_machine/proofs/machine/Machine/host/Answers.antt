@@ -13,6 +13,8 @@ use Rattle.nova_machine.specs.Wants.{first_key}
 use Rattle.nova_machine.specs.StopCauses.{IsMadeOf, IsPastRoom}
 use Rattle.nova_machine.proofs.ServiceCauses.{write-made, write-past}
 use Rattle.nova_machine.proofs.Hosting.{read-hosted, read-room, write-room}
+use Rattle.nova_machine.specs.Steps.{IsAnswer}
+use Rattle.nova_machine.proofs.Steps.{read-answer}
 use Rattle.nova_machine.proofs.machine.Machine.host.Goals as goal
 
 pub returns-in-ReadByte-clause-said : goal.returns-in-ReadByte-clause-said
@@ -82,3 +84,24 @@ returns-in-WriteByte-clause-room_left g c =
     subst (λ (o : Hosted). IsPastRoom c.args.want o) (sym c.made_of-in-WriteByte.ensures)
     (subst (λ (w : Want). IsPastRoom w (hosted_of c.write_byte.result)) (sym c.in-WriteByte.is)
     (write-past c.write_byte.result (attachment_at (attachments_of c.self-in-WriteByte.inside.attached.slots) c.args.unit) c.in-WriteByte.place c.in-WriteByte.byte c.write_byte.ensures.said))
+
+-- ---- whatever files answer
+
+pub returns-in-ReadByte-clause-answer : goal.returns-in-ReadByte-clause-answer
+returns-in-ReadByte-clause-answer g c =
+    let slots = c.args.self.now.slots in
+    let same : c.self.inside.attached.slots ≡ slots = ap (λ (m : MachineState). m.slots) c.self.view_is in
+    let a = attachment_at (attachments_of slots) c.args.unit in
+    let key = first_key (due_send c.args.self.now.time c.args.watch.now.sends) (due_key c.args.keys.now c.args.self.now.taken c.args.self.now.time) in
+    let expects = c.args.watch.now.expects in
+    let place = c.in-ReadByte.place in
+    let M : List (Option Held) → Type 0 = λ x. MayRead c.read_byte.result (attachment_at (attachments_of x) c.args.unit) place in
+    subst (λ (o : Hosted). IsAnswer c.args.want a key expects o) (sym c.made_of.ensures)
+    (subst (λ (w : Want). IsAnswer w a key expects (hosted_of c.read_byte.result)) (sym c.in-ReadByte.is)
+    (read-answer c.read_byte.result a place (subst M same c.read_byte.ensures.may)))
+
+pub returns-in-Tape-clause-answer : goal.returns-in-Tape-clause-answer
+returns-in-Tape-clause-answer g c =
+    let a = attachment_at (attachments_of c.args.self.now.slots) c.args.unit in
+    let key = first_key (due_send c.args.self.now.time c.args.watch.now.sends) (due_key c.args.keys.now c.args.self.now.taken c.args.self.now.time) in
+    subst (λ (w : Want). IsAnswer w a key c.args.watch.now.expects c.move_tape.result) (sym c.in-Tape.is) c.move_tape.ensures.answer

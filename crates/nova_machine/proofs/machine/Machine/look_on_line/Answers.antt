@@ -4,6 +4,7 @@ use Rattle.nova_machine.specs.LineChanges.{AreLinesTold, LinesGoOn}
 use Rattle.nova_machine.specs.LineLooks.{IsKeylessNow, IsAhead}
 use Rattle.nova_machine.proofs.LineLooks.{nothing-ahead}
 use Rattle.nova_machine.proofs.LineSteps.{lines-stay}
+use Rattle.nova_machine.specs.Steps.{Services, no_services}
 use Rattle.nova_machine.proofs.machine.Machine.look_on_line.Goals as goal
 
 pub returns-then-not-may_look-clause-told : goal.returns-then-not-may_look-clause-told
@@ -31,3 +32,19 @@ returns-in-Some-clause-told g c = λ told.
     let ahead : P c.args.self.now = subst P c.both_look.ensures.same (λ t k. c.poll_both.ensures.told t watch keys k) in
     let may : c.may_look.result ≡ true = search rules in
     ahead told (c.may_look.ensures.keyless may)
+
+pub returns-then-not-may_look-clause-steps : goal.returns-then-not-may_look-clause-steps
+returns-then-not-may_look-clause-steps g c = no_services
+
+pub returns-in-None-clause-steps : goal.returns-in-None-clause-steps
+returns-in-None-clause-steps g c =
+    subst (λ (x : MachineState). Services c.args.keys.now c.args.watch.now c.args.self.now c.args.watch.now x) (sym c.both_look.ensures.same) no_services
+
+pub returns-in-Some-clause-steps : goal.returns-in-Some-clause-steps
+returns-in-Some-clause-steps g c =
+    let watch = c.args.watch.now in
+    let keys = c.args.keys.now in
+    let P : MachineState → Type 0 = λ x. IsKeylessNow watch keys x → Services keys watch x watch c.poll_both.new.self in
+    let looks : P c.args.self.now = subst P c.both_look.ensures.same (λ k. c.poll_both.ensures.steps watch keys k) in
+    let may : c.may_look.result ≡ true = search rules in
+    looks (c.may_look.ensures.keyless may)

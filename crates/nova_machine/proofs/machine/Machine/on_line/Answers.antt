@@ -25,4 +25,5 @@ returns-in-Nothing g c =
       none = λ none. (refl, refl);
       below = tt;
       of = tt;
+      wants = tt;
     }

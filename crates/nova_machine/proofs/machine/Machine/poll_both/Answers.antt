@@ -8,6 +8,8 @@ use Rattle.nova_machine.specs.LineLooks.{second_keyboard, first_looked, IsAhead}
 use Rattle.nova_machine.proofs.Idling.{looked-slots, looked-lines, looked-time}
 use Rattle.nova_machine.proofs.LineLooks.{silent-ahead, key-ahead, nothing-ahead, looked-again, looked-kinds, looked-taken}
 use Rattle.nova_machine.proofs.ServiceCauses.{answered-taken}
+use Rattle.nova_machine.specs.Steps.{Services, no_services}
+use Rattle.nova_machine.proofs.Steps.{silent-looks, key-looks}
 use Rattle.nova_machine.proofs.machine.Machine.poll_both.Goals as goal
 
 pub returns-in-None-clause-told : goal.returns-in-None-clause-told
@@ -57,3 +59,16 @@ returns-in-Some-key_in-clause-taken g c =
 
 pub returns-in-None-key_in-clause-kinds : goal.returns-in-None-key_in-clause-kinds
 returns-in-None-key_in-clause-kinds g c = looked-kinds c.args.period c.args.self.now c.key_of_line.new.self c.look.new.self c.in-Some.ensures.machine c.look.ensures
+
+pub returns-in-None-clause-steps : goal.returns-in-None-clause-steps
+returns-in-None-clause-steps g c = λ watch keys keyless.
+    subst (λ (x : MachineState). Services keys watch c.args.self.now watch x) (sym (c.in-None.ensures.none refl).0) no_services
+
+pub returns-in-None-key_in-clause-steps : goal.returns-in-None-key_in-clause-steps
+returns-in-None-key_in-clause-steps g c = λ watch keys keyless.
+    silent-looks keys watch c.args.period c.args.self.now c.key_of_line.new.self c.look.new.self c.requires.looking keyless c.in-Some.ensures.machine c.look.ensures
+
+pub returns-in-Some-key_in-clause-steps : goal.returns-in-Some-key_in-clause-steps
+returns-in-Some-key_in-clause-steps g c = λ watch keys keyless.
+    key-looks keys watch c.args.period c.in-Some-key_in.key c.args.self.now c.key_of_line.new.self c.take_key_of_line.new.self c.requires.looking keyless c.in-Some.ensures.machine
+    c.take_key_of_line.ensures.machine

@@ -15,6 +15,9 @@ use Rattle.nova_processor.specs.declared.burst.BurstEnd.{BurstEnd}
 use Rattle.nova_machine.specs.StopCauses.{moment_of, BurstCause}
 use Rattle.nova_machine.proofs.Causes.{watches-still, watches-then, watches-left}
 use Rattle.nova_machine.proofs.RunCauses.{run-stopped, run-expired, expired-no-match}
+use Rattle.nova_machine.specs.declared.machine.Stop.{Stop}
+use Rattle.nova_machine.specs.Steps.{Turns, no_turns, one_turn, IsRun, expires, time_ends, turn_stops}
+use Rattle.nova_machine.proofs.Steps.{along-on, along-ends}
 use Rattle.nova_machine.proofs.machine.Machine.run.Goals as goal
 
 pub returns-then-self-eq-LAST_TIME-clause-told : goal.returns-then-self-eq-LAST_TIME-clause-told
@@ -136,6 +139,16 @@ turns-preserved g c =
           let few = c.go_on-burst.ensures.few in
           let grown = c.go_on-burst.ensures.time in
           record { rest = omega (arith, all, few, grown, time, one); later = omega (arith, begun, grown, time); began = λ _. omega (arith, begun, grown, time) };
+      steps =
+          let count = c.args.limit.count in
+          let start = c.args.watch.now in
+          let old = c.args.self.now in
+          let left = c.turns.left - 1 in
+          let between = c.turn.new.watch in
+          let before = subst (λ (n : ℕ). Turns keys count start old c.turns.first n c.turns.watch c.turns.self) one c.turns.invariant.steps in
+          let turned = one_turn c.turns.first left c.turns.watch between c.turns.self c.turn.new.self before early c.in-Executed.ensures.steps in
+          subst (λ (n : ℕ). Turns keys count start old false n between c.go_on-burst.new.self) (sym rest)
+          (along-on keys between left c.go_on-burst.result.done c.go_on-burst.result.end c.turn.new.self c.go_on-burst.new.self other c.go_on-burst.ensures.steps count start old turned);
     }
 
 pub returns-clause-told : goal.returns-clause-told
@@ -162,6 +175,7 @@ turns-init g c = record {
   quiet = quiet-same (g.F.Files.state c.args.files.now);
   watches = watches-still None (moment_of c.args.watch.now c.args.self.now) (moment_of c.args.watch.now c.args.self.now) g.S.Sink.tells (g.S.Sink.written c.args.out.now) tt refl refl;
   within = record { rest = refl; later = omega arith; began = λ e. absurd (cc) };
+  steps = no_turns;
 }
 
 pub returns-then-self-eq-LAST_TIME-clause-watches : goal.returns-then-self-eq-LAST_TIME-clause-watches
@@ -233,3 +247,48 @@ returns-in-ChainLimit-clause-lines g c =
     lines-then g.L.Lines.tells (g.L.Lines.state c.args.lines.now) between new c.args.self.now.lines c.turn.new.self.lines c.go_on-burst.new.self.lines
     (lines-then g.L.Lines.tells (g.L.Lines.state c.args.lines.now) (g.L.Lines.state c.turns.lines) between c.args.self.now.lines c.turns.self.lines c.turn.new.self.lines c.turns.invariant.lines
     c.in-Executed.ensures.lines) c.go_on-burst.ensures.lines
+
+-- ---- whatever files and lines answer
+
+pub returns-then-self-eq-LAST_TIME-clause-steps : goal.returns-then-self-eq-LAST_TIME-clause-steps
+returns-then-self-eq-LAST_TIME-clause-steps g c =
+    let some : 0 < c.turns.left = search rules in
+    let one : c.turns.left ≡ suc (c.turns.left - 1) = omega (arith, some) in
+    let late : c.turns.self.time ≡ last_time = search rules in
+    time_ends c.turns.first (c.turns.left - 1) c.turns.watch c.turns.self
+    (subst (λ (n : ℕ). Turns c.args.keys.now c.args.limit.count c.args.watch.now c.args.self.now c.turns.first n c.turns.watch c.turns.self) one c.turns.invariant.steps) late
+
+pub returns-in-Stopped-clause-steps : goal.returns-in-Stopped-clause-steps
+returns-in-Stopped-clause-steps g c =
+    let some : 0 < c.turns.left = search rules in
+    let one : c.turns.left ≡ suc (c.turns.left - 1) = omega (arith, some) in
+    let early : c.turns.self.time < last_time = search rules in
+    turn_stops c.turns.first (c.turns.left - 1) c.in-Stopped.stop c.turns.watch c.turn.new.watch c.turns.self c.turn.new.self
+    (subst (λ (n : ℕ). Turns c.args.keys.now c.args.limit.count c.args.watch.now c.args.self.now c.turns.first n c.turns.watch c.turns.self) one c.turns.invariant.steps) early
+    c.in-Stopped.ensures.steps
+
+pub returns-in-ChainLimit-clause-steps : goal.returns-in-ChainLimit-clause-steps
+returns-in-ChainLimit-clause-steps g c =
+    let some : 0 < c.turns.left = search rules in
+    let one : c.turns.left ≡ suc (c.turns.left - 1) = omega (arith, some) in
+    let early : c.turns.self.time < last_time = search rules in
+    let ends : c.go_on-burst.result.end ≡ burst_end.ChainLimit = search rules in
+    let keys = c.args.keys.now in
+    let count = c.args.limit.count in
+    let start = c.args.watch.now in
+    let old = c.args.self.now in
+    let left = c.turns.left - 1 in
+    let between = c.turn.new.watch in
+    let before = subst (λ (n : ℕ). Turns keys count start old c.turns.first n c.turns.watch c.turns.self) one c.turns.invariant.steps in
+    along-ends keys between left c.go_on-burst.result.done c.go_on-burst.result.end c.turn.new.self c.go_on-burst.new.self ends c.go_on-burst.ensures.steps count start old
+    (one_turn c.turns.first left c.turns.watch between c.turns.self c.turn.new.self before early c.in-Executed.ensures.steps) c.args.limit.step
+
+pub returns-clause-steps : goal.returns-clause-steps
+returns-clause-steps g c =
+    let keys = c.args.keys.now in
+    let count = c.args.limit.count in
+    let start = c.args.watch.now in
+    let old = c.args.self.now in
+    let none : c.turns.left ≡ 0 = search rules in
+    subst (λ (x : Stop). IsRun keys c.args.limit.step count start old x c.turns.watch c.turns.self) (sym c.expired.ensures.stop)
+    (expires c.turns.first c.turns.watch c.turns.self (subst (λ (n : ℕ). Turns keys count start old c.turns.first n c.turns.watch c.turns.self) none c.turns.invariant.steps))

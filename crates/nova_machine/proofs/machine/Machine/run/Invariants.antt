@@ -11,6 +11,7 @@ use Rattle.host_lines.specs.Traffic.{Answer}
 use Rattle.host_lines.specs.Told.{IsFirst, record_in}
 use Rattle.nova_machine.specs.LineChanges.{AreLinesTold, LinesGoOn}
 use Rattle.nova_machine.specs.StopCauses.{moment_of, Watches}
+use Rattle.nova_machine.specs.Steps.{Turns}
 use Rattle.nova_machine.proofs.RunCauses.{IsWithin}
 use Rattle.nova_machine.proofs.machine.Machine.run.Given as goal
 
@@ -33,6 +34,7 @@ invariant-turns g l = record {
   quiet : IsQuiet (g.F.Files.state l.fn.files) (g.F.Files.state l.files);
   watches : Watches None (moment_of l.fn.watch l.fn.self) (moment_of l.watch l.self) g.S.Sink.tells (g.S.Sink.written l.fn.out) (g.S.Sink.written l.out);
   within : IsWithin l.first l.limit.count l.left l.fn.self.time l.self.time;
+  steps : Turns l.keys l.limit.count l.fn.watch l.fn.self l.first l.left l.watch l.self;
 }
 
 abbrev pub decreases-turns : goal.decreases-turns

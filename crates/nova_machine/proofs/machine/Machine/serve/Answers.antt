@@ -17,6 +17,8 @@ use Rattle.nova_machine.specs.declared.machine.Stop.{Stop}
 use Rattle.nova_machine.specs.Machine.{MachineState}
 use Rattle.nova_machine.specs.StopCauses.{moment_of, Watches}
 use Rattle.nova_machine.proofs.Causes.{watches-still, watches-goes, watches-left, service-then}
+use Rattle.nova_machine.specs.Steps.{no_services}
+use Rattle.nova_machine.proofs.Steps.{one-service, one-stops, none-more}
 use Rattle.nova_machine.proofs.machine.Machine.serve.Goals as goal
 
 pub returns-in-Some-serve_unit-clause-told : goal.returns-in-Some-serve_unit-clause-told
@@ -52,6 +54,7 @@ events-init g c = record {
   quiet = quiet-same (g.F.Files.state c.args.files.now);
   watches = watches-still None (moment_of c.args.watch.now c.args.self.now) (moment_of c.args.watch.now c.args.self.now) g.S.Sink.tells (g.S.Sink.written c.args.out.now) tt refl refl;
   breaks = refl;
+  steps = no_services;
 }
 
 pub events-preserved : goal.events-preserved
@@ -100,6 +103,9 @@ events-preserved g c =
           refl refl taken c.events.invariant.watches (subst (λ (o : Option Stop). Watches o (moment_of c.events.watch c.take_due.new.self) (moment_of c.serve_unit.new.watch c.serve_unit.new.self) g.S.Sink.tells
           (text c.events.out) (text c.serve_unit.new.out)) goes c.serve_unit.ensures.watches);
       breaks = c.serve_unit.ensures.breaks ∙ c.events.invariant.breaks;
+      steps =
+          one-service keys c.args.watch.now c.events.watch c.serve_unit.new.watch c.args.self.now c.events.self c.take_due.new.self c.serve_unit.new.self c.in-Some.unit c.serve_unit.result
+          c.events.invariant.steps first c.take_due.ensures.taken goes c.serve_unit.ensures.steps;
     }
 
 pub returns-clause-told : goal.returns-clause-told
@@ -155,3 +161,14 @@ returns-in-Some-serve_unit-clause-lines g c =
 pub returns-clause-lines : goal.returns-clause-lines
 returns-clause-lines g c =
     subst (λ (ls : List (LineOf ℕ)). LinesGoOn g.L.Lines.tells (g.L.Lines.state c.args.lines.now) c.args.self.now.lines (g.L.Lines.state c.events.lines) ls) (sym c.take_due.ensures.lines) c.events.invariant.lines
+
+pub returns-in-Some-serve_unit-clause-steps : goal.returns-in-Some-serve_unit-clause-steps
+returns-in-Some-serve_unit-clause-steps g c =
+    let first : due c.events.self.events ≡ Some c.in-Some.unit = sym c.in-Some.ensures.unit in
+    one-stops c.args.keys.now c.args.watch.now c.events.watch c.serve_unit.new.watch c.args.self.now c.events.self c.take_due.new.self c.serve_unit.new.self c.in-Some.unit
+    c.in-Some-serve_unit.stop c.events.invariant.steps first c.take_due.ensures.taken c.in-Some-serve_unit.ensures.steps
+
+pub returns-clause-steps : goal.returns-clause-steps
+returns-clause-steps g c =
+    let none : due c.events.self.events ≡ None = search rules in
+    none-more c.args.keys.now c.args.watch.now c.events.watch c.args.self.now c.events.self c.take_due.new.self none c.take_due.ensures.taken c.events.invariant.steps

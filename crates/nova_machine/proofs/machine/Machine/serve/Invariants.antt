@@ -12,6 +12,7 @@ use Rattle.host_lines.specs.Told.{IsFirst, record_in}
 use Rattle.nova_machine.specs.LineChanges.{AreLinesTold, LinesGoOn}
 use Rattle.nova_machine.specs.Service.{serving}
 use Rattle.nova_machine.specs.StopCauses.{moment_of, Watches}
+use Rattle.nova_machine.specs.Steps.{Services}
 use Rattle.nova_machine.proofs.Serving.{IsStillDue}
 use Rattle.nova_machine.proofs.machine.Machine.serve.Given as goal
 
@@ -35,6 +36,7 @@ invariant-events g l = record {
   quiet : IsQuiet (g.F.Files.state l.fn.files) (g.F.Files.state l.files);
   watches : Watches None (moment_of l.fn.watch l.fn.self) (moment_of l.watch l.self) g.S.Sink.tells (g.S.Sink.written l.fn.out) (g.S.Sink.written l.out);
   breaks : l.watch.breaks ≡ l.fn.watch.breaks;
+  steps : Services l.keys l.fn.watch l.fn.self l.watch l.self;
 }
 
 abbrev pub decreases-events : goal.decreases-events

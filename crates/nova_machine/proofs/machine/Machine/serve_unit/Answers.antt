@@ -1,4 +1,4 @@
-use Rattle.std.proofs.Common.{◌≡◌, ℕ, List, append-nil, Some, ap, refl, rules, subst, sym, ◌∙◌}
+use Rattle.std.proofs.Common.{◌≡◌, ℕ, List, append-nil, Some, ap, refl, rules, subst, sym, ◌∙◌, inl}
 use Rattle.unit_trait.specs.declared.calls.Got.TheVariants as gots
 use Rattle.unit_trait.specs.Calls.{UnitState}
 use Rattle.unit_list.specs.Bus.{TakesAnswerIn}
@@ -23,6 +23,8 @@ use Rattle.nova_machine.proofs.Serving.{Hosts, asked-lines, none-lined, some-lin
 use Rattle.nova_machine.proofs.Causes.{watches-still}
 use Rattle.nova_machine.specs.StopCauses.{moment_of}
 use Rattle.nova_machine.proofs.ServiceCauses.{Hosts as Facts, line-cause, asked-taken, answered-taken, answered-no-match, stops-no-match, hosts-watches, hosts-wru, hosts-gets}
+use Rattle.nova_machine.specs.Steps.{IsMade}
+use Rattle.nova_machine.proofs.Steps.{turned-is, made-of, on-a-line}
 use Rattle.nova_machine.proofs.machine.Machine.serve_unit.Goals as goal
 
 pub returns-in-Gets-clause-told : goal.returns-in-Gets-clause-told
@@ -286,3 +288,70 @@ returns-in-Stops-clause-watches g c =
     hosts-watches c.args.keys.now c.args.unit w made c.args.watch.now c.host.new.watch c.args.self.now c.on_line.new.self c.host.new.self c.host.new.self (Some c.in-Stops.stop) g.S.Sink.tells
     (g.S.Sink.written c.args.out.now) (g.S.Sink.written c.host.new.out) hosts (stops-no-match w c.args.unit.kind (attachment_at (attached_in c.on_line.new.self) c.args.unit)
     (first_key (due_send c.on_line.new.self.time c.args.watch.now.sends) (due_key c.args.keys.now c.on_line.new.self.taken c.on_line.new.self.time)) c.args.watch.now.expects c.in-Stops.stop e.made) e.printed
+
+-- ---- whatever files and lines answer
+
+pub returns-in-Some-clause-steps : goal.returns-in-Some-clause-steps
+returns-in-Some-clause-steps g c =
+    on-a-line c.args.keys.now c.args.unit c.ask-want.result c.answer.result c.args.watch.now c.args.self.now c.ask-want.new.self c.on_line.new.self c.answer.new.self c.in-Some.got
+    c.ask-want.ensures.machine c.ask-want.ensures.want c.in-Some.ensures.machine c.in-Some.ensures.wants c.in-Some.ensures.of c.answer.ensures.machine c.answer.ensures.stop
+
+pub returns-in-Gets-clause-steps : goal.returns-in-Gets-clause-steps
+returns-in-Gets-clause-steps g c =
+    let e = c.in-Gets.ensures in
+    let w = c.ask-want.result in
+    let made = Gets c.in-Gets.got in
+    let asks = (c.in-None.ensures.none refl).0 ∙ c.ask-want.ensures.machine in
+    let work : IsMade c.args.keys.now c.args.unit w c.args.watch.now c.host.new.watch c.on_line.new.self c.host.new.self made =
+    record { answer = e.answer; memory = c.host.new.self.processor.memory; done_is = e.work; watched = e.watch } in
+    inl (record {
+      done = c.host.new.self;
+      made = made;
+      work = made-of c.args.keys.now c.args.unit w c.args.watch.now c.host.new.watch c.args.self.now c.on_line.new.self c.host.new.self made asks c.ask-want.ensures.want work;
+      left = turned-is (answered c.args.unit c.in-Gets.got c.host.new.self) c.answer-in-Gets.new.self c.answer-in-Gets.result c.answer-in-Gets.ensures.machine c.answer-in-Gets.ensures.stop;
+    })
+
+pub returns-in-Wru-clause-steps : goal.returns-in-Wru-clause-steps
+returns-in-Wru-clause-steps g c =
+    let e = c.in-Wru.ensures in
+    let w = c.ask-want.result in
+    let made = hosted.Wru in
+    let asks = (c.in-None.ensures.none refl).0 ∙ c.ask-want.ensures.machine in
+    let work : IsMade c.args.keys.now c.args.unit w c.args.watch.now c.host.new.watch c.on_line.new.self c.host.new.self made =
+    record { answer = e.answer; memory = c.host.new.self.processor.memory; done_is = e.work; watched = e.watch } in
+    inl (record {
+      done = c.host.new.self;
+      made = made;
+      work = made-of c.args.keys.now c.args.unit w c.args.watch.now c.host.new.watch c.args.self.now c.on_line.new.self c.host.new.self made asks c.ask-want.ensures.want work;
+      left = ap (λ (x : MachineState). record { machine = x; stop = Some Wru }) (sym c.answer-in-Wru.ensures.machine);
+    })
+
+pub returns-in-Matched-clause-steps : goal.returns-in-Matched-clause-steps
+returns-in-Matched-clause-steps g c =
+    let e = c.in-Matched.ensures in
+    let w = c.ask-want.result in
+    let made = hosted.Matched c.in-Matched.place in
+    let asks = (c.in-None.ensures.none refl).0 ∙ c.ask-want.ensures.machine in
+    let work : IsMade c.args.keys.now c.args.unit w c.args.watch.now c.host.new.watch c.on_line.new.self c.host.new.self made =
+    record { answer = e.answer; memory = c.host.new.self.processor.memory; done_is = e.work; watched = e.watch } in
+    inl (record {
+      done = c.host.new.self;
+      made = made;
+      work = made-of c.args.keys.now c.args.unit w c.args.watch.now c.host.new.watch c.args.self.now c.on_line.new.self c.host.new.self made asks c.ask-want.ensures.want work;
+      left = ap (λ (x : MachineState). record { machine = x; stop = Some (Expect c.in-Matched.place) }) (sym c.answer-in-Matched.ensures.machine);
+    })
+
+pub returns-in-Stops-clause-steps : goal.returns-in-Stops-clause-steps
+returns-in-Stops-clause-steps g c =
+    let e = c.in-Stops.ensures in
+    let w = c.ask-want.result in
+    let made = Stops c.in-Stops.stop in
+    let asks = (c.in-None.ensures.none refl).0 ∙ c.ask-want.ensures.machine in
+    let work : IsMade c.args.keys.now c.args.unit w c.args.watch.now c.host.new.watch c.on_line.new.self c.host.new.self made =
+    record { answer = e.answer; memory = c.host.new.self.processor.memory; done_is = e.work; watched = e.watch } in
+    inl (record {
+      done = c.host.new.self;
+      made = made;
+      work = made-of c.args.keys.now c.args.unit w c.args.watch.now c.host.new.watch c.args.self.now c.on_line.new.self c.host.new.self made asks c.ask-want.ensures.want work;
+      left = refl;
+    })
