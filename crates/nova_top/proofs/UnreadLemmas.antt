@@ -27,7 +27,7 @@ use Rattle.nova_top.specs.declared.word_files.Refusal.TheVariants.{Unopened, Bad
 use Rattle.nova_top.specs.Ends.{AreWordClosings}
 use Rattle.nova_top.specs.Words.{options_of, keys_name, script_name, texts_of}
 use Rattle.nova_top.specs.Program.{noted_call, AddsClosings, denial_of, RefusedCause, DeniedCause}
-use Rattle.nova_top.specs.Unread.{NotRead, WordsNotRead, IsUnopened, NamedFits, AreMeasured, keys_ids, behind_ids, NotedAs, WordCause, AnswersRead, TakesCause, BeginsCause}
+use Rattle.nova_top.specs.Unread.{NotRead, WordsNotRead, IsUnopened, NamedFits, AreMeasured, keys_ids, behind_ids, NotedAs, WordCause, AnswersRead, TakesCause, BeginsCause, HasNoKeys}
 use Rattle.nova_top.proofs.WordFileLemmas.{name-at}
 use Rattle.nova_top.proofs.ReadingLemmas.{two-kept, noted-as, word-there}
 
@@ -61,50 +61,50 @@ word-cause tells whose name name' kept one two w old new first second same shape
 -- ---- what is taken of a file
 
 pub word-taken : {T : Type 0} (tells : Bool) (whose : Subject) (name : List ℕ) (bytes : Result (Vec ℕ) WholeFault) (result : Result T Refusal) (kept kept' : List FaultNote) (old new : FileState)
-    → WordCause tells whose name bytes kept kept' old new → AnswersRead bytes result → TakesCause tells whose (Some name) result kept kept' old new
-word-taken tells whose name (Ok v) (Ok value) kept kept' old new w answers = w.cause
-word-taken tells whose name (Ok v) (Err (Unopened place)) kept kept' old new w answers = absurd answers
-word-taken tells whose name (Ok v) (Err (BadKeys place)) kept kept' old new w answers = tt
-word-taken tells whose name (Ok v) (Err OutOfMemory) kept kept' old new w answers = λ more. w.cause
-word-taken tells whose name (Err whole.OutOfMemory) (Ok value) kept kept' old new w answers = absurd answers
-word-taken tells whose name (Err whole.OutOfMemory) (Err (Unopened place)) kept kept' old new w answers = absurd answers
-word-taken tells whose name (Err whole.OutOfMemory) (Err (BadKeys place)) kept kept' old new w answers = absurd answers
-word-taken tells whose name (Err whole.OutOfMemory) (Err OutOfMemory) kept kept' old new w answers = w.cause
-word-taken tells whose name (Err whole.NoFile) (Ok value) kept kept' old new w answers = absurd answers
-word-taken tells whose name (Err whole.NoFile) (Err (Unopened place)) kept kept' old new w answers = (w.more, w.added, inl (w.noted, w.cause))
-word-taken tells whose name (Err whole.NoFile) (Err (BadKeys place)) kept kept' old new w answers = absurd answers
-word-taken tells whose name (Err whole.NoFile) (Err OutOfMemory) kept kept' old new w answers = absurd answers
-word-taken tells whose name (Err whole.TooLong) (Ok value) kept kept' old new w answers = absurd answers
-word-taken tells whose name (Err whole.TooLong) (Err (Unopened place)) kept kept' old new w answers = (w.more, w.added, inr (inr (w.noted, w.cause)))
-word-taken tells whose name (Err whole.TooLong) (Err (BadKeys place)) kept kept' old new w answers = absurd answers
-word-taken tells whose name (Err whole.TooLong) (Err OutOfMemory) kept kept' old new w answers = absurd answers
-word-taken tells whose name (Err whole.Failed) (Ok value) kept kept' old new w answers = absurd answers
-word-taken tells whose name (Err whole.Failed) (Err (Unopened place)) kept kept' old new w answers = (w.more, w.added, inr (inl w.noted))
-word-taken tells whose name (Err whole.Failed) (Err (BadKeys place)) kept kept' old new w answers = absurd answers
-word-taken tells whose name (Err whole.Failed) (Err OutOfMemory) kept kept' old new w answers = absurd answers
+    → IfOk bytes (λ v. old.given < new.given) → WordCause tells whose name bytes kept kept' old new → AnswersRead bytes result → TakesCause tells whose (Some name) result kept kept' old new
+word-taken tells whose name (Ok v) (Ok value) kept kept' old new opens w answers = w.cause
+word-taken tells whose name (Ok v) (Err (Unopened place)) kept kept' old new opens w answers = absurd answers
+word-taken tells whose name (Ok v) (Err (BadKeys place)) kept kept' old new opens w answers = record { was_opened = opens; bytes = v.items; faulty = answers }
+word-taken tells whose name (Ok v) (Err OutOfMemory) kept kept' old new opens w answers = λ more. w.cause
+word-taken tells whose name (Err whole.OutOfMemory) (Ok value) kept kept' old new opens w answers = absurd answers
+word-taken tells whose name (Err whole.OutOfMemory) (Err (Unopened place)) kept kept' old new opens w answers = absurd answers
+word-taken tells whose name (Err whole.OutOfMemory) (Err (BadKeys place)) kept kept' old new opens w answers = absurd answers
+word-taken tells whose name (Err whole.OutOfMemory) (Err OutOfMemory) kept kept' old new opens w answers = w.cause
+word-taken tells whose name (Err whole.NoFile) (Ok value) kept kept' old new opens w answers = absurd answers
+word-taken tells whose name (Err whole.NoFile) (Err (Unopened place)) kept kept' old new opens w answers = (w.more, w.added, inl (w.noted, w.cause))
+word-taken tells whose name (Err whole.NoFile) (Err (BadKeys place)) kept kept' old new opens w answers = absurd answers
+word-taken tells whose name (Err whole.NoFile) (Err OutOfMemory) kept kept' old new opens w answers = absurd answers
+word-taken tells whose name (Err whole.TooLong) (Ok value) kept kept' old new opens w answers = absurd answers
+word-taken tells whose name (Err whole.TooLong) (Err (Unopened place)) kept kept' old new opens w answers = (w.more, w.added, inr (inr (w.noted, w.cause)))
+word-taken tells whose name (Err whole.TooLong) (Err (BadKeys place)) kept kept' old new opens w answers = absurd answers
+word-taken tells whose name (Err whole.TooLong) (Err OutOfMemory) kept kept' old new opens w answers = absurd answers
+word-taken tells whose name (Err whole.Failed) (Ok value) kept kept' old new opens w answers = absurd answers
+word-taken tells whose name (Err whole.Failed) (Err (Unopened place)) kept kept' old new opens w answers = (w.more, w.added, inr (inl w.noted))
+word-taken tells whose name (Err whole.Failed) (Err (BadKeys place)) kept kept' old new opens w answers = absurd answers
+word-taken tells whose name (Err whole.Failed) (Err OutOfMemory) kept kept' old new opens w answers = absurd answers
 
 -- the same of the file that the word at a place names
 pub keys-cause : {T : Type 0} (tells : Bool) (words : List (String Global)) (options : Options) (place : ℕ) (word : String Global) (bytes : Result (Vec ℕ) WholeFault) (result : Result T Refusal)
     (kept kept' : List FaultNote) (old new : FileState) → options.keys ≡ Some place → place < length (texts_of words) → word ≡ get_or words place word
-    → WordCause tells subject.Keys (string_bytes word) bytes kept kept' old new → AnswersRead bytes result
+    → IfOk bytes (λ v. old.given < new.given) → WordCause tells subject.Keys (string_bytes word) bytes kept kept' old new → AnswersRead bytes result
     → TakesCause tells subject.Keys (keys_name (texts_of words) options) result kept kept' old new
-keys-cause tells words options place word bytes result kept kept' old new some within is w answers =
+keys-cause tells words options place word bytes result kept kept' old new some within is opens w answers =
     let ws : List (List ℕ) = texts_of words in
     let at = name-at words place word (word-there words place within) is in
     let name : keys_name ws options ≡ Some (string_bytes word) = (λ i. keys_name ws (record options { keys = some i })) ∙ ap (λ (n : List ℕ). Some n) at in
     subst (λ (o : Option (List ℕ)). TakesCause tells subject.Keys o result kept kept' old new) (sym name)
-    (word-taken tells subject.Keys (string_bytes word) bytes result kept kept' old new w answers)
+    (word-taken tells subject.Keys (string_bytes word) bytes result kept kept' old new opens w answers)
 
 pub script-cause : {T : Type 0} (tells : Bool) (words : List (String Global)) (options : Options) (place : ℕ) (word : String Global) (bytes : Result (Vec ℕ) WholeFault) (result : Result T Refusal)
     (kept kept' : List FaultNote) (old new : FileState) → options.script ≡ Some place → place < length (texts_of words) → word ≡ get_or words place word
-    → WordCause tells subject.Script (string_bytes word) bytes kept kept' old new → AnswersRead bytes result
+    → IfOk bytes (λ v. old.given < new.given) → WordCause tells subject.Script (string_bytes word) bytes kept kept' old new → AnswersRead bytes result
     → TakesCause tells subject.Script (script_name (texts_of words) options) result kept kept' old new
-script-cause tells words options place word bytes result kept kept' old new some within is w answers =
+script-cause tells words options place word bytes result kept kept' old new some within is opens w answers =
     let ws : List (List ℕ) = texts_of words in
     let at = name-at words place word (word-there words place within) is in
     let name : script_name ws options ≡ Some (string_bytes word) = (λ i. script_name ws (record options { script = some i })) ∙ ap (λ (n : List ℕ). Some n) at in
     subst (λ (o : Option (List ℕ)). TakesCause tells subject.Script o result kept kept' old new) (sym name)
-    (word-taken tells subject.Script (string_bytes word) bytes result kept kept' old new w answers)
+    (word-taken tells subject.Script (string_bytes word) bytes result kept kept' old new opens w answers)
 
 -- the keys file that was read took one id
 pub keys-given : {T : Type 0} (bytes : Result (Vec ℕ) WholeFault) (result : Result T Refusal) (keys : Option ℕ) (place : ℕ) (old new : FileState) → keys ≡ Some place
@@ -192,7 +192,7 @@ keys-refused T tells words options refusal kept kept' old new none most cause = 
     by-name r None is cause = absurd cause
     by-name (Unopened place) (Some name) is (more, added, unread) =
         inl (name, is, subst (λ (l : List FaultNote). NotRead tells subject.Keys name l old new) (sym (from-none kept kept' more none added)) unread)
-    by-name (BadKeys place) (Some name) is cause = tt
+    by-name (BadKeys place) (Some name) is cause = cause
     by-name OutOfMemory (Some name) is cause =
         (λ more. subst (λ (o : Option (List ℕ)). NamedFits tells o old) (sym is) (cause more), λ more. absurd (omega (arith, more, most)))
 
@@ -233,7 +233,8 @@ script-refused T tells words options refusal kept kept' kept'' old mid new keys 
           subst (λ (l : List FaultNote). NotRead tells subject.Script name l (behind_ids (keys_ids options.keys) old) new) (sym added)
               (not-read-behind tells subject.Script name kept' more (keys_ids options.keys) old mid new keys.closings keys.same keys.rise keys.given unread),
         )
-    by-name (BadKeys place) (Some name) is cause = tt
+    by-name (BadKeys place) (Some name) is cause =
+        record { was_opened = let given = keys.given in let opens = cause.was_opened in omega (arith, given, opens); bytes = cause.bytes; faulty = cause.faulty }
     by-name OutOfMemory (Some name) is cause = (
       λ more. keys.fits,
       λ more. let given = keys.given in
@@ -267,6 +268,15 @@ refused-unopened tells words options (Unopened place) status sink sink_now notes
 refused-unopened tells words options (BadKeys place) status sink sink_now notes items old new chosen denied same begins is =
     absurd (elim (not-by 105 status sink sink_now 101 denied is) [ inl a ↦ omega (arith, a) | inr a ↦ omega (arith, a) ])
 refused-unopened tells words options OutOfMemory status sink sink_now notes items old new chosen denied same begins is =
+    absurd (let h = denied.0 in omega (arith, h, is))
+
+-- the keys file is none
+pub refused-keys : (tells : Bool) (words : List (List ℕ)) (options : Options) (refusal : Refusal) (status sink sink_now : ℕ) (notes : List FaultNote) (old new : FileState)
+    → DeniedCause (denial_of words refusal) status sink sink_now → BeginsCause tells words options (Err refusal) notes old new → status ≡ 105 → HasNoKeys old new
+refused-keys tells words options (Unopened place) status sink sink_now notes old new denied begins is =
+    absurd (elim (not-by 101 status sink sink_now 105 denied is) [ inl a ↦ omega (arith, a) | inr a ↦ omega (arith, a) ])
+refused-keys tells words options (BadKeys place) status sink sink_now notes old new denied begins is = (place, begins)
+refused-keys tells words options OutOfMemory status sink sink_now notes old new denied begins is =
     absurd (let h = denied.0 in omega (arith, h, is))
 
 pub refused-measured : (tells : Bool) (words : List (List ℕ)) (options : Options) (refusal : Refusal) (status sink sink_now : ℕ) (machine : Option MachineState) (notes : List FaultNote) (old new : FileState)
@@ -304,3 +314,12 @@ session-opened finish.Commands sink sink_now source source_now c is = omega (ari
 session-opened finish.Console sink sink_now source source_now c is = omega (arith, is)
 session-opened finish.Input sink sink_now source source_now c is = omega (arith, is)
 session-opened finish.OutOfMemory sink sink_now source source_now c is = omega (arith, is)
+
+pub session-keys : (end : Finish) (sink sink_now source source_now : ℕ) → FinishCause end sink sink_now source source_now → status_of end ≡ 105 → ⊥
+session-keys (finish.Exit n) sink sink_now source source_now c is = omega (arith, c.exit, is)
+session-keys finish.EndOfInput sink sink_now source source_now c is = omega (arith, is)
+session-keys finish.FlushFailed sink sink_now source source_now c is = omega (arith, is)
+session-keys finish.Commands sink sink_now source source_now c is = omega (arith, is)
+session-keys finish.Console sink sink_now source source_now c is = omega (arith, is)
+session-keys finish.Input sink sink_now source source_now c is = omega (arith, is)
+session-keys finish.OutOfMemory sink sink_now source source_now c is = omega (arith, is)

@@ -2,6 +2,7 @@
 use Rattle.std.specs.Prelude.{◌≡◌, ◌⊎◌, ◌+◌, ◌<◌, ℕ, Bool, List, ◌++◌, Option, Some, None, IfSome, IsSome, Result, Ok, Err}
 use Rattle.std.specs.Global.{Vec}
 use Rattle.host_files.specs.State.{FileState}
+use Rattle.expect_actions.specs.KeysFile.{keys_read}
 use Rattle.file_commands.specs.declared.note.FaultNote.{FaultNote}
 use Rattle.file_commands.specs.declared.note.Subject.{Subject}
 use Rattle.file_commands.specs.declared.note.Subject.TheVariants as subject
@@ -63,6 +64,17 @@ pub record AreMeasured (tells : Bool) (words : List (List ℕ)) (machine : Optio
   pub script : old.given + keys_ids options.keys < new.given → NamedFits tells (script_name words options) old
   pub session : IsSome machine → NamedFits tells (keys_name words options) old × NamedFits tells (script_name words options) old
 
+-- A file was opened, and these bytes of it are what was read: they are no keys file, and the first of their lines that is
+-- none of one begins at that place.
+pub record ReadsNoKeys (place : ℕ) (old new : FileState) : Type 0 where
+  pub was_opened : old.given < new.given
+  pub bytes : List ℕ
+  pub faulty : keys_read bytes ≡ Err place
+
+-- status 105 comes only where that is so
+abbrev pub HasNoKeys : FileState → FileState → Type 0
+HasNoKeys old new = (place : ℕ) × ReadsNoKeys place old new
+
 -- ---- the parts
 
 -- the notes of a reading: those of closings, and where a call failed before, that one
@@ -77,9 +89,11 @@ pub record WordCause (tells : Bool) (whose : Subject) (name : List ℕ) (bytes :
   pub noted : NotedAs whose bytes more
   pub cause : WholeCause tells name bytes old new
 
--- what is answered by what was read: a file that was read is not refused as one that was not
+-- what is answered by what was read: a file that was read is not refused as one that was not, and as no keys file only by
+-- its bytes
 abbrev pub AnswersRead : {T : Type 0} → Result (Vec ℕ) WholeFault → Result T Refusal → Type 0
 AnswersRead (Ok bytes) (Err (Unopened place)) = ⊥
+AnswersRead (Ok bytes) (Err (BadKeys place)) = keys_read bytes.items ≡ Err place
 AnswersRead (Ok bytes) result = Unit {0}
 AnswersRead (Err whole.OutOfMemory) (Err OutOfMemory) = Unit {0}
 AnswersRead (Err whole.OutOfMemory) result = ⊥
@@ -92,14 +106,14 @@ TakesCause tells whose None (Ok value) kept kept' old new = new.given ≡ old.gi
 TakesCause tells whose None (Err refusal) kept kept' old new = ⊥
 TakesCause tells whose (Some name) (Ok value) kept kept' old new = Fits tells name old
 TakesCause tells whose (Some name) (Err (Unopened place)) kept kept' old new = (more : List FaultNote) × (kept' ≡ kept ++ more) × NotRead tells whose name more old new
-TakesCause tells whose (Some name) (Err (BadKeys place)) kept kept' old new = Unit {0}
+TakesCause tells whose (Some name) (Err (BadKeys place)) kept kept' old new = ReadsNoKeys place old new
 TakesCause tells whose (Some name) (Err OutOfMemory) kept kept' old new = old.given < new.given → Fits tells name old
 
 -- why the program does not begin, or begins, by the files of its words
 abbrev pub BeginsCause : Bool → List (List ℕ) → Options → Result Beginning Refusal → List FaultNote → FileState → FileState → Type 0
 BeginsCause tells words options (Ok beginning) notes old new = NamedFits tells (keys_name words options) old × NamedFits tells (script_name words options) old
 BeginsCause tells words options (Err (Unopened place)) notes old new = WordsNotRead tells words options notes old new
-BeginsCause tells words options (Err (BadKeys place)) notes old new = Unit {0}
+BeginsCause tells words options (Err (BadKeys place)) notes old new = ReadsNoKeys place old new
 BeginsCause tells words options (Err OutOfMemory) notes old new =
     (old.given < new.given → NamedFits tells (keys_name words options) old)
     × (old.given + keys_ids options.keys < new.given → NamedFits tells (script_name words options) old)

@@ -24,7 +24,7 @@ ghost use Rattle.nova_top.specs.Words.{texts_of};
 ghost use Rattle.nova_top.specs.Outside.{usage_text, unopened_text, bad_keys_text};
 ghost use Rattle.nova_top.specs.Ends.{IsOutcome, IsCutShort, StatusCause, MachineThere, IsComplete, FilesAtEnd, KeptUnwritten};
 ghost use Rattle.nova_top.specs.Ends.{LinesAtEnd, NoneFailed, HasWorkload, InputTells};
-ghost use Rattle.nova_top.specs.Unread.{IsUnopened, AreMeasured};
+ghost use Rattle.nova_top.specs.Unread.{IsUnopened, AreMeasured, HasNoKeys};
 ghost use Rattle.nova_top.specs.Program.{IsRefused, RefusedCause, RefusalCause, SessionEnds};
 ghost use Rattle.nova_top.specs.Program.{denial_of, IsDenied, DeniedCause, status_printed};
 ghost use Rattle.nova_top.specs.Workload.{with_workload};
@@ -116,6 +116,7 @@ pub fn simulate<U: Unit, C: Source, S: Sink, F: Files, L: Lines>(
         (C.fault_count input.old) (C.fault_count input.new) }
     ensures unopened { result.status ≡ 101 → IsUnopened F.tells (texts_of words.now) result.faults.items
         (F.state files.old) (F.state files.new) }
+    ensures no_keys { result.status ≡ 105 → HasNoKeys (F.state files.old) (F.state files.new) }
     ensures measured { result.status ≡ 103 → AreMeasured F.tells (texts_of words.now) result.machine
         (F.state files.old) (F.state files.new) }
     ensures notes { AreCounted result.faults.items (F.state files.old) (F.state files.new) }

@@ -1,6 +1,9 @@
 -- What a RESTORE that is done has put back.
-use Rattle.std.proofs.Common.{ℕ, Bool, List, Ok, Err, OnOk}
+use Rattle.std.proofs.Common.{◌≡◌, ◌∙◌, ap, ℕ, Bool, List, Ok, Err, OnOk}
 use Rattle.host_files.specs.Lists.{NamedBytes}
+use Rattle.nova_machine.specs.Machine.{MachineState}
+use Rattle.state_file.specs.Listening.{with_port as ported_by}
+use Rattle.state_file.specs.Putting.{with_machine_of}
 use Rattle.scp_parser.specs.Command.{Request, Restore}
 use Rattle.scp_commands.specs.Live.{CommandState}
 use Rattle.scp_commands.specs.Nature.{IsUntold}
@@ -16,3 +19,20 @@ pub done-back : (tells : Bool) (files : List NamedBytes) (force : Bool) (name : 
     → PutsSessionBack tells files (Restore force name) answer old new
 done-back tells files force name (Ok next) old new back = back
 done-back tells files force name (Err fault) old new back = tt
+
+-- the room for notes is no part of it
+pub back-in-room : (tells : Bool) (files : List NamedBytes) (r : Request) (answer : Answer) (old room new : CommandState) → room.machine ≡ old.machine
+    → PutsSessionBack tells files r answer room new → PutsSessionBack tells files r answer old new
+back-in-room tells files (Restore force name) (Ok next) old room new same back = record {
+  saved = back.saved;
+  valid = back.valid;
+  read = back.read;
+  machine = back.machine ∙ ap (λ (m : MachineState). record (with_machine_of m back.saved.machine) {
+    slots = new.machine.slots;
+    disk = new.machine.disk;
+    lines = ported_by back.saved.port m.lines;
+  }) same;
+  attached = back.attached;
+  watch = back.watch;
+}
+back-in-room tells files r answer old room new same back = tt

@@ -20,6 +20,7 @@ pub mod DetachLemmas
 pub mod AttachLemmas
 pub mod ObeyLemmas
 pub mod CanLemmas
+pub mod WorkLemmas
 pub mod WholeLemmas
 pub mod WholeSays
 pub mod BackLemmas

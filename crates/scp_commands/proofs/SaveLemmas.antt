@@ -310,3 +310,9 @@ pub time-kept : (P : Type 0) (fault : SaveFault) (m m' : MachineState) (disk : B
     → IfNoMemory {T = Saved} (Err fault) ((m' ≡ m) × P) → m'.time ≡ m.time
 time-kept P (save.Failed f) m m' disk is none = ap (λ (x : MachineState). x.time) is
 time-kept P save.OutOfMemory m m' disk is none = ap (λ (x : MachineState). x.time) none.0
+
+-- the disk's copy was written back, or the machine is as it was
+pub remains-by : (P : Type 0) (fault : SaveFault) (m m' : MachineState) (claim : Option (UnitName × Failure))
+    → UnlessNoMemory {T = Saved} (Err fault) (m' ≡ record m { disk = copy_flushed claim (attached_in m) m.disk }) → IfNoMemory {T = Saved} (Err fault) ((m' ≡ m) × P) → MachineRemains true m m'
+remains-by P (save.Failed f) m m' claim is none = subst (λ (x : MachineState). MachineRemains true m x) (sym is) (copy-left claim m)
+remains-by P save.OutOfMemory m m' claim is none = inl none.0

@@ -1,6 +1,6 @@
 -- What a command can answer, whatever files and lines tell: a fault that comes by the tables of a session comes exactly where
 -- these have it, and no answer is one of another command.
-use Rattle.std.specs.Prelude.{◌≡◌, ℕ, ◌^◌, ◌&&◌, nat_le, Bool, true, false, IsTrue, Option, Some, None, unwrap_or, Ok, Err, if◌then◌else◌}
+use Rattle.std.specs.Prelude.{◌≡◌, ℕ, Bool, true, false, IsTrue, Option, Some, None, unwrap_or, Ok, Err, if◌then◌else◌}
 use Rattle.unit_trait.specs.declared.kind.UnitName.{UnitName}
 use Rattle.unit_files.specs.Attachments.{attachment_at, is_disk}
 use Rattle.unit_files.specs.Acts.{AttachSaid, UnitHasFile, OnlyWrites, refused_first}
@@ -14,7 +14,8 @@ use Rattle.scp_commands.specs.declared.fault.CommandFault.{CommandFault}
 use Rattle.scp_commands.specs.declared.fault.CommandFault.TheVariants.{NoSuchName, OutOfRange, ReadOnlyName, AlreadyAttached, NotAttached, ReadOnly, NoFile, FileTooLong, FileFailed, PortFailed, Full, AssertFailed, Console, OutOfMemory}
 use Rattle.scp_commands.specs.declared.fault.CommandFault.TheVariants.{NotState, Version, BadDigest, BadField, Truncated, Changed, LoadTruncated, LoadSum, PastMemory}
 use Rattle.scp_commands.specs.Reply.{Answer}
-use Rattle.scp_commands.specs.RunEffects.{address_fits}
+use Rattle.scp_commands.specs.RunEffects.{address_fits, count_fits}
+use Rattle.scp_commands.specs.ExitEffects.{status_fits}
 use Rattle.scp_commands.specs.FileEffects.{lacks_unit, mode_of}
 use Rattle.scp_commands.specs.LineEffects.{is_terminal}
 use Rattle.scp_commands.specs.TapeEffects.{can_dump}
@@ -48,14 +49,6 @@ attach_refusal m option unit =
 -- of a command whose number, or whose addresses, are within their limits or not
 abbrev pub out_of_range : Bool → Option CommandFault
 out_of_range fits = if fits then None else Some OutOfRange
-
--- STEP is one of 1 to 2 ^ 48 instructions, and of 1 where no number is given
-abbrev pub count_fits : ℕ → Bool
-count_fits count = nat_le 1 count && nat_le count (2 ^ 48)
-
--- the status of an EXIT is 0 to 99, and 0 where none is given
-abbrev pub status_fits : Option ℕ → Bool
-status_fits status = nat_le (unwrap_or status 0) 99
 
 -- of RESTORE
 abbrev pub occupied_fault : Bool → Option CommandFault

@@ -24,6 +24,7 @@ pub mod LineAnswers
 pub mod Remains
 pub mod Refusals
 pub mod Answers
+pub mod Works
 pub mod RunStops
 pub mod Doing
 pub mod Laws

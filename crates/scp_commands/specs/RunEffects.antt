@@ -119,8 +119,11 @@ unfoldable pub stepped : ℕ → List CommandNote → ℕ → Live → Reply
 stepped limit notes count live = ran (run (run_failure notes) (nat_le count limit) (min count limit) live)
 
 -- a STEP is one of 1 to 2 ^ 48 instructions
+abbrev pub count_fits : ℕ → Bool
+count_fits count = nat_le 1 count && nat_le count (2 ^ 48)
+
 unfoldable pub step_of : ℕ → List CommandNote → ℕ → Live → Reply
-step_of limit notes count live = if nat_le 1 count && nat_le count (2 ^ 48) then stepped limit notes count live else refused OutOfRange live
+step_of limit notes count live = if count_fits count then stepped limit notes count live else refused OutOfRange live
 
 -- RESET resets the machine and prints nothing
 unfoldable pub reset_reply : Live → Reply

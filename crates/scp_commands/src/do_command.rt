@@ -15,6 +15,7 @@ ghost use Rattle.scp_commands.specs.ScriptEffects.{script_of, do_reply};
 ghost use Rattle.scp_commands.specs.WholeCalls.{whole_answer};
 ghost use Rattle.scp_commands.specs.Refusals.{UnreadCause};
 ghost use Rattle.scp_commands.specs.Answers.{OfDo};
+ghost use Rattle.scp_commands.specs.Works.{DoWorks};
 ghost use Rattle.scp_commands.specs.Doing.{Did, Keeps, IsUndone, IsOwn, IsExitAnswer, IsRefused};
 
 use crate::do_file::{DoFile, ScriptText};
@@ -61,6 +62,8 @@ pub fn do_script<U: Unit, F: Files>(
         (F.state files.old) (F.state files.new) }
     ensures whole { UnreadCause F.tells name.now result (F.state files.old) (F.state files.new) }
     ensures answers { OfDo echo strict result }
+    ensures works { DoWorks result (F.state files.old) (F.state files.new) }
+    ensures machine { session.new.machine ≡ session.old.machine }
     ensures own { IsOwn result }
     ensures exit { IsExitAnswer result }
     ensures watch { session.new.watch ≡ session.old.watch }

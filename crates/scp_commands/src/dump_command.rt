@@ -68,6 +68,7 @@ pub fn dump_file<U: Unit, F: Files>(
         (F.state files.old) (F.state files.new) }
     ensures tables { result ≢ Err OutOfMemory → IsByTables (out_of_range (can_dump session.old.machine from to)) result }
     ensures answers { OfDump result }
+    ensures machine { session.new.machine ≡ session.old.machine }
     ensures own { IsOwn result }
     ensures exit { IsExitAnswer result }
     ensures watch { session.new.watch ≡ session.old.watch }
@@ -136,6 +137,7 @@ fn write_tape<U: Unit, F: Files>(
         (F.state files.old) (F.state files.new) }
     ensures tables { IsByTables None result }
     ensures answers { OfDump result }
+    ensures machine { session.new.machine ≡ session.old.machine }
     ensures own { IsOwn result }
     ensures exit { IsExitAnswer result }
     ensures watch { session.new.watch ≡ session.old.watch }

@@ -21,6 +21,7 @@ ghost use Rattle.scp_commands.specs.StateAnswers.{PutsSessionBack};
 ghost use Rattle.scp_commands.specs.Remains.{AreLeft};
 ghost use Rattle.scp_commands.specs.Refusals.{IsUnrefused, IsMeasured};
 ghost use Rattle.scp_commands.specs.Answers.{AnswersByTables, CanAnswer};
+ghost use Rattle.scp_commands.specs.Works.{Works};
 ghost use Rattle.scp_commands.specs.RunStops.{RunStops, IsNoStop, run_count, is_step};
 ghost use Rattle.scp_commands.specs.Doing.{Did, IsTold, IsRefused, Keeps, ConsoleCounts, MayWant, IsUndone, says_files, IsExitAnswer, RunCause, AttachNote, KeepsBy, is_restore};
 
@@ -98,6 +99,7 @@ pub fn execute<U: Unit, F: Files, L: Lines, S: Sink>(
     ensures measured { IsMeasured F.tells command.now result (F.state files.old) (F.state files.new) }
     ensures answers { result ≢ Err OutOfMemory
         → AnswersByTables session.old.machine command.now result × CanAnswer command.now result }
+    ensures works { Works command.now result session.old session.new (F.state files.old) (F.state files.new) }
     ensures keeps { KeepsBy (is_restore command.now) session.old.command session.old.machine.time
         session.new.machine.time F.tells result session.old.notes session.new.notes (F.state files.old)
         (F.state files.new) }
@@ -164,6 +166,7 @@ fn obey<U: Unit, F: Files, L: Lines, S: Sink>(
     ensures measured { IsMeasured F.tells command.now result (F.state files.old) (F.state files.new) }
     ensures tables { result ≢ Err OutOfMemory → AnswersByTables session.old.machine command.now result }
     ensures answers { CanAnswer command.now result }
+    ensures works { Works command.now result session.old session.new (F.state files.old) (F.state files.new) }
     ensures keeps { KeepsBy (is_restore command.now) session.old.command session.old.machine.time
         session.new.machine.time F.tells result session.old.notes session.new.notes (F.state files.old)
         (F.state files.new) }

@@ -9,10 +9,10 @@ ghost use Rattle.host_lines.specs.Traffic.{Answer as LineAnswer};
 ghost use Rattle.nova_machine.specs.Comes.{Output};
 ghost use Rattle.nova_machine.specs.LineChanges.{AreLinesTold};
 ghost use Rattle.scp_commands.specs.Live.{live_in, beyond};
-ghost use Rattle.scp_commands.specs.ExitEffects.{exit_reply};
+ghost use Rattle.scp_commands.specs.ExitEffects.{exit_reply, status_fits};
 ghost use Rattle.scp_commands.specs.LinesLeft.{LinesLeft};
 ghost use Rattle.scp_commands.specs.LineAnswers.{ClosesAll};
-ghost use Rattle.scp_commands.specs.Answers.{IsByTables, OfExit, out_of_range, status_fits};
+ghost use Rattle.scp_commands.specs.Answers.{IsByTables, OfExit, out_of_range};
 ghost use Rattle.scp_commands.specs.Doing.{Did, Keeps, IsPlain, IsExitAnswer, IsRefused};
 
 use crate::fault::CommandFault;

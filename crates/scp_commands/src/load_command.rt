@@ -16,6 +16,7 @@ ghost use Rattle.scp_commands.specs.WholeCalls.{whole_answer};
 ghost use Rattle.scp_commands.specs.Refusals.{UnreadCause};
 ghost use Rattle.scp_commands.specs.TapeEffects.{tape_in, tape_answer, tape_machine, read_machine, load_reply};
 ghost use Rattle.scp_commands.specs.Answers.{OfLoad};
+ghost use Rattle.scp_commands.specs.Works.{LoadWorks};
 ghost use Rattle.scp_commands.specs.Doing.{Did, Keeps, IsUndone, IsOwn, IsExitAnswer, IsRefused};
 
 use crate::fault::CommandFault;
@@ -62,6 +63,7 @@ pub fn load_file<U: Unit, F: Files>(
         (F.state files.old) (F.state files.new) }
     ensures whole { UnreadCause F.tells name.now result (F.state files.old) (F.state files.new) }
     ensures answers { OfLoad result }
+    ensures works { LoadWorks result session.old.machine session.new.machine (F.state files.old) (F.state files.new) }
     ensures own { IsOwn result }
     ensures exit { IsExitAnswer result }
     ensures watch { session.new.watch ≡ session.old.watch }

@@ -29,6 +29,7 @@ ghost use Rattle.scp_commands.specs.StateAnswers.{PutsBack};
 ghost use Rattle.scp_commands.specs.StateReading.{WasFed};
 ghost use Rattle.scp_commands.specs.StateEffects.{has_port, is_occupied, restore_notes, restore_reply};
 ghost use Rattle.scp_commands.specs.Answers.{IsByTables, OfRestore, occupied_fault};
+ghost use Rattle.scp_commands.specs.Works.{RestoreWorks};
 ghost use Rattle.scp_commands.specs.Doing.{Did, KeepsBy, IsUndone, IsRestoreAnswer, IsExitAnswer, IsRefused};
 
 use crate::fault::CommandFault;
@@ -97,6 +98,7 @@ pub fn restore<U: Unit, F: Files, L: Lines>(
         (F.state files.old) (F.state files.new) }
     ensures tables { IsByTables (occupied_fault (is_occupied (attached_in session.old.machine) session.old.machine.lines)) result }
     ensures answers { OfRestore force result }
+    ensures works { RestoreWorks result (F.state files.old) (F.state files.new) }
     ensures own { IsRestoreAnswer result }
     ensures exit { IsExitAnswer result }
     ensures standard { AreStandard session.new.machine.units }

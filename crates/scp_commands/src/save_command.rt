@@ -19,7 +19,7 @@ ghost use Rattle.state_file.specs.Valid.{Fits};
 ghost use Rattle.scp_commands.specs.declared.fault.CommandFault.TheVariants.{OutOfMemory};
 ghost use Rattle.scp_commands.specs.Live.{live_in, beyond};
 ghost use Rattle.scp_commands.specs.FaultText.{save_fault};
-ghost use Rattle.scp_commands.specs.Remains.{AreLeft};
+ghost use Rattle.scp_commands.specs.Remains.{AreLeft, MachineRemains};
 ghost use Rattle.scp_commands.specs.StateEffects.{save_notes, save_reply};
 ghost use Rattle.scp_commands.specs.Answers.{OfSave};
 ghost use Rattle.scp_commands.specs.Doing.{Did, Keeps, IsUndone, IsOwn, IsExitAnswer, IsRefused};
@@ -66,6 +66,7 @@ pub fn save<U: Unit, F: Files>(
     ensures whose { AreOwn session.old.machine.slots session.new.machine.slots session.old.notes session.new.notes
         (F.state files.old) (F.state files.new) }
     ensures answers { OfSave result }
+    ensures machine { MachineRemains true session.old.machine session.new.machine }
     ensures own { IsOwn result }
     ensures exit { IsExitAnswer result }
     ensures watch { session.new.watch ≡ session.old.watch }

@@ -1,5 +1,5 @@
 // A state file is read piece by piece.
-ghost use Rattle.std.specs.Prelude.{◌≡◌, ◌≤◌, ◌+◌, ℕ, List, [], IsTrue, IfOk, OnOk, OnErr, None, Err, length, if◌then◌else◌};
+ghost use Rattle.std.specs.Prelude.{◌≡◌, ◌≤◌, ◌<◌, ◌+◌, ℕ, List, [], IsTrue, IfOk, OnOk, OnErr, None, Err, length, if◌then◌else◌};
 ghost use Rattle.fault_counts.specs.Faults.{raised};
 ghost use Rattle.host_files.specs.Lists.{bytes_of};
 ghost use Rattle.host_files.specs.State.{IsOpen, content, without};
@@ -199,6 +199,7 @@ pub fn read_state_file<F: Files>(alloc: Global, name: &str, files: &mut F) -> St
     ensures failed { IsNew result.failed (F.state files.old) (F.state files.new) }
     ensures closing { IsNew result.closing (F.state files.old) (F.state files.new) }
     ensures ids { (F.state files.old).given ≤ (F.state files.new).given }
+    ensures taken { IfOk result.reader (λ reader. (F.state files.old).given < (F.state files.new).given) }
     ensures cause { WholeCause F.tells name.now (whole_of result).bytes (F.state files.old) (F.state files.new) }
 {
     match files.open_file(alloc, name, OpenMode::Read) {

@@ -19,6 +19,7 @@ ghost use Rattle.scp_commands.specs.FileEffects.{attach_reply, detach_reply, det
 ghost use Rattle.scp_parser.specs.Command.{Attach, Detach};
 ghost use Rattle.scp_commands.specs.Refusals.{IsUnrefused, WasOpened};
 ghost use Rattle.scp_commands.specs.Answers.{IsByTables, AnswersByTables, OfAttach, OfDetach, OfDetachAll, attach_refusal};
+ghost use Rattle.scp_commands.specs.Works.{AttachWorks};
 ghost use Rattle.scp_commands.specs.LinesLeft.{LinesLeft};
 ghost use Rattle.scp_commands.specs.LineAnswers.{DetachesUnit, ClosesAll};
 ghost use Rattle.scp_commands.specs.Doing.{Did, IsTold, Keeps, IsUndone, IsOwn, IsPlain, IsExitAnswer, IsRefused, AttachNote};
@@ -69,6 +70,7 @@ pub fn attach<U: Unit, F: Files>(
         (F.state files.old) (F.state files.new) }
     ensures tables { result ≢ Err OutOfMemory → IsByTables (attach_refusal session.old.machine option unit) result }
     ensures answers { OfAttach unit result }
+    ensures works { AttachWorks option unit name.now result session.old.machine session.new.machine }
     ensures opened { WasOpened result (F.state files.old) (F.state files.new) }
     ensures own { IsOwn result }
     ensures exit { IsExitAnswer result }

@@ -21,7 +21,7 @@ use Rattle.nova_top.proofs.ProgramLemmas.{Begun, Made, begun-files, begun-line, 
 use Rattle.nova_top.proofs.ProgramLemmas.{usage-answer, files-answer, files-memory, files-status, files-cause, session-answer, memory-answer, session-cause, session-status, refused-status, kept-counted, refused-counted, complete-answer, never-unwritten, denied-unwritten, unwritten-whole}
 use Rattle.nova_top.proofs.PortLemmas.{lines-unasked}
 use Rattle.nova_top.proofs.ResumptionLemmas.{resumes-saved}
-use Rattle.nova_top.proofs.UnreadLemmas.{usage-opened, refused-unopened, refused-measured, session-opened, session-measured}
+use Rattle.nova_top.proofs.UnreadLemmas.{usage-opened, refused-unopened, refused-keys, refused-measured, session-opened, session-keys, session-measured}
 use Rattle.nova_top.proofs.program.simulate.Given.{Over}
 use Rattle.nova_top.proofs.program.simulate.Goals as goal
 use Rattle.nova_top.proofs.program.simulate.Goals.{After-run_session-arg-in-Ok-begin-2-1}
@@ -277,6 +277,22 @@ pub returns-in-Ok-begin-clause-measured : goal.returns-in-Ok-begin-clause-measur
 returns-in-Ok-begin-clause-measured g c = λ is.
     session-measured g.F.Files.tells (texts_of c.args.words.now) c.in-Some.options c.run_session.result.machine (g.F.Files.state c.args.files.now) (g.F.Files.state c.run_session.new.files)
     (sym c.options_of.ensures.options ∙ c.in-Some.is) c.in-Ok-begin.ensures.unread
+
+-- ---- a keys file that is none
+
+pub returns-in_default-clause-no_keys : goal.returns-in_default-clause-no_keys
+returns-in_default-clause-no_keys g c = λ is. absurd (usage-opened c.usage.result.status _ _ 105 c.usage.ensures.cause is (inl (omega arith)))
+
+pub returns-in-Err-clause-no_keys : goal.returns-in-Err-clause-no_keys
+returns-in-Err-clause-no_keys g c = λ is.
+    refused-keys g.F.Files.tells (texts_of c.args.words.now) c.in-Some.options c.in-Err.refusal c.refuse_files.result.status (g.S.Sink.fault_count c.args.output.now) (g.S.Sink.fault_count c.refuse_files.new.output)
+    c.begin.new.notes.items (g.F.Files.state c.args.files.now) (g.F.Files.state c.begin.new.files) c.refuse_files.ensures.cause c.in-Err.ensures.unread is
+
+pub returns-in-Ok-begin-clause-no_keys : goal.returns-in-Ok-begin-clause-no_keys
+returns-in-Ok-begin-clause-no_keys g c = λ is.
+    let (finish, watch, now, status, machine, told, cause) = c.run_session.ensures.ended in
+    absurd (session-keys finish (g.S.Sink.fault_count c.args.output.now) (g.S.Sink.fault_count c.run_session.new.output) (g.C.Source.fault_count c.args.input.now) (g.C.Source.fault_count c.run_session.new.input)
+    cause (sym status ∙ is))
 
 -- ---- a session that was restored
 

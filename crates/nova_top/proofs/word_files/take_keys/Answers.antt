@@ -24,7 +24,8 @@ pub returns-in-Some-clause-unread : goal.returns-in-Some-clause-unread
 returns-in-Some-clause-unread g c =
     let within = named-at c.args.options.keys (length (texts_of c.args.words.now)) c.in-Some.place c.requires.named.keys c.in-Some.is in
     keys-cause g.F.Files.tells c.args.words.now c.args.options c.in-Some.place c.index-words-place.result c.read_word-read.result c.keys_of.result c.args.notes.now.items c.read_word-read.new.notes.items
-    (g.F.Files.state c.args.files.now) (g.F.Files.state c.read_word-read.new.files) c.in-Some.is within c.index-words-place.is c.read_word-read.ensures.unread c.keys_of.ensures.answers
+    (g.F.Files.state c.args.files.now) (g.F.Files.state c.read_word-read.new.files) c.in-Some.is within c.index-words-place.is c.read_word-read.ensures.taken c.read_word-read.ensures.unread
+    c.keys_of.ensures.answers
 
 pub returns-in-None-clause-unread : goal.returns-in-None-clause-unread
 returns-in-None-clause-unread g c =

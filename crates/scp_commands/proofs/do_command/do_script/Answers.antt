@@ -9,6 +9,7 @@ use Rattle.scp_commands.proofs.BehindLemmas.{stamp_in}
 use Rattle.scp_commands.proofs.DoLemmas.{do-did}
 use Rattle.scp_commands.proofs.WholeLemmas.{read-claims, read-keeps, short-read, read-own, unread-cause}
 use Rattle.scp_commands.proofs.OwnFileLemmas.{whole-own}
+use Rattle.scp_commands.proofs.WorkLemmas.{do-works}
 use Rattle.scp_commands.proofs.do_command.do_script.Goals as goal
 
 pub returns-clause-told : goal.returns-clause-told
@@ -70,3 +71,8 @@ pub returns-clause-whole : goal.returns-clause-whole
 returns-clause-whole g c =
     unread-cause subject.Script (script_of c.args.echo c.args.strict) g.F.Files.tells c.args.name.now c.read_file-whole.result.bytes c.script_answer.result
     (g.F.Files.state c.args.files.now) (g.F.Files.state c.read_file-whole.new.files) (λ bytes. tt) c.script_answer.ensures c.read_file-whole.ensures.cause
+
+pub returns-clause-works : goal.returns-clause-works
+returns-clause-works g c =
+    do-works c.args.echo c.args.strict c.read_file-whole.result.bytes c.script_answer.result (g.F.Files.state c.args.files.now) (g.F.Files.state c.read_file-whole.new.files) c.script_answer.ensures
+    c.read_file-whole.ensures.taken

@@ -7,6 +7,8 @@ use Rattle.scp_commands.specs.Effect.{effect}
 use Rattle.scp_commands.specs.Doing.{is_restore}
 use Rattle.scp_commands.proofs.DidLemmas.{did-want}
 use Rattle.scp_commands.proofs.ObeyLemmas.{lines-kept, unlistened, may-want, none-measured, want-kept}
+use Rattle.scp_commands.proofs.BackLemmas.{back-in-room}
+use Rattle.scp_commands.proofs.WorkLemmas.{none-works}
 use Rattle.scp_commands.proofs.execute_command.execute.Goals as goal
 
 pub returns-in-Err-clause-told : goal.returns-in-Err-clause-told
@@ -38,3 +40,13 @@ pub returns-in-Err-clause-keeps : goal.returns-in-Err-clause-keeps
 returns-in-Err-clause-keeps g c =
     want-kept (is_restore c.args.command.now) c.args.session.now.command c.args.session.now.machine.time c.take_room.new.self.machine.time g.F.Files.tells
     c.args.session.now.notes c.take_room.new.self.notes (g.F.Files.state c.args.files.now) (ap (λ (x : CommandState). x.notes) c.in-Err.ensures.rest)
+
+pub returns-in-Err-clause-works : goal.returns-in-Err-clause-works
+returns-in-Err-clause-works g c =
+    none-works c.args.command.now c.args.session.now c.take_room.new.self (g.F.Files.state c.args.files.now) (ap (λ (x : CommandState). x.machine) c.in-Err.ensures.rest)
+    (ap (λ (x : CommandState). x.watch) c.in-Err.ensures.rest)
+
+pub returns-in-Ok-clause-back : goal.returns-in-Ok-clause-back
+returns-in-Ok-clause-back g c =
+    back-in-room g.F.Files.tells (g.F.Files.state c.args.files.now).files c.args.command.now c.obey.result c.args.session.now c.take_room.new.self c.obey.new.session
+    (ap (λ (x : CommandState). x.machine) c.take_room.ensures.rest) c.obey.ensures.back

@@ -20,13 +20,14 @@ use Rattle.scp_commands.proofs.PortLemmas.{left-run}
 use Rattle.scp_commands.proofs.RemainLemmas.{undone-as, undone-none}
 use Rattle.file_commands.specs.declared.note.Subject.TheVariants as subject
 use Rattle.scp_commands.specs.FileEffects.{attach_reply, detach_one_or_all}
-use Rattle.scp_commands.specs.RunEffects.{run_from, running, step_of}
+use Rattle.scp_commands.specs.RunEffects.{run_from, running, step_of, count_fits}
 use Rattle.nova_machine.specs.Comes.{output}
 use Rattle.scp_commands.specs.TapeEffects.{load_reply, dump_reply}
 use Rattle.scp_commands.specs.LineAnswers.{LinesAnswer}
-use Rattle.scp_commands.specs.Answers.{IsByTables, out_of_range, count_fits}
+use Rattle.scp_commands.specs.Answers.{IsByTables, out_of_range}
 use Rattle.scp_commands.proofs.CanLemmas.{by-asks, can-by, untold-tables, untold-can, do-tables, load-tables, save-tables}
 use Rattle.scp_commands.proofs.AnswerLemmas.{stays, untold-stays}
+use Rattle.scp_commands.proofs.WorkLemmas.{works-as, untold-works}
 use Rattle.scp_commands.proofs.execute_command.obey.Goals as goal
 
 pub returns-in-Attach-clause-told : goal.returns-in-Attach-clause-told
@@ -988,3 +989,62 @@ pub returns-in-Attach-clause-measured : goal.returns-in-Attach-clause-measured
 returns-in-Attach-clause-measured g c =
     subst (λ (r : Request). IsMeasured g.F.Files.tells r c.attach.result (g.F.Files.state c.args.files.now) (g.F.Files.state c.attach.new.files)) (sym (sym c.command.view_is ∙ ap (request_of _) c.in-Attach.is))
     c.attach.ensures.«opened»
+
+-- ---- whatever files hold
+
+pub returns-in-Attach-clause-works : goal.returns-in-Attach-clause-works
+returns-in-Attach-clause-works g c =
+    let what = c.in-Attach in
+    let name = c.file_name.result.now in
+    let read = sym c.command.view_is ∙ ap (request_of _) what.is in
+    let is : c.args.command.now ≡ Attach what.option what.unit name = read ∙ ap (Attach what.option what.unit) (sym (c.file_name.ensures.name ∙ ap file_name_of read)) in
+    works-as c.args.command.now (Attach what.option what.unit name) c.attach.result c.args.session.now c.attach.new.session (g.F.Files.state c.args.files.now) (g.F.Files.state c.attach.new.files) is (c.attach.ensures.works, c.attach.ensures.watch)
+
+pub returns-in-Do-clause-works : goal.returns-in-Do-clause-works
+returns-in-Do-clause-works g c =
+    let what = c.in-Do in
+    let name = c.file_name-in-Do.result.now in
+    let (arguments, is) = do-named _ c.command.inside.verb what.echo what.strict _ _ c.args.command.now name (sym c.command.view_is) what.is c.file_name-in-Do.ensures.name in
+    works-as c.args.command.now (Do what.echo what.strict name arguments) c.do_script.result c.args.session.now c.do_script.new.session (g.F.Files.state c.args.files.now) (g.F.Files.state c.do_script.new.files) is (c.do_script.ensures.works, c.do_script.ensures.machine, c.do_script.ensures.watch)
+
+pub returns-in-Load-clause-works : goal.returns-in-Load-clause-works
+returns-in-Load-clause-works g c =
+    let name = c.file_name-in-Load.result.now in
+    let is = load-named _ c.command.inside.verb _ c.args.command.now name (sym c.command.view_is) c.in-Load.is c.file_name-in-Load.ensures.name in
+    works-as c.args.command.now (Load name) c.load_file.result c.args.session.now c.load_file.new.session (g.F.Files.state c.args.files.now) (g.F.Files.state c.load_file.new.files) is (c.load_file.ensures.works, c.load_file.ensures.watch)
+
+pub returns-in-Dump-clause-works : goal.returns-in-Dump-clause-works
+returns-in-Dump-clause-works g c =
+    let is = sym c.command.view_is ∙ ap (request_of _) c.in-Dump.is in
+    works-as c.args.command.now (_) c.dump_file.result c.args.session.now c.dump_file.new.session (g.F.Files.state c.args.files.now) (g.F.Files.state c.dump_file.new.files) is (c.dump_file.ensures.machine, c.dump_file.ensures.watch)
+
+pub returns-in-Save-clause-works : goal.returns-in-Save-clause-works
+returns-in-Save-clause-works g c =
+    let is = sym c.command.view_is ∙ ap (request_of _) c.in-Save.is in
+    works-as c.args.command.now (_) c.save.result c.args.session.now c.save.new.session (g.F.Files.state c.args.files.now) (g.F.Files.state c.save.new.files) is (c.save.ensures.machine, c.save.ensures.watch)
+
+pub returns-in-Restore-clause-works : goal.returns-in-Restore-clause-works
+returns-in-Restore-clause-works g c =
+    let is = sym c.command.view_is ∙ ap (request_of _) c.in-Restore.is in
+    works-as c.args.command.now (_) c.restore.result c.args.session.now c.restore.new.session (g.F.Files.state c.args.files.now) (g.F.Files.state c.restore.new.files) is c.restore.ensures.works
+
+pub returns-in_default-clause-works : goal.returns-in_default-clause-works
+returns-in_default-clause-works g c =
+    let others : IsNoRunOrFile c.command.inside.verb = record {
+      run = c.in_default.not-Run;
+      go = c.in_default.not-Go;
+      cont = c.in_default.not-Cont;
+      step = c.in_default.not-Step;
+      attach = c.in_default.not-Attach;
+      attach_port = c.in_default.not-AttachPort;
+      detach = c.in_default.not-Detach;
+      disconnect = c.in_default.not-Disconnect;
+      exit = c.in_default.not-Exit;
+      do_ = c.in_default.not-Do;
+      load = c.in_default.not-Load;
+      dump = c.in_default.not-Dump;
+      save = c.in_default.not-Save;
+      restore = c.in_default.not-Restore;
+    } in
+    untold-works c.args.command.now c.obey_untold.result c.args.session.now c.obey_untold.new.session (g.F.Files.state c.args.files.now) (g.F.Files.state c.obey_untold.new.files)
+    (subst (λ (r : Request). IsUntold r) c.command.view_is (is-untold _ c.command.inside.verb others))

@@ -14,6 +14,7 @@ use Rattle.scp_commands.proofs.TapeLemmas.{tape_comes, tape-plain, tape-own, tap
 use Rattle.scp_commands.proofs.OwnFileLemmas.{whole-own}
 use Rattle.unit_list.specs.Bus.{kinds_of}
 use Rattle.scp_commands.proofs.KindLemmas.{read-kinds}
+use Rattle.scp_commands.proofs.WorkLemmas.{load-works}
 use Rattle.scp_commands.proofs.load_command.load_file.Goals as goal
 
 pub returns-clause-told : goal.returns-clause-told
@@ -124,3 +125,9 @@ pub returns-clause-kinds : goal.returns-clause-kinds
 returns-clause-kinds g c =
     rw (← c.session.view_is)
     (ap (λ (m : MachineState). kinds_of m.units) c.load_bytes.ensures.machine ∙ read-kinds c.read_file-whole.result.bytes c.session.inside.machine)
+
+pub returns-clause-works : goal.returns-clause-works
+returns-clause-works g c =
+    rw (← c.session.view_is)
+    (load-works c.read_file-whole.result.bytes c.load_bytes.result c.session.inside.machine c.load_bytes.new.machine (g.F.Files.state c.args.files.now) (g.F.Files.state c.read_file-whole.new.files)
+    c.load_bytes.ensures.answer c.load_bytes.ensures.machine c.read_file-whole.ensures.taken)

@@ -1,4 +1,4 @@
-use Rattle.std.proofs.Common.{◌≡◌, ◌++◌, ℕ, Bool, true, List, Option, None, Result, Ok, Err, IfOk, length, refl, ap, sym, ◌∙◌, subst, append-nil}
+use Rattle.std.proofs.Common.{◌≡◌, ◌++◌, ◌<◌, ◌≤◌, arith, ℕ, Bool, true, List, Option, None, Result, Ok, Err, IfOk, length, refl, ap, sym, ◌∙◌, subst, append-nil}
 use Rattle.host_files.specs.Lists.{NamedBytes, bytes_of}
 use Rattle.host_lines.specs.Told.{ahead_of}
 use Rattle.file_commands.specs.declared.note.Subject.TheVariants as subject
@@ -38,6 +38,7 @@ use Rattle.scp_commands.proofs.RestoreLines.{restore-done, restore-refused, rest
 use Rattle.scp_commands.proofs.RestoreNotes.{restore-keeps, read-shut-notes, refused-restore-keeps, done-restore-keeps, restore-own, whole-fault, want-fault, no-notes}
 use Rattle.scp_commands.proofs.WholeLemmas.{own_both, read-claims, read-keeps, short-read, TakesClosings}
 use Rattle.scp_commands.proofs.CanLemmas.{restored-can}
+use Rattle.scp_commands.proofs.WorkLemmas.{unread-works, unfit-works, refused-works}
 use Rattle.scp_commands.proofs.restore_command.restore.Goals as goal
 
 pub returns-then-is_occupied-clause-told : goal.returns-then-is_occupied-clause-told
@@ -358,3 +359,37 @@ returns-in-Err-saved_in-clause-keeps g c =
 
 pub returns-clause-answers : goal.returns-clause-answers
 returns-clause-answers g c = restored-can c.args.force c.in-Err-set_state.fault c.of_restore.result c.in-Err-set_state.ensures.compared c.of_restore.ensures
+
+-- ---- whatever the files hold
+
+pub returns-in-Err-clause-works : goal.returns-in-Err-clause-works
+returns-in-Err-clause-works g c =
+    let w = whole_of c.read_state_file-read.result in
+    unread-works g.F.Files.tells c.args.name.now w.bytes c.in-Err.fault c.of_whole.result (g.F.Files.state c.args.files.now) (g.F.Files.state c.read_state_file-read.new.files)
+    (ap bytes_for c.in-Err.ensures.reader) c.read_state_file-read.ensures.cause c.of_whole.ensures
+
+pub returns-in-Err-saved_in-clause-works : goal.returns-in-Err-saved_in-clause-works
+returns-in-Err-saved_in-clause-works g c =
+    let before = g.F.Files.state c.args.files.now in
+    let mid = g.F.Files.state c.read_state_file-read.new.files in
+    let reader = c.in-Ok.ensures.reader in
+    let fed : WasFed c.in-Ok.reader = subst (λ (r : Result StateReader WholeFault). IfOk r (λ x. WasFed x)) reader c.read_state_file-read.ensures.was in
+    let opens : before.given < mid.given = subst (λ (r : Result StateReader WholeFault). IfOk r (λ x. before.given < mid.given)) reader c.read_state_file-read.ensures.taken in
+    unfit-works fed.0 c.in-Err-saved_in.fault c.of_state.result before mid opens (c.in-Err-saved_in.ensures.exact fed.0 fed.1) c.of_state.ensures
+
+pub returns-in-Ok-set_state-clause-works : goal.returns-in-Ok-set_state-clause-works
+returns-in-Ok-set_state-clause-works g c =
+    let before = g.F.Files.state c.args.files.now in
+    let mid = g.F.Files.state c.read_state_file-read.new.files in
+    let after = g.F.Files.state c.set_state.new.files in
+    let opens : before.given < mid.given = subst (λ (r : Result StateReader WholeFault). IfOk r (λ x. before.given < mid.given)) c.in-Ok.ensures.reader c.read_state_file-read.ensures.taken in
+    let more : mid.given ≤ after.given = c.in-Ok-set_state.ensures.counts.ids in
+    omega (arith, opens, more)
+
+pub returns-clause-works : goal.returns-clause-works
+returns-clause-works g c =
+    let before = g.F.Files.state c.args.files.now in
+    let mid = g.F.Files.state c.read_state_file-read.new.files in
+    let after = g.F.Files.state c.set_state.new.files in
+    let opens : before.given < mid.given = subst (λ (r : Result StateReader WholeFault). IfOk r (λ x. before.given < mid.given)) c.in-Ok.ensures.reader c.read_state_file-read.ensures.taken in
+    refused-works c.in-Err-set_state.fault c.of_restore.result before mid after opens c.in-Err-set_state.ensures.counts.ids c.of_restore.ensures

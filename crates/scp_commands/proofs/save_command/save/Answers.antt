@@ -17,7 +17,7 @@ use Rattle.scp_commands.specs.WholeCalls.{write_notes}
 use Rattle.scp_commands.specs.Doing.{Keeps}
 use Rattle.scp_commands.proofs.BehindLemmas.{stamp_in}
 use Rattle.scp_commands.proofs.SeenLemmas.{attached-erased}
-use Rattle.scp_commands.proofs.SaveLemmas.{saved-did, refused-did, quiet-keeps, refused-keeps, copy-left, flushed-live, flushed-remains, unless, unless-both, time-kept}
+use Rattle.scp_commands.proofs.SaveLemmas.{saved-did, refused-did, quiet-keeps, refused-keeps, copy-left, flushed-live, flushed-remains, unless, unless-both, time-kept, remains-by}
 use Rattle.scp_commands.proofs.WholeLemmas.{write-keeps, none-written}
 use Rattle.scp_commands.proofs.save_command.save.Goals as goal
 
@@ -112,3 +112,14 @@ returns-in-Err-clause-keeps g c =
     (subst (λ (t : ℕ). Keeps s.command t g.F.Files.tells (Err c.of_save.result) s.notes.items c.note_saving.new.notes.items before mid) (sym time)
     (refused-keeps s.command s.machine.time g.F.Files.tells f (Err c.of_save.result) s.machine.slots s.notes.items c.note_saving.new.notes.items before mid taken.cause
     (c.note_saving.ensures.notes ∙ ap (λ (t : Stamp). s.notes.items ++ save_notes t f) stamped) (ap Err c.of_save.ensures)))
+
+pub returns-in-Ok-clause-machine : goal.returns-in-Ok-clause-machine
+returns-in-Ok-clause-machine g c =
+    let s = c.session.inside in
+    rw (← c.session.view_is) (subst (λ (x : MachineState). MachineRemains true s.machine x) (sym c.in-Ok.ensures.machine) (copy-left None s.machine))
+
+pub returns-in-Err-clause-machine : goal.returns-in-Err-clause-machine
+returns-in-Err-clause-machine g c =
+    let s = c.session.inside in
+    let taken = c.in-Err.ensures in
+    rw (← c.session.view_is) (remains-by _ c.in-Err.fault s.machine c.take_state.new.machine (save_claim {T = Saved} (Err c.in-Err.fault)) taken.machine taken.no_memory)

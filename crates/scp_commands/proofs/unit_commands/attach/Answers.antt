@@ -12,6 +12,7 @@ use Rattle.scp_commands.proofs.AttachLemmas.{begins-within, attach-lacking, atta
 use Rattle.unit_list.specs.Bus.{kinds_of}
 use Rattle.scp_commands.proofs.KindLemmas.{positioned-kinds}
 use Rattle.scp_commands.proofs.CanLemmas.{lacking-by-tables, attach-tables, opened-by-cause}
+use Rattle.scp_commands.proofs.WorkLemmas.{attached-works}
 use Rattle.scp_commands.proofs.unit_commands.attach.Goals as goal
 
 pub returns-then-lacks_unit-clause-told : goal.returns-then-lacks_unit-clause-told
@@ -117,3 +118,17 @@ returns-in-Err-clause-tables g c = λ some.
 pub returns-in-Err-clause-opened : goal.returns-in-Err-clause-opened
 returns-in-Err-clause-opened g c =
     opened-by-cause g.F.Files.tells (Err c.in-Err.fault) c.args.unit (Err c.of_attach.result) (g.F.Files.state c.args.files.now) (g.F.Files.state c.attach_unit.new.files) c.in-Err.ensures.cause (ap Err c.of_attach.ensures)
+
+pub returns-in-Ok-clause-works : goal.returns-in-Ok-clause-works
+returns-in-Ok-clause-works g c =
+    let s = c.session.inside in
+    let held = c.attached_mut.result.now in
+    let done = c.in-Ok.ensures in
+    rw (← c.session.view_is)
+    (attached-works c.args.option c.args.unit c.args.name.now c.in-Ok.count c.mode_of-mode.result c.first_place.result s.machine c.set_position.new.machine held c.attach_unit.new.attached
+    c.attached_mut.ensures.value c.mode_of-mode.ensures done.attached done.other c.first_place.ensures.place c.set_position.ensures)
+
+pub returns-in-Err-clause-works : goal.returns-in-Err-clause-works
+returns-in-Err-clause-works g c =
+    let s = c.session.inside in
+    rw (← c.session.view_is) (ap (with_attached_files s.machine) (c.in-Err.ensures.refused ∙ c.attached_mut.ensures.value))
